@@ -108,9 +108,9 @@
 /* last */
 #define LAST(m, n, o) (MOST(MOST((m) & 15, (n) & 15), (o) & 15) - 1)
 
-/* What threads share. Setup::new, channel_of, gather_as: channel, places and the queue of written sheets have room for a window. */
+/* What threads share. Setup::new, channel_of, gather_with_rule: channel, places and the queue of written sheets have room for a window. */
 byte missing[S];
-chan q = [S] of { byte };                /* Ready; what a pass may put is counted in each pass's room */
+chan q = [S] of { byte };                /* Ready; what a pass may put is advanced in each pass's room */
 #ifndef SPENT
 chan c = [CAP] of { byte, byte, byte };  /* the channel of finished sheets, three in a message at most */
 #else
@@ -129,8 +129,8 @@ bool turn_p, turn_i;
 /* What the collector keeps. */
 byte next;                       /* Progress.next */
 bool halted;                     /* Progress.halted */
-byte lying[3 * CAP];             /* Early.groups: group g is at 3 * g, with the nth of its sheets at 3 * g + n */
-byte noted[CAP];                 /* Early.places: where the sheet lies that has this place, 3 * group + nth (Early::new) */
+byte lying[3 * CAP];             /* ReorderBuffer.groups: group g is at 3 * g, with the nth of its sheets at 3 * g + n */
+byte noted[CAP];                 /* ReorderBuffer.places: where the sheet lies that has this place, 3 * group + nth (ReorderBuffer::new) */
 
 /* What is only watched. */
 bool fault;                      /* something failed */
@@ -147,7 +147,7 @@ byte swept;
 #define FIRST(h) ((h) & 1 -> 0 : ((h) & 2 -> 1 : ((h) & 4 -> 2 : ((h) & 8 -> 3 : ((h) & 16 -> 4 : 99)))))
 
 #ifdef SPENT
-/* Memory of groups is counted from 1. `there` has a bit for each that there is; there are never more than sheets. The
+/* Memory of groups is advanced from 1. `there` has a bit for each that there is; there are never more than sheets. The
    texts of a group are what was last written to its memory, wherever the group lies. */
 chan going = [CAP] of { byte };          /* RunInput.spent */
 byte there;
@@ -168,7 +168,7 @@ byte memory_of[CAP];                     /* that of the group that lies there */
 #endif
 
 #ifdef TURNS
-/* Turns::go_on with stints of one page or batch, and Turns::wait: who has slept for long goes on without a turn. */
+/* Baton::pass_if_due with stints of one page or batch, and Baton::wait: who has slept for long goes on without a turn. */
 inline go_on(turn, has)
 {
 	if :: has -> atomic { turn = false; has = false } :: else fi;
@@ -179,7 +179,7 @@ inline go_on(turn, has)
 #endif
 	fi
 }
-/* Turns::end, Turns::give */
+/* Baton::end, Baton::give */
 #define END_TURN(turn, has) if :: has -> atomic { turn = false; has = false } :: else fi
 #define GIVE(turn) turn = false
 #endif
@@ -608,7 +608,7 @@ over:
 	skip
 }
 
-/* write_all, write_text, write_in_pieces, counted: the sink takes it, or fails. n is how many sheets, 0 for header and
+/* write_all, write_text, write_in_pieces, advanced: the sink takes it, or fails. n is how many sheets, 0 for header and
    trailer. */
 inline hand_to_sink(sheet, n)
 {
@@ -622,7 +622,7 @@ inline hand_to_sink(sheet, n)
 	fi
 }
 
-/* Early::place_of */
+/* ReorderBuffer::place_of */
 #define PLACE(s) ((s) % CAP)
 
 /* The group of a sheet that lies at `at`, and its text. */
@@ -633,7 +633,7 @@ inline hand_to_sink(sheet, n)
 #define TEXT_AT(at) TEXT(lying[at])
 #endif
 
-/* Early::joined, Texts::joined: a sheet came if the group that its place names is there, and has it at this
+/* ReorderBuffer::joined, Texts::joined: a sheet came if the group that its place names is there, and has it at this
    index. */
 #ifndef BAD_NOT_COMPARED
 #define HAS_COME(s) (SHEET(lying[noted[PLACE(s)]]) == (s))
@@ -644,7 +644,7 @@ inline hand_to_sink(sheet, n)
 /* Whether a sheet lies where this place says, and waits. */
 #define WAITS(p) (lying[noted[p]] != 0 && PLACE(SHEET(lying[noted[p]])) == (p) && SHEET(lying[noted[p]]) >= next)
 
-/* Early::mark: what was noted is overwritten. In a window a sheet that waits keeps its place. */
+/* ReorderBuffer::mark: what was noted is overwritten. In a window a sheet that waits keeps its place. */
 inline mark_place(m, at)
 {
 	if
@@ -657,7 +657,7 @@ inline mark_place(m, at)
 	fi
 }
 
-/* Early::put, Early::mark_all: a group lies at the place of its last sheet. Whether it is free rests on the window. */
+/* ReorderBuffer::put, ReorderBuffer::mark_all: a group lies at the place of its last sheet. Whether it is free rests on the window. */
 #ifndef BAD_PLACE_OF_FIRST
 #define OWN_PLACE(m0, m1, m2) PLACE(LAST(m0, m1, m2))
 #else
@@ -707,7 +707,7 @@ inline give_back(which)
 	fi
 }
 
-/* Early::take_written: the group that lies at the place of this sheet, if it is its last. */
+/* ReorderBuffer::take_written: the group that lies at the place of this sheet, if it is its last. */
 #if defined(BAD_TAKEN_WITH_ANY)
 #define OWN_GROUP(s) GROUP(noted[PLACE(s)])
 #define IS_WRITTEN(g, s) true
@@ -780,7 +780,7 @@ init
 	byte memory;
 #endif
 
-	/* The table: run_plan, gather_plan, gather_on. Ready::by_right, most_puts_in_all: the pass has room for all puts. */
+	/* The table: run_plan, gather_plan, gather_objects. Ready::by_right, most_puts_in_all: the pass has room for all puts. */
 	d_step {
 		n = 0;
 		do
@@ -813,8 +813,8 @@ init
 		n++
 	:: else -> n = 0; break
 	od;
-	/* gather_at, run_workers, start_preparers, start_imposers; each preparer's room by
-	   RunInput::split_preparer, Shared::room_for, most_puts, with_page, Ready::split_with_room; an imposer has none
+	/* gather_on_threads, run_workers, start_preparers, start_imposers; each preparer's room by
+	   RunInput::split_preparer, Shared::room_for, most_puts, with_puts_of, Ready::split_with_room; an imposer has none
 	   (RunInput::split, Ready::split) */
 #ifdef F_START
 	do
@@ -910,13 +910,13 @@ refused:
 	LIFT;                              /* RunInput::stop */
 #endif
 join:
-	/* join_preparers, join_imposers, merge, RunInput::join; or the end of the scope (gather_by) */
+	/* join_preparers, join_imposers, merge, RunInput::join; or the end of the scope (run_threads) */
 	alive == 0;
 	if
 	:: !gathered -> assert(wrote == 0 && fault)
 	:: gathered && oom -> assert(fault)
 	:: gathered && !oom ->
-		/* gather_at, finish, conclude, write_rest, write_next */
+		/* gather_on_threads, finish, conclude, write_rest, write_next */
 		do
 		:: !halted && next < S ->
 			if

@@ -13,7 +13,7 @@ use Rattle.clap.specs.declared.builder.action.ArgAction.TheVariants.{Set}
 use Rattle.clap.proofs.SimpleLemmas.{is_false, is_nil}
 use Rattle.clap.specs.declared.builder.arg.Arg.{Arg}
 use Rattle.clap.specs.declared.builder.command.Command.{Command}
-use Rattle.command_words.specs.Arguments.{are_distinct, fits, is_met, is_own_id}
+use Rattle.command_words.specs.Arguments.{are_distinct, stands_by_itself, is_met, is_own_id}
 
 both : (a b : Bool) → (a && b) ≡ true → (a ≡ true) × (b ≡ true)
 both true b e = (refl, e)
@@ -55,13 +55,13 @@ own_facts id e =
     let q = both _ _ p.1 in
     (unlike id [] p.0, unlike id (codes "help") q.0, unlike id (codes "version") q.1)
 
-parts : (r : Rule) → fits r ≡ true → (r.is_simple ≡ true) × (r.is_free ≡ true) × (is_own_id r.id ≡ true)
+parts : (r : Rule) → stands_by_itself r ≡ true → (r.is_simple ≡ true) × (r.is_free ≡ true) × (is_own_id r.id ≡ true)
 parts r e =
     let p = both _ _ e in
     let q = both _ _ p.1 in
     (p.0, q.0, q.1)
 
-pub fits_chain : (a : Arg) → fits (rule_of a) ≡ true → FitsChain a
+pub fits_chain : (a : Arg) → stands_by_itself (rule_of a) ≡ true → FitsChain a
 fits_chain a e =
     let p = parts (rule_of a) e in
     let s = simple_facts a p.0 in
@@ -70,7 +70,7 @@ fits_chain a e =
     let auto : IsAuto a → ⊥ = λ auto. elim auto [ inl h ↦ own.1 h | inr h ↦ own.2 h ] in
     ((f.0, f.1, s.0, s.1), s.3, own.0, auto)
 
-pub takes_a_value : (a : Arg) → (rule_of a).required ≡ true → (rule_of a).action ≡ Some Set → (rule_of a).range ≡ None → fits (rule_of a) ≡ true → TakesValue a
+pub takes_a_value : (a : Arg) → (rule_of a).required ≡ true → (rule_of a).action ≡ Some Set → (rule_of a).range ≡ None → stands_by_itself (rule_of a) ≡ true → TakesValue a
 takes_a_value a required set one e =
     let s = simple_facts a (parts (rule_of a) e).0 in
     let least : (unwrap_or_range a.num_vals).start_inclusive ≡ 1 = ap (λ r. (unwrap_or_range r).start_inclusive) one in
@@ -78,13 +78,13 @@ takes_a_value a required set one e =
 
 -- ---- several
 
-pub each_fits : (xs : List Arg) → list_all fits (map rule_of xs) ≡ true → All FitsChain xs
+pub each_fits : (xs : List Arg) → list_all stands_by_itself (map rule_of xs) ≡ true → All FitsChain xs
 each_fits [] e k d lt = absurd (omega arith)
 each_fits (x ∷ xs) e zero d lt = fits_chain x (both _ _ e).0
 each_fits (x ∷ xs) e (suc k) d lt = each_fits xs (both _ _ e).1 k d (omega arith)
 
 -- the rules of a chain
-pub chain_app : (c d : Command) (xs : List Arg) → AddsInTurn AddsArg c xs d → list_all fits (map rule_of xs) ≡ true
+pub chain_app : (c d : Command) (xs : List Arg) → AddsInTurn AddsArg c xs d → list_all stands_by_itself (map rule_of xs) ≡ true
     → app_of d ≡ fold with_rule (app_of c) (map rule_of xs)
 chain_app c d [] h e = ap app_of (sym h)
 chain_app c d (x ∷ xs) h e =

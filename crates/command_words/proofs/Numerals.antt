@@ -1,4 +1,4 @@
--- A text as a number: `number_of` reads it as `u32` does.
+-- A text as a number: `u32_of` reads it as `u32` does.
 use Rattle.std.proofs.Common.{◌≡◌, ◌&&◌, ap, refl, true, false, Bool, List, [], ◌∷◌, ℕ, length, Option, Some, None, Result, Ok, Err, nat_lt, lt-ltb, ltb-true}
 use Rattle.std.specs.Prelude.{⊤}
 use Rattle.std.specs.List.{list_all}
@@ -7,7 +7,7 @@ use Rattle.std.specs.Str.Parse.{AllDigits, ParsesUnsigned, digits_value, without
 use Rattle.clap.specs.Matches.{ReadsOne}
 use Rattle.clap.specs.ValueTests.{is_numeral}
 use Rattle.clap.proofs.WalkLemmas.{both}
-use Rattle.command_words.specs.Matches.{number_of}
+use Rattle.command_words.specs.Matches.{u32_of}
 
 digits_pass : (ds : List ℕ) → AllDigits 10 ds → list_all (λ d. nat_lt (digit_value d) 10) ds ≡ true
 digits_pass [] h = refl
@@ -22,11 +22,11 @@ digits_from (d ∷ ds) e =
 abbrev is_number : List ℕ → Bool
 is_number ds = is_numeral ds && nat_lt (digits_value 10 ds) 4294967296
 
--- `number_of` reads a text as `u32` does
-pub reads_number : (t : List ℕ) → ReadsOne {T = ℕ} {E = ⊤} (λ bs r. ParsesUnsigned 32 10 bs r) t (number_of t)
+-- `u32_of` reads a text as `u32` does
+pub reads_number : (t : List ℕ) → ReadsOne {T = ℕ} {E = ⊤} (λ bs r. ParsesUnsigned 32 10 bs r) t (u32_of t)
 reads_number t = go (is_number (without_leading_plus t)) refl
   where
-    go : (b : Bool) → is_number (without_leading_plus t) ≡ b → ReadsOne {T = ℕ} {E = ⊤} (λ bs r. ParsesUnsigned 32 10 bs r) t (number_of t)
+    go : (b : Bool) → is_number (without_leading_plus t) ≡ b → ReadsOne {T = ℕ} {E = ⊤} (λ bs r. ParsesUnsigned 32 10 bs r) t (u32_of t)
     go true e =
         let outer = both (is_numeral (without_leading_plus t)) _ e in
         let inner = both _ _ outer.0 in
@@ -40,14 +40,14 @@ reads_number t = go (is_number (without_leading_plus t)) refl
         )
 
 -- what `u32` reads from a text
-pub number_read : (E : Type 0) (G : List ℕ → Result ℕ E → Type 0) (t : List ℕ) (r : Option ℕ) → ((r : Result ℕ E) → G t r → ParsesUnsigned 32 10 t r) → ReadsOne G t r → r ≡ number_of t
+pub number_read : (E : Type 0) (G : List ℕ → Result ℕ E → Type 0) (t : List ℕ) (r : Option ℕ) → ((r : Result ℕ E) → G t r → ParsesUnsigned 32 10 t r) → ReadsOne G t r → r ≡ u32_of t
 number_read E G t (Some v) parse h =
     let p = parse (Ok v) h in
     let ds = without_leading_plus t in
     rw (lt-ltb 0 (length ds) p.0.0.0, digits_pass ds p.0.0.1, lt-ltb (digits_value 10 ds) 4294967296 p.0.1) (ap Some p.1)
 number_read E G t None parse h = go (is_number (without_leading_plus t)) refl
   where
-    go : (b : Bool) → is_number (without_leading_plus t) ≡ b → None ≡ number_of t
+    go : (b : Bool) → is_number (without_leading_plus t) ≡ b → None ≡ u32_of t
     go false e = rw e refl
     go true e =
         let outer = both (is_numeral (without_leading_plus t)) _ e in

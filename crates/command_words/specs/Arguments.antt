@@ -9,8 +9,8 @@ abbrev pub is_own_id : Text → Bool
 is_own_id id = not (bytes_eq id []) && (not (bytes_eq id (codes "help")) && not (bytes_eq id (codes "version")))
 
 -- an argument that counts for itself alone, whatever is beside it
-abbrev pub fits : Rule → Bool
-fits r = r.is_simple && (r.is_free && is_own_id r.id)
+abbrev pub stands_by_itself : Rule → Bool
+stands_by_itself r = r.is_simple && (r.is_free && is_own_id r.id)
 
 -- one of the rules has the id
 abbrev pub is_met : Text → List Rule → Bool

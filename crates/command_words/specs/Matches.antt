@@ -12,11 +12,11 @@ has_true None = false
 has_true (Some text) = bytes_eq text (codes "true")
 
 -- a whole number of 32 bits, in digits with or without a plus before them
-abbrev pub number_of : List ℕ → Option ℕ
-number_of text =
+abbrev pub u32_of : List ℕ → Option ℕ
+u32_of text =
     let digits = without_leading_plus text in
     if is_numeral digits && nat_lt (digits_value 10 digits) (2 ^ 32) then Some (digits_value 10 digits) else None
 
 -- the number that the text is, if there is a text
 abbrev pub number_named : Option (List ℕ) → Option ℕ
-number_named text = option_and_then number_of text
+number_named text = option_and_then u32_of text

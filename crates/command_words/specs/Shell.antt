@@ -6,8 +6,8 @@ use Rattle.rules.specs.Numbers.{greatest_number, number_text}
 -- ---- lengths
 
 -- a length as a number of 10^-9 of a unit, which is so many grains in 10^-9; if it is one, and none that is too large
-abbrev pub number_in : (length : ℤ) → (grains : ℕ) → Option ℤ
-number_in z grains = if int_lt z (pos 0) then None
+abbrev pub in_units : (length : ℤ) → (grains : ℕ) → Option ℤ
+in_units z grains = if int_lt z (pos 0) then None
     else (if nat_abs z % grains == 0
     then (if nat_lt greatest_number (nat_abs z / grains) then None else Some (pos (nat_abs z / grains)))
     else None)
@@ -18,10 +18,10 @@ in_unit (Some number) unit other = number_text number ++ unit
 
 -- in the first unit of which it is such a number
 abbrev pub length_text : (length : ℤ) → List ℕ
-length_text z = in_unit (number_in z 127) (codes "pt")
-    (in_unit (number_in z 360) (codes "mm")
-    (in_unit (number_in z 9_144) (codes "in")
-    (in_unit (number_in z 3_600) (codes "cm") [])))
+length_text z = in_unit (in_units z 127) (codes "pt")
+    (in_unit (in_units z 360) (codes "mm")
+    (in_unit (in_units z 9_144) (codes "in")
+    (in_unit (in_units z 3_600) (codes "cm") [])))
 
 -- ---- words
 
@@ -46,10 +46,10 @@ files_text (Some infile) None = file_text infile
 files_text None (Some outfile) = file_text (codes "/dev/stdin") ++ file_text outfile
 files_text (Some infile) (Some outfile) = file_text infile ++ file_text outfile
 
-abbrev pub sides_text : Option ℕ → List ℕ
-sides_text None = []
-sides_text (Some sides) = codes " -s " ++ decimal sides
+abbrev pub sides_option : Option ℕ → List ℕ
+sides_option None = []
+sides_option (Some sides) = codes " -s " ++ decimal sides
 
-abbrev pub border_text : Option ℤ → List ℕ
-border_text None = []
-border_text (Some width) = codes " -d " ++ length_text width
+abbrev pub border_option : Option ℤ → List ℕ
+border_option None = []
+border_option (Some width) = codes " -d " ++ length_text width

@@ -11,11 +11,11 @@ pub fn border_named(paper: &Paper, width: Option<&str>) -> Option<Option<Grains>
 {
     match width {
         None => Some(None),
-        Some(width) => border_of(length_named(paper, width.as_bytes())?),
+        Some(width) => border_width(length_named(paper, width.as_bytes())?),
     }
 }
 
-fn border_of(width: Grains) -> Option<Option<Grains>>
+fn border_width(width: Grains) -> Option<Option<Grains>>
     ensures { result ≡ meaning.border_of width }
 {
     if width.get() >= 1 {

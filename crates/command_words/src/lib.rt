@@ -13,5 +13,5 @@ pub use caret::{caret_below, group_place, item_place, large_place, range_place};
 pub use files::name_of;
 pub use matches::{is_set, number_of, owned, text_of};
 pub use shell::{
-    append_border, append_files, append_if, append_length, append_sides, begins_with_minus,
+    append_border_option, append_files, append_if, append_length, append_sides, begins_with_minus,
 };

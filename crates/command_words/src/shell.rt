@@ -28,22 +28,22 @@ pub fn begins_with_minus(text: &str) -> bool
 pub fn append_length(length: Grains, out: &mut Vec<u8>) -> Result<(), AllocError>
     ensures { OnOk result (out.new.items ≡ out.old.items ++ meaning.length_text length) }
 {
-    if let Some(points) = number_in(length, 127) {
-        return append_number(points, b"pt", out);
+    if let Some(points) = in_units(length, 127) {
+        return append_with_unit(points, b"pt", out);
     }
-    if let Some(millimetres) = number_in(length, 360) {
-        return append_number(millimetres, b"mm", out);
+    if let Some(millimetres) = in_units(length, 360) {
+        return append_with_unit(millimetres, b"mm", out);
     }
-    if let Some(inches) = number_in(length, 9_144) {
-        return append_number(inches, b"in", out);
+    if let Some(inches) = in_units(length, 9_144) {
+        return append_with_unit(inches, b"in", out);
     }
-    match number_in(length, 3_600) {
-        Some(centimetres) => append_number(centimetres, b"cm", out),
+    match in_units(length, 3_600) {
+        Some(centimetres) => append_with_unit(centimetres, b"cm", out),
         None => Ok(()),
     }
 }
 
-fn append_number(number: Number, unit: &[u8], out: &mut Vec<u8>) -> Result<(), AllocError>
+fn append_with_unit(number: Number, unit: &[u8], out: &mut Vec<u8>) -> Result<(), AllocError>
     ensures { OnOk result (out.new.items ≡ out.old.items ++ (number_text number ++ unit.now)) }
 {
     print_number(number, out)?;
@@ -51,9 +51,9 @@ fn append_number(number: Number, unit: &[u8], out: &mut Vec<u8>) -> Result<(), A
 }
 
 /// A length as a number of a unit, 10^-9 of which is this number of grains.
-fn number_in(length: Grains, grains: u128) -> Option<Number>
+fn in_units(length: Grains, grains: u128) -> Option<Number>
     requires { 0 < grains }
-    ensures { result ≡ meaning.number_in length grains }
+    ensures { result ≡ meaning.in_units length grains }
 {
     let length = length.get();
     if length < 0 {
@@ -72,7 +72,7 @@ fn number_in(length: Grains, grains: u128) -> Option<Number>
 
 /// Appends the option for the number of sides of a signature, if there are signatures.
 pub fn append_sides(sides: Option<u32>, out: &mut Vec<u8>) -> Result<(), AllocError>
-    ensures { OnOk result (out.new.items ≡ out.old.items ++ meaning.sides_text sides) }
+    ensures { OnOk result (out.new.items ≡ out.old.items ++ meaning.sides_option sides) }
 {
     match sides {
         Some(sides) => {
@@ -85,8 +85,8 @@ pub fn append_sides(sides: Option<u32>, out: &mut Vec<u8>) -> Result<(), AllocEr
 }
 
 /// Appends the option for a border of this width, if there is one.
-pub fn append_border(border: Option<Grains>, out: &mut Vec<u8>) -> Result<(), AllocError>
-    ensures { OnOk result (out.new.items ≡ out.old.items ++ meaning.border_text border) }
+pub fn append_border_option(border: Option<Grains>, out: &mut Vec<u8>) -> Result<(), AllocError>
+    ensures { OnOk result (out.new.items ≡ out.old.items ++ meaning.border_option border) }
 {
     match border {
         Some(width) => {

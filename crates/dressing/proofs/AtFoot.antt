@@ -7,7 +7,7 @@ use Rattle.rules.specs.Papers.{Paper}
 use Rattle.rules.specs.Placement.{Point, moved, offset, turned}
 use Rattle.rules.specs.Specification.{Item, Turn, Upright, Left, Half, Right}
 use Rattle.layouts.specs.Laws.{Cell, IsInMiddle, IsMean, IsPaper}
-use Rattle.layouts.specs.Placed.{finer, stands, times}
+use Rattle.layouts.specs.Placed.{finer, stands, multiplied}
 use Rattle.layouts.proofs.InGrid.{sides_are}
 use Rattle.dressing.specs.AtFoot.{IsAtFoot, NumbersAreAtFoot, high_as_held, number_point}
 use Rattle.sheet_text.specs.PageNumbers.{above_foot, middle}
@@ -61,7 +61,7 @@ no_scale s = let none : s * 0 ≡ 0 = omega arith in pos-*ℤ-pos s 0 ∙ ap pos
 stands_so : (page : Paper) (item : Item) (t : Turn) (s : ℕ) (a b n m : ℤ) → item.turn ≡ t → item.scale ≡ pos s → pos s *ℤ a ≡ n → pos s *ℤ b ≡ m
     → stands page item (point a b) ≡ scaled_point t (offset page item).x (offset page item).y n m
 stands_so page item t s a b n m turned_so scale_is e f =
-    ap₂ (λ (u : Turn) (c : ℤ). moved (finer (offset page item)) (turned u (times c (point a b)))) turned_so scale_is
+    ap₂ (λ (u : Turn) (c : ℤ). moved (finer (offset page item)) (turned u (multiplied c (point a b)))) turned_so scale_is
     ∙ ap₂ (λ (c d : ℤ). moved (finer (offset page item)) (turned t (point c d))) e f
 
 in_middle : (t : Turn) (page : Paper) (cell : Cell) (item : Item) (s : ℕ) → IsPaper page → item.turn ≡ t → item.scale ≡ pos s → IsInMiddle page cell item

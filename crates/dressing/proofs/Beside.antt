@@ -4,10 +4,10 @@ use Rattle.std.specs.Prelude.{map}
 use Rattle.std.specs.List.{AllByRecursion, range_with_len}
 use Rattle.std.proofs.Math.Nat.{mul-le-mul_right}
 use Rattle.layouts.specs.Placed.{Room}
-use Rattle.layouts.specs.Cells.{Grid, high, kept, step_across}
+use Rattle.layouts.specs.Cells.{Grid, high, kept_length, step_across}
 use Rattle.layouts.specs.Laws.{Cell, cell_at}
 use Rattle.dressing.specs.Ruled.{line_below, line_count, note_cell, note_line, row_lines}
-use Rattle.dressing.specs.Laws.{IsInCell, IsOutsideCell, LinesAreBeside, LinesAreInCell}
+use Rattle.dressing.specs.Laws.{StrokeIsInCell, IsOutsideCell, LinesAreBeside, LinesAreInCell}
 use Rattle.dressing.proofs.Outside.{at_most, each}
 
 abbrev cells : (rows columns : ℕ) → Bool → Grid
@@ -26,7 +26,7 @@ each_of P f first (suc n) most few h = (h first (omega (arith, few)), each_of P 
 reaches : (most height k : ℕ) → most ≡ (height - 1) / 2_400_000 → k ≤ most → k * 2_400_000 ≤ height
 reaches most height k is le = omega (arith, is, le)
 
-level_in : (left bottom width height depth : ℕ) → depth ≤ height → IsInCell (cell_of left bottom width height) (line_below false (cell_of left bottom width height) depth)
+level_in : (left bottom width height depth : ℕ) → depth ≤ height → StrokeIsInCell (cell_of left bottom width height) (line_below false (cell_of left bottom width height) depth)
 level_in left bottom width height depth within = record {
   left = (at_most (omega arith), at_most (omega arith));
   right = (at_most (omega arith), at_most (omega arith));
@@ -34,7 +34,7 @@ level_in left bottom width height depth within = record {
   top = (at_most (omega arith), at_most (omega arith));
 }
 
-upright_in : (left bottom width height depth : ℕ) → depth ≤ width → IsInCell (cell_of left bottom width height) (line_below true (cell_of left bottom width height) depth)
+upright_in : (left bottom width height depth : ℕ) → depth ≤ width → StrokeIsInCell (cell_of left bottom width height) (line_below true (cell_of left bottom width height) depth)
 upright_in left bottom width height depth within = record {
   left = (at_most (omega arith), at_most (omega arith));
   right = (at_most (omega (arith, within)), at_most (omega (arith, within)));
@@ -43,7 +43,7 @@ upright_in left bottom width height depth within = record {
 }
 
 line_in : (room : Room) (rows columns : ℕ) (b : Bool) (row k : ℕ) → k ≤ line_count room (cells rows columns b)
-    → IsInCell (note_cell room (cells rows columns b) row) (note_line room (cells rows columns b) row k)
+    → StrokeIsInCell (note_cell room (cells rows columns b) row) (note_line room (cells rows columns b) row k)
 line_in room rows columns false row k le =
     let g = cells rows columns false in
     let c = note_cell room g row in
@@ -55,7 +55,7 @@ line_in room rows columns true row k le =
 
 pub lines_are_in_cell : LinesAreInCell
 lines_are_in_cell room g row =
-    each_of (IsInCell (note_cell room g row)) (note_line room g row) 1 (line_count room g) (line_count room g) (omega arith)
+    each_of (StrokeIsInCell (note_cell room g row)) (note_line room g row) 1 (line_count room g) (line_count room g) (omega arith)
     (line_in room g.rows g.columns g.turned row)
 
 -- ---- beside the others
@@ -84,13 +84,13 @@ line_beside room rows columns false row column less other k =
     let c = note_cell room g other in
     let d = cell_at room g row column in
     level_beside c.left c.bottom c.width c.height (k * 2_400_000) d.left d.bottom d.width d.height
-    (before (kept room.trim room.left) (step_across room g) (kept room.trim room.gap_across) column columns less)
+    (before (kept_length room.trim room.left) (step_across room g) (kept_length room.trim room.gutter_across) column columns less)
 line_beside room rows columns true row column less other k =
     let g = cells rows columns true in
     let c = note_cell room g other in
     let d = cell_at room g row column in
     upright_beside c.left c.bottom c.width c.height (k * 2_400_000) d.left d.bottom d.width d.height
-    (before (kept room.trim room.bottom) (step_across room g) (kept room.trim room.gap_up) column columns less)
+    (before (kept_length room.trim room.bottom) (step_across room g) (kept_length room.trim room.gutter_up) column columns less)
 
 pub lines_are_beside : LinesAreBeside
 lines_are_beside room g row column less =

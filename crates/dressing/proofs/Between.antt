@@ -4,10 +4,10 @@ use Rattle.std.specs.Prelude.{ℤ, pos, ◌≤ℤ◌, ◌+ℤ◌, ◌-ℤ◌, na
 use Rattle.std.specs.List.{AllByRecursion, range_with_len}
 use Rattle.std.proofs.lemmas.Int.{ints}
 use Rattle.layouts.specs.Placed.{Room}
-use Rattle.layouts.specs.Cells.{Along, Grid, along_height, along_width, cell, high, kept, step, wide, gap_at, grains_in, cells_across, cells_up}
+use Rattle.layouts.specs.Cells.{Along, Grid, along_height, along_width, cell, high, kept_length, pitch, wide, gap_at, grains_in, cells_across, cells_up}
 use Rattle.layouts.proofs.InGrid.{both_true}
-use Rattle.dressing.specs.Strokes.{far_end, has_room, has_room_round, level_at, longest, marks_round, near_end, upright_at}
-use Rattle.dressing.specs.Between.{AreMarksOf, IsLevel, IsUpright, MarksAreBetween, MarksLevel, MarksUpright, half_gap, lines_between}
+use Rattle.dressing.specs.Strokes.{far_end, has_half_gap, has_room_round, level_at, longest, marks_round, near_end, upright_at}
+use Rattle.dressing.specs.Between.{AreMarksOf, IsLevel, IsUpright, MarksAreBetween, MarksLevel, MarksUpright, half_gap, line_numbers}
 use Rattle.dressing.proofs.Outside.{half, not_zero}
 
 abbrev cells : (rows columns : ℕ) → Bool → Grid
@@ -17,7 +17,7 @@ cells rows columns turned = record { rows = rows; columns = columns; turned = tu
 
 -- where part k begins
 abbrev start : Along → (side parts k : ℕ) → ℕ
-start a side parts k = kept a.trim a.before + k * step a side parts
+start a side parts k = kept_length a.trim a.before + k * pitch a side parts
 
 record IsLine (a : Along) (side parts k : ℕ) : Type 0 where
   pub after : 0 < k → gap_at a side parts k ≡ grains_in (start a side parts (k - 1) + cell a side parts) + half_gap a
@@ -48,25 +48,25 @@ no_more a b e = search (rules, e)
 gap_in_margin : (e g s k : ℕ) → 635_000 * g ≤ 1_270_000 * e → 635_000 * g ≤ 1_270_000 * (e + k * s)
 gap_in_margin e g s k le = omega (arith, le)
 
-line_is : (a : Along) (side parts k : ℕ) → 0 < cell a side parts → 635_000 * kept a.trim a.gap ≤ grains_in (start a side parts k) → IsLine a side parts k
+line_is : (a : Along) (side parts k : ℕ) → 0 < cell a side parts → 635_000 * kept_length a.trim a.gap ≤ grains_in (start a side parts k) → IsLine a side parts k
 line_is a side parts k wide has = record {
-  after = λ some. after_part (kept a.trim a.before) (kept a.trim a.gap) (step a side parts) k wide some;
-  before = before_part (grains_in (start a side parts k)) (635_000 * kept a.trim a.gap) has;
+  after = λ some. after_part (kept_length a.trim a.before) (kept_length a.trim a.gap) (pitch a side parts) k wide some;
+  before = before_part (grains_in (start a side parts k)) (635_000 * kept_length a.trim a.gap) has;
 }
 
 inner_line : (a : Along) (side parts k : ℕ) → 0 < cell a side parts → 0 < k → IsLine a side parts k
-inner_line a side parts k wide some = line_is a side parts k wide (gap_in_part (kept a.trim a.before) (kept a.trim a.gap) (step a side parts) k wide some)
+inner_line a side parts k wide some = line_is a side parts k wide (gap_in_part (kept_length a.trim a.before) (kept_length a.trim a.gap) (pitch a side parts) k wide some)
 
-outer_line : (a : Along) (side parts k : ℕ) → 0 < cell a side parts → has_room a.before a.gap ≡ true → IsLine a side parts k
+outer_line : (a : Along) (side parts k : ℕ) → 0 < cell a side parts → has_half_gap a.before a.gap ≡ true → IsLine a side parts k
 outer_line a side parts k wide has =
     let fits = no_more a.gap (2 * a.before) (both_true (not (a.before == 0)) (nat_le a.gap (2 * a.before)) has).1 in
-    line_is a side parts k wide (gap_in_margin (kept a.trim a.before) (kept a.trim a.gap) (step a side parts) k (half (a.trim == 0) a.gap a.before fits))
+    line_is a side parts k wide (gap_in_margin (kept_length a.trim a.before) (kept_length a.trim a.gap) (pitch a side parts) k (half (a.trim == 0) a.gap a.before fits))
 
 -- the first margin across, and the first one up
-round_room : (room : Room) → has_room_round room ≡ true → (has_room room.left room.gap_across ≡ true) × (has_room room.bottom room.gap_up ≡ true)
+round_room : (room : Room) → has_room_round room ≡ true → (has_half_gap room.left room.gutter_across ≡ true) × (has_half_gap room.bottom room.gutter_up ≡ true)
 round_room room h =
-    let all = both_true (has_room room.left room.gap_across && has_room room.right room.gap_across) (has_room room.bottom room.gap_up && has_room room.top room.gap_up) h in
-    ((both_true (has_room room.left room.gap_across) (has_room room.right room.gap_across) all.0).0, (both_true (has_room room.bottom room.gap_up) (has_room room.top room.gap_up) all.1).0)
+    let all = both_true (has_half_gap room.left room.gutter_across && has_half_gap room.right room.gutter_across) (has_half_gap room.bottom room.gutter_up && has_half_gap room.top room.gutter_up) h in
+    ((both_true (has_half_gap room.left room.gutter_across) (has_half_gap room.right room.gutter_across) all.0).0, (both_true (has_half_gap room.bottom room.gutter_up) (has_half_gap room.top room.gutter_up) all.1).0)
 
 -- ---- among the cells of a grid
 
@@ -175,7 +175,7 @@ all_marked room rows columns false some_wide some_high = lines_marked room rows 
 all_marked room rows columns true some_wide some_high = lines_marked room rows columns true some_high some_wide
 
 -- the lines between some cells
-between_some : (P : ℕ → Type 0) (parts : ℕ) → ((k : ℕ) → 0 < k → k ≤ parts → P k) → AllByRecursion P (lines_between parts)
+between_some : (P : ℕ → Type 0) (parts : ℕ) → ((k : ℕ) → 0 < k → k ≤ parts → P k) → AllByRecursion P (line_numbers parts)
 between_some P zero h = tt
 between_some P (suc n) h = each_line P 1 (suc n - 1) (suc n) (omega arith) (λ k from to. h k (omega (arith, from)) to)
 

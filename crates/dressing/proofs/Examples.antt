@@ -12,12 +12,12 @@ use Rattle.layouts.specs.Placed.{Room}
 use Rattle.layouts.specs.Cells.{Grid}
 use Rattle.dressing.specs.Strokes.{cut_marks, fold_marks, outer_cut_marks}
 use Rattle.dressing.specs.Ruled.{note_lines}
-use Rattle.dressing.specs.Drawn.{mark_lines, marked, stroke_line}
+use Rattle.dressing.specs.Drawn.{mark_lines, strokes_added, stroke_line}
 
 -- with the same margin along all edges, and the same gap across and up
 abbrev room_in : Paper → (edge gap : ℕ) → Room
 room_in q e d =
-    record { paper = q; left = e; right = e; bottom = e; top = e; gap_across = d; gap_up = d; trim = 0 }
+    record { paper = q; left = e; right = e; bottom = e; top = e; gutter_across = d; gutter_up = d; trim = 0 }
 
 -- a sheet of 100 by 200 points with a margin of 10 points and a gap of 4, in two columns
 abbrev small : Room
@@ -94,8 +94,8 @@ each_edge = record {
   right = 1_200_000;
   bottom = 1_400_000;
   top = 1_600_000;
-  gap_across = 400_000;
-  gap_up = 600_000;
+  gutter_across = 400_000;
+  gutter_up = 600_000;
   trim = 0;
 }
 
@@ -153,7 +153,7 @@ unfolding digits
 one_row = refl
 
 -- what is added to a sheet
-added : (marked (fold_marks bare columns) undressed).finish 0 (points 100 200)
+added : (strokes_added (fold_marks bare columns) undressed).finish 0 (points 100 200)
     ≡ codes "gsave 0 setgray .25 setlinewidth [] 0 setdash"
     ∷ codes "newpath 50 0 moveto 50 18 lineto stroke"
     ∷ codes "newpath 50 200 moveto 50 182 lineto stroke"

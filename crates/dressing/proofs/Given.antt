@@ -4,8 +4,8 @@ use Rattle.std.specs.Prelude.{if◌then◌else◌, nat_lt, Option, Some, None}
 use Rattle.std.proofs.lemmas.Bool.{lt-ltb}
 use Rattle.rules.specs.Papers.{Paper}
 use Rattle.rules.specs.Dress.{Dress}
-use Rattle.papers.specs.Told.{box_line, box_lines, exact_box_line, is_whole, whole_paper, medium_line, size_name, telling_of}
-use Rattle.sheet_text.specs.Dressings.{told_if, with_numbers}
+use Rattle.papers.specs.Told.{box_line, box_lines, exact_box_line, is_in_whole_points, whole_paper, medium_line, size_name, telling_of}
+use Rattle.sheet_text.specs.Dressings.{report_lines_if, with_numbers}
 use Rattle.sheet_text.specs.declared.numbers.Numbers.{Numbers}
 use Rattle.dressing.specs.Drawn.{mark_lines}
 use Rattle.dressing.specs.Numbered.{NoMarksAreTelling, drawn_on}
@@ -16,7 +16,7 @@ abbrev pub other_medium : Paper → List ℕ
 other_medium r = medium_line (codes "%%+ ") (size_name r) r
 
 -- the box, and after it the exact one
-pub both_boxes : (p : Paper) (old mid new : List (List ℕ)) → mid ≡ old ++ box_line (whole_paper p) ∷ [] → is_whole p ≡ false → new ≡ mid ++ exact_box_line p ∷ []
+pub both_boxes : (p : Paper) (old mid new : List (List ℕ)) → mid ≡ old ++ box_line (whole_paper p) ∷ [] → is_in_whole_points p ≡ false → new ≡ mid ++ exact_box_line p ∷ []
     → new ≡ old ++ box_lines p
 both_boxes p old mid new first isnt e =
     e ∙ ap (λ (t : List (List ℕ)). t ++ exact_box_line p ∷ []) first ∙ append_assoc old (box_line (whole_paper p) ∷ []) (exact_box_line p ∷ [])
@@ -26,7 +26,7 @@ both_boxes p old mid new first isnt e =
 abbrev pub kept : (header : List (List ℕ)) (tells : Bool) (finish : List (List ℕ)) → Option Numbers → Dress
 kept header tells finish numbers = record {
   header = header;
-  start = λ s paper. told_if tells paper;
+  start = λ s paper. report_lines_if tells paper;
   finish = λ s paper. with_numbers numbers finish s;
 }
 

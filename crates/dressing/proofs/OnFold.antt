@@ -2,7 +2,7 @@
 use Rattle.std.proofs.Common.{arith, ◌≡◌, ℕ, ◌+◌, ◌-◌, ◌*◌, ◌<◌, Bool, true, false, refl, ap, None}
 use Rattle.std.specs.Prelude.{pos, nat_abs, ◌==◌, if◌then◌else◌}
 use Rattle.rules.specs.Papers.{Paper}
-use Rattle.layouts.specs.Cells.{Along, along_height, kept, step, gap_at}
+use Rattle.layouts.specs.Cells.{Along, along_height, kept_length, pitch, gap_at}
 use Rattle.layouts.specs.Fitted.{binding_setting_of, fitted, fitted_back, scale_on, why_no_scale_on}
 use Rattle.layouts.specs.Grids.{beside}
 use Rattle.layouts.specs.Laws.{HasPlace, IsHalfTurnOf, IsPaper}
@@ -17,8 +17,8 @@ middle_at : (untrimmed : Bool) (edge part gap : ℕ)
 middle_at true edge part gap = omega arith
 middle_at false edge part gap = omega arith
 
-pub mark_is : (a : Along) (side : ℕ) → gap_at a side 2 1 ≡ 635_000 * (fold a side - kept a.trim 0)
-mark_is a side = middle_at (a.trim == 0) (kept a.trim a.before) (step a side 2) a.gap
+pub mark_is : (a : Along) (side : ℕ) → gap_at a side 2 1 ≡ 635_000 * (fold a side - kept_length a.trim 0)
+mark_is a side = middle_at (a.trim == 0) (kept_length a.trim a.before) (pitch a side 2) a.gap
 
 one_of_two : (b : Bool) → ((if b then 1 else 0) < 2) × ((if b then 0 else 1) < 2)
 one_of_two true = (omega arith, omega arith)

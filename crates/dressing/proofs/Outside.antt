@@ -6,7 +6,7 @@ use Rattle.std.proofs.Math.Nat.{mul-le-mul_right}
 use Rattle.std.proofs.lemmas.Bool.{cases_lt}
 use Rattle.std.proofs.lemmas.Int.{ints}
 use Rattle.layouts.specs.Placed.{Room}
-use Rattle.layouts.specs.Cells.{Along, Grid, along_height, along_width, cell, high, kept, step, wide, grains_in, cells_across, cells_up}
+use Rattle.layouts.specs.Cells.{Along, Grid, along_height, along_width, cell, high, kept_length, pitch, wide, grains_in, cells_across, cells_up}
 use Rattle.layouts.specs.Laws.{Cell, cell_at}
 use Rattle.dressing.specs.Strokes.{far_end, has_room_round, level_at, level_between, longest, near_end, upright_at, upright_between}
 use Rattle.dressing.specs.Laws.{IsInMargin, IsOutsideCell, MarksAreInMargin, MarksAreOutside, all_marks, PiecesAreLike}
@@ -24,7 +24,7 @@ one_more e s k g le = let next : (k + 1) * s ≡ k * s + s = omega arith in omeg
 
 pub pieces_are_like : PiecesAreLike
 pieces_are_like a side parts k le =
-    one_more (kept a.trim a.before) (step a side parts) k (kept a.trim a.gap) (half (a.trim == 0) a.gap a.before le)
+    one_more (kept_length a.trim a.before) (pitch a side parts) k (kept_length a.trim a.gap) (half (a.trim == 0) a.gap a.before le)
 
 -- ---- one line and one cell, along one side
 
@@ -84,20 +84,20 @@ cell_of left bottom width height = record { left = left; bottom = bottom; width 
 
 -- where the part of a side of w grains that a cell takes begins, and the whole cell
 abbrev place : Along → (w parts c : ℕ) → ℕ
-place a w parts c = kept a.trim a.before + c * step a w parts
+place a w parts c = kept_length a.trim a.before + c * pitch a w parts
 
 abbrev cell_in : Room → (a u c d : ℕ) → Cell
 cell_in room a u c d =
     cell_of (place (along_width room) (nat_abs room.paper.width) a c) (place (along_height room) (nat_abs room.paper.height) u d) (cell (along_width room) (nat_abs room.paper.width) a) (cell (along_height room) (nat_abs room.paper.height) u)
 
 upright_outside : (room : Room) (a u c d : ℕ) → 0 < cell (along_width room) (nat_abs room.paper.width) a → (k : ℕ) → AllByRecursion (IsOutsideCell (cell_in room a u c d)) (upright_at room a k)
-upright_outside room a u c d some k = elim (parted (kept room.trim room.left) (kept room.trim room.gap_across) (step (along_width room) (nat_abs room.paper.width) a) c k some) [
+upright_outside room a u c d some k = elim (parted (kept_length room.trim room.left) (kept_length room.trim room.gutter_across) (pitch (along_width room) (nat_abs room.paper.width) a) c k some) [
   | inl before ↦ let le = at_most before in (inl (inl (le, le)), (inl (inl (le, le)), tt))
   | inr behind ↦ let le = at_most behind in (inl (inr (le, le)), (inl (inr (le, le)), tt))
 ]
 
 level_outside : (room : Room) (a u c d : ℕ) → 0 < cell (along_height room) (nat_abs room.paper.height) u → (k : ℕ) → AllByRecursion (IsOutsideCell (cell_in room a u c d)) (level_at room u k)
-level_outside room a u c d some k = elim (parted (kept room.trim room.bottom) (kept room.trim room.gap_up) (step (along_height room) (nat_abs room.paper.height) u) d k some) [
+level_outside room a u c d some k = elim (parted (kept_length room.trim room.bottom) (kept_length room.trim room.gutter_up) (pitch (along_height room) (nat_abs room.paper.height) u) d k some) [
   | inl before ↦ let le = at_most before in (inr (inl (le, le)), (inr (inl (le, le)), tt))
   | inr behind ↦ let le = at_most behind in (inr (inr (le, le)), (inr (inr (le, le)), tt))
 ]

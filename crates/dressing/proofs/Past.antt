@@ -7,7 +7,7 @@ use Rattle.rules.specs.Papers.{Paper}
 use Rattle.rules.specs.Placement.{Point}
 use Rattle.rules.specs.Specification.{Item}
 use Rattle.layouts.specs.Placed.{Room, fine, stands}
-use Rattle.layouts.specs.Cells.{item_in, row_of, column_of, grains_in}
+use Rattle.layouts.specs.Cells.{item_in_cell, row_of, column_of, grains_in}
 use Rattle.layouts.specs.Laws.{Cell, LiesInCell, IsInCell as HoldsPage, cell_at}
 use Rattle.layouts.proofs.InCell.{grid_in_cell}
 use Rattle.layouts.proofs.InGrid.{fits}
@@ -46,7 +46,7 @@ pub marks_miss_pages : MarksMissPages
 marks_miss_pages page room g o s k is place trim within =
     let row = row_of o g k in
     let column = column_of o g k in
-    let item = item_in page room g o s k in
+    let item = item_in_cell page room g o s k in
     let cell = cell_at room g row column in
     let some = fits page room g s place in
     let fit = place_fits o.run o.right_to_left o.turned g k within in

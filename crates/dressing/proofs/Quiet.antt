@@ -15,7 +15,7 @@ use Rattle.sheet_text.specs.declared.numbers.Numbers.{Numbers}
 use Rattle.imposed_again.specs.MadeAgain.{AreTame, IsTameDress}
 use Rattle.papers.specs.Comments.{is_in_head}
 use Rattle.papers.specs.Found.{AreQuiet, as_printed}
-use Rattle.papers.specs.Own.{own_papers}
+use Rattle.papers.specs.Own.{papers_of_each_page}
 use Rattle.papers.specs.Told.{papers_told, telling_of}
 use Rattle.papers.proofs.Found.{papers_are_found}
 use Rattle.papers.proofs.OutputHeads.{content_is}
@@ -73,5 +73,5 @@ pub drawn_are_found : DrawnAreFound
 drawn_are_found named home border drawn all text us tellable d shut some few =
     let q = drawn_is_quiet drawn all in
     subst (λ dress. length (made_output border dress all us) ≤ most_input_bytes
-    → own_papers None named home (made_output border dress all us) (units_of (made_output border dress all us)) ≡ map (λ sheet. as_printed sheet.paper) all)
+    → papers_of_each_page None named home (made_output border dress all us) (units_of (made_output border dress all us)) ≡ map (λ sheet. as_printed sheet.paper) all)
     (sym q.0) (papers_are_found named home border (drawing_lines drawn) all text us tellable q.1 d shut some few)

@@ -11,21 +11,21 @@ use Rattle.sheet_plan.specs.OfSheets.{slots_at}
 use Rattle.imposed_again.proofs.Plainly.{no_ends_append, no_ends_decimal, no_ends_points}
 use Rattle.imposed_again.specs.Seams.{no_ends}
 use Rattle.imposed_again.specs.MadeAgain.{AreTame, IsTame, IsTameDress}
-use Rattle.sheet_text.specs.PageNumbers.{corner_text, degrees, font_text, foot_text, middle, number_line, number_lines, point_text, rise, shown_text}
+use Rattle.sheet_text.specs.PageNumbers.{corner_text, degrees, font_text, foot_text, middle, number_line, number_lines, number_point_text, rise, shown_text}
 use Rattle.sheet_text.specs.PageNumbers.{slot_lines}
-use Rattle.dressing.specs.Drawn.{mark_lines, marked, stroke_line}
-use Rattle.dressing.specs.Numbered.{numbered}
+use Rattle.dressing.specs.Drawn.{mark_lines, strokes_added, stroke_line}
+use Rattle.dressing.specs.Numbered.{with_page_numbers}
 use Rattle.sheet_text.specs.declared.numbers.Numbers.{Numbers}
 use Rattle.dressing.specs.Laws.{DrawnIsTame}
 use Rattle.dressing.specs.declared.strokes.Stroke.{Stroke}
 
-whole_point : (x y : ℤ) → no_ends (point_text x y) ≡ true
+whole_point : (x y : ℤ) → no_ends (number_point_text x y) ≡ true
 whole_point x y = no_ends_append (points_text x) (codes " " ++ points_text y) (no_ends_points x) (no_ends_append (codes " ") (points_text y) refl (no_ends_points y))
 
 whole_stroke : (s : Stroke) → no_ends (stroke_line s) ≡ true
 whole_stroke s =
-    let from = point_text s.start.0 s.start.1 in
-    let to = point_text s.end.0 s.end.1 in
+    let from = number_point_text s.start.0 s.start.1 in
+    let to = number_point_text s.end.0 s.end.1 in
     no_ends_append (codes "newpath ") (from ++ (codes " moveto " ++ (to ++ codes " lineto stroke"))) refl
     (no_ends_append from (codes " moveto " ++ (to ++ codes " lineto stroke")) (whole_point s.start.0 s.start.1)
     (no_ends_append (codes " moveto ") (to ++ codes " lineto stroke") refl
@@ -65,14 +65,14 @@ whole_degrees Right = refl
 
 whole_corner : (paper : Paper) (item : Item) → no_ends (corner_text paper item) ≡ true
 whole_corner paper item =
-    let corner = point_text (offset paper item).x (offset paper item).y in
+    let corner = number_point_text (offset paper item).x (offset paper item).y in
     no_ends_append corner (codes " translate " ++ (degrees item.turn ++ codes " rotate ")) (whole_point (offset paper item).x (offset paper item).y)
     (no_ends_append (codes " translate ") (degrees item.turn ++ codes " rotate ") refl (no_ends_append (degrees item.turn) (codes " rotate ") (whole_degrees item.turn) refl))
 
 whole_foot : (below : Option ℤ) (paper : Paper) (item : Item) → no_ends (foot_text below paper item) ≡ true
 whole_foot below paper item =
     let x = pos (middle item.scale paper.width) in
-    no_ends_append (point_text x (rise below paper item)) (codes " moveto (") (whole_point x (rise below paper item)) refl
+    no_ends_append (number_point_text x (rise below paper item)) (codes " moveto (") (whole_point x (rise below paper item)) refl
 
 whole_shown : (number : ℕ) → no_ends (shown_text number) ≡ true
 whole_shown number = no_ends_append (decimal number) (codes ") dup stringwidth pop -2 div 0 rmoveto show grestore") (no_ends_decimal number) refl
@@ -93,14 +93,14 @@ slots n [] = tt
 slots n (Blank ∷ all) = slots n all
 slots n (Placed place item paper ∷ all) = (number n place item paper, slots n all)
 
-pub marked_tamely : (strokes : List Stroke) (dress : Dress) → IsTameDress dress → IsTameDress (marked strokes dress)
+pub marked_tamely : (strokes : List Stroke) (dress : Dress) → IsTameDress dress → IsTameDress (strokes_added strokes dress)
 marked_tamely strokes dress tame = record {
   header = tame.header;
   start = tame.start;
   finish = λ s paper. both (dress.finish s paper) (mark_lines strokes) (tame.finish s paper) (lines strokes);
 }
 
-numbered_tamely : (numbers : Option Numbers) (dress : Dress) → IsTameDress dress → IsTameDress (numbered numbers dress)
+numbered_tamely : (numbers : Option Numbers) (dress : Dress) → IsTameDress dress → IsTameDress (with_page_numbers numbers dress)
 numbered_tamely None dress tame = tame
 numbered_tamely (Some n) dress tame = record {
   header = tame.header;
@@ -109,4 +109,4 @@ numbered_tamely (Some n) dress tame = record {
 }
 
 pub drawn_is_tame : DrawnIsTame
-drawn_is_tame drawn dress tame = numbered_tamely drawn.numbers (marked drawn.strokes dress) (marked_tamely drawn.strokes dress tame)
+drawn_is_tame drawn dress tame = numbered_tamely drawn.numbers (strokes_added drawn.strokes dress) (marked_tamely drawn.strokes dress tame)

@@ -4,7 +4,7 @@ use Rattle.std.specs.List.{AllByRecursion, range_with_len}
 use Rattle.rules.specs.Papers.{Paper}
 use Rattle.layouts.specs.declared.arrangement.Binding.{Binding}
 use Rattle.layouts.specs.Placed.{Room}
-use Rattle.layouts.specs.Cells.{Along, Grid, along_height, along_width, high, kept, wide, grains_in, cells_across, cells_up}
+use Rattle.layouts.specs.Cells.{Along, Grid, along_height, along_width, high, kept_length, wide, grains_in, cells_across, cells_up}
 use Rattle.layouts.specs.Fitted.{HaveOneFold, binding_setting_of}
 use Rattle.layouts.specs.Grids.{beside, room_of}
 use Rattle.layouts.specs.Laws.{Cell, IsPaper, cell_at}
@@ -13,24 +13,24 @@ use Rattle.dressing.specs.Strokes.{cut_marks, far_end, fold_marks, has_room_roun
 use Rattle.dressing.specs.declared.strokes.Stroke.{Stroke}
 
 -- the cell that has so many cells on its left, and so many below it, as the sheet lies
-abbrev pub cell_on : Room → Grid → (across up : ℕ) → Cell
-cell_on room g across up =
+abbrev pub cell_beside : Room → Grid → (across up : ℕ) → Cell
+cell_beside room g across up =
     if g.turned then cell_at room g across up else cell_at room g (g.rows - (up + 1)) across
 
 -- half of the gap that is kept between cells, in grains
 abbrev pub half_gap : Along → ℕ
-half_gap a = 635_000 * kept a.trim a.gap
+half_gap a = 635_000 * kept_length a.trim a.gap
 
 -- what is so far from the left edge is half a gap right of a cell, or left of it
 abbrev pub IsRightOf : Room → Cell → (x : ℤ) → Type 0
 IsRightOf room cell x = x ≡ pos (grains_in (cell.left + cell.width) + half_gap (along_width room))
 
-abbrev pub IsLeftOf : Room → Cell → (x : ℤ) → Type 0
-IsLeftOf room cell x = (x +ℤ pos (half_gap (along_width room))) ≡ pos (grains_in cell.left)
+abbrev pub IsLeftOfCell : Room → Cell → (x : ℤ) → Type 0
+IsLeftOfCell room cell x = (x +ℤ pos (half_gap (along_width room))) ≡ pos (grains_in cell.left)
 
 -- what is so far from the lower edge is half a gap above a cell, or below it
-abbrev pub IsAbove : Room → Cell → (y : ℤ) → Type 0
-IsAbove room cell y = y ≡ pos (grains_in (cell.bottom + cell.height) + half_gap (along_height room))
+abbrev pub IsAboveCell : Room → Cell → (y : ℤ) → Type 0
+IsAboveCell room cell y = y ≡ pos (grains_in (cell.bottom + cell.height) + half_gap (along_height room))
 
 abbrev pub IsBelow : Room → Cell → (y : ℤ) → Type 0
 IsBelow room cell y = (y +ℤ pos (half_gap (along_height room))) ≡ pos (grains_in cell.bottom)
@@ -38,13 +38,13 @@ IsBelow room cell y = (y +ℤ pos (half_gap (along_height room))) ≡ pos (grain
 -- upright line k is so far from the left edge: half a gap right of each cell k - 1, and left of each cell k; so in the
 -- middle between both. The first line has no cells on its left, and the last one none on its right
 pub record IsUpright (room : Room) (g : Grid) (k : ℕ) (x : ℤ) : Type 0 where
-  pub right : (up : ℕ) → 0 < k → IsRightOf room (cell_on room g (k - 1) up) x
-  pub left : (up : ℕ) → k < cells_across g → IsLeftOf room (cell_on room g k up) x
+  pub right : (up : ℕ) → 0 < k → IsRightOf room (cell_beside room g (k - 1) up) x
+  pub left : (up : ℕ) → k < cells_across g → IsLeftOfCell room (cell_beside room g k up) x
 
 -- level line k is so far from the lower edge
 pub record IsLevel (room : Room) (g : Grid) (k : ℕ) (y : ℤ) : Type 0 where
-  pub above : (across : ℕ) → 0 < k → IsAbove room (cell_on room g across (k - 1)) y
-  pub below : (across : ℕ) → k < cells_up g → IsBelow room (cell_on room g across k) y
+  pub above : (across : ℕ) → 0 < k → IsAboveCell room (cell_beside room g across (k - 1)) y
+  pub below : (across : ℕ) → k < cells_up g → IsBelow room (cell_beside room g across k) y
 
 -- a stroke, measured from an edge of the sheet: it isn't too long, and ends where the margin there does, if there is one
 abbrev pub IsAtEdge : (edge : ℕ) → (from to : ℤ) → Type 0
@@ -78,15 +78,15 @@ pub record AreMarksOf (room : Room) (g : Grid) (upright level : List ℕ) (strok
   pub mark_level : AllByRecursion (λ k. MarksLevel room g k (of_level k)) level
 
 -- the lines between so many cells, and those round them if the margins have room for these
-abbrev pub lines_between : (parts : ℕ) → List ℕ
-lines_between parts = range_with_len 1 (parts - 1)
+abbrev pub line_numbers : (parts : ℕ) → List ℕ
+line_numbers parts = range_with_len 1 (parts - 1)
 
 abbrev pub lines_round : Room → (parts : ℕ) → List ℕ
 lines_round room parts = if has_room_round room then 0 ∷ parts ∷ [] else []
 
 -- a sheet is folded along the lines between its cells; its cut marks are those and the outer ones, which are round its cells
 pub record HasItsMarks (room : Room) (g : Grid) : Type 0 where
-  pub folds : AreMarksOf room g (lines_between (cells_across g)) (lines_between (cells_up g)) (fold_marks room g)
+  pub folds : AreMarksOf room g (line_numbers (cells_across g)) (line_numbers (cells_up g)) (fold_marks room g)
   pub outer_cuts : AreMarksOf room g (lines_round room (cells_across g)) (lines_round room (cells_up g)) (outer_cut_marks room g)
   pub cuts : cut_marks room g ≡ fold_marks room g ++ outer_cut_marks room g
 
@@ -98,7 +98,7 @@ MarksAreBetween = (room : Room) (g : Grid) → 0 < wide room g → 0 < high room
 -- 10^-5 of a point below it, as what is kept of the gap is rounded
 abbrev pub IsAlong : Room → (twice : ℕ) → Stroke → Type 0
 IsAlong room twice s =
-    (s.start.1 ≡ pos (635_000 * (twice - kept room.trim 0))) × (s.end.1 ≡ pos (635_000 * (twice - kept room.trim 0)))
+    (s.start.1 ≡ pos (635_000 * (twice - kept_length room.trim 0))) × (s.end.1 ≡ pos (635_000 * (twice - kept_length room.trim 0)))
 
 -- a booklet's fold marks lie on its fold, the one line that no page in either half crosses: a law
 abbrev pub FoldMarksAreOnFold : Type 0

@@ -2,14 +2,14 @@
 -- is this project's own rules.
 use Rattle.std.specs.Prelude.{ℕ, List, [], ◌∷◌, ◌++◌, map, codes}
 use Rattle.rules.specs.Dress.{Dress}
-use Rattle.sheet_text.specs.PageNumbers.{point_text}
+use Rattle.sheet_text.specs.PageNumbers.{number_point_text}
 use Rattle.dressing.specs.declared.strokes.Stroke.{Stroke}
 
 -- the line that draws a stroke
 abbrev pub stroke_line : Stroke → List ℕ
 stroke_line s =
     codes "newpath "
-    ++ (point_text s.start.0 s.start.1 ++ (codes " moveto " ++ (point_text s.end.0 s.end.1 ++ codes " lineto stroke")))
+    ++ (number_point_text s.start.0 s.start.1 ++ (codes " moveto " ++ (number_point_text s.end.0 s.end.1 ++ codes " lineto stroke")))
 
 -- strokes are black, and a quarter of a point wide; no strokes are no lines (RULES, 15)
 abbrev pub mark_lines : List Stroke → List (List ℕ)
@@ -19,8 +19,8 @@ mark_lines (s ∷ strokes) =
     ∷ (map stroke_line (s ∷ strokes) ++ codes "grestore" ∷ [])
 
 -- the dress with these strokes at the end of each sheet, after its own lines there
-abbrev pub marked : List Stroke → Dress → Dress
-marked strokes dress = record {
+abbrev pub strokes_added : List Stroke → Dress → Dress
+strokes_added strokes dress = record {
   header = dress.header;
   start = dress.start;
   finish = λ s paper. dress.finish s paper ++ mark_lines strokes;

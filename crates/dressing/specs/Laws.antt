@@ -7,7 +7,7 @@ use Rattle.rules.specs.Papers.{Paper}
 use Rattle.rules.specs.Placement.{Point}
 use Rattle.rules.specs.Specification.{Item}
 use Rattle.layouts.specs.Placed.{Room, IsOfPage, stands}
-use Rattle.layouts.specs.Cells.{Along, Grid, gap_at, grains_in, high, item_in, size, step, wide}
+use Rattle.layouts.specs.Cells.{Along, Grid, gap_at, grains_in, high, item_in_cell, size, pitch, wide}
 use Rattle.layouts.specs.Laws.{Cell, HasPlace, IsPaper, cell_at}
 use Rattle.layouts.specs.declared.arrangement.Order.{Order}
 use Rattle.dressing.specs.Strokes.{cut_marks, fold_marks, outer_cut_marks}
@@ -18,7 +18,7 @@ use Rattle.dressing.specs.declared.strokes.Stroke.{Stroke}
 -- if the margin has room for half a gap, all pieces of a side that is cut in the middle of its gaps are as wide
 abbrev pub PiecesAreLike : Type 0
 PiecesAreLike = (a : Along) (side parts k : ℕ) → a.gap ≤ 2 * a.before
-    → gap_at a side parts (k + 1) ≡ gap_at a side parts k + grains_in (step a side parts)
+    → gap_at a side parts (k + 1) ≡ gap_at a side parts k + grains_in (pitch a side parts)
 
 -- both ends of a stroke, measured in one direction, are at most this far
 abbrev pub AreAtMost : (one other : ℤ) → (most : ℤ) → Type 0
@@ -72,7 +72,7 @@ GoesPast room page item s = (p : Point) → IsOfPage room.trim page p → IsPast
 -- no mark goes over a page in a cell, as long as nothing is trimmed of pages: what is trimmed may reach over the cell
 abbrev pub MarksMissPages : Type 0
 MarksMissPages = (page : Paper) (room : Room) (g : Grid) (o : Order) (s k : ℕ) → IsPaper page → HasPlace page room g s
-    → room.trim ≡ 0 → k < size g → AllByRecursion (GoesPast room page (item_in page room g o s k)) (all_marks room g)
+    → room.trim ≡ 0 → k < size g → AllByRecursion (GoesPast room page (item_in_cell page room g o s k)) (all_marks room g)
 
 -- if there is a margin along each edge, all marks are in them
 abbrev pub MarksAreInMargin : Type 0
@@ -80,7 +80,7 @@ MarksAreInMargin = (room : Room) (g : Grid) → 0 < room.left → 0 < room.right
     → AllByRecursion (IsInMargin room) (all_marks room g)
 
 -- the whole stroke lies in a cell
-pub record IsInCell (cell : Cell) (s : Stroke) : Type 0 where
+pub record StrokeIsInCell (cell : Cell) (s : Stroke) : Type 0 where
   pub left : AreAtLeast s.start.0 s.end.0 (pos (grains_in cell.left))
   pub right : AreAtMost s.start.0 s.end.0 (pos (grains_in (cell.left + cell.width)))
   pub bottom : AreAtLeast s.start.1 s.end.1 (pos (grains_in cell.bottom))
@@ -88,7 +88,7 @@ pub record IsInCell (cell : Cell) (s : Stroke) : Type 0 where
 
 -- the lines for notes of a row lie in its cell for notes
 abbrev pub LinesAreInCell : Type 0
-LinesAreInCell = (room : Room) (g : Grid) (row : ℕ) → AllByRecursion (IsInCell (note_cell room g row)) (row_lines room g row)
+LinesAreInCell = (room : Room) (g : Grid) (row : ℕ) → AllByRecursion (StrokeIsInCell (note_cell room g row)) (row_lines room g row)
 
 -- none of them goes over a cell of the columns before
 abbrev pub LinesAreBeside : Type 0

@@ -5,13 +5,13 @@ use Rattle.rules.specs.Dress.{Dress}
 use Rattle.sheet_text.specs.PageNumbers.{number_lines}
 use Rattle.sheet_text.specs.declared.numbers.Numbers.{Numbers}
 use Rattle.papers.specs.Told.{telling_of}
-use Rattle.dressing.specs.Drawn.{marked}
+use Rattle.dressing.specs.Drawn.{strokes_added}
 use Rattle.dressing.specs.declared.strokes.Stroke.{Stroke}
 
 -- the dress with these numbers at the end of each sheet, after its own lines there
-abbrev pub numbered : Option Numbers → Dress → Dress
-numbered None dress = dress
-numbered (Some n) dress = record {
+abbrev pub with_page_numbers : Option Numbers → Dress → Dress
+with_page_numbers None dress = dress
+with_page_numbers (Some n) dress = record {
   header = dress.header;
   start = dress.start;
   finish = λ s paper. dress.finish s paper ++ number_lines n s;
@@ -26,7 +26,7 @@ abbrev pub nothing_drawn : Drawn
 nothing_drawn = record { strokes = []; numbers = None }
 
 abbrev pub drawn_on : Drawn → Dress → Dress
-drawn_on drawn dress = numbered drawn.numbers (marked drawn.strokes dress)
+drawn_on drawn dress = with_page_numbers drawn.numbers (strokes_added drawn.strokes dress)
 
 -- if nothing is drawn the lines are those that report papers, and no others: a law
 abbrev pub NoMarksAreTelling : Type 0

@@ -10,7 +10,7 @@ use Rattle.rules.specs.Made.{MadeSheet}
 use Rattle.rules.specs.MadeOutput.{made_output}
 use Rattle.imposed_again.specs.Again.{depth_behind}
 use Rattle.papers.specs.Found.{AreQuiet, Finish, IsTellablePaper, as_printed, telling_and}
-use Rattle.papers.specs.Own.{own_papers}
+use Rattle.papers.specs.Own.{papers_of_each_page}
 use Rattle.papers.specs.Told.{telling}
 use Rattle.sheet_text.specs.PageNumbers.{number_lines}
 use Rattle.sheet_text.specs.declared.numbers.Numbers.{Numbers}
@@ -18,13 +18,13 @@ use Rattle.dressing.specs.Drawn.{mark_lines}
 use Rattle.dressing.specs.Numbered.{Drawn, drawn_on}
 
 -- the lines at the end of sheet s, followed by those of its numbers, if there are some
-abbrev pub with_numbers : Option Numbers → (lines : List (List ℕ)) → (s : ℕ) → List (List ℕ)
-with_numbers None lines s = lines
-with_numbers (Some n) lines s = lines ++ number_lines n s
+abbrev pub lines_and_numbers : Option Numbers → (lines : List (List ℕ)) → (s : ℕ) → List (List ℕ)
+lines_and_numbers None lines s = lines
+lines_and_numbers (Some n) lines s = lines ++ number_lines n s
 
 -- the lines that draw strokes and numbers
 abbrev pub drawing_lines : Drawn → Finish
-drawing_lines drawn s paper = with_numbers drawn.numbers (mark_lines drawn.strokes) s
+drawing_lines drawn s paper = lines_and_numbers drawn.numbers (mark_lines drawn.strokes) s
 
 -- they are quiet lines at the ends of sheets, so papers are found in what has them too: a law
 abbrev pub DrawnIsQuiet : Type 0
@@ -40,6 +40,6 @@ DrawnAreFound =
     → AllByRecursion (λ sheet. IsTellablePaper sheet.paper) all
     → document_of text ≡ Ok us → depth_behind (page_run us) ≡ 0 → 0 < length all → length all ≤ most_pages
     → length (made_output border (drawn_on drawn (telling all)) all us) ≤ most_input_bytes
-    → own_papers None named home (made_output border (drawn_on drawn (telling all)) all us)
+    → papers_of_each_page None named home (made_output border (drawn_on drawn (telling all)) all us)
     (units_of (made_output border (drawn_on drawn (telling all)) all us))
     ≡ map (λ sheet. as_printed sheet.paper) all

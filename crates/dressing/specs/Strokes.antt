@@ -62,14 +62,14 @@ marks_round room g =
     ++ (level_at room (cells_up g) 0 ++ level_at room (cells_up g) (cells_up g))
 
 -- there is a margin, and it has room for half a gap
-abbrev pub has_room : (edge gap : ℕ) → Bool
-has_room edge gap = not (edge == 0) && nat_le gap (2 * edge)
+abbrev pub has_half_gap : (edge gap : ℕ) → Bool
+has_half_gap edge gap = not (edge == 0) && nat_le gap (2 * edge)
 
 -- along all edges
 abbrev pub has_room_round : Room → Bool
 has_room_round room =
-    (has_room room.left room.gap_across && has_room room.right room.gap_across)
-    && (has_room room.bottom room.gap_up && has_room room.top room.gap_up)
+    (has_half_gap room.left room.gutter_across && has_half_gap room.right room.gutter_across)
+    && (has_half_gap room.bottom room.gutter_up && has_half_gap room.top room.gutter_up)
 
 -- a sheet is folded between its cells
 abbrev pub fold_marks : Room → Grid → List Stroke

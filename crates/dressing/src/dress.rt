@@ -5,10 +5,10 @@ ghost use Rattle.sheet_text.specs.Dressings.{dress_in};
 ghost use Rattle.dressing.specs.Numbered.{drawn_on};
 
 use crate::paper_lines::header_lines;
-use crate::told::told_papers;
+use crate::told::reported_papers;
 use crate::{Stroke, mark_lines};
 use sheet_plan::MadeSheets;
-use sheet_text::{Dress, Numbers};
+use sheet_text::{Numbers, SheetExtras};
 use std::alloc::{AllocError, Global};
 
 /// The dress by which these sheets report their papers, with the strokes and the numbers at the end of each.
@@ -17,13 +17,13 @@ pub fn dress_of(
     sheets: &MadeSheets,
     strokes: &[Stroke],
     numbers: Option<Numbers>,
-) -> Result<Dress, AllocError>
+) -> Result<SheetExtras, AllocError>
     ensures { IfOk result (λ dress. dress_in dress
         ≡ drawn_on (record { strokes = strokes.now; numbers = numbers }) (telling sheets.now)) }
 {
-    let told = told_papers(alloc, sheets)?;
+    let told = reported_papers(alloc, sheets)?;
     let papers = told.as_slice();
-    Ok(Dress {
+    Ok(SheetExtras {
         header: header_lines(alloc, papers)?,
         tells_papers: papers.len() > 1,
         finish: mark_lines(alloc, strokes)?,

@@ -15,4 +15,4 @@ pub use lines::mark_lines;
 pub use numbers::Numbering;
 pub use ruled::note_lines;
 pub use strokes::{Marks, Stroke, cut_marks, fold_marks, outer_cut_marks};
-pub use told::told_papers;
+pub use told::reported_papers;

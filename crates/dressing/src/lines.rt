@@ -1,6 +1,6 @@
 //! The lines that draw marks.
 ghost use Rattle.std.specs.Prelude.{◌≡◌, ◌++◌, ◌∷◌, [], IfOk, OnOk, map};
-ghost use Rattle.sheet_text.specs.PageNumbers.{point_text};
+ghost use Rattle.sheet_text.specs.PageNumbers.{number_point_text};
 ghost use Rattle.dressing.specs.Drawn.{mark_lines as lines_of, stroke_line};
 
 use crate::strokes::Stroke;
@@ -47,7 +47,7 @@ fn push_stroke(alloc: Global, lines: &mut Lines, stroke: &Stroke) -> Result<(), 
 
 /// A point, in points.
 fn append_point(x: Grains, y: Grains, line: &mut Vec<u8>) -> Result<(), AllocError>
-    ensures { OnOk result (line.new.items ≡ line.old.items ++ point_text x y) }
+    ensures { OnOk result (line.new.items ≡ line.old.items ++ number_point_text x y) }
 {
     print_points(x, line)?;
     line.extend_from_slice(b" ")?;

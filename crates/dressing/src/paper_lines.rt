@@ -1,15 +1,15 @@
 //! The header's lines that report papers.
 ghost use Rattle.std.specs.Prelude.{◌≡◌, ◌++◌, ◌∷◌, [], codes, fold, map, nat_abs, IfOk, IsTrue, OnOk, ◌≤◌, ◌*◌, ◌^◌};
-ghost use Rattle.papers.specs.Own.{covering as covering_paper};
+ghost use Rattle.papers.specs.Own.{smallest_cover as covering_paper};
 ghost use Rattle.rules.specs.Numbers.{points_text};
 ghost use Rattle.rules.specs.Papers.{is_side};
-ghost use Rattle.papers.specs.Told.{box_line, box_lines, exact_box_line, is_whole as whole, whole_paper, whole_up as up_to_whole};
+ghost use Rattle.papers.specs.Told.{box_line, box_lines, exact_box_line, is_in_whole_points as whole, whole_paper, whole_up as up_to_whole};
 ghost use Rattle.papers.specs.Told.{medium_line, medium_text, one_header};
 ghost use Rattle.papers.specs.Told.{several_header, size_name, size_text, telling_of};
 
 use crate::told::printed_parts;
 use lengths::{Grains, Paper, print_grains, print_points};
-use papers::covering;
+use papers::smallest_cover;
 use sheet_text::Lines;
 use std::alloc::{AllocError, Global};
 
@@ -19,12 +19,12 @@ pub(crate) fn header_lines(alloc: Global, told: &[Paper]) -> Result<Lines, Alloc
 {
     match told {
         [] => Ok(Lines::new(alloc)),
-        [paper] => one_paper(alloc, paper),
+        [paper] => lines_of_one_paper(alloc, paper),
         [first, others @ ..] => several_papers(alloc, first, others),
     }
 }
 
-fn one_paper(alloc: Global, paper: &Paper) -> Result<Lines, AllocError>
+fn lines_of_one_paper(alloc: Global, paper: &Paper) -> Result<Lines, AllocError>
     ensures { IfOk result (λ lines. lines ≡ one_header paper.now) }
 {
     let mut lines = Lines::new(alloc);
@@ -61,7 +61,7 @@ fn covering_all(first: &Paper, others: &[Paper]) -> Paper
 {
     let mut large = *first;
     for paper in others {
-        large = covering(&large, paper);
+        large = smallest_cover(&large, paper);
     }
     large
 }
@@ -71,7 +71,7 @@ fn push_boxes(alloc: Global, lines: &mut Lines, paper: &Paper) -> Result<(), All
     ensures { OnOk result (lines.new ≡ lines.old ++ box_lines paper.now) }
 {
     push_box(alloc, lines, paper)?;
-    if is_whole(paper) {
+    if is_in_whole_points(paper) {
         return Ok(());
     }
     push_exact_box(alloc, lines, paper)
@@ -94,13 +94,13 @@ fn push_exact_box(alloc: Global, lines: &mut Lines, paper: &Paper) -> Result<(),
 {
     let mut line = Vec::new(alloc);
     line.extend_from_slice(b"%%HiResBoundingBox: 0 0 ")?;
-    append_size(&mut line, paper)?;
+    append_both_sides(&mut line, paper)?;
     lines.push(line.as_slice())?;
     Ok(())
 }
 
 /// Whether both sides are printed as whole points.
-fn is_whole(paper: &Paper) -> bool
+fn is_in_whole_points(paper: &Paper) -> bool
     ensures { result ≡ whole paper.now }
 {
     printed_parts(paper.width()) % 100_000 == 0 && printed_parts(paper.height()) % 100_000 == 0
@@ -123,7 +123,7 @@ fn push_medium(alloc: Global, lines: &mut Lines, paper: &Paper) -> Result<(), Al
 {
     let mut line = Vec::new(alloc);
     line.extend_from_slice(b"%%DocumentMedia: Plain")?;
-    append_medium(&mut line, paper)?;
+    append_medium_sides(&mut line, paper)?;
     lines.push(line.as_slice())?;
     Ok(())
 }
@@ -135,8 +135,8 @@ fn push_named_medium(alloc: Global, lines: &mut Lines, paper: &Paper) -> Result<
 {
     let mut line = Vec::new(alloc);
     line.extend_from_slice(b"%%DocumentMedia: ")?;
-    append_name(&mut line, paper)?;
-    append_medium(&mut line, paper)?;
+    append_medium_name(&mut line, paper)?;
+    append_medium_sides(&mut line, paper)?;
     lines.push(line.as_slice())?;
     Ok(())
 }
@@ -148,24 +148,24 @@ fn push_continued(alloc: Global, lines: &mut Lines, paper: &Paper) -> Result<(),
 {
     let mut line = Vec::new(alloc);
     line.extend_from_slice(b"%%+ ")?;
-    append_name(&mut line, paper)?;
-    append_medium(&mut line, paper)?;
+    append_medium_name(&mut line, paper)?;
+    append_medium_sides(&mut line, paper)?;
     lines.push(line.as_slice())?;
     Ok(())
 }
 
 /// The text after the name of a medium: its sides, and that nothing else is known.
-fn append_medium(line: &mut Vec<u8>, paper: &Paper) -> Result<(), AllocError>
+fn append_medium_sides(line: &mut Vec<u8>, paper: &Paper) -> Result<(), AllocError>
     ensures { OnOk result (line.new.items ≡ line.old.items ++ medium_text [] paper.now) }
 {
     line.extend_from_slice(b" ")?;
-    append_size(line, paper)?;
+    append_both_sides(line, paper)?;
     line.extend_from_slice(b" 0 () ()")?;
     Ok(())
 }
 
 /// Both sides, in points.
-fn append_size(line: &mut Vec<u8>, paper: &Paper) -> Result<(), AllocError>
+fn append_both_sides(line: &mut Vec<u8>, paper: &Paper) -> Result<(), AllocError>
     ensures { OnOk result (line.new.items ≡ line.old.items ++ size_text paper.now) }
 {
     print_points(paper.width(), line)?;
@@ -192,7 +192,7 @@ fn append_whole(line: &mut Vec<u8>, side: Grains) -> Result<(), AllocError>
 }
 
 /// The name of a medium that is named after its sides.
-fn append_name(line: &mut Vec<u8>, paper: &Paper) -> Result<(), AllocError>
+fn append_medium_name(line: &mut Vec<u8>, paper: &Paper) -> Result<(), AllocError>
     ensures { OnOk result (line.new.items ≡ line.old.items ++ size_name paper.now) }
 {
     print_points(paper.width(), line)?;

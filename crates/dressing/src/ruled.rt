@@ -4,7 +4,7 @@ ghost use Rattle.dressing.specs.Ruled.{line_below as below_of, line_count as cou
 ghost use Rattle.dressing.specs.Ruled.{note_lines as lines_of, row_lines};
 
 use crate::strokes::Stroke;
-use layouts::{Cell, Grid, Room, cells, in_grains};
+use layouts::{Cell, Grid, Room, cell_size, in_grains};
 use std::alloc::{AllocError, Global};
 
 /// How far lines are apart, in 10^-5 of a point.
@@ -38,7 +38,7 @@ fn line_count(room: &Room, grid: Grid) -> u32
     ensures value { result ≡ count_of room.now grid }
     ensures few { result ≤ 10_000_000 }
 {
-    let (_, height) = cells(room, grid);
+    let (_, height) = cell_size(room, grid);
     (height.saturating_sub(1) / LINE_STEP) as u32
 }
 

@@ -1,7 +1,7 @@
 //! The strokes by which sheets are marked.
 ghost use Rattle.std.specs.Prelude.{◌≡◌, ◌<◌, ◌≤◌, ◌++◌, pos, nat_abs, IfOk, OnOk};
 ghost use Rattle.dressing.specs.Strokes.{far_end as far_of, near_end as near_of};
-ghost use Rattle.dressing.specs.Strokes.{cut_marks as cut_of, fold_marks as fold_of, has_room as has_room_of, has_room_round as round_has_room};
+ghost use Rattle.dressing.specs.Strokes.{cut_marks as cut_of, fold_marks as fold_of, has_half_gap as has_room_of, has_room_round as round_has_room};
 ghost use Rattle.dressing.specs.Strokes.{outer_cut_marks as outer_cut_of};
 ghost use Rattle.dressing.specs.Strokes.{level_at, level_between, marks_between, marks_round};
 ghost use Rattle.dressing.specs.Strokes.{upright_at, upright_between};
@@ -111,13 +111,14 @@ fn push_level_round(room: &Room, parts: u32, strokes: &mut Vec<Stroke>) -> Resul
 fn has_room_round(room: &Room) -> bool
     ensures { result ≡ round_has_room room.now }
 {
-    let beside = has_room(room.left, room.gap_across) && has_room(room.right, room.gap_across);
-    let above = has_room(room.bottom, room.gap_up) && has_room(room.top, room.gap_up);
+    let beside = has_half_gap(room.left, room.gutter_across)
+        && has_half_gap(room.right, room.gutter_across);
+    let above = has_half_gap(room.bottom, room.gutter_up) && has_half_gap(room.top, room.gutter_up);
     beside && above
 }
 
 /// Whether there is a margin that has room for half of such a gap.
-fn has_room(edge: u64, gap: u64) -> bool
+fn has_half_gap(edge: u64, gap: u64) -> bool
     requires { edge ≤ 10_000_000_000 }
     ensures { result ≡ has_room_of edge gap }
 {

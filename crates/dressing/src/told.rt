@@ -18,7 +18,7 @@ struct Size {
 
 /// The papers that sheets report: each that is printed otherwise than all before it. Refused for memory alone, and if there
 /// are 2^32 sheets.
-pub fn told_papers(alloc: Global, sheets: &MadeSheets) -> Result<Vec<Paper>, AllocError>
+pub fn reported_papers(alloc: Global, sheets: &MadeSheets) -> Result<Vec<Paper>, AllocError>
     ensures { IfOk result (λ told. told.items ≡ papers_told (papers_of sheets.now)) }
 {
     let Ok(count) = u32::try_from(sheets.len()) else {
@@ -27,13 +27,17 @@ pub fn told_papers(alloc: Global, sheets: &MadeSheets) -> Result<Vec<Paper>, All
     let mut told = Vec::new(alloc);
     let mut sizes = BTreeSet::new(alloc);
     for sheet in 0..count {
-        note(&mut told, &mut sizes, sheets.paper(sheet))?;
+        add_paper(&mut told, &mut sizes, sheets.paper(sheet))?;
     }
     Ok(told)
 }
 
 /// Puts a paper after these, if it is printed otherwise than each of them.
-fn note(told: &mut Vec<Paper>, sizes: &mut BTreeSet<Size>, paper: &Paper) -> Result<(), AllocError>
+fn add_paper(
+    told: &mut Vec<Paper>,
+    sizes: &mut BTreeSet<Size>,
+    paper: &Paper,
+) -> Result<(), AllocError>
     requires { AreSizesOf told.old.items sizes.old }
     ensures told { OnOk result (told.new.items ≡ with_paper told.old.items paper.now) }
     ensures sizes { OnOk result (AreSizesOf told.new.items sizes.new) }

@@ -7,7 +7,7 @@ use Rattle.dsc.specs.Filters.{is_dropped}
 use Rattle.dsc.specs.BodyStarts.{Sought, noted, ends_line}
 use Rattle.dsc.specs.declared.filters.Drops.TheVariants.{PageSetup}
 use Rattle.dsc.specs.Views.{at_depth}
-use Rattle.dsc.specs.Walks.{Place, behind, IsPieceOf}
+use Rattle.dsc.specs.Walks.{WalkPlace, past_unit, IsPieceOf}
 use Rattle.dsc.proofs.PlainUnits.{plain_page, plain_trailer, plain_kept}
 use Rattle.dsc.proofs.Walking.{Follows, on_rest, piece_on}
 
@@ -96,13 +96,13 @@ follows = record {
 }
 
 -- in terms of a loop: one more unit is noted
-pub sought_more : (s new : Sought) (p q : Place) (u : TextUnit) (at : ℕ) (page ends dropped : Bool) (whole : Result Sought FaultyBlock)
-    → 0 < length p.rest → IsPieceOf u p.rest → q ≡ behind u p → at ≡ p.at
+pub sought_more : (s new : Sought) (p q : WalkPlace) (u : TextUnit) (at : ℕ) (page ends dropped : Bool) (whole : Result Sought FaultyBlock)
+    → 0 < length p.rest → IsPieceOf u p.rest → q ≡ past_unit u p → at ≡ p.at
     → page ≡ begins_page (at_depth p.depth u) → ends ≡ begins_trailer (at_depth p.depth u) → dropped ≡ is_dropped PageSetup s.was (at_depth p.depth u)
     → new ≡ noted s at (at + length u.bytes) page ends dropped u.bytes
     → sought_on s p.depth p.at p.rest ≡ whole → sought_on new q.depth q.at q.rest ≡ whole
 sought_more s new p q u at page ends dropped whole some piece b a pg tr dr n i =
-    let r : Place = behind u p in
+    let r : WalkPlace = past_unit u p in
     let v : NestedUnit = at_depth p.depth u in
     ap (λ t. sought_on new t.depth t.at t.rest) b
     ∙ ap (λ t. sought_on t r.depth r.at r.rest)

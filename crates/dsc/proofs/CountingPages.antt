@@ -8,7 +8,7 @@ use Rattle.dsc.specs.Views.{at_depth}
 use Rattle.dsc.specs.Filters.{of_units}
 use Rattle.dsc.specs.PagesBehind.{page_lines}
 use Rattle.dsc.specs.Units.{faulty_block, or_none, units_of}
-use Rattle.dsc.specs.Walks.{Place, behind, IsPieceOf}
+use Rattle.dsc.specs.Walks.{WalkPlace, past_unit, IsPieceOf}
 use Rattle.dsc.proofs.Cut.{cut_fault}
 use Rattle.dsc.proofs.PlainUnits.{plain_page}
 use Rattle.dsc.proofs.Walking.{Follows, on_rest, piece_on}
@@ -42,12 +42,12 @@ abbrev pub count_on : ℕ → (depth at : ℕ) → List ℕ → Result ℕ Fault
 count_on count depth at rest = on_rest (makes count) depth at rest
 
 -- in terms of the loop: one more unit is looked at
-pub count_more : (count new : ℕ) (p q : Place) (u : TextUnit) (page : Bool) (whole : Result ℕ FaultyBlock)
-    → 0 < length p.rest → IsPieceOf u p.rest → q ≡ behind u p
+pub count_more : (count new : ℕ) (p q : WalkPlace) (u : TextUnit) (page : Bool) (whole : Result ℕ FaultyBlock)
+    → 0 < length p.rest → IsPieceOf u p.rest → q ≡ past_unit u p
     → page ≡ begins_page (at_depth p.depth u) → new ≡ counted count page
     → count_on count p.depth p.at p.rest ≡ whole → count_on new q.depth q.at q.rest ≡ whole
 count_more count new p q u page whole some piece b pg n i =
-    let r : Place = behind u p in
+    let r : WalkPlace = past_unit u p in
     ap (λ t. count_on new t.depth t.at t.rest) b
     ∙ ap (λ k. count_on k r.depth r.at r.rest) (n ∙ ap (counted count) pg)
     ∙ piece_on follows count p.depth p.at p.rest u some piece.is ∙ i

@@ -13,7 +13,7 @@ use Rattle.dsc.specs.Filters.{drops_of, is_dropped, of_units, filter_on}
 use Rattle.dsc.specs.declared.filters.Drops.{Drops}
 use Rattle.dsc.specs.declared.filters.Drops.TheVariants.{DocumentSetup, SetupAndPapers}
 use Rattle.dsc.specs.Views.{at_depth}
-use Rattle.dsc.specs.Walks.{Place, behind, IsPieceOf}
+use Rattle.dsc.specs.Walks.{WalkPlace, past_unit, IsPieceOf}
 use Rattle.dsc.proofs.PlainUnits.{plain_kept}
 use Rattle.dsc.proofs.Walking.{Follows, piece_on, piece_front}
 
@@ -54,12 +54,12 @@ follows drops = record {
 }
 
 -- in terms of a loop: one more unit is kept or dropped
-pub filter_more : (drops : Drops) (was dropped : Bool) (front new : List ℕ) (p q : Place) (u : TextUnit) (whole : Result (List ℕ) FaultyBlock)
-    → 0 < length p.rest → IsPieceOf u p.rest → q ≡ behind u p → dropped ≡ is_dropped drops was (at_depth p.depth u)
+pub filter_more : (drops : Drops) (was dropped : Bool) (front new : List ℕ) (p q : WalkPlace) (u : TextUnit) (whole : Result (List ℕ) FaultyBlock)
+    → 0 < length p.rest → IsPieceOf u p.rest → q ≡ past_unit u p → dropped ≡ is_dropped drops was (at_depth p.depth u)
     → new ≡ front ++ (if dropped then [] else take (length u.bytes) p.rest)
     → filter_on drops front was p.depth p.at p.rest ≡ whole → filter_on drops new dropped q.depth q.at q.rest ≡ whole
 filter_more drops was dropped front new p q u whole some piece b dr nw i =
-    let r : Place = behind u p in
+    let r : WalkPlace = past_unit u p in
     let v : NestedUnit = at_depth p.depth u in
     ap (λ t. filter_on drops new dropped t.depth t.at t.rest) b
     ∙ ap (λ t. filter_on drops t dropped r.depth r.at r.rest) (nw ∙ ap (λ t. front ++ (if dropped then [] else t)) (sym (piece_front u p.rest piece.is)))

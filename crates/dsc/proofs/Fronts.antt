@@ -7,7 +7,7 @@ use Rattle.std.proofs.lemmas.List.{take-take}
 use Rattle.std.proofs.lemmas.Bool.{ltb-false, le-ltb, lt-ltb}
 use Rattle.rules.specs.Numbers.{number_of}
 use Rattle.rules.specs.Units.{TextUnit, BlockFault, ShortData, content_of, line_len, lines_len, begins_block, fields, counts_lines, or_short, data_len, block, first_unit}
-use Rattle.dsc.specs.Fields.{counted}
+use Rattle.dsc.specs.Fields.{block_len}
 use Rattle.dsc.proofs.Cases.{by_test}
 use Rattle.dsc.proofs.LineLengths.{content_len, content_of-take, line_len-take, line_len-within, line_len_is, lines_len-take, lines_len-least, behind}
 
@@ -20,11 +20,11 @@ bytes-ok true n m e = cc
 bytes-ok false n m e = (refl, cc)
 
 -- the data of a block are within the rest
-pub data-within : (in_lines : Bool) (n : ℕ) (rest : List ℕ) (m : ℕ) → counted in_lines n rest ≡ Ok m → m ≤ length rest
+pub data-within : (in_lines : Bool) (n : ℕ) (rest : List ℕ) (m : ℕ) → block_len in_lines n rest ≡ Ok m → m ≤ length rest
 data-within true n rest m e = let w = lines_len-least n rest m (short-some _ m e) in w.1
 data-within false n rest m e = let w = bytes-ok _ n m (short-some _ m e) in let fits = ltb-false _ _ w.0 in omega (arith, w.1, fits)
 
-pub data-take : (in_lines : Bool) (n : ℕ) (rest : List ℕ) (m k : ℕ) → counted in_lines n rest ≡ Ok m → m ≤ k → counted in_lines n (take k rest) ≡ Ok m
+pub data-take : (in_lines : Bool) (n : ℕ) (rest : List ℕ) (m k : ℕ) → block_len in_lines n rest ≡ Ok m → m ≤ k → block_len in_lines n (take k rest) ≡ Ok m
 data-take true n rest m k e h = ap or_short (lines_len-take n rest m k (short-some _ m e) h)
 data-take false n rest m k e h =
     let w = bytes-ok _ n m (short-some _ m e) in
@@ -113,6 +113,6 @@ too_many n rest h = none (lines_len n rest) refl
     none None e = refl
     none (Some m) e = let least = lines_len-least n rest m e in absurd (omega (arith, h, least.0, least.1))
 
-pub short_counted : (in_lines : Bool) (n : ℕ) (rest : List ℕ) → length rest < n → counted in_lines n rest ≡ Err ShortData
+pub short_counted : (in_lines : Bool) (n : ℕ) (rest : List ℕ) → length rest < n → block_len in_lines n rest ≡ Err ShortData
 short_counted true n rest h = ap or_short (too_many n rest h)
 short_counted false n rest h = ap (λ t. or_short (if t then None else Some n)) (lt-ltb (length rest) n h)

@@ -12,7 +12,7 @@ use Rattle.rules.specs.Filters.{kept_after, drops_in_page, continues}
 use Rattle.dsc.specs.Filters.{is_dropped, of_units}
 use Rattle.dsc.specs.Units.{or_none, units_of}
 use Rattle.dsc.specs.Marks.{page_starts}
-use Rattle.dsc.specs.BodyStarts.{IsBodyStart, AreBodyStarts, Sought, none_sought, moved, starts_in, noted, ends_line, closed}
+use Rattle.dsc.specs.BodyStarts.{IsBodyStart, AreBodyStarts, Sought, none_sought, body_start_after, starts_in, noted, ends_line, closed}
 use Rattle.dsc.specs.declared.filters.Drops.TheVariants.{PageSetup}
 use Rattle.dsc.proofs.Cases.{by_test}
 use Rattle.dsc.proofs.Filtering.{kept_step}
@@ -23,7 +23,7 @@ use Rattle.dsc.proofs.BodyMarks.{sought_with, sought_on, line_further}
 abbrev pub start_with : (start : ℕ) (was : Bool) (at : ℕ) → List NestedUnit → ℕ
 start_with start was at [] = start
 start_with start was at (u ∷ us) = let behind = at + length u.unit.bytes
-    in start_with (moved (is_dropped PageSetup was u) start at behind) (is_dropped PageSetup was u) behind us
+    in start_with (body_start_after (is_dropped PageSetup was u) start at behind) (is_dropped PageSetup was u) behind us
 
 not_at : (start at : ℕ) → start ≤ at → (start == at) ≡ false → 0 < at
 not_at start zero h e = let z : start ≡ 0 = omega (arith, h) in absurd (false≢true (sym e ∙ eq-eqb start 0 z))
@@ -36,7 +36,7 @@ none_at : (at : ℕ) → 0 < at → (0 == at) ≡ false
 none_at at h = ne_eqb 0 at (λ e. omega (arith, e, h))
 
 -- a body without a start stays so
-stays_none : (dropped : Bool) (at behind : ℕ) → 0 < at → moved dropped 0 at behind ≡ 0
+stays_none : (dropped : Bool) (at behind : ℕ) → 0 < at → body_start_after dropped 0 at behind ≡ 0
 stays_none false at behind h = refl
 stays_none true at behind h = ap (λ t. if t then behind else 0) (none_at at h)
 
@@ -159,7 +159,7 @@ first_body at u us h =
     let b : ℕ = at + length u.unit.bytes in
     let line : Bool = ends_line false (bytes_of (u ∷ up_to begins_page us)) in
     ap (λ t. if t then closed line (start_with at false at (u ∷ up_to begins_page us)) ∷ body_starts b us else body_starts b us) h
-    ∙ ap (λ d. closed line (start_with (moved d at at b) d b (up_to begins_page us)) ∷ body_starts b us) (page_dropped false u h)
+    ∙ ap (λ d. closed line (start_with (body_start_after d at at b) d b (up_to begins_page us)) ∷ body_starts b us) (page_dropped false u h)
     ∙ ap (λ t. closed line (start_with (if t then b else 0) true b (up_to begins_page us)) ∷ body_starts b us) (same_byte at)
     ∙ ap (λ l. closed l (start_with b true b (up_to begins_page us)) ∷ body_starts b us) (sym (line_further false u.unit.bytes (bytes_of (up_to begins_page us))))
 
@@ -207,7 +207,7 @@ page_next u us found current line was at isnt page later =
     ∙ ap (λ vs. found ++ rest_with current line was at (up_to begins_page vs) ∷ body_starts at vs) (sym (before-cons begins_trailer u us ∙ ap (λ t. cond t [] (u ∷ run)) isnt))
 
 other_next : (u : NestedUnit) (us : List NestedUnit) (found : List ℕ) (current : ℕ) (line was : Bool) (at : ℕ) → begins_trailer u ≡ false → begins_page u ≡ false
-    → Inside found (moved (is_dropped PageSetup was u) current at (at + length u.unit.bytes)) (ends_line line u.unit.bytes) (is_dropped PageSetup was u) (at + length u.unit.bytes) us
+    → Inside found (body_start_after (is_dropped PageSetup was u) current at (at + length u.unit.bytes)) (ends_line line u.unit.bytes) (is_dropped PageSetup was u) (at + length u.unit.bytes) us
     → Inside found current line was at (u ∷ us)
 other_next u us found current line was at isnt other later =
     let b : ℕ = at + length u.unit.bytes in
@@ -217,7 +217,7 @@ other_next u us found current line was at isnt other later =
     ap (λ t. starts_in (sought_with (noted (in_page found current line was) at b (begins_page u) t d u.unit.bytes) b us)) isnt
     ∙ ap (λ t. starts_in (sought_with (noted (in_page found current line was) at b t false d u.unit.bytes) b us)) other
     ∙ later
-    ∙ ap (λ l. found ++ closed l (start_with (moved d current at b) d b page) ∷ body_starts b run) (line_further line u.unit.bytes (bytes_of page))
+    ∙ ap (λ l. found ++ closed l (start_with (body_start_after d current at b) d b page) ∷ body_starts b run) (line_further line u.unit.bytes (bytes_of page))
     ∙ ap (λ t. found ++ rest_with current line was at (u ∷ page) ∷ (if t then closed (ends_line false (bytes_of (u ∷ page))) (start_with at false at (u ∷ page)) ∷ body_starts b run else body_starts b run)) (sym other)
     ∙ ap (λ vs. found ++ rest_with current line was at vs ∷ body_starts at (u ∷ run)) (sym (before-cons begins_page u run ∙ ap (λ t. cond t [] (u ∷ up_to begins_page run)) other))
     ∙ ap (λ vs. found ++ rest_with current line was at (up_to begins_page vs) ∷ body_starts at vs) (sym (before-cons begins_trailer u us ∙ ap (λ t. cond t [] (u ∷ run)) isnt))
@@ -231,7 +231,7 @@ inside (u ∷ us) found current line was at =
     (λ is. trailer_next u us found current line was at is)
     (λ isnt. by_test (begins_page u)
     (λ page. page_next u us found current line was at isnt page (inside us (found ++ closed line current ∷ []) b (ends_line false u.unit.bytes) true b))
-    (λ other. other_next u us found current line was at isnt other (inside us found (moved d current at b) (ends_line line u.unit.bytes) d b)))
+    (λ other. other_next u us found current line was at isnt other (inside us found (body_start_after d current at b) (ends_line line u.unit.bytes) d b)))
 
 abbrev before : ℕ → (line was : Bool) → Sought
 before current line was = record { found = []; current = current; was = was; in_pages = false; ended = false; line = line }
@@ -255,7 +255,7 @@ outside (u ∷ us) current line was at =
     let more = head-more u us isnt in
     let same : b + head_len us ≡ at + head_len (u ∷ us) = omega (arith, more) in
     ap (λ t. starts_in (sought_with (noted (before current line was) at b t (begins_trailer u) d u.unit.bytes) b us)) isnt
-    ∙ outside us (moved d current at b) (ends_line line u.unit.bytes) d b
+    ∙ outside us (body_start_after d current at b) (ends_line line u.unit.bytes) d b
     ∙ ap (λ k. body_starts k (body_from us)) same
     ∙ ap (body_starts (at + head_len (u ∷ us))) (sym (body-more u us isnt)))
 

@@ -10,7 +10,7 @@ use Rattle.rules.specs.Units.{TextUnit, key, has_key, is_comment, FaultyBlock, c
 use Rattle.rules.specs.Parts.{NestedUnit, nested_from, is_outermost_line, begins_page, begins_trailer, up_to, starting_at, preamble, page_run, split_pages, bytes_of, pages}
 use Rattle.dsc.specs.Units.{or_none, units_of}
 use Rattle.dsc.specs.Filters.{of_units}
-use Rattle.dsc.specs.Marks.{page_starts, starts_of, end_of, starts_from, end_from, Marks, marks_on, scan_on}
+use Rattle.dsc.specs.Marks.{page_starts, starts_of, pages_end, starts_from, end_from, Marks, marks_on, scan_on}
 use Rattle.dsc.proofs.Cases.{by_test}
 
 pub before-cons : (p : NestedUnit → Bool) (u : NestedUnit) (us : List NestedUnit) → up_to p (u ∷ us) ≡ cond (p u) [] (u ∷ up_to p us)
@@ -137,7 +137,7 @@ outside-end at (u ∷ us) = by_test (begins_page u)
 -- What a whole pass found.
 
 scanned-as : (most : ℕ) (text : List ℕ) (m : Marks) (r : Result (List TextUnit) FaultyBlock) → of_units (λ ps. marks_on most [] None 0 (nested_from 0 ps)) r ≡ Ok m
-    → (r ≡ Ok (or_none r)) × (m.starts ≡ take most (starts_of (nested_from 0 (or_none r)))) × (m.stop ≡ end_of (nested_from 0 (or_none r)))
+    → (r ≡ Ok (or_none r)) × (m.starts ≡ take most (starts_of (nested_from 0 (or_none r)))) × (m.stop ≡ pages_end (nested_from 0 (or_none r)))
 scanned-as most text m (Err e) h = cc
 scanned-as most text m (Ok ps) h =
     let same : marks_on most [] None 0 (nested_from 0 ps) ≡ m = cc in
@@ -149,7 +149,7 @@ scanned-as most text m (Ok ps) h =
     )
 
 pub scanned : (most : ℕ) (text : List ℕ) (m : Marks) → scan_on most [] None 0 0 text ≡ Ok m
-    → (cut text ≡ Ok (or_none (cut text))) × (m.starts ≡ take most (starts_of (units_of text))) × (m.stop ≡ end_of (units_of text))
+    → (cut text ≡ Ok (or_none (cut text))) × (m.starts ≡ take most (starts_of (units_of text))) × (m.stop ≡ pages_end (units_of text))
 scanned most text m h = scanned-as most text m (cut text) h
 
 fault-as : (most : ℕ) (r : Result (List TextUnit) FaultyBlock) (e : FaultyBlock) → of_units (λ ps. marks_on most [] None 0 (nested_from 0 ps)) r ≡ Err e → r ≡ Err e

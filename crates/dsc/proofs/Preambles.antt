@@ -16,7 +16,7 @@ use Rattle.rules.specs.MadeOutput.{with_lines, drops_with, dressed_preamble}
 use Rattle.std.proofs.lemmas.List.{append-nil}
 use Rattle.dsc.specs.Units.{or_none, units_of}
 use Rattle.dsc.specs.Documents.{HasItsParts}
-use Rattle.dsc.specs.Marks.{end_of}
+use Rattle.dsc.specs.Marks.{pages_end}
 use Rattle.dsc.proofs.LineLengths.{line_len-within}
 use Rattle.dsc.proofs.Rows.{joined, units-whole, units-alone, units-cut, cut-begins}
 use Rattle.dsc.proofs.Alone.{nested-take, nested-bytes, begins-take}
@@ -150,7 +150,7 @@ pub preamble_at : {bodies : List ℕ} (text starts items : List ℕ) (stop n sta
 preamble_at text starts items stop n start sheets i e r s =
     let us : List NestedUnit = units_of text in
     let first : start ≡ length (bytes_of (preamble us)) =
-    s ∙ ap (λ xs. get_or xs 0 0) r ∙ any_default starts 0 (end_of us) i.some ∙ ap (λ xs. get_or xs 0 (end_of us)) i.starts_are ∙ preamble_start us in
+    s ∙ ap (λ xs. get_or xs 0 0) r ∙ any_default starts 0 (pages_end us) i.some ∙ ap (λ xs. get_or xs 0 (pages_end us)) i.starts_are ∙ preamble_start us in
     subst (λ k. PreambleFound text k start sheets) (sym e) (preamble_found text start sheets (accepted_opening text _ i.accepted) i.is_cut first)
   where
     any_default : (xs : List ℕ) (a b : ℕ) → 0 < length xs → get_or xs 0 a ≡ get_or xs 0 b

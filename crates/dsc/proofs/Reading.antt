@@ -8,7 +8,7 @@ use Rattle.rules.specs.Units.{TextUnit, FaultyBlock, cut, ◌>>=◌}
 use Rattle.rules.specs.Parts.{NestedUnit, nested_from, nested, pages}
 use Rattle.rules.specs.Run.{DocumentFault, InputTooLong, NotPostScript, InputTooManyPages, NoPages, document_of, most_input_bytes, most_pages, with_pages, refuse_if, of_block}
 use Rattle.dsc.specs.Units.{or_none, units_of}
-use Rattle.dsc.specs.Marks.{starts_of, end_of, marks_on, scan_on, stop_at}
+use Rattle.dsc.specs.Marks.{starts_of, pages_end, marks_on, scan_on, stop_at}
 use Rattle.dsc.specs.Laws.{HasBody, PagesHaveBodies}
 use Rattle.dsc.proofs.Cases.{by_test}
 use Rattle.dsc.proofs.Alone.{bodies}
@@ -30,7 +30,7 @@ ends_as most starts None len = (ap (take most) (append-nil starts), refl)
 
 -- the number of elements kept of a list shows how many there are
 abbrev Read : ℕ → List ℕ → List ℕ → Option ℕ → Type 0
-Read most text starts stop = (cut text ≡ Ok (or_none (cut text))) × (take most starts ≡ take most (starts_of (units_of text))) × (stop_at stop (length text) ≡ end_of (units_of text))
+Read most text starts stop = (cut text ≡ Ok (or_none (cut text))) × (take most starts ≡ take most (starts_of (units_of text))) × (stop_at stop (length text) ≡ pages_end (units_of text))
 
 pub passed : (most : ℕ) (text starts : List ℕ) (stop : Option ℕ) → scan_on most [] None 0 0 text ≡ Ok (marks_on most starts stop (length text) []) → Read most text starts stop
 passed most text starts stop e =
@@ -77,7 +77,7 @@ not_none : (n : ℕ) → 0 < n → (n == 0) ≡ false
 not_none n h = by_test (n == 0) (λ is. let e = eqb-true n 0 is in absurd (omega (arith, h, e))) (λ isnt. isnt)
 
 pub good_read : (most : ℕ) (text starts : List ℕ) (stop : Option ℕ) → Opens text → most_pages < most → scan_on most [] None 0 0 text ≡ Ok (marks_on most starts stop (length text) []) → 0 < length starts → length starts ≤ most_pages
-    → (document_of text ≡ Ok (units_of text)) × (cut text ≡ Ok (or_none (cut text))) × (starts ≡ starts_of (units_of text)) × (stop_at stop (length text) ≡ end_of (units_of text))
+    → (document_of text ≡ Ok (units_of text)) × (cut text ≡ Ok (or_none (cut text))) × (starts ≡ starts_of (units_of text)) × (stop_at stop (length text) ≡ pages_end (units_of text))
 good_read most text starts stop h m e some few =
     let w = passed most text starts stop e in
     let same : starts ≡ starts_of (units_of text) = same_kept most starts (starts_of (units_of text)) w.1 (omega (arith, few, m)) in

@@ -7,7 +7,7 @@ use Rattle.rules.specs.Units.{TextUnit, FaultyBlock}
 use Rattle.rules.specs.Parts.{NestedUnit, begins_page, begins_trailer}
 use Rattle.dsc.specs.Marks.{starts_from, end_from, Marks, marks_on, noted_starts, noted_end, scan_on}
 use Rattle.dsc.specs.Views.{at_depth}
-use Rattle.dsc.specs.Walks.{Place, behind, IsPieceOf}
+use Rattle.dsc.specs.Walks.{WalkPlace, past_unit, IsPieceOf}
 use Rattle.dsc.proofs.Cases.{by_test, and_false}
 use Rattle.dsc.proofs.PlainUnits.{plain_page, plain_trailer}
 use Rattle.dsc.proofs.Walking.{Follows, piece_on}
@@ -94,13 +94,13 @@ follows most z = record {
 }
 
 -- in terms of a loop: one more unit is noted
-pub scan_more : (most : ℕ) → 0 < most → (starts new : List ℕ) (stop new_stop : Option ℕ) (p q : Place) (u : TextUnit) (at : ℕ) (page ends : Bool) (whole : Result Marks FaultyBlock)
-    → 0 < length p.rest → IsPieceOf u p.rest → q ≡ behind u p → at ≡ p.at
+pub scan_more : (most : ℕ) → 0 < most → (starts new : List ℕ) (stop new_stop : Option ℕ) (p q : WalkPlace) (u : TextUnit) (at : ℕ) (page ends : Bool) (whole : Result Marks FaultyBlock)
+    → 0 < length p.rest → IsPieceOf u p.rest → q ≡ past_unit u p → at ≡ p.at
     → page ≡ begins_page (at_depth p.depth u) → ends ≡ begins_trailer (at_depth p.depth u)
     → new ≡ noted_starts most starts stop page ends at → new_stop ≡ noted_end starts stop ends at
     → scan_on most starts stop p.depth p.at p.rest ≡ whole → scan_on most new new_stop q.depth q.at q.rest ≡ whole
 scan_more most z starts new stop new_stop p q u at page ends whole some piece b a pg tr ns nt i =
-    let r : Place = behind u p in
+    let r : WalkPlace = past_unit u p in
     ap (λ t. scan_on most new new_stop t.depth t.at t.rest) b
     ∙ ap (λ t. scan_on most t new_stop r.depth r.at r.rest)
     (ns ∙ ap (noted_starts most starts stop page ends) a ∙ ap (λ v. noted_starts most starts stop v ends p.at) pg ∙ ap (λ v. noted_starts most starts stop (begins_page (at_depth p.depth u)) v p.at) tr)

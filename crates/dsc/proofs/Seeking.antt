@@ -7,10 +7,10 @@ use Rattle.rules.specs.Parts.{NestedUnit, begins_page, begins_trailer, nested, n
 use Rattle.dsc.specs.Views.{at_depth}
 use Rattle.dsc.specs.Filters.{of_units}
 use Rattle.dsc.specs.Units.{faulty_block, or_none, units_of}
-use Rattle.dsc.specs.Walks.{Place, behind, IsPieceOf}
+use Rattle.dsc.specs.Walks.{WalkPlace, past_unit, IsPieceOf}
 use Rattle.dsc.specs.declared.boxes.Section.{Section}
 use Rattle.dsc.specs.declared.boxes.Section.TheVariants.{Preamble, Pages, Trailer}
-use Rattle.dsc.specs.TrailerBoxes.{box_among, box_in, first_of, found_after, part_after, trailer_box}
+use Rattle.dsc.specs.TrailerBoxes.{box_among, box_in, first_there, found_after, part_after, trailer_box}
 use Rattle.dsc.proofs.Cut.{cut_fault}
 use Rattle.dsc.proofs.PartMarks.{exclusive, from-cons}
 use Rattle.dsc.proofs.PlainUnits.{plain_box, plain_page, plain_trailer}
@@ -31,7 +31,7 @@ found_from Pages us = box_among (starting_at begins_trailer us)
 found_from Trailer us = box_among us
 
 abbrev pub makes : Sought → List NestedUnit → Option (List (List ℕ))
-makes s us = first_of s.found (found_from s.part us)
+makes s us = first_there s.found (found_from s.part us)
 
 abbrev pub next : Sought → NestedUnit → Sought
 next s u = let part = part_after s.part (begins_page u) (begins_trailer u) in record { part = part; found = found_after part s.found u }
@@ -39,39 +39,39 @@ next s u = let part = part_after s.part (begins_page u) (begins_trailer u) in re
 abbrev pass : Sought → List ℕ → Sought
 pass s bytes = s
 
-first_of_three : {A : Type 0} (a b c : Option A) → first_of (first_of a b) c ≡ first_of a (first_of b c)
+first_of_three : {A : Type 0} (a b c : Option A) → first_there (first_there a b) c ≡ first_there a (first_there b c)
 first_of_three (Some x) b c = refl
 first_of_three None b c = refl
 
 abbrev made : Option (List (List ℕ)) → NestedUnit → List NestedUnit → Section → Option (List (List ℕ))
-made found u us part = first_of (found_after part found u) (found_from part us)
+made found u us part = first_there (found_after part found u) (found_from part us)
 
-trailer_step : (found : Option (List (List ℕ))) (u : NestedUnit) (us : List NestedUnit) → made found u us Trailer ≡ first_of found (box_among (u ∷ us))
+trailer_step : (found : Option (List (List ℕ))) (u : NestedUnit) (us : List NestedUnit) → made found u us Trailer ≡ first_there found (box_among (u ∷ us))
 trailer_step found u us = first_of_three found (box_in u) (box_among us)
 
 pages_step : (found : Option (List (List ℕ))) (u : NestedUnit) (us : List NestedUnit) (page ends : Bool) → begins_trailer u ≡ ends
-    → made found u us (part_after Pages page ends) ≡ first_of found (box_among (starting_at begins_trailer (u ∷ us)))
+    → made found u us (part_after Pages page ends) ≡ first_there found (box_among (starting_at begins_trailer (u ∷ us)))
 pages_step found u us page true e =
     trailer_step found u us
-    ∙ ap (λ vs. first_of found (box_among vs)) (sym (from-cons begins_trailer u us ∙ ap (λ t. cond t (u ∷ us) (starting_at begins_trailer us)) e))
+    ∙ ap (λ vs. first_there found (box_among vs)) (sym (from-cons begins_trailer u us ∙ ap (λ t. cond t (u ∷ us) (starting_at begins_trailer us)) e))
 pages_step found u us page false e =
-    ap (λ vs. first_of found (box_among vs)) (sym (from-cons begins_trailer u us ∙ ap (λ t. cond t (u ∷ us) (starting_at begins_trailer us)) e))
+    ap (λ vs. first_there found (box_among vs)) (sym (from-cons begins_trailer u us ∙ ap (λ t. cond t (u ∷ us) (starting_at begins_trailer us)) e))
 
 preamble_step : (found : Option (List (List ℕ))) (u : NestedUnit) (us : List NestedUnit) (page ends : Bool) → begins_page u ≡ page
-    → made found u us (part_after Preamble page ends) ≡ first_of found (box_among (trailer (u ∷ us)))
+    → made found u us (part_after Preamble page ends) ≡ first_there found (box_among (trailer (u ∷ us)))
 preamble_step found u us true ends e =
     pages_step found u us true false (exclusive u e)
-    ∙ ap (λ vs. first_of found (box_among (starting_at begins_trailer vs))) (sym (from-cons begins_page u us ∙ ap (λ t. cond t (u ∷ us) (starting_at begins_page us)) e))
+    ∙ ap (λ vs. first_there found (box_among (starting_at begins_trailer vs))) (sym (from-cons begins_page u us ∙ ap (λ t. cond t (u ∷ us) (starting_at begins_page us)) e))
 preamble_step found u us false ends e =
-    ap (λ vs. first_of found (box_among (starting_at begins_trailer vs))) (sym (from-cons begins_page u us ∙ ap (λ t. cond t (u ∷ us) (starting_at begins_page us)) e))
+    ap (λ vs. first_there found (box_among (starting_at begins_trailer vs))) (sym (from-cons begins_page u us ∙ ap (λ t. cond t (u ∷ us) (starting_at begins_page us)) e))
 
 one_step : (part : Section) (found : Option (List (List ℕ))) (u : NestedUnit) (us : List NestedUnit)
-    → made found u us (part_after part (begins_page u) (begins_trailer u)) ≡ first_of found (found_from part (u ∷ us))
+    → made found u us (part_after part (begins_page u) (begins_trailer u)) ≡ first_there found (found_from part (u ∷ us))
 one_step Preamble found u us = preamble_step found u us (begins_page u) (begins_trailer u) refl
 one_step Pages found u us = pages_step found u us (begins_page u) (begins_trailer u) refl
 one_step Trailer found u us = trailer_step found u us
 
-none_added : {A : Type 0} (found : Option A) → first_of found None ≡ found
+none_added : {A : Type 0} (found : Option A) → first_there found None ≡ found
 none_added (Some x) = refl
 none_added None = refl
 
@@ -80,7 +80,7 @@ plain_step : (part : Section) (found : Option (List (List ℕ))) (u : NestedUnit
     → sought (part_after part false false) (found_after (part_after part false false) found u) ≡ sought part found
 plain_step Preamble found u e = refl
 plain_step Pages found u e = refl
-plain_step Trailer found u e = ap (sought Trailer) (ap (first_of found) e ∙ none_added found)
+plain_step Trailer found u e = ap (sought Trailer) (ap (first_there found) e ∙ none_added found)
 
 follows : Follows makes next pass
 follows = record {
@@ -96,13 +96,13 @@ abbrev pub sought_on : Section → Option (List (List ℕ)) → (depth at : ℕ)
 sought_on part found depth at rest = on_rest (makes (sought part found)) depth at rest
 
 -- in terms of the loop: one more unit is looked at
-pub sought_more : (part new_part : Section) (found new : Option (List (List ℕ))) (p q : Place) (u : TextUnit) (page ends : Bool) (whole : Result (Option (List (List ℕ))) FaultyBlock)
-    → 0 < length p.rest → IsPieceOf u p.rest → q ≡ behind u p
+pub sought_more : (part new_part : Section) (found new : Option (List (List ℕ))) (p q : WalkPlace) (u : TextUnit) (page ends : Bool) (whole : Result (Option (List (List ℕ))) FaultyBlock)
+    → 0 < length p.rest → IsPieceOf u p.rest → q ≡ past_unit u p
     → page ≡ begins_page (at_depth p.depth u) → ends ≡ begins_trailer (at_depth p.depth u)
     → new_part ≡ part_after part page ends → new ≡ found_after new_part found (at_depth p.depth u)
     → sought_on part found p.depth p.at p.rest ≡ whole → sought_on new_part new q.depth q.at q.rest ≡ whole
 sought_more part new_part found new p q u page ends whole some piece b pg tr np nf i =
-    let r : Place = behind u p in
+    let r : WalkPlace = past_unit u p in
     let v : NestedUnit = at_depth p.depth u in
     let same : new_part ≡ part_after part (begins_page v) (begins_trailer v) = np ∙ ap (λ t. part_after part t ends) pg ∙ ap (part_after part (begins_page v)) tr in
     ap (λ t. sought_on new_part new t.depth t.at t.rest) b

@@ -8,7 +8,7 @@ use Rattle.std.proofs.Math.Seq.{take-append_seam, drop-append_seam}
 use Rattle.rules.specs.Units.{cut}
 use Rattle.rules.specs.Parts.{NestedUnit, begins_page, begins_trailer, up_to, starting_at, preamble, page_run, trailer, split_pages, bytes_of, pages}
 use Rattle.dsc.specs.Units.{or_none, units_of}
-use Rattle.dsc.specs.Marks.{page_starts, starts_of, end_of}
+use Rattle.dsc.specs.Marks.{page_starts, starts_of, pages_end}
 use Rattle.dsc.proofs.Cases.{by_test}
 use Rattle.rules.proofs.Whole.{units_make_text}
 use Rattle.dsc.specs.Documents.{HasItsParts}
@@ -158,14 +158,14 @@ from_page p q (u ∷ us) = by_test (p u)
     front false is = before-cons p u (up_to q us) ∙ ap (λ t. cond t [] (u ∷ up_to p (up_to q us))) is
 
 -- the first page begins after the preamble
-pub preamble_start : (us : List NestedUnit) → get_or (starts_of us) 0 (end_of us) ≡ length (bytes_of (preamble us))
+pub preamble_start : (us : List NestedUnit) → get_or (starts_of us) 0 (pages_end us) ≡ length (bytes_of (preamble us))
 preamble_start us =
     let none : length (bytes_of (up_to begins_page (page_run us))) ≡ 0 = ap (λ vs. length (bytes_of vs)) (from_page begins_page begins_trailer us) in
     let start = first_start (length (bytes_of (preamble us))) (page_run us) in
     omega (arith, start, none)
 
 -- a page of a document, in terms of the code
-pub page_found : (text starts : List ℕ) (stop p : ℕ) → cut text ≡ Ok (or_none (cut text)) → starts ≡ starts_of (units_of text) → stop ≡ end_of (units_of text) → p < length (pages (units_of text))
+pub page_found : (text starts : List ℕ) (stop p : ℕ) → cut text ≡ Ok (or_none (cut text)) → starts ≡ starts_of (units_of text) → stop ≡ pages_end (units_of text) → p < length (pages (units_of text))
     → (p < length starts) × (get_or starts p 0 ≤ get_or starts (p + 1) stop) × (get_or starts (p + 1) stop ≤ length text)
     × (take (get_or starts (p + 1) stop - get_or starts p 0) (drop (get_or starts p 0) text) ≡ get_or (pages (units_of text)) p [])
 page_found text starts stop p c s t h =
@@ -178,16 +178,16 @@ page_found text starts stop p c s t h =
     let l = length-append (bytes_of (preamble us)) (bytes_of (page_run us) ++ bytes_of (trailer us)) in
     let m = length-append (bytes_of (page_run us)) (bytes_of (trailer us)) in
     let long : length text ≡ length (bytes_of (preamble us) ++ (bytes_of (page_run us) ++ bytes_of (trailer us))) = ap length whole in
-    let w = page_bounds at (end_of us) (page_run us) p refl (omega (arith, h, count)) in
-    let v = page_slice text at (end_of us) (page_run us) (bytes_of (trailer us)) p behind refl (omega (arith, h, count)) in
+    let w = page_bounds at (pages_end us) (page_run us) p refl (omega (arith, h, count)) in
+    let v = page_slice text at (pages_end us) (page_run us) (bytes_of (trailer us)) p behind refl (omega (arith, h, count)) in
     let one : suc p ≡ p + 1 = omega arith in
-    let same : get_or (starts_of us) (suc p) (end_of us) ≡ get_or starts (p + 1) stop = ap (λ xs. get_or xs (suc p) (end_of us)) (sym s) ∙ ap (λ k. get_or starts (suc p) k) (sym t) ∙ ap (λ k. get_or starts k stop) one in
+    let same : get_or (starts_of us) (suc p) (pages_end us) ≡ get_or starts (p + 1) stop = ap (λ xs. get_or xs (suc p) (pages_end us)) (sym s) ∙ ap (λ k. get_or starts (suc p) k) (sym t) ∙ ap (λ k. get_or starts k stop) one in
     let first : get_or (starts_of us) p 0 ≡ get_or starts p 0 = ap (λ xs. get_or xs p 0) (sym s) in
     let mapped : get_or (pages us) p [] ≡ bytes_of (get_or (split_pages (page_run us)) p []) = get_or-map bytes_of (split_pages (page_run us)) p in (
       omega (arith, h, count, size),
       omega (arith, w.1, same, first),
       omega (arith, w.2, same, l, m, long),
-      ap (λ k. take (k - get_or starts p 0) (drop (get_or starts p 0) text)) (sym same) ∙ ap (λ k. take (get_or (starts_of us) (suc p) (end_of us) - k) (drop k text)) (sym first) ∙ v ∙ sym mapped,
+      ap (λ k. take (k - get_or starts p 0) (drop (get_or starts p 0) text)) (sym same) ∙ ap (λ k. take (get_or (starts_of us) (suc p) (pages_end us) - k) (drop k text)) (sym first) ∙ v ∙ sym mapped,
     )
   where
     get_or-map : (f : List NestedUnit → List ℕ) (xs : List (List NestedUnit)) (p : ℕ) → get_or (map f xs) p (f []) ≡ f (get_or xs p [])

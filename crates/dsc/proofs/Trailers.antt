@@ -8,7 +8,7 @@ use Rattle.std.proofs.Math.Seq.{drop-append_seam}
 use Rattle.rules.specs.Units.{TextUnit, cut, BeginsWith}
 use Rattle.rules.specs.Parts.{NestedUnit, depth_after, nested_from, nested, begins_page, begins_trailer, starting_at, preamble, page_run, trailer, bytes_of}
 use Rattle.dsc.specs.Units.{or_none, units_of}
-use Rattle.dsc.specs.Marks.{end_of}
+use Rattle.dsc.specs.Marks.{pages_end}
 use Rattle.dsc.specs.Laws.{StandAlone}
 use Rattle.dsc.proofs.Cases.{by_test}
 use Rattle.dsc.proofs.PartMarks.{from-cons}
@@ -41,7 +41,7 @@ trailer-stands ps text rest h =
 pub alone_units : (us : List NestedUnit) → StandAlone us → (cut (bytes_of us) ≡ Ok (or_none (cut (bytes_of us)))) × (units_of (bytes_of us) ≡ us)
 alone_units us h = (h.0 ∙ ap (λ r. Ok (or_none r)) (sym h.0), ap (λ r. nested (or_none r)) h.0 ∙ h.1)
 
-pub trailer_found : (text rest : List ℕ) (stop : ℕ) → cut text ≡ Ok (or_none (cut text)) → stop ≡ end_of (units_of text) → rest ≡ drop stop text
+pub trailer_found : (text rest : List ℕ) (stop : ℕ) → cut text ≡ Ok (or_none (cut text)) → stop ≡ pages_end (units_of text) → rest ≡ drop stop text
     → (cut rest ≡ Ok (or_none (cut rest))) × (units_of rest ≡ trailer (units_of text))
 trailer_found text rest stop c s r =
     let us : List NestedUnit = units_of text in
@@ -53,7 +53,7 @@ trailer_found text rest stop c s r =
     subst (λ t. (cut t ≡ Ok (or_none (cut t))) × (units_of t ≡ trailer us)) (sym (r ∙ behind))
     (alone_units (trailer us) (trailer-stands (or_none (cut text)) text [] (cut-begins text (or_none (cut text)) c)))
 
-pub stop_within : (text : List ℕ) (stop : ℕ) → cut text ≡ Ok (or_none (cut text)) → stop ≡ end_of (units_of text) → stop ≤ length text
+pub stop_within : (text : List ℕ) (stop : ℕ) → cut text ≡ Ok (or_none (cut text)) → stop ≡ pages_end (units_of text) → stop ≤ length text
 stop_within text stop c s =
     let us : List NestedUnit = units_of text in
     let whole : length text ≡ length (bytes_of (preamble us) ++ (bytes_of (page_run us) ++ bytes_of (trailer us))) = ap length (text_whole text c ∙ parts_whole us) in

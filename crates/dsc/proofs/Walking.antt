@@ -8,7 +8,7 @@ use Rattle.rules.specs.Parts.{NestedUnit, depth_after, nested_from}
 use Rattle.dsc.specs.Filters.{of_units}
 use Rattle.dsc.specs.Plain.{ArePlain}
 use Rattle.dsc.specs.Views.{at_depth}
-use Rattle.dsc.specs.Walks.{Place, behind, IsPiece, passed}
+use Rattle.dsc.specs.Walks.{WalkPlace, past_unit, IsPiece, passed}
 use Rattle.dsc.proofs.Cut.{cut_at, cut_step, of_units-more}
 use Rattle.dsc.proofs.Rows.{taken, unit-front}
 use Rattle.dsc.proofs.PlainUnits.{IsPlain, line_unit, line_bytes, plain_unit, plain_depth}
@@ -95,11 +95,11 @@ module _ {S A : Type 0} {makes : S → List NestedUnit → A} {next : S → Nest
       ∙ plain_on p.4.0 s depth at n rest p.2 p.4.1
 
 -- a walk that loses no byte
-pub still_placed : (p q : Place) (u : TextUnit) (len : ℕ) → q ≡ behind u p → length u.bytes ≤ length p.rest → p.at + length p.rest ≡ len → q.at + length q.rest ≡ len
+pub still_placed : (p q : WalkPlace) (u : TextUnit) (len : ℕ) → q ≡ past_unit u p → length u.bytes ≤ length p.rest → p.at + length p.rest ≡ len → q.at + length q.rest ≡ len
 still_placed p q u len b fits e = ap (λ r. r.at + length r.rest) b ∙ (let l = length-drop (length u.bytes) p.rest in omega (arith, l, fits, e))
 
 -- each step leaves less
-pub less_left : (p q : Place) (u : TextUnit) → q ≡ behind u p → 0 < length p.rest → 0 < length u.bytes → length q.rest < length p.rest
+pub less_left : (p q : WalkPlace) (u : TextUnit) → q ≡ past_unit u p → 0 < length p.rest → 0 < length u.bytes → length q.rest < length p.rest
 less_left p q u b some fill = subst (λ r. length r.rest < length p.rest) (sym b) (let l = length-drop (length u.bytes) p.rest in omega (arith, l, some, fill))
 
 -- the unit of a step is at the start of what is left

@@ -40,8 +40,8 @@ none_sought = record { found = []; current = 0; was = false; in_pages = false; e
 
 -- where a body begins after one more unit: a dropped unit moves it past itself if nothing was kept before, and
 -- otherwise leaves it without a start
-abbrev pub moved : (dropped : Bool) → (start at behind : ℕ) → ℕ
-moved dropped start at behind = if dropped then (if start == at then behind else 0) else start
+abbrev pub body_start_after : (dropped : Bool) → (start at behind : ℕ) → ℕ
+body_start_after dropped start at behind = if dropped then (if start == at then behind else 0) else start
 
 -- the start counts if the page ends with a line end
 abbrev pub closed : (line : Bool) → (start : ℕ) → ℕ
@@ -77,7 +77,7 @@ noted s at behind page ends dropped bytes =
     }
     else record {
       found = s.found;
-      current = moved dropped s.current at behind;
+      current = body_start_after dropped s.current at behind;
       was = dropped;
       in_pages = s.in_pages;
       ended = false;

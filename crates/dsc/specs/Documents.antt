@@ -3,7 +3,7 @@ use Rattle.std.specs.Prelude.{◌≡◌, ℕ, ◌<◌, ◌≤◌, List, length, 
 use Rattle.rules.specs.Units.{cut}
 use Rattle.rules.specs.Run.{document_of, most_pages}
 use Rattle.dsc.specs.Units.{or_none, units_of}
-use Rattle.dsc.specs.Marks.{starts_of, end_of}
+use Rattle.dsc.specs.Marks.{starts_of, pages_end}
 use Rattle.dsc.specs.BodyStarts.{AreBodyStarts}
 
 -- the text is a document, its pages and their bodies begin at these bytes, and its pages end at this one
@@ -13,5 +13,5 @@ pub record HasItsParts (text : List ℕ) (starts : List ℕ) (bodies : List ℕ)
   pub starts_are : starts ≡ starts_of (units_of text)
   pub some : 0 < length starts
   pub few : length starts ≤ most_pages
-  pub stop_is : stop ≡ end_of (units_of text)
+  pub stop_is : stop ≡ pages_end (units_of text)
   pub bodies_are : AreBodyStarts (units_of text) bodies

@@ -10,12 +10,12 @@ use Rattle.dsc.specs.declared.errors.CutError.{CutError}
 use Rattle.dsc.specs.declared.errors.CutError.TheVariants as cut_fault
 use Rattle.dsc.specs.declared.units.UnitError.{UnitError}
 use Rattle.dsc.specs.declared.units.UnitError.TheVariants as unit_fault
-use Rattle.dsc.specs.Views.{fault_of}
+use Rattle.dsc.specs.Views.{block_fault}
 use Rattle.dsc.specs.declared.errors.DscError.{DscError}
 use Rattle.dsc.specs.declared.errors.DscError.TheVariants as fault
 
 abbrev pub block_fault_told : CutError → Option FaultyBlock
-block_fault_told (cut_fault.Faulty b) = Some (faulty_block b.at (fault_of b.fault))
+block_fault_told (cut_fault.Faulty b) = Some (faulty_block b.at (block_fault b.fault))
 block_fault_told cut_fault.NoMemory = None
 
 -- out of memory reports no fault

@@ -17,12 +17,12 @@ third_is name (b ∷ c ∷ more) = bytes_eq c name
 third_is name other = false
 
 -- the length of n lines or n bytes, if there are that many
-abbrev pub counted : Bool → ℕ → List ℕ → Result ℕ BlockFault
-counted in_lines n rest = or_short (if in_lines then lines_len n rest else bytes_len n rest)
+abbrev pub block_len : Bool → ℕ → List ℕ → Result ℕ BlockFault
+block_len in_lines n rest = or_short (if in_lines then lines_len n rest else bytes_len n rest)
 
 -- the length of the data of a block with these fields
 abbrev pub data_in : Bool → List ℕ → List (List ℕ) → Result ℕ BlockFault
 data_in may_count_lines rest [] = Err BadCount
 data_in may_count_lines rest (count ∷ more) =
     if not (list_all is_ascii_digit count) then Err BadCount
-    else counted (may_count_lines && third_is (codes "Lines") more) (number_of count) rest
+    else block_len (may_count_lines && third_is (codes "Lines") more) (number_of count) rest

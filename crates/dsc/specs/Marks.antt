@@ -14,8 +14,8 @@ page_starts at (u ∷ us) = let next = at + length u.unit.bytes
 abbrev pub starts_of : List NestedUnit → List ℕ
 starts_of us = page_starts (length (bytes_of (preamble us))) (page_run us)
 
-abbrev pub end_of : List NestedUnit → ℕ
-end_of us = length (bytes_of (preamble us)) + length (bytes_of (page_run us))
+abbrev pub pages_end : List NestedUnit → ℕ
+pages_end us = length (bytes_of (preamble us)) + length (bytes_of (page_run us))
 
 -- One pass over the units: a trailer line within the pages ends them.
 

@@ -6,9 +6,9 @@ use Rattle.dsc.specs.declared.boxes.Section.{Section}
 use Rattle.dsc.specs.declared.boxes.Section.TheVariants.{Preamble, Pages, Trailer}
 
 -- the first of two, if there is one, or else the second
-abbrev pub first_of : {A : Type 0} → Option A → Option A → Option A
-first_of (Some x) other = Some x
-first_of None other = other
+abbrev pub first_there : {A : Type 0} → Option A → Option A → Option A
+first_there (Some x) other = Some x
+first_there None other = other
 
 -- the fields of a box that an outermost line has
 abbrev pub box_in : NestedUnit → Option (List (List ℕ))
@@ -17,7 +17,7 @@ box_in u =
 
 abbrev pub box_among : List NestedUnit → Option (List (List ℕ))
 box_among [] = None
-box_among (u ∷ us) = first_of (box_in u) (box_among us)
+box_among (u ∷ us) = first_there (box_in u) (box_among us)
 
 -- those of the first box of the trailer
 abbrev pub trailer_box : List NestedUnit → Option (List (List ℕ))
@@ -35,6 +35,6 @@ part_after Trailer page ends = Trailer
 
 -- what is found up to a unit of this part
 abbrev pub found_after : Section → Option (List (List ℕ)) → NestedUnit → Option (List (List ℕ))
-found_after Trailer found u = first_of found (box_in u)
+found_after Trailer found u = first_there found (box_in u)
 found_after Pages found u = found
 found_after Preamble found u = found

@@ -17,16 +17,16 @@ at_depth depth unit = record { depth = depth; unit = unit }
 abbrev pub comment_line : List ℕ → TextUnit
 comment_line content = record { content = content; bytes = []; is_block = false }
 
-abbrev pub fault_of : UnitError → BlockFault
-fault_of fault.BadCount = block.BadCount
-fault_of fault.ShortData = block.ShortData
+abbrev pub block_fault : UnitError → BlockFault
+block_fault fault.BadCount = block.BadCount
+block_fault fault.ShortData = block.ShortData
 
 -- a reader that needs no memory returns the result of reading
-abbrev pub Reads : {X Y E F : Type 0} → (X → Y) → (E → F) → Result X E → Result Y F → Type 0
-Reads view told (Ok x) read = read ≡ Ok (view x)
-Reads view told (Err e) read = read ≡ Err (told e)
+abbrev pub ReadsAs : {X Y E F : Type 0} → (X → Y) → (E → F) → Result X E → Result Y F → Type 0
+ReadsAs view told (Ok x) read = read ≡ Ok (view x)
+ReadsAs view told (Err e) read = read ≡ Err (told e)
 
 -- the same, if memory may run out: an error that reports no fault says nothing of the text
-abbrev pub Gives : {X Y E F : Type 0} → (X → Y) → (E → Option F) → Result X E → Result Y F → Type 0
-Gives view told (Ok x) read = read ≡ Ok (view x)
-Gives view told (Err e) read = IfSome (told e) (λ f. read ≡ Err f)
+abbrev pub GivesUnlessShort : {X Y E F : Type 0} → (X → Y) → (E → Option F) → Result X E → Result Y F → Type 0
+GivesUnlessShort view told (Ok x) read = read ≡ Ok (view x)
+GivesUnlessShort view told (Err e) read = IfSome (told e) (λ f. read ≡ Err f)

@@ -5,16 +5,16 @@ use Rattle.rules.specs.Parts.{depth_after}
 use Rattle.dsc.specs.Plain.{BeginsPlain}
 
 -- a place in a text: what is left from there on, the byte at which that begins, and the depth there
-pub record Place : Type 0 where
+pub record WalkPlace : Type 0 where
   pub rest : List ℕ
   pub at : ℕ
   pub depth : ℕ
 
-abbrev pub start_of : List ℕ → Place
-start_of text = record { rest = text; at = 0; depth = 0 }
+abbrev pub walk_start : List ℕ → WalkPlace
+walk_start text = record { rest = text; at = 0; depth = 0 }
 
-abbrev pub behind : TextUnit → Place → Place
-behind u p = record { rest = drop (length u.bytes) p.rest; at = p.at + length u.bytes; depth = depth_after p.depth u }
+abbrev pub past_unit : TextUnit → WalkPlace → WalkPlace
+past_unit u p = record { rest = drop (length u.bytes) p.rest; at = p.at + length u.bytes; depth = depth_after p.depth u }
 
 -- a text has under 2^64 bytes, and there are at most as many open documents as bytes that were passed
 abbrev pub IsShallow : List ℕ → (at depth : ℕ) → Type 0

@@ -1,7 +1,7 @@
 //! The prepared body of a page: a part of the page, where that is enough.
 ghost use Rattle.std.specs.Prelude.{◌≡◌, ◌++◌, IfOk, IfErr, IfSome};
 ghost use Rattle.rules.specs.Filters.{ended, prepared};
-ghost use Rattle.dsc.specs.Views.{Gives};
+ghost use Rattle.dsc.specs.Views.{GivesUnlessShort};
 ghost use Rattle.dsc.specs.Faults.{block_fault_told, page_fault_told, IsPageError};
 ghost use Rattle.dsc.specs.Laws.{HasBody};
 ghost use Rattle.dsc.specs.declared.errors.DscError.TheVariants.{NoMemory};
@@ -40,7 +40,7 @@ impl<'d> Body<'d> {
     /// with BadCount or ShortData, for the page's first faulty data block, or with NoMemory. A page of a document
     /// has no faulty block.
     pub fn prepare(alloc: Global, page: &'d [u8]) -> Result<Body<'d>, DscError>
-        ensures answer { Gives (λ b. b) page_fault_told result (prepared page.now) }
+        ensures answer { GivesUnlessShort (λ b. b) page_fault_told result (prepared page.now) }
         ensures refusals { IfErr result IsPageError }
         ensures memory_alone { HasBody page.now → IfErr result (λ e. e ≡ NoMemory) }
     {
@@ -70,7 +70,7 @@ impl<'d> Body<'d> {
 
 /// The body of a page, or why it isn't cut.
 fn cut_body<'d>(alloc: Global, page: &'d [u8]) -> Result<Body<'d>, CutError>
-    ensures { Gives (λ b. b) block_fault_told result (prepared page.now) }
+    ensures { GivesUnlessShort (λ b. b) block_fault_told result (prepared page.now) }
 {
     let kept = filter(Vec::new(alloc), Drops::PageSetup, page)?;
     let body = body_of(alloc, kept)?;

@@ -3,7 +3,7 @@ ghost use Rattle.std.specs.Prelude.{◌≡◌, ◌+◌, ◌≤◌, length, OnOk,
 ghost use Rattle.rules.specs.Run.{most_input_bytes};
 ghost use Rattle.dsc.specs.Views.{unit_of, at_depth};
 ghost use Rattle.dsc.specs.Filters.{is_dropped};
-ghost use Rattle.dsc.specs.BodyStarts.{none_sought, noted, with_page, moved, starts_in, ends_line, closed};
+ghost use Rattle.dsc.specs.BodyStarts.{none_sought, noted, with_page, body_start_after, starts_in, ends_line, closed};
 ghost use Rattle.dsc.specs.declared.filters.Drops.TheVariants.{PageSetup};
 
 use crate::filters::{Drops, drops_unit};
@@ -115,7 +115,7 @@ impl BodyStarts {
 /// Where the body begins after a unit. A kept unit doesn't change it. A dropped one moves it past the unit if
 /// nothing was kept before; otherwise there is no start.
 fn moved(dropped: bool, current: u32, at: u32, behind: u32) -> u32
-    ensures { result ≡ moved dropped current at behind }
+    ensures { result ≡ body_start_after dropped current at behind }
 {
     if !dropped {
         current

@@ -7,7 +7,7 @@ ghost use Rattle.rules.specs.Run.{document_of, most_pages};
 ghost use Rattle.rules.specs.Dress.{lines_text};
 ghost use Rattle.rules.specs.MadeOutput.{dressed_preamble};
 ghost use Rattle.dsc.specs.Units.{units_of};
-ghost use Rattle.dsc.specs.Views.{Gives};
+ghost use Rattle.dsc.specs.Views.{GivesUnlessShort};
 ghost use Rattle.dsc.specs.Faults.{fault_told, PassedFirstChecks};
 ghost use Rattle.dsc.specs.Laws.{HasBody};
 ghost use Rattle.dsc.specs.PagesBehind.{pages_behind};
@@ -60,7 +60,7 @@ impl<'d> Document<'d> {
     /// with the first of: TooLong, NotPostScript, BadCount or ShortData (for the first faulty data block of the
     /// text), TooManyPages, NoPages. NoMemory may come instead of any but the first two.
     pub fn read(alloc: Global, text: &'d [u8]) -> Result<Document<'d>, DscError>
-        ensures answer { Gives (λ d. d) fault_told result (document_of text.now) }
+        ensures answer { GivesUnlessShort (λ d. d) fault_told result (document_of text.now) }
         ensures first_checks { IfErr result (λ e. PassedFirstChecks e text.now) }
     {
         if text.len() > MOST_BYTES {
@@ -89,7 +89,7 @@ impl<'d> Document<'d> {
     /// alone.
     pub fn from_parts(text: &'d [u8], parts: Parts) -> Result<Document<'d>, DscError>
         requires serve { Serve parts text.now }
-        ensures answer { Gives (λ d. d) fault_told result (document_of text.now) }
+        ensures answer { GivesUnlessShort (λ d. d) fault_told result (document_of text.now) }
         ensures too_long { IfErr result (λ e. e ≡ TooLong) }
     {
         let len = text.len();
@@ -155,7 +155,7 @@ impl<'d> Document<'d> {
     {
         let p = p as usize;
         let starts = self.starts.as_slice();
-        part(self.text, entry(starts, p), next_or(starts, p, self.stop))
+        text_part(self.text, entry(starts, p), next_or(starts, p, self.stop))
     }
 
     /// The prepared body of a page, counted from 0, as `Body::prepare` makes it from the page. If lines are dropped
@@ -251,7 +251,7 @@ fn entry(starts: &[u32], p: usize) -> usize
 }
 
 /// A part of the text.
-fn part(text: &[u8], start: usize, end: usize) -> &[u8]
+fn text_part(text: &[u8], start: usize, end: usize) -> &[u8]
     requires order { start ≤ end }
     requires within { end ≤ length text.now }
     ensures { result.now ≡ take (end - start) (drop start text.now) }

@@ -8,7 +8,7 @@ ghost use Rattle.rules.specs.Filters.{kept, drops_in_header, drops_in_page, ende
 ghost use Rattle.rules.specs.Dress.{lines_text};
 ghost use Rattle.rules.specs.MadeOutput.{drops_with};
 ghost use Rattle.dsc.specs.Units.{or_none, units_of};
-ghost use Rattle.dsc.specs.Views.{unit_of, at_depth, Gives};
+ghost use Rattle.dsc.specs.Views.{unit_of, at_depth, GivesUnlessShort};
 ghost use Rattle.dsc.specs.Faults.{block_fault_told, page_fault_told, IsPageError};
 ghost use Rattle.dsc.specs.Laws.{HasBody};
 ghost use Rattle.dsc.specs.declared.errors.DscError.TheVariants.{NoMemory};
@@ -154,7 +154,7 @@ fn copy(copied: &mut Vec<u8>, part: &[u8], room: usize) -> Result<(), AllocError
 
 /// The kept part of the text, after the bytes that were copied before.
 pub fn filter<'d>(copied: Vec<u8>, drops: Drops, text: &'d [u8]) -> Result<Kept<'d>, CutError>
-    ensures { Gives (λ k. (k.copied.items ++ k.held.now) ++ k.run.now) block_fault_told result
+    ensures { GivesUnlessShort (λ k. (k.copied.items ++ k.held.now) ++ k.run.now) block_fault_told result
         (filter_on drops copied.items false 0 0 text.now) }
 {
     let mut kept = Kept {
@@ -245,17 +245,17 @@ pub fn end_line(kept: &mut Vec<u8>) -> Result<(), AllocError>
 /// BadCount or ShortData, for its first faulty data block, or with NoMemory. A page of a document has no faulty
 /// block.
 pub fn prepare(alloc: Global, page: &[u8]) -> Result<Vec<u8>, DscError>
-    ensures answer { Gives (λ v. v.items) page_fault_told result (prepared page.now) }
+    ensures answer { GivesUnlessShort (λ v. v.items) page_fault_told result (prepared page.now) }
     ensures refusals { IfErr result IsPageError }
     ensures memory_alone { HasBody page.now → IfErr result (λ e. e ≡ NoMemory) }
 {
-    let body = prepare_page(alloc, page)?;
+    let body = prepared_body(alloc, page)?;
     Ok(body)
 }
 
 /// The prepared body of a page, or why it isn't cut.
-fn prepare_page(alloc: Global, page: &[u8]) -> Result<Vec<u8>, CutError>
-    ensures { Gives (λ v. v.items) block_fault_told result (prepared page.now) }
+fn prepared_body(alloc: Global, page: &[u8]) -> Result<Vec<u8>, CutError>
+    ensures { GivesUnlessShort (λ v. v.items) block_fault_told result (prepared page.now) }
 {
     let room = Vec::with_capacity(alloc, page.len() + 1)?;
     let kept = filter(room, Drops::PageSetup, page)?;

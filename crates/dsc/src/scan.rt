@@ -1,7 +1,7 @@
 //! One pass over a text, which notes where its pages begin and where its trailer does.
 ghost use Rattle.std.specs.Prelude.{◌≡◌, ◌+◌, ◌<◌, ◌≤◌, [], length, OnOk, IfOk, None};
 ghost use Rattle.rules.specs.Run.{most_input_bytes};
-ghost use Rattle.dsc.specs.Views.{Gives, unit_of, at_depth};
+ghost use Rattle.dsc.specs.Views.{GivesUnlessShort, unit_of, at_depth};
 ghost use Rattle.dsc.specs.Faults.{block_fault_told};
 ghost use Rattle.dsc.specs.Filters.{is_dropped};
 ghost use Rattle.dsc.specs.BodyStarts.{AreBodyStarts, noted};
@@ -22,12 +22,12 @@ const MOST_STARTS: usize = 1_000_001;
 /// Where the pages begin, and where the trailer begins once it is found. Pages after the first `MOST_STARTS` are
 /// left out.
 #[derive(Drop)]
-pub struct Seen {
+pub struct PageStarts {
     pub starts: Vec<u32>,
     stop: Option<usize>,
 }
 
-impl Seen {
+impl PageStarts {
     /// Notes a unit that begins at this byte.
     fn note(&mut self, meaning: Meaning, at: usize) -> Result<(), AllocError>
         requires { at ≤ most_input_bytes }
@@ -58,14 +58,14 @@ impl Seen {
 }
 
 /// One pass over the text. Where bodies begin is noted only while there aren't too many pages.
-pub fn scan(alloc: Global, text: &[u8]) -> Result<(Seen, Vec<u32>), CutError>
+pub fn scan(alloc: Global, text: &[u8]) -> Result<(PageStarts, Vec<u32>), CutError>
     requires { length text.now ≤ most_input_bytes }
-    ensures marks { Gives (λ s. marks_on MOST_STARTS s.0.starts.items s.0.stop (length text.now) []) block_fault_told
+    ensures marks { GivesUnlessShort (λ s. marks_on MOST_STARTS s.0.starts.items s.0.stop (length text.now) []) block_fault_told
         result (scan_on MOST_STARTS [] None 0 0 text.now) }
     ensures bodies { IfOk result (λ s. length s.0.starts.items < MOST_STARTS
         → AreBodyStarts (units_of text.now) s.1.items) }
 {
-    let mut seen = Seen {
+    let mut seen = PageStarts {
         starts: Vec::new(alloc),
         stop: None,
     };
@@ -73,14 +73,18 @@ pub fn scan(alloc: Global, text: &[u8]) -> Result<(Seen, Vec<u32>), CutError>
     let mut walk = Walk::new(text);
     while !walk.is_done() {
         let step = walk.step()?;
-        note(&mut seen, &mut bodies, &step)?;
+        note_unit(&mut seen, &mut bodies, &step)?;
     }
     let bodies = bodies.into_starts()?;
     Ok((seen, bodies))
 }
 
 /// Notes a unit. Where bodies begin is noted only while there aren't too many pages.
-fn note(seen: &mut Seen, bodies: &mut BodyStarts, step: &WalkStep<'_>) -> Result<(), AllocError>
+fn note_unit(
+    seen: &mut PageStarts,
+    bodies: &mut BodyStarts,
+    step: &WalkStep<'_>,
+) -> Result<(), AllocError>
     requires { step.now.at + length step.now.unit.bytes.now ≤ most_input_bytes }
     ensures starts { OnOk result (seen.new.starts.items ≡ noted_starts MOST_STARTS seen.old.starts.items seen.old.stop
         step.now.meaning.is_page step.now.meaning.is_trailer step.now.at) }

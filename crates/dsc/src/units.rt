@@ -2,7 +2,7 @@
 ghost use Rattle.std.specs.Prelude.{◌≡◌, ◌<◌, ◌≤◌, length, codes, IfOk, MatchOption, true, false};
 ghost use Rattle.rules.specs.Units.{first_unit, begins_block, fields, is_comment};
 ghost use Rattle.dsc.specs.Fields.{fields_in, third_is, data_in};
-ghost use Rattle.dsc.specs.Views.{unit_of, fault_of, Reads};
+ghost use Rattle.dsc.specs.Views.{unit_of, block_fault, ReadsAs};
 
 use crate::fields::{count_in, next_field};
 use crate::keys::comment_letter;
@@ -56,7 +56,7 @@ fn third_is_lines(behind: &[u8]) -> bool
 
 /// The length of the data that such a line begins.
 fn data_len(behind: &[u8], may_count_lines: bool, rest: &[u8]) -> Result<usize, UnitError>
-    ensures length { Reads (λ n. n) fault_of result (data_in may_count_lines rest.now (fields_in behind.now)) }
+    ensures length { ReadsAs (λ n. n) block_fault result (data_in may_count_lines rest.now (fields_in behind.now)) }
     ensures within { IfOk result (λ n. n ≤ length rest.now) }
 {
     let (count, after) = match next_field(behind) {
@@ -84,7 +84,7 @@ fn data_len(behind: &[u8], may_count_lines: bool, rest: &[u8]) -> Result<usize, 
 /// The first unit of a text that isn't empty.
 pub fn first_unit(text: &[u8]) -> Result<LineOrBlock<'_>, UnitError>
     requires { 0 < length text.now }
-    ensures unit { Reads unit_of fault_of result (first_unit text.now) }
+    ensures unit { ReadsAs unit_of block_fault result (first_unit text.now) }
     ensures within { IfOk result (λ u. (0 < length u.bytes.now) × (length u.bytes.now ≤ length text.now)) }
 {
     let content_len = content_end(text);

@@ -2,8 +2,8 @@
 ghost use Rattle.std.specs.Prelude.{◌≡◌, ◌<◌, length, codes, IfOk, IfErr, true, false, Err};
 ghost use Rattle.rules.specs.Parts.{begins_page, begins_trailer};
 ghost use Rattle.rules.specs.Units.{first_unit};
-ghost use Rattle.dsc.specs.Views.{unit_of, fault_of, at_depth};
-ghost use Rattle.dsc.specs.Walks.{start_of, behind, IsPiece, IsPieceOf};
+ghost use Rattle.dsc.specs.Views.{unit_of, block_fault, at_depth};
+ghost use Rattle.dsc.specs.Walks.{walk_start, past_unit, IsPiece, IsPieceOf};
 
 use crate::errors::FaultyBlock;
 use crate::keys::{Meaning, meaning_of};
@@ -24,9 +24,9 @@ pub struct Walk<'d> {
 
 impl<'d> Model for Walk<'d> {
     ghost use Rattle.std.specs.Prelude.{◌≡◌, codes};
-    ghost use Rattle.dsc.specs.Walks.{Place, IsShallow};
+    ghost use Rattle.dsc.specs.Walks.{WalkPlace, IsShallow};
 
-    ghost Value = { Place };
+    ghost Value = { WalkPlace };
 
     ghost view = { λ w. record { rest = w.rest.now; at = w.at; depth = w.depth } };
 
@@ -46,7 +46,7 @@ pub struct WalkStep<'d> {
 impl<'d> Walk<'d> {
     /// A walk from the start of a text.
     pub fn new(text: &'d [u8]) -> Walk<'d>
-        ensures { result ≡ start_of text.now }
+        ensures { result ≡ walk_start text.now }
     {
         Walk {
             percent_signs: Finder::new(b"%%".as_slice()),
@@ -68,13 +68,13 @@ impl<'d> Walk<'d> {
     pub fn step(&mut self) -> Result<WalkStep<'d>, FaultyBlock>
         requires { 0 < length self.old.rest }
         ensures piece { IfOk result (λ s. IsPieceOf (unit_of s.unit) self.old.rest) }
-        ensures place { IfOk result (λ s. self.new ≡ behind (unit_of s.unit) self.old) }
+        ensures place { IfOk result (λ s. self.new ≡ past_unit (unit_of s.unit) self.old) }
         ensures at { IfOk result (λ s. s.at ≡ self.old.at) }
         ensures depth { IfOk result (λ s. s.depth ≡ self.old.depth) }
         ensures page { IfOk result (λ s. s.meaning.is_page ≡ begins_page (at_depth self.old.depth (unit_of s.unit))) }
         ensures trailer { IfOk result (λ s.
             s.meaning.is_trailer ≡ begins_trailer (at_depth self.old.depth (unit_of s.unit))) }
-        ensures fault { IfErr result (λ b. first_unit self.old.rest ≡ Err (fault_of b.fault)) }
+        ensures fault { IfErr result (λ b. first_unit self.old.rest ≡ Err (block_fault b.fault)) }
         ensures fault_at { IfErr result (λ b. b.at ≡ self.old.at) }
     {
         let at = self.at;
@@ -102,7 +102,7 @@ fn first_piece<'d>(percent_signs: &Finder<'_>, text: &'d [u8]) -> Result<LineOrB
     requires needle { percent_signs.now ≡ codes "%%" }
     requires some { 0 < length text.now }
     ensures piece { IfOk result (λ u. IsPieceOf (unit_of u) text.now) }
-    ensures fault { IfErr result (λ e. first_unit text.now ≡ Err (fault_of e)) }
+    ensures fault { IfErr result (λ e. first_unit text.now ≡ Err (block_fault e)) }
 {
     let plain = plain_len(percent_signs, text);
     if plain == 0 {

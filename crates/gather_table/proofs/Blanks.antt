@@ -7,7 +7,7 @@ use native.Mathlib.Decide.{ℕ_discrete}
 use Rattle.std.proofs.Math.ListN.{length-map}
 use Rattle.rules.specs.Sheets.{Plan, Layout, layout}
 use Rattle.sheet_plan.specs.Plans as plans
-use Rattle.gather_table.specs.Table.{is_blank, in_group, bits, slots, slot_count, group_size, IsSound}
+use Rattle.gather_table.specs.Table.{is_blank_slot, in_group, bits, slots, slots_on, group_size, IsSoundLayout}
 use Rattle.gather_table.specs.Words.{has_bit}
 use Rattle.gather_table.proofs.Bits.{bits_same, bits_not}
 use Rattle.gather_table.proofs.Stored.{made_of_bits}
@@ -21,7 +21,7 @@ pub sheet_in : (plan : Plan) (s n : ℕ) → n ≡ length plan.sheets → s < n 
 sheet_in plan s n is lt = let l = sheets_of plan in omega arith
 
 -- every plan's layout is sound
-pub sound_of : (plan : Plan) → plans.IsSound plan → IsSound (layout plan)
+pub sound_of : (plan : Plan) → plans.IsSound plan → IsSoundLayout (layout plan)
 sound_of plan ok =
     let l = sheets_of plan in
     record {
@@ -32,7 +32,7 @@ sound_of plan ok =
     }
 
 -- a slot is blank if it exists and has no page
-needed_or_blank : (xs : List (Option ℕ)) (k : ℕ) → k < length xs → not (plans.is_page (slice_get xs k)) ≡ is_blank xs k
+needed_or_blank : (xs : List (Option ℕ)) (k : ℕ) → k < length xs → not (plans.is_page (slice_get xs k)) ≡ is_blank_slot xs k
 needed_or_blank [] k lt = absurd (omega arith)
 needed_or_blank (None ∷ xs) zero lt = refl
 needed_or_blank (Some p ∷ xs) zero lt = refl
@@ -57,17 +57,17 @@ bit_told true = refl
 bit_told false = refl
 
 -- after the group's last slot there is none of the group, unless it has 64
-past_size : (layout : Layout) (s g j : ℕ) → group_size layout s g ≤ j → j < 64 → slot_count layout s ≤ 64 * g + j
-past_size layout s g j le lt = two (ltb (64 * g + 64) (slot_count layout s)) refl
+past_size : (layout : Layout) (s g j : ℕ) → group_size layout s g ≤ j → j < 64 → slots_on layout s ≤ 64 * g + j
+past_size layout s g j le lt = two (ltb (64 * g + 64) (slots_on layout s)) refl
   where
-    two : (b : Bool) → ltb (64 * g + 64) (slot_count layout s) ≡ b → slot_count layout s ≤ 64 * g + j
-    two true e = let l : 64 ≤ j = subst (λ (b : Bool). (if b then 64 else slot_count layout s - 64 * g) ≤ j) e le in absurd (omega arith)
-    two false e = let l : slot_count layout s - 64 * g ≤ j = subst (λ (b : Bool). (if b then 64 else slot_count layout s - 64 * g) ≤ j) e le in omega arith
+    two : (b : Bool) → ltb (64 * g + 64) (slots_on layout s) ≡ b → slots_on layout s ≤ 64 * g + j
+    two true e = let l : 64 ≤ j = subst (λ (b : Bool). (if b then 64 else slots_on layout s - 64 * g) ≤ j) e le in absurd (omega arith)
+    two false e = let l : slots_on layout s - 64 * g ≤ j = subst (λ (b : Bool). (if b then 64 else slots_on layout s - 64 * g) ≤ j) e le in omega arith
 
 -- all slots of a group without the needed ones are the blank ones
 pub blanks_left : (layout : Layout) (s g missing full size : ℕ) → missing < 2 ^ 64 → size ≡ group_size layout s g → full ≡ 2 ^ size - 1
     → ((j : ℕ) → j < 64 → bit_at missing j ≡ (if plans.is_page (slice_get (slots layout s) (64 * g + j)) then 1 else 0))
-    → (missing ≤ full) × (full - missing ≡ bits (in_group (is_blank (slots layout s)) g) (group_size layout s g))
+    → (missing ≤ full) × (full - missing ≡ bits (in_group (is_blank_slot (slots layout s)) g) (group_size layout s g))
 blanks_left layout s g missing full size small is_size is_full told =
     let f : ℕ → Bool = λ j. plans.is_page (slice_get (slots layout s) (64 * g + j)) in
     let n = group_size layout s g in
@@ -75,6 +75,6 @@ blanks_left layout s g missing full size small is_size is_full told =
     let same : bits (has_bit missing) 64 ≡ bits f 64 = bits_same (has_bit missing) f 64 (λ j lt. ap (λ (x : ℕ). x == 1) (told j lt) ∙ bit_told (f j)) in
     let cut : bits f 64 ≡ bits f n = bits_beyond f n 64 (size_at_most layout s g) (λ j le lt. none_beyond (slots layout s) (64 * g + j) (past_size layout s g j le lt)) in
     let others = bits_not f n in
-    let blanks : bits (λ j. not (f j)) n ≡ bits (in_group (is_blank (slots layout s)) g) n = bits_same (λ j. not (f j)) (in_group (is_blank (slots layout s)) g) n (λ j lt. needed_or_blank (slots layout s) (64 * g + j) (in_sheet layout s g j lt)) in
+    let blanks : bits (λ j. not (f j)) n ≡ bits (in_group (is_blank_slot (slots layout s)) g) n = bits_same (λ j. not (f j)) (in_group (is_blank_slot (slots layout s)) g) n (λ j lt. needed_or_blank (slots layout s) (64 * g + j) (in_sheet layout s g j lt)) in
     let all : full ≡ 2 ^ n - 1 = is_full ∙ ap (λ (k : ℕ). 2 ^ k - 1) is_size in
     (omega arith, omega arith)

@@ -7,15 +7,15 @@ use Rattle.gather_table.specs.declared.lane.Home.{Home}
 use Rattle.gather_table.specs.Homes.{IsHome, blanks_to, closed_to}
 use Rattle.gather_table.specs.Lanes.{wide_at, group_word}
 use Rattle.gather_table.specs.Rule.{WordsHold}
-use Rattle.gather_table.specs.Table.{TableState, IsSound, slots, is_wide, is_blank, blank_group, is_full, in_group, group_count, group_size, with_closed, start, HasGroup}
+use Rattle.gather_table.specs.Table.{TableState, IsSoundLayout, slots, is_wide, is_blank_slot, blank_group, is_full, in_group, group_count, group_size, with_closed, start, HasGroup}
 use Rattle.gather_table.proofs.Bits.{full_bits}
 use Rattle.gather_table.proofs.FirstWords.{holds_same, one_more, none_more, before_next}
 use Rattle.gather_table.proofs.Legal.{and_false}
 use Rattle.gather_table.proofs.Sheets.{closing_written, group_shown, low_bits, wide_room, few_groups}
 
 -- a group of a wide sheet is closed from the start if its slots are all blank
-blank_where_full : (layout : Layout) (s g : ℕ) → HasGroup layout s g → blank_group layout s g ≡ is_full layout s g (is_blank (slots layout s))
-blank_where_full layout s g has = λ i. (has.wide i && lt-ltb g (group_count layout s) has.group i) && is_full layout s g (is_blank (slots layout s))
+blank_where_full : (layout : Layout) (s g : ℕ) → HasGroup layout s g → blank_group layout s g ≡ is_full layout s g (is_blank_slot (slots layout s))
+blank_where_full layout s g has = λ i. (has.wide i && lt-ltb g (group_count layout s) has.group i) && is_full layout s g (is_blank_slot (slots layout s))
 
 -- the groups that the code counts exist
 pub has_group : (layout : Layout) (s g n : ℕ) (home : Home) → IsHome layout s home → s < length layout.sheets → n ≡ (if ltb 64 home.slots then (home.slots + 63) / 64 else 0) → g < n → HasGroup layout s g
@@ -29,15 +29,15 @@ has_group layout s g n home at lt is_n low = two (ltb 64 home.slots) refl
     two false e = let n_is : n ≡ 0 = is_n ∙ ap (λ (b : Bool). if b then (home.slots + 63) / 64 else 0) e in absurd (omega arith)
 
 -- and they are few
-pub few_of : (layout : Layout) (s : ℕ) (home : Home) → IsSound layout → s < length layout.sheets → IsHome layout s home → home.slots ≤ 4096
+pub few_of : (layout : Layout) (s : ℕ) (home : Home) → IsSoundLayout layout → s < length layout.sheets → IsHome layout s home → home.slots ≤ 4096
 few_of layout s home ok lt at = let n = ok.narrow s lt in let c = at.slots in omega arith
 
 -- one more group
 pub group_more : (layout : Layout) (words : List ℕ) (s g : ℕ) → HasGroup layout s g
     → WordsHold layout (if is_full layout s g ((closed_to layout s g).marked s) then with_closed (closed_to layout s g) s g else closed_to layout s g) words → WordsHold layout (closed_to layout s (suc g)) words
-group_more layout words s g has held = two (is_full layout s g (is_blank (slots layout s))) refl held
+group_more layout words s g has held = two (is_full layout s g (is_blank_slot (slots layout s))) refl held
   where
-    two : (b : Bool) → is_full layout s g (is_blank (slots layout s)) ≡ b → WordsHold layout (if b then with_closed (closed_to layout s g) s g else closed_to layout s g) words → WordsHold layout (closed_to layout s (suc g)) words
+    two : (b : Bool) → is_full layout s g (is_blank_slot (slots layout s)) ≡ b → WordsHold layout (if b then with_closed (closed_to layout s g) s g else closed_to layout s g) words → WordsHold layout (closed_to layout s (suc g)) words
     two true e h = holds_same layout (with_closed (closed_to layout s g) s g) (closed_to layout s (suc g)) words h (λ p lt. refl) (λ r j lt inn. refl)
         (λ r i _. one_more (blank_group layout) s g r i (blank_where_full layout s g has ∙ e))
     two false e h = holds_same layout (closed_to layout s g) (closed_to layout s (suc g)) words h (λ p lt. refl) (λ r j lt inn. refl)
@@ -47,7 +47,7 @@ group_more layout words s g has held = two (is_full layout s g (is_blank (slots 
 -- the words are the start's
 pub none_closed : (layout : Layout) (words : List ℕ) → WordsHold layout (blanks_to layout (length layout.sheets) 0) words → WordsHold layout (closed_to layout 0 0) words
 none_closed layout words h = holds_same layout (blanks_to layout (length layout.sheets) 0) (closed_to layout 0 0) words h (λ p lt. refl)
-    (λ r j lt inn. ap (λ (b : Bool). (b || ((r == length layout.sheets) && ltb j 0)) && is_blank (slots layout r) j) (lt-ltb r (length layout.sheets) lt))
+    (λ r j lt inn. ap (λ (b : Bool). (b || ((r == length layout.sheets) && ltb j 0)) && is_blank_slot (slots layout r) j) (lt-ltb r (length layout.sheets) lt))
     (λ r i has. sym (ap (λ (b : Bool). b && blank_group layout r i) ((λ m. le-ltb r 0 (omega arith) m || ((r == 0) && le-ltb i 0 (omega arith) m)) ∙ and_false (r == 0))))
 
 pub next_sheet : (layout : Layout) (words : List ℕ) (s g n : ℕ) (home : Home) → IsHome layout s home → n ≡ (if ltb 64 home.slots then (home.slots + 63) / 64 else 0) → n ≤ g → WordsHold layout (closed_to layout s g) words → WordsHold layout (closed_to layout (s + 1) 0) words
@@ -82,7 +82,7 @@ full_shown layout t words s g full word has is_full_word is_word h =
     ∙ full_bits (in_group (t.marked s) g) (group_size layout s g)
 
 -- so its closing bit is set if none is missing
-pub full_closed : (layout : Layout) (words : List ℕ) (s g full n bit x : ℕ) (home : Home) → IsSound layout → IsHome layout s home → HasGroup layout s g → wide_at layout (length layout.sheets) ≤ length words → full ≡ 2 ^ group_size layout s g - 1
+pub full_closed : (layout : Layout) (words : List ℕ) (s g full n bit x : ℕ) (home : Home) → IsSoundLayout layout → IsHome layout s home → HasGroup layout s g → wide_at layout (length layout.sheets) ≤ length words → full ≡ 2 ^ group_size layout s g - 1
     → bit_and (slice_index words (home.word + 1 + g)) full ≡ full → n ≡ slice_index words home.word → n < 2 ^ 64 → bit ≡ 2 ^ g → x ≡ bit_or n bit
     → (t : TableState) → WordsHold layout t words → WordsHold layout (if is_full layout s g (t.marked s) then with_closed t s g else t) (set words home.word x)
 full_closed layout words s g full n bit x home ok at has room is_full_word test found small is_bit is_x t h =

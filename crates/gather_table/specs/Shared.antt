@@ -14,7 +14,7 @@ pub record TableView : Type 0 where
 -- a seat: its table, the layout (its key), the history that its caller has seen, the places in it of the caller's own
 -- calls, and its share
 abbrev pub SeatView : Type 0
-SeatView = Rattle.rules.specs.SeatCalls.SeatView Layout Entry
+SeatView = Rattle.rules.specs.SeatCalls.HistorySeat Layout Entry
 
 abbrev pub IsSeatOf : TableView → SeatView → Type 0
 IsSeatOf t seat = IsOf t.table t.layout seat
@@ -34,21 +34,21 @@ own_calls seat = own_entries seat
 
 -- the call was made: the new front is the old one, then what others did in the meantime, then this call, whose
 -- place is one more own place. If the seat has all shares, there are no others
-abbrev pub Made : SeatView → Entry → SeatView → Type 0
-Made = Rattle.rules.specs.SeatCalls.Made IsLegal
+abbrev pub MadeCall : SeatView → Entry → SeatView → Type 0
+MadeCall = Rattle.rules.specs.SeatCalls.Made IsLegal
 
 -- a seat's view after exactly these calls, one after the other
-abbrev pub Makes : SeatView → List Entry → SeatView → Type 0
-Makes = Rattle.rules.specs.SeatCalls.Makes IsLegal
+abbrev pub MakesCalls : SeatView → List Entry → SeatView → Type 0
+MakesCalls = Rattle.rules.specs.SeatCalls.Makes IsLegal
 
 -- two seats: the front of each is a beginning of the longer one, and no place is an own place of both
-abbrev pub Agree : SeatView → SeatView → Type 0
-Agree = Rattle.rules.specs.SeatCalls.Agree
+abbrev pub SeatsAgree : SeatView → SeatView → Type 0
+SeatsAgree = Rattle.rules.specs.SeatCalls.Agree
 
 -- after a meeting both seats have the longer front
 abbrev pub Met : SeatView → SeatView → SeatView → SeatView → Type 0
 Met = Rattle.rules.specs.SeatCalls.Met IsLegal
 
 -- one seat with the longer front, the own places of both, none of which is shared, and both shares
-abbrev pub Joined : SeatView → SeatView → SeatView → Type 0
-Joined = Rattle.rules.specs.SeatCalls.Joined IsLegal
+abbrev pub SeatsJoined : SeatView → SeatView → SeatView → Type 0
+SeatsJoined = Rattle.rules.specs.SeatCalls.Joined IsLegal

@@ -4,7 +4,7 @@ ghost use Rattle.rules.specs.Admissible.{most_slots};
 ghost use Rattle.rules.specs.Run.{most_pages, most_sheets};
 ghost use Rattle.rules.specs.Sheets.{layout};
 ghost use Rattle.gather_table.specs.Homes.{AreHomes};
-ghost use Rattle.gather_table.specs.Lanes.{fitted, free, wide_at};
+ghost use Rattle.gather_table.specs.Lanes.{lane_for, free, wide_at};
 ghost use Rattle.gather_table.specs.Shared.{opening_seat};
 
 use crate::lane::{Home, Lane};
@@ -82,7 +82,7 @@ fn lane_words(plan: &Plan) -> u32
 /// The next lane of this many bits.
 fn fit(next: Lane, count: u8) -> Lane
     requires { (next.first ≤ 64) × (count ≤ 64) × (next.word < most_sheets) }
-    ensures { result ≡ fitted next count }
+    ensures { result ≡ lane_for next count }
 {
     if next.first + count > 64 {
         return Lane {

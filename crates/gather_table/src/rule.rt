@@ -10,11 +10,11 @@ pub struct SeatKnowledge {
 }
 
 impl Model for SeatKnowledge {
-    ghost use Rattle.gather_table.specs.Rule.{Sight, spent};
+    ghost use Rattle.gather_table.specs.Rule.{SeatSight, spent_seat};
 
-    ghost Value = { Sight };
+    ghost Value = { SeatSight };
 
-    ghost view = { λ v. spent };
+    ghost view = { λ v. spent_seat };
 }
 
 /// Between any two steps there is one legal history. The words hold its state, and every seat has seen a beginning
@@ -24,9 +24,9 @@ pub struct TableHistory;
 impl<'s> TableRule<(), SeatKnowledge, Plan<'s>> for TableHistory {
     ghost use Rattle.rules.specs.Sheets.{layout};
     ghost use Rattle.rules.specs.Seats.{opening_sight};
-    ghost use Rattle.gather_table.specs.Rule.{Kept};
+    ghost use Rattle.gather_table.specs.Rule.{HasTableHistory};
 
-    ghost holds = { λ plan. Kept (layout plan) };
+    ghost holds = { λ plan. HasTableHistory (layout plan) };
 
     ghost first = { λ plan. opening_sight (layout plan) };
 }

@@ -17,14 +17,14 @@ pub struct Seat {
 impl Model for Seat {
     ghost use Rattle.std.specs.Prelude.{◌≡◌, []};
     ghost use Rattle.rules.specs.SeatCalls.{seat_view};
-    ghost use Rattle.gather_table.specs.Rule.{StandsAlone};
+    ghost use Rattle.gather_table.specs.Rule.{SeatStands};
     ghost use Rattle.gather_table.specs.Shared.{SeatView};
 
     ghost Value = { SeatView };
 
     ghost view = { λ s. seat_view s.token.table_id s.token.me.0 };
 
-    ghost invariant = { λ s. (s.token.me.1 ≡ []) × StandsAlone s.token.me.0 s.share };
+    ghost invariant = { λ s. (s.token.me.1 ≡ []) × SeatStands s.token.me.0 s.share };
 }
 
 impl Seat {

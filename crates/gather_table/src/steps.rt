@@ -22,25 +22,25 @@ impl Play<(), SeatKnowledge> for Finds {
 }
 
 /// Ghost parameter, chosen in the proof of each call; no code: which call a step is, given the word that it finds.
-pub trait Tells {
+pub trait StepIs {
     ghost use Rattle.std.specs.Prelude.{ℕ};
     ghost use Rattle.gather_table.specs.History.{Entry};
 
     ghost entry: { ℕ → Entry };
 }
 
-impl Tells for Brand {
+impl StepIs for Brand {
     ghost use Rattle.gather_table.specs.History.{Look};
 
     ghost entry = { λ found. Look 0 0 };
 }
 
 /// A call on slots or groups. A word may hold those of several sheets.
-pub(crate) struct Calls<E: Tells> {
+pub(crate) struct Calls<E: StepIs> {
     of: PhantomData<E>,
 }
 
-impl<E: Tells> Play<(), SeatKnowledge> for Calls<E> {
+impl<E: StepIs> Play<(), SeatKnowledge> for Calls<E> {
     ghost use Rattle.gather_table.specs.Steps.{calls};
 
     ghost then = { calls E.entry };
@@ -51,11 +51,11 @@ pub(crate) struct JoinSeats;
 
 impl Join<SeatKnowledge> for JoinSeats {
     ghost use Rattle.rules.specs.Seats.{absorbed};
-    ghost use Rattle.gather_table.specs.Rule.{spent};
+    ghost use Rattle.gather_table.specs.Rule.{spent_seat};
 
     ghost both = { absorbed };
 
-    ghost spent = { spent };
+    ghost spent = { spent_seat };
 }
 
 /// A look after a join, from which the seat learns what the rule says about it.

@@ -3,7 +3,7 @@
 ghost use Rattle.std.specs.Prelude.{◌≡◌, ◌+◌, ◌-◌, ◌*◌, ◌/◌, ◌<◌, ◌≤◌, ◌^◌, nat_lt, if◌then◌else◌, length};
 ghost use Rattle.rules.specs.Admissible.{most_slots};
 ghost use Rattle.rules.specs.Sheets.{layout};
-ghost use Rattle.gather_table.specs.Table.{is_blank, in_group, bits, slots, group_count, group_size, group_reply};
+ghost use Rattle.gather_table.specs.Table.{is_blank_slot, in_group, bits, slots, group_count, group_size, group_reply};
 ghost use Rattle.gather_table.specs.Table.{closing_by, publish_reply};
 ghost use Rattle.gather_table.specs.Words.{index_in, reply_in};
 
@@ -14,7 +14,7 @@ use sheet_plan::Plan;
 pub(crate) fn blank_bits(plan: &Plan, sheet: u32, group: u8) -> u64
     requires sheet { sheet < length plan.now.sheets }
     requires group { group < group_count (layout plan.now) sheet }
-    ensures { result ≡ bits (in_group (is_blank (slots (layout plan.now) sheet)) group)
+    ensures { result ≡ bits (in_group (is_blank_slot (slots (layout plan.now) sheet)) group)
         (group_size (layout plan.now) sheet group) }
 {
     full_bits(group_size(plan.slots(sheet), group)) - plan.missing_at_start(sheet, group)

@@ -10,7 +10,7 @@ use Rattle.rules.specs.Numbers.{points_text}
 use Rattle.rules.specs.Papers.{Paper}
 use Rattle.dsc.specs.Header.{header_len}
 use Rattle.guard.specs.PutIn.{put_in}
-use Rattle.guard.specs.Guard.{first_lines, other_lines, page_size_line, page_size_lines, guard_lines}
+use Rattle.guard.specs.Guard.{first_lines, other_lines, page_size_line, guard_size_lines, guard_lines}
 
 -- the line of a page size, piece by piece
 pub size_glued : (p : Paper) (start a b c d e : List ℕ) → a ≡ start ++ codes "/setpagedevice where {pop 1 dict dup /PageSize [" → b ≡ a ++ points_text p.width → c ≡ b ++ codes " "
@@ -33,16 +33,16 @@ size_glued p start a b c d e f g h i j =
     ∙ ap (λ x. start ++ x) (sym (append_assoc one (w ++ (blank ++ (t ++ two))) end))
 
 -- the guard, part by part
-pub guard_glued : (sheet_paper : Option Paper) (start a b c : List ℕ) → a ≡ start ++ flat_map line first_lines → b ≡ a ++ flat_map line (page_size_lines sheet_paper) → c ≡ b ++ flat_map line other_lines
+pub guard_glued : (sheet_paper : Option Paper) (start a b c : List ℕ) → a ≡ start ++ flat_map line first_lines → b ≡ a ++ flat_map line (guard_size_lines sheet_paper) → c ≡ b ++ flat_map line other_lines
     → c ≡ start ++ flat_map line (guard_lines sheet_paper)
 guard_glued sheet_paper start a b c f g h =
     let one : List ℕ = flat_map line first_lines in
-    let size : List ℕ = flat_map line (page_size_lines sheet_paper) in
+    let size : List ℕ = flat_map line (guard_size_lines sheet_paper) in
     let two : List ℕ = flat_map line other_lines in
     h ∙ ap (λ x. x ++ two) (g ∙ ap (λ x. x ++ size) f)
     ∙ append_assoc (start ++ one) size two ∙ append_assoc start one (size ++ two)
-    ∙ ap (λ x. start ++ (one ++ x)) (sym (flat_map-append line (page_size_lines sheet_paper) other_lines))
-    ∙ ap (λ x. start ++ x) (sym (flat_map-append line first_lines (page_size_lines sheet_paper ++ other_lines)))
+    ∙ ap (λ x. start ++ (one ++ x)) (sym (flat_map-append line (guard_size_lines sheet_paper) other_lines))
+    ∙ ap (λ x. start ++ x) (sym (flat_map-append line first_lines (guard_size_lines sheet_paper ++ other_lines)))
 
 -- a text with lines inserted, part by part
 pub glued : (lines : List (List ℕ)) (text : List ℕ) (n : ℕ) (h r none a b c d : List ℕ) → n ≡ header_len text → h ≡ take n text → r ≡ drop n text → none ≡ [] → a ≡ none ++ h → b ≡ ended a

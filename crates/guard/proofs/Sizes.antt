@@ -6,7 +6,7 @@ use Rattle.std.proofs.lemmas.Bool.{leb-true}
 use Rattle.std.proofs.lemmas.Fmt.{length-decimal-le_wide}
 use Rattle.rules.specs.Numbers.{signed, rounded, is_negative, without_last_zeros, decimals_of, fraction_text, sign_text, printed, points_text}
 use Rattle.rules.specs.Papers.{Paper, is_side, is_paper}
-use Rattle.guard.specs.Guard.{first_lines, other_lines, page_size_line, page_size_lines}
+use Rattle.guard.specs.Guard.{first_lines, other_lines, page_size_line, guard_size_lines}
 use Rattle.guard.specs.Laws.{AreShort, GuardIsShort}
 
 abs_signed : (negative : Bool) (n : ℕ) → nat_abs (signed negative n) ≡ n
@@ -97,10 +97,10 @@ size_line p h =
     let f = length-append (codes "/setpagedevice where {pop 1 dict dup /PageSize [") (points_text p.width ++ (codes " " ++ two)) in
     omega (arith, a, b, c, d, e, f)
 
-sizes : (sheet_paper : Option Paper) → IfSome sheet_paper (λ p. IsTrue (is_paper p.width p.height)) → AreShort 255 (page_size_lines sheet_paper)
+sizes : (sheet_paper : Option Paper) → IfSome sheet_paper (λ p. IsTrue (is_paper p.width p.height)) → AreShort 255 (guard_size_lines sheet_paper)
 sizes None h = tt
 sizes (Some p) h = (size_line p h, tt)
 
 pub guard_is_short : GuardIsShort
 guard_is_short sheet_paper h =
-    short_append 255 first_lines (page_size_lines sheet_paper ++ other_lines) (told 255 first_lines refl) (short_append 255 (page_size_lines sheet_paper) other_lines (sizes sheet_paper h) (told 255 other_lines refl))
+    short_append 255 first_lines (guard_size_lines sheet_paper ++ other_lines) (told 255 first_lines refl) (short_append 255 (guard_size_lines sheet_paper) other_lines (sizes sheet_paper h) (told 255 other_lines refl))

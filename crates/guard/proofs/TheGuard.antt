@@ -7,7 +7,7 @@ use Rattle.rules.specs.Parts.{begins_page}
 use Rattle.rules.specs.Units.{begins_block}
 use Rattle.imposed_again.specs.Seams.{passes, no_ends, AreLines, IsLine, line_unit}
 use Rattle.imposed_again.proofs.Plainly.{no_ends_append, no_ends_points}
-use Rattle.guard.specs.Guard.{first_lines, other_lines, page_size_line, page_size_lines, guard_lines}
+use Rattle.guard.specs.Guard.{first_lines, other_lines, page_size_line, guard_size_lines, guard_lines}
 use Rattle.guard.specs.Laws.{CanBePutIn, GuardStays}
 use Rattle.guard.proofs.Guarding.{lines_stay}
 
@@ -44,7 +44,7 @@ is_size p =
     let rest : no_ends (w ++ (codes " " ++ (h ++ two))) ≡ true = no_ends_append w (codes " " ++ (h ++ two)) (no_ends_points p.width) more in
     (no_ends_append (codes "/setpagedevice where {pop 1 dict dup /PageSize [") (w ++ (codes " " ++ (h ++ two))) refl rest, refl)
 
-are_sizes : (sheet_paper : Option Paper) → AreLines (page_size_lines sheet_paper)
+are_sizes : (sheet_paper : Option Paper) → AreLines (guard_size_lines sheet_paper)
 are_sizes None = tt
 are_sizes (Some p) = (is_size p, tt)
 
@@ -55,8 +55,8 @@ pass (Some p) = refl
 pub can_be_put_in : (sheet_paper : Option Paper) → CanBePutIn (guard_lines sheet_paper)
 can_be_put_in sheet_paper = (
   omega arith,
-  lines_append first_lines (page_size_lines sheet_paper ++ other_lines) (told first_lines refl)
-      (lines_append (page_size_lines sheet_paper) other_lines (are_sizes sheet_paper) (told other_lines refl)),
+  lines_append first_lines (guard_size_lines sheet_paper ++ other_lines) (told first_lines refl)
+      (lines_append (guard_size_lines sheet_paper) other_lines (are_sizes sheet_paper) (told other_lines refl)),
   pass sheet_paper,
 )
 

@@ -12,9 +12,9 @@ page_size_line paper =
     ++ (points_text paper.width ++ (codes " " ++ (points_text paper.height ++ codes "] put setpagedevice} if")))
 
 -- for the sheet's paper, if one is named
-abbrev pub page_size_lines : Option Paper → List (List ℕ)
-page_size_lines None = []
-page_size_lines (Some paper) = page_size_line paper ∷ []
+abbrev pub guard_size_lines : Option Paper → List (List ℕ)
+guard_size_lines None = []
+guard_size_lines (Some paper) = page_size_line paper ∷ []
 
 -- the lines before it
 abbrev pub first_lines : List (List ℕ)
@@ -65,7 +65,7 @@ other_lines =
     ∷ []
 
 abbrev pub guard_lines : Option Paper → List (List ℕ)
-guard_lines sheet_paper = first_lines ++ (page_size_lines sheet_paper ++ other_lines)
+guard_lines sheet_paper = first_lines ++ (guard_size_lines sheet_paper ++ other_lines)
 
 -- a document with the guard inserted (RULES, 15)
 abbrev pub guarded : Option Paper → List ℕ → List ℕ

@@ -30,7 +30,7 @@ impl Model for RoomyText {
 
 impl RoomyText {
     /// The text that begins at this byte.
-    pub fn behind(start: usize, bytes: Vec<u8>) -> RoomyText
+    pub fn with_headroom(start: usize, bytes: Vec<u8>) -> RoomyText
         requires { start ≤ vec_len bytes }
         ensures { result.items ≡ drop start bytes.items }
     {

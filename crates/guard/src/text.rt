@@ -2,7 +2,7 @@
 ghost use Rattle.std.specs.Prelude.{◌≡◌, ◌+◌, ◌≤◌, ◌++◌, flat_map, length, option_map, take, drop, vec_len, IfOk, OnErr, OnOk};
 ghost use Rattle.rules.specs.Bytes.{line};
 ghost use Rattle.rules.specs.Filters.{ended};
-ghost use Rattle.guard.specs.Guard.{page_size_line, page_size_lines, guard_lines, guarded};
+ghost use Rattle.guard.specs.Guard.{page_size_line, guard_size_lines, guard_lines, guarded};
 
 use dsc::{end_line, header_len};
 use lengths::{Paper, print_points};
@@ -160,7 +160,7 @@ fn append_guard(sheet_paper: Option<&Paper>, out: &mut Vec<u8>) -> Result<(), Al
 /// Appends the line that sets the page size to a paper, if there is one.
 fn append_page_size(sheet_paper: Option<&Paper>, out: &mut Vec<u8>) -> Result<(), AllocError>
     ensures { OnOk result (out.new.items ≡
-        out.old.items ++ flat_map line (page_size_lines (option_map (λ p. p.now) sheet_paper.entry))) }
+        out.old.items ++ flat_map line (guard_size_lines (option_map (λ p. p.now) sheet_paper.entry))) }
 {
     match sheet_paper {
         None => Ok(()),

@@ -6,12 +6,12 @@ use Rattle.handover.specs.Naming.{pages_in}
 use Rattle.handover.specs.declared.entry.Entry.{Entry}
 
 -- the page has its number and its bytes from the document that this row names
-abbrev pub IsNamed : List ℕ → PreparedPage → Type 0
-IsNamed row page = page.raw ≡ slice_index_or (pages_in row) page.page []
+abbrev pub IsPageOfRow : List ℕ → PreparedPage → Type 0
+IsPageOfRow row page = page.raw ≡ slice_index_or (pages_in row) page.page []
 
 -- the rule of a shelf's entries: a page that was put as one of the document that the shelf's tag names is one
 abbrev pub IsToldTruly : List ℕ → Entry → Type 0
-IsToldTruly row entry = IsTrue entry.is_own → IsNamed row entry.page
+IsToldTruly row entry = IsTrue entry.is_own → IsPageOfRow row entry.page
 
 -- what a clause sees of the token of an entry: the index, the page, whether it was put as one of the document's own, and where the
 -- shelf keeps it

@@ -5,9 +5,9 @@ use Rattle.handover.specs.declared.prepared.KeptBody.{KeptBody}
 use Rattle.handover.specs.declared.prepared.KeptBody.TheVariants.{Rest, Boxed}
 
 -- the page that is kept: its body is the rest of it, or is stored separately
-abbrev pub page_of : KeptBody → PreparedPage
-page_of (Rest raw page start) = record { page = page; raw = raw.now; body = drop start raw.now }
-page_of (Boxed whole) = record { page = whole.value.page; raw = whole.value.raw.now; body = whole.value.body }
+abbrev pub prepared_page_of : KeptBody → PreparedPage
+prepared_page_of (Rest raw page start) = record { page = page; raw = raw.now; body = drop start raw.now }
+prepared_page_of (Boxed whole) = record { page = whole.value.page; raw = whole.value.raw.now; body = whole.value.body }
 
 -- a body that is the rest of its page begins in it
 abbrev pub BeginsWithin : KeptBody → Type 0

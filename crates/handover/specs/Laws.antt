@@ -1,10 +1,10 @@
 -- Laws of every history of the queue, and of every pass by the contracts of its calls. Laws of histories treat a
 -- pass as the seat that it is (`seat_of`).
 use Rattle.std.specs.Prelude.{◌≡◌, ℕ, ◌+◌, ◌-◌, ◌≤◌, List, ◌++◌, length}
-use Rattle.rules.specs.Seats.{whole_share, times}
+use Rattle.rules.specs.Seats.{whole_share, occurrences}
 use Rattle.rules.specs.SeatLaws.{CallsStandInOneHistory, CoursesStandInOneHistory, OwnEntriesAreKept, WholeSeatMadeAll}
 use Rattle.handover.specs.Queue.{Move, content, IsQueueHistory, sheets_put, sheets_taken}
-use Rattle.handover.specs.Passes.{PassView, IsPass, Joined, Makes, own_moves, puts_in}
+use Rattle.handover.specs.Passes.{PassView, IsPass, PassesJoined, MakesMoves, own_moves, puts_in}
 
 -- sheets are taken in the order in which they were put: those taken, followed by those left, are those put
 abbrev pub FirstPutIsFirstTaken : Type 0
@@ -22,7 +22,7 @@ WholePassMadeAll = WholeSeatMadeAll IsQueueHistory
 -- the sheets that a pass with all shares took, and those left, are those that it put, each as often
 abbrev pub WholePassLosesNone : Type 0
 WholePassLosesNone = (pass : PassView) (s : ℕ) → IsPass pass → pass.share ≡ whole_share
-    → times s (sheets_taken (own_moves pass)) + times s (content pass.front) ≡ times s (sheets_put (own_moves pass))
+    → occurrences s (sheets_taken (own_moves pass)) + occurrences s (content pass.front) ≡ occurrences s (sheets_put (own_moves pass))
 
 -- a move is one more own move, a joined pass has those of both, and a split takes none away
 abbrev pub OwnMovesAreKept : Type 0
@@ -40,6 +40,6 @@ SplitMovesStandInOneHistory = CoursesStandInOneHistory IsQueueHistory
 
 -- moves lower the room of a pass by one for each put, while it has any; a joined pass has the room of both
 abbrev pub RoomIsUsedUp : Type 0
-RoomIsUsedUp = ((old new : PassView) (moves : List Move) → Makes old moves new
+RoomIsUsedUp = ((old new : PassView) (moves : List Move) → MakesMoves old moves new
     → puts_in new.room ≡ puts_in old.room - length (sheets_put moves))
-    × ((one two new : PassView) → Joined one two new → puts_in new.room ≡ puts_in one.room + puts_in two.room)
+    × ((one two new : PassView) → PassesJoined one two new → puts_in new.room ≡ puts_in one.room + puts_in two.room)

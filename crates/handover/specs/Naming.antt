@@ -7,9 +7,9 @@ one_more [] = []
 one_more (b ∷ bs) = suc b ∷ one_more bs
 
 -- the pages one after the other, with a 0 at the end of each
-abbrev pub row_of : List (List ℕ) → List ℕ
-row_of [] = []
-row_of (page ∷ pages) = one_more page ++ 0 ∷ row_of pages
+abbrev pub joined_pages : List (List ℕ) → List ℕ
+joined_pages [] = []
+joined_pages (page ∷ pages) = one_more page ++ 0 ∷ joined_pages pages
 
 -- a byte put before the first page
 abbrev pub onto_first : ℕ → List (List ℕ) → List (List ℕ)
@@ -24,4 +24,4 @@ pages_in (suc b ∷ ns) = onto_first b (pages_in ns)
 
 -- a law: a row names the pages of which it was made, so it is no other document's
 abbrev pub RowsNamePages : Type 0
-RowsNamePages = (pages : List (List ℕ)) → pages_in (row_of pages) ≡ pages
+RowsNamePages = (pages : List (List ℕ)) → pages_in (joined_pages pages) ≡ pages

@@ -3,7 +3,7 @@
 use Rattle.std.specs.Prelude.{◌≡◌, ℕ, ◌+◌, ◌-◌, List, [], ◌∷◌, Option, Some, None}
 use Rattle.atomic_table.specs.Seated.{TableId}
 use Rattle.rules.specs.Seats.{whole_share}
-use Rattle.rules.specs.SeatCalls.{SeatView, IsOf, IsSeat, own_entries}
+use Rattle.rules.specs.SeatCalls.{HistorySeat, IsOf, IsSeat, own_entries}
 use Rattle.handover.specs.Queue.{Move, Put, Take, IsQueueHistory}
 
 -- a queue and its capacity in sheets
@@ -23,7 +23,7 @@ pub record PassView : Type 0 where
   pub room : Option ℕ
 
 -- a pass without its room: a seat of the queue's history
-abbrev pub seat_of : PassView → SeatView ℕ Move
+abbrev pub seat_of : PassView → HistorySeat ℕ Move
 seat_of p = record { table = p.table; key = p.key; front = p.front; own = p.own; share = p.share }
 
 abbrev pub IsPassOf : QueueView → PassView → Type 0
@@ -75,18 +75,18 @@ both_rooms (Some n) (Some m) = Some (n + m)
 
 -- the move was made: the new front is the old one, then what others did in the meantime, then this move, whose
 -- place is one more own place. If the pass has all shares, there are no others. A put by right lowers the room
-abbrev pub Made : PassView → Move → PassView → Type 0
-Made old m new =
+abbrev pub MadeMove : PassView → Move → PassView → Type 0
+MadeMove old m new =
     Rattle.rules.specs.SeatCalls.Made IsQueueHistory (seat_of old) m (seat_of new)
     × (new.room ≡ room_after m old.room)
 
 -- a pass's view after exactly these moves, one after the other
-abbrev pub Makes : PassView → List Move → PassView → Type 0
-Makes old [] new = old ≡ new
-Makes old (m ∷ ms) new = (mid : PassView) × Made old m mid × Makes mid ms new
+abbrev pub MakesMoves : PassView → List Move → PassView → Type 0
+MakesMoves old [] new = old ≡ new
+MakesMoves old (m ∷ ms) new = (mid : PassView) × MadeMove old m mid × MakesMoves mid ms new
 
 -- one pass with the longer front, the own places of both, none of which is shared, both shares and the room of both
-abbrev pub Joined : PassView → PassView → PassView → Type 0
-Joined a b new =
+abbrev pub PassesJoined : PassView → PassView → PassView → Type 0
+PassesJoined a b new =
     Rattle.rules.specs.SeatCalls.Joined IsQueueHistory (seat_of a) (seat_of b) (seat_of new)
     × (new.room ≡ both_rooms a.room b.room)

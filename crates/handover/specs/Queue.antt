@@ -12,35 +12,35 @@ without_oldest [] = []
 without_oldest (x ∷ xs) = xs
 
 -- the sheets in the queue after one move, the oldest first
-abbrev pub after : List ℕ → Move → List ℕ
-after sheets (Put s) = sheets ++ s ∷ []
-after sheets (Take s) = without_oldest sheets
+abbrev pub after_move : List ℕ → Move → List ℕ
+after_move sheets (Put s) = sheets ++ s ∷ []
+after_move sheets (Take s) = without_oldest sheets
 
-abbrev pub after_all : List ℕ → List Move → List ℕ
-after_all sheets [] = sheets
-after_all sheets (m ∷ ms) = after_all (after sheets m) ms
+abbrev pub after_moves : List ℕ → List Move → List ℕ
+after_moves sheets [] = sheets
+after_moves sheets (m ∷ ms) = after_moves (after_move sheets m) ms
 
 -- what was put and not yet taken, the oldest first
 abbrev pub content : List Move → List ℕ
-content log = after_all [] log
+content log = after_moves [] log
 
 abbrev pub IsOldest : ℕ → List ℕ → Type 0
 IsOldest s [] = ⊥
 IsOldest s (x ∷ xs) = s ≡ x
 
 -- the move may be made at this content: a put if there is room, and a take of the oldest
-abbrev pub Fits : (capacity : ℕ) → List ℕ → Move → Type 0
-Fits capacity sheets (Put s) = length sheets < capacity
-Fits capacity sheets (Take s) = IsOldest s sheets
+abbrev pub MoveFits : (capacity : ℕ) → List ℕ → Move → Type 0
+MoveFits capacity sheets (Put s) = length sheets < capacity
+MoveFits capacity sheets (Take s) = IsOldest s sheets
 
 -- each of them may be made at its place
-abbrev pub AllFit : (capacity : ℕ) → List ℕ → List Move → Type 0
-AllFit capacity sheets [] = Unit {0}
-AllFit capacity sheets (m ∷ ms) = Fits capacity sheets m × AllFit capacity (after sheets m) ms
+abbrev pub AllMovesFit : (capacity : ℕ) → List ℕ → List Move → Type 0
+AllMovesFit capacity sheets [] = Unit {0}
+AllMovesFit capacity sheets (m ∷ ms) = MoveFits capacity sheets m × AllMovesFit capacity (after_move sheets m) ms
 
 -- a history of a queue of this capacity, from the empty queue on
 abbrev pub IsQueueHistory : (capacity : ℕ) → List Move → Type 0
-IsQueueHistory capacity log = AllFit capacity [] log
+IsQueueHistory capacity log = AllMovesFit capacity [] log
 
 -- the sheets that were put, and those that were taken, in order
 abbrev pub sheets_put : List Move → List ℕ

@@ -14,28 +14,28 @@ abbrev pub SeatSight : Type 0
 SeatSight = Rattle.rules.specs.Seats.Sight ℕ Move
 
 -- what a pass knows: its seat, and its room
-pub record Sight : Type 0 where
+pub record PassSight : Type 0 where
   pub seat : SeatSight
   pub room : Option ℕ
 
-abbrev pub seats_of : List Sight → List SeatSight
+abbrev pub seats_of : List PassSight → List SeatSight
 seats_of [] = []
 seats_of (v ∷ vs) = v.seat ∷ seats_of vs
 
 -- a pass that was joined into another
-abbrev pub spent : Sight
-spent = record { seat = sights.spent 0; room = None }
+abbrev pub spent_pass : PassSight
+spent_pass = record { seat = sights.spent 0; room = None }
 
 -- the pass with which a queue is made, before it learns the capacity
-abbrev pub opening : Sight
-opening = record { seat = sights.opening_sight 0; room = None }
+abbrev pub first_sight : PassSight
+first_sight = record { seat = sights.opening_sight 0; room = None }
 
 -- how many puts it may make by right
-abbrev pub room_of : Sight → ℕ
-room_of v = puts_in v.room
+abbrev pub puts_allowed : PassSight → ℕ
+puts_allowed v = puts_in v.room
 
 -- the view of a pass of this queue that knows this
-abbrev pub pass_view : TableId → Sight → PassView
+abbrev pub pass_view : TableId → PassSight → PassView
 pass_view table v = record {
   table = table;
   key = v.seat.key;
@@ -46,23 +46,23 @@ pass_view table v = record {
 }
 
 -- a pass between two calls: it has this share and this room, and keeps to what every pass keeps to
-pub record StandsAlone (v : Sight) (its_share : ℕ) (its_room : Option ℕ) : Type 0 where
+pub record PassStands (v : PassSight) (its_share : ℕ) (its_room : Option ℕ) : Type 0 where
   pub seat : Rattle.rules.specs.SeatRules.StandsAlone IsQueueHistory v.seat its_share
   pub room : its_room ≡ v.room
 
 -- a pass has room if puts are made by right, and otherwise none; one without a share can make none by right
-pub record IsRoomed (by_right : Bool) (v : Sight) : Type 0 where
+pub record IsRoomed (by_right : Bool) (v : PassSight) : Type 0 where
   pub alike : 0 < v.seat.share → is_some v.room ≡ by_right
-  pub idle : v.seat.share ≡ 0 → room_of v ≡ 0
+  pub idle : v.seat.share ≡ 0 → puts_allowed v ≡ 0
 
 -- the rooms of all passes, and the sheets that the queue holds, are never more than its capacity
-pub record AreRooms (by_right : Bool) (capacity held : ℕ) (views : List Sight) : Type 0 where
-  pub each : (id : ℕ) (v : Sight) → get_elem? views id ≡ some v → IsRoomed by_right v
-  pub enough : total room_of views + held ≤ capacity
+pub record AreRooms (by_right : Bool) (capacity held : ℕ) (views : List PassSight) : Type 0 where
+  pub each : (id : ℕ) (v : PassSight) → get_elem? views id ≡ some v → IsRoomed by_right v
+  pub enough : total puts_allowed views + held ≤ capacity
 
 -- between any two steps there is one history. The queue holds its content, and each pass has seen a beginning of
 -- it. There is room for all puts that may be made by right
-pub record IsKept (items : List ℕ) (views : List Sight) (capacity : ℕ) (log : List Move) : Type 0 where
+pub record IsPassHistory (items : List ℕ) (views : List PassSight) (capacity : ℕ) (log : List Move) : Type 0 where
   pub legal : IsQueueHistory capacity log
   pub holds : content log ≡ items
   pub seats : AreSeats capacity log (seats_of views)
@@ -70,18 +70,18 @@ pub record IsKept (items : List ℕ) (views : List Sight) (capacity : ℕ) (log 
   pub by_right : Bool
   pub rooms : AreRooms by_right capacity (length items) views
 
-abbrev pub Kept : List ℕ → List Sight → Type 0
-Kept items views = (capacity : ℕ) × (log : List Move) × IsKept items views capacity log
+abbrev pub HasPassHistory : List ℕ → List PassSight → Type 0
+HasPassHistory items views = (capacity : ℕ) × (log : List Move) × IsPassHistory items views capacity log
 
 -- the capacity of the passes' queue, as each pass with a share knows it: its key
-abbrev pub IsCapacityOf : List Sight → ℕ → Type 0
-IsCapacityOf views capacity = (id : ℕ) (v : Sight) → get_elem? views id ≡ some v → 0 < v.seat.share → v.seat.key ≡ capacity
+abbrev pub IsCapacityOf : List PassSight → ℕ → Type 0
+IsCapacityOf views capacity = (id : ℕ) (v : PassSight) → get_elem? views id ≡ some v → 0 < v.seat.share → v.seat.key ≡ capacity
 
 -- all passes of a queue at one moment, whether they ever met or not. Their moves are in one history, whose content
 -- is what the queue holds, and no move is an own move of two of them. That content, with the puts that they may
 -- still make by right, is at most the queue's capacity. This holds between any two steps of a queue with this rule
-abbrev pub PassesStandTogether : (rule : List ℕ → List Sight → Type 0) → Type 0
-PassesStandTogether rule = (items : List ℕ) (views : List Sight) → rule items views
+abbrev pub PassesStandTogether : (rule : List ℕ → List PassSight → Type 0) → Type 0
+PassesStandTogether rule = (items : List ℕ) (views : List PassSight) → rule items views
     → (capacity : ℕ) × (log : List Move) × IsCapacityOf views capacity × (content log ≡ items)
     × StandTogether IsQueueHistory capacity log (seats_of views)
-    × (total room_of views + length items ≤ capacity)
+    × (total puts_allowed views + length items ≤ capacity)

@@ -4,7 +4,7 @@ use Rattle.boxcar.specs.Table.{Shelves, id_at}
 use Rattle.rules.specs.Parts.{NestedUnit, pages}
 use Rattle.handover.specs.Pages.{PreparedPage}
 use Rattle.handover.specs.Naming.{pages_in}
-use Rattle.handover.specs.Entries.{EntryToken, IsNamed}
+use Rattle.handover.specs.Entries.{EntryToken, IsPageOfRow}
 use Rattle.handover.specs.declared.receipts.PutError.{PutError}
 use Rattle.handover.specs.declared.receipts.PutError.TheVariants.{NoMemory, ShelfFull}
 
@@ -24,4 +24,4 @@ IsShelfOf shelf us = pages_in shelf.tag ≡ pages us
 
 -- the page is one of the document of the shelf
 abbrev pub IsOwn : Shelves → PreparedPage → Type 0
-IsOwn shelf page = IsNamed shelf.tag page
+IsOwn shelf page = IsPageOfRow shelf.tag page

@@ -14,9 +14,9 @@ pub struct Entry<'d> {
 }
 
 /// The rule of a shelf's entries: a page that was put as one of the document's own is one.
-pub struct ToldTruly;
+pub struct OwnFlagIsTrue;
 
-impl<'d> Keeps<Entry<'d>> for ToldTruly {
+impl<'d> Keeps<Entry<'d>> for OwnFlagIsTrue {
     ghost use Rattle.handover.specs.Entries.{IsToldTruly};
 
     ghost holds = { λ tag _ entry. IsToldTruly tag entry };
@@ -27,7 +27,7 @@ pub(crate) struct ItsPages;
 
 impl<'d> Names<Document<'d>> for ItsPages {
     ghost use Rattle.rules.specs.Parts.{pages};
-    ghost use Rattle.handover.specs.Naming.{row_of};
+    ghost use Rattle.handover.specs.Naming.{joined_pages};
 
-    ghost numbers = { λ us. row_of (pages us) };
+    ghost numbers = { λ us. joined_pages (pages us) };
 }

@@ -22,13 +22,13 @@ pub struct Pass {
 impl Model for Pass {
     ghost use Rattle.std.specs.Prelude.{◌≡◌, []};
     ghost use Rattle.handover.specs.Passes.{PassView};
-    ghost use Rattle.handover.specs.Rule.{StandsAlone, pass_view};
+    ghost use Rattle.handover.specs.Rule.{PassStands, pass_view};
 
     ghost Value = { PassView };
 
     ghost view = { λ p. pass_view p.token.table_id p.token.me.0.client };
 
-    ghost invariant = { λ p. (p.token.me.1 ≡ []) × StandsAlone p.token.me.0.client p.share p.room };
+    ghost invariant = { λ p. (p.token.me.1 ≡ []) × PassStands p.token.me.0.client p.share p.room };
 }
 
 impl Pass {

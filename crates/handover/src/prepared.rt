@@ -2,7 +2,7 @@
 ghost use Rattle.std.specs.Prelude.{◌≡◌, ◌<◌, [], length, slice_index_or, IfOk, IfErr, Ok};
 ghost use Rattle.rules.specs.Parts.{pages};
 ghost use Rattle.rules.specs.Filters.{prepared};
-ghost use Rattle.dsc.specs.Views.{Gives};
+ghost use Rattle.dsc.specs.Views.{GivesUnlessShort};
 ghost use Rattle.dsc.specs.Faults.{page_fault_told, IsPageError};
 ghost use Rattle.dsc.specs.Laws.{HasBody};
 ghost use Rattle.dsc.specs.declared.errors.DscError.TheVariants.{NoMemory};
@@ -42,13 +42,13 @@ struct Whole<'d> {
 impl<'d> Model for Prepared<'d> {
     ghost use Rattle.std.specs.Prelude.{◌≡◌, Ok};
     ghost use Rattle.handover.specs.Pages.{PreparedPage, IsPrepared};
-    ghost use Rattle.handover.specs.Kept.{page_of, BeginsWithin};
+    ghost use Rattle.handover.specs.Kept.{prepared_page_of, BeginsWithin};
 
     ghost Value = { PreparedPage };
 
-    ghost view = { λ p. page_of p.kept };
+    ghost view = { λ p. prepared_page_of p.kept };
 
-    ghost invariant = { λ p. IsPrepared (page_of p.kept) × BeginsWithin p.kept };
+    ghost invariant = { λ p. IsPrepared (prepared_page_of p.kept) × BeginsWithin p.kept };
 }
 
 impl<'d> Prepared<'d> {
@@ -56,7 +56,7 @@ impl<'d> Prepared<'d> {
     /// Refused with BadCount or ShortData, for the first faulty data block of `raw`, or with NoMemory. A page of an
     /// accepted document has no faulty block.
     pub fn new(alloc: Global, page: u32, raw: &'d [u8]) -> Result<Prepared<'d>, DscError>
-        ensures answer { Gives (λ p. p.body) page_fault_told result (prepared raw.now) }
+        ensures answer { GivesUnlessShort (λ p. p.body) page_fault_told result (prepared raw.now) }
         ensures page { IfOk result (λ p. (p.page ≡ page) × (p.raw ≡ raw.now)) }
         ensures refusals { IfErr result IsPageError }
         ensures memory_alone { HasBody raw.now → IfErr result (λ e. e ≡ NoMemory) }

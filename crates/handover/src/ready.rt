@@ -3,10 +3,10 @@ ghost use Rattle.std.specs.Prelude.{◌≡◌, ◌<◌, ◌≤◌, ◌-◌, [], 
 ghost use Rattle.crossbeam_queue.specs.Passes.{view};
 ghost use Rattle.rules.specs.Seats.{whole_share};
 ghost use Rattle.handover.specs.Queue.{Put, Take, content};
-ghost use Rattle.handover.specs.Passes.{IsPass, IsPassOf, Made, Joined, opening_pass, opening_pass_by_right};
+ghost use Rattle.handover.specs.Passes.{IsPass, IsPassOf, MadeMove, PassesJoined, opening_pass, opening_pass_by_right};
 ghost use Rattle.handover.specs.Passes.{puts_in, room_kept, room_given};
-ghost use Rattle.handover.specs.Rule.{opening};
-ghost use Rattle.handover.specs.Steps.{opened};
+ghost use Rattle.handover.specs.Rule.{first_sight};
+ghost use Rattle.handover.specs.Steps.{first_pass};
 
 use crate::pass::{Pass, WHOLE_SHARE};
 use crate::room::{both_rooms, may_put, room_after_put, room_given, room_kept};
@@ -88,7 +88,7 @@ impl Ready {
     pub fn put<R: Wait>(&self, rt: &R, pass: &mut Pass, sheet: u32) -> Result<(), Full>
         requires { IsPassOf self.now pass.old }
         ensures pass { IsPassOf self.now pass.new }
-        ensures put { OnOk result (Made pass.old (Put sheet) pass.new) }
+        ensures put { OnOk result (MadeMove pass.old (Put sheet) pass.new) }
         ensures full { IfErr result (λ full. (full.0 ≡ sheet) × (pass.new ≡ pass.old)) }
 
         // A pass that has all shares has seen the whole history.
@@ -115,7 +115,7 @@ impl Ready {
     pub fn take<R: Wait>(&self, rt: &R, pass: &mut Pass) -> Option<u32>
         requires { IsPassOf self.now pass.old }
         ensures pass { IsPassOf self.now pass.new }
-        ensures taken { IfSome result (λ sheet. Made pass.old (Take sheet) pass.new) }
+        ensures taken { IfSome result (λ sheet. MadeMove pass.old (Take sheet) pass.new) }
         ensures none { IfNone result (pass.new ≡ pass.old) }
 
         // A pass that has all shares has seen the whole history.
@@ -177,7 +177,7 @@ impl Ready {
     pub fn join(&self, one: Pass, two: Pass) -> Pass
         requires one { IsPassOf self.now one }
         requires two { IsPassOf self.now two }
-        ensures { Joined one two result }
+        ensures { PassesJoined one two result }
     {
         let Pass {
             mut token,
@@ -201,10 +201,10 @@ impl Ready {
 
 /// The pass with which a queue was made learns the queue's capacity, and gets its room.
 fn open<N: Picks>(line: &Line, token: &mut crossbeam_queue::Pass<u32, PassKnowledge>)
-    requires token { Rattle.crossbeam_queue.specs.Passes.IsPassOf line.now token.old × (view token.old ≡ opening) }
+    requires token { Rattle.crossbeam_queue.specs.Passes.IsPassOf line.now token.old × (view token.old ≡ first_sight) }
     requires number { (N.number ≤ u32.MAX) × (puts_in N.room ≤ N.number) }
     ensures { Rattle.crossbeam_queue.specs.Passes.IsPassOf line.now token.new
-        × (view token.new ≡ opened N.number N.room) }
+        × (view token.new ≡ first_pass N.number N.room) }
 {
     drop(line.another::<Opens<N>>(token));
 }

@@ -1,7 +1,7 @@
 //! The answers of the shelf to a put.
 ghost use Rattle.std.specs.Prelude.{◌≡◌, ◌<◌};
 
-use crate::entry::{Entry, ToldTruly};
+use crate::entry::{Entry, OwnFlagIsTrue};
 use crate::prepared::Prepared;
 use boxcar::Pushed;
 use std::alloc::Global;
@@ -11,7 +11,7 @@ use std::marker::Model;
 /// The token of an entry of a shelf: which page was put there, and at which index.
 #[derive(Drop)]
 pub struct Receipt<'d> {
-    pub(crate) token: Pushed<Entry<'d>, Global, ToldTruly>,
+    pub(crate) token: Pushed<Entry<'d>, Global, OwnFlagIsTrue>,
 }
 
 impl<'d> Model for Receipt<'d> {
@@ -38,7 +38,7 @@ impl<'d> Receipt<'d> {
 /// shelf.
 #[derive(Drop)]
 pub struct Overflow<'d> {
-    pub(crate) token: Pushed<Entry<'d>, Global, ToldTruly>,
+    pub(crate) token: Pushed<Entry<'d>, Global, OwnFlagIsTrue>,
 }
 
 impl<'d> Model for Overflow<'d> {

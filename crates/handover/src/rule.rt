@@ -9,11 +9,11 @@ pub struct PassKnowledge {
 }
 
 impl Model for PassKnowledge {
-    ghost use Rattle.handover.specs.Rule.{Sight, spent};
+    ghost use Rattle.handover.specs.Rule.{PassSight, spent_pass};
 
-    ghost Value = { Sight };
+    ghost Value = { PassSight };
 
-    ghost view = { λ v. spent };
+    ghost view = { λ v. spent_pass };
 }
 
 /// Between any two steps there is one history. The queue holds its content, and every pass has seen a beginning of
@@ -21,9 +21,9 @@ impl Model for PassKnowledge {
 pub struct HandoverHistory;
 
 impl Protocol<u32, PassKnowledge> for HandoverHistory {
-    ghost use Rattle.handover.specs.Rule.{Kept, opening};
+    ghost use Rattle.handover.specs.Rule.{HasPassHistory, first_sight};
 
-    ghost holds = { Kept };
+    ghost holds = { HasPassHistory };
 
-    ghost first = { opening };
+    ghost first = { first_sight };
 }

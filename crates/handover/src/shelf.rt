@@ -3,7 +3,7 @@ ghost use Rattle.std.specs.Prelude.{◌≡◌, IfOk, IfErr, IfSome, IsTrue, fals
 ghost use Rattle.handover.specs.Pages.{IsPrepared};
 ghost use Rattle.handover.specs.Shelves.{IsOn, GivesNoReceipt, IsShelfOf, IsOwn};
 
-use crate::entry::{Entry, ItsPages, ToldTruly};
+use crate::entry::{Entry, ItsPages, OwnFlagIsTrue};
 use crate::prepared::Prepared;
 use crate::receipts::{Overflow, PutError, Receipt};
 use boxcar::tag::Tag;
@@ -16,7 +16,7 @@ use std::sync::Wait;
 /// shelf may belong to a document: then it knows of each page whether it was put as one of this document.
 #[derive(Drop)]
 pub struct Shelf<'d> {
-    list: boxcar::Vec<Entry<'d>, Global, ToldTruly>,
+    list: boxcar::Vec<Entry<'d>, Global, OwnFlagIsTrue>,
 }
 
 impl<'d> Model for Shelf<'d> {

@@ -8,9 +8,9 @@ pub(crate) struct Puts;
 
 impl Outcome<u32, PassKnowledge> for Puts {
     ghost use Rattle.handover.specs.Queue.{Put};
-    ghost use Rattle.handover.specs.Steps.{Adds};
+    ghost use Rattle.handover.specs.Steps.{AddsMove};
 
-    ghost then = { λ v x w. Adds v (Put x) w };
+    ghost then = { λ v x w. AddsMove v (Put x) w };
 }
 
 impl Lesson<u32, PassKnowledge> for Puts {
@@ -24,9 +24,9 @@ pub(crate) struct Takes;
 
 impl Outcome<u32, PassKnowledge> for Takes {
     ghost use Rattle.handover.specs.Queue.{Take};
-    ghost use Rattle.handover.specs.Steps.{Adds};
+    ghost use Rattle.handover.specs.Steps.{AddsMove};
 
-    ghost then = { λ v x w. Adds v (Take x) w };
+    ghost then = { λ v x w. AddsMove v (Take x) w };
 }
 
 impl Lesson<u32, PassKnowledge> for Takes {
@@ -70,12 +70,12 @@ impl<N: Picks> Split<PassKnowledge> for HistoryCut<N> {
 pub(crate) struct JoinPasses;
 
 impl Join<PassKnowledge> for JoinPasses {
-    ghost use Rattle.handover.specs.Rule.{spent};
+    ghost use Rattle.handover.specs.Rule.{spent_pass};
     ghost use Rattle.handover.specs.Steps.{both_of};
 
     ghost both = { both_of };
 
-    ghost spent = { spent };
+    ghost spent = { spent_pass };
 }
 
 impl Lesson<u32, PassKnowledge> for JoinPasses {
@@ -90,9 +90,9 @@ pub(crate) struct Opens<N: Picks> {
 }
 
 impl<N: Picks> Split<PassKnowledge> for Opens<N> {
-    ghost use Rattle.handover.specs.Steps.{opened, spent_of};
+    ghost use Rattle.handover.specs.Steps.{first_pass, spent_of};
 
-    ghost left = { λ v. opened N.number N.room };
+    ghost left = { λ v. first_pass N.number N.room };
 
     ghost right = { λ v. spent_of N.number };
 }

@@ -17,11 +17,11 @@ fn main(rt: HostRuntime) -> ExitCode {
     // What is said of a run finds its room before the run.
     let report = match ReportText::new(rt.alloc()) {
         Ok(report) => report,
-        Err(_) => return stop(&rt, ImposeFault::no_memory()),
+        Err(_) => return end_with(&rt, ImposeFault::no_memory()),
     };
-    let words = match words(&rt) {
+    let words = match own_words(&rt) {
         Ok(words) => words,
-        Err(fault) => return stop(&rt, ImposeFault::Command(fault)),
+        Err(fault) => return end_with(&rt, ImposeFault::Command(fault)),
     };
     let world = Host::new(&rt, rt.stdin(), rt.stdout());
     let paper_size = paper_size(&rt);
@@ -39,7 +39,7 @@ fn main(rt: HostRuntime) -> ExitCode {
             written: 0,
             cause: Some(cause),
         };
-        return stop(&rt, fault);
+        return end_with(&rt, fault);
     }
     let (text, status) = said(rt.alloc(), report, ended, words.as_slice());
     ExitCode::from(tell(&mut rt.stderr(), text.as_slice(), status))
@@ -60,7 +60,7 @@ fn said<W: World>(
 }
 
 /// The words, of which the first is the program's name.
-fn words(rt: &(impl Env + AllocGlobal)) -> Result<Vec<String>, RequestFault> {
+fn own_words(rt: &(impl Env + AllocGlobal)) -> Result<Vec<String>, RequestFault> {
     match env::args(rt) {
         Ok(args) => Ok(args.collect(rt.alloc())?),
         Err(error) if error.kind() == ErrorKind::OutOfMemory => Err(RequestFault::NoMemory),
@@ -77,7 +77,7 @@ fn paper_size(rt: &(impl Env + AllocGlobal)) -> String {
 }
 
 /// Ends with a fault before the words are read, or after the help.
-fn stop(rt: &HostRuntime, fault: ImposeFault) -> ExitCode {
+fn end_with(rt: &HostRuntime, fault: ImposeFault) -> ExitCode {
     let status = fault_status(&fault);
     let text = text_of_fault(rt.alloc(), &fault, None, &[]);
     ExitCode::from(tell(&mut rt.stderr(), text.as_str().as_bytes(), status))

@@ -22,7 +22,7 @@ use Rattle.impose_cli.specs.RowTasks.{FinishesRow, text_for}
 use Rattle.impose_cli.specs.SpecRows.{FinishesSpecRow}
 use Rattle.impose_cli.specs.Laws.{IsDocumentAgain, IsMadeDocument, WroteDocument, sheets_named}
 use Rattle.impose_words.specs.declared.request.ImposeRequest.{ImposeRequest}
-use Rattle.impose_said.specs.declared.finished.Finished.{Finished}
+use Rattle.impose_messages.specs.declared.finished.Finished.{Finished}
 
 -- bytes behind the same ones are the same
 behind : (old one other : List ℕ) → old ++ one ≡ old ++ other → one ≡ other

@@ -9,7 +9,7 @@ use Rattle.std.specs.IoError.{error_kind}
 use Rattle.std.specs.declared.io.ErrorKind.{ErrorKind}
 use Rattle.std.specs.declared.io.ErrorKind.TheVariants.{OutOfMemory}
 use Rattle.std.below.std_io.specs.declared.io.error.Error.{Error}
-use Rattle.impose_said.specs.Faults.{without_memory}
+use Rattle.impose_messages.specs.Faults.{without_memory}
 use Rattle.world.specs.Worlds.{HasRefused, WorldView, creating}
 use Rattle.world.specs.Lates.{named_view}
 use Rattle.world.specs.Outputs.{OutputView, fresh_output, named, told_if}
@@ -39,10 +39,10 @@ use Rattle.impose_cli.specs.Endings.{AfterWrite, BreaksOff, Comes, Edge, HasFirs
 use Rattle.world.specs.declared.rest.Rest.{Rest}
 use Rattle.world.specs.declared.rest.Rest.TheVariants.{Output, World}
 use Rattle.impose_cli.specs.declared.runs.About.{About}
-use Rattle.impose_said.specs.declared.fault.ImposeFault.{ImposeFault}
-use Rattle.impose_said.specs.declared.fault.ImposeFault.TheVariants as fault
-use Rattle.impose_said.specs.declared.finished.Done.{Done}
-use Rattle.impose_said.specs.declared.finished.Done.TheVariants as done
+use Rattle.impose_messages.specs.declared.fault.ImposeFault.{ImposeFault}
+use Rattle.impose_messages.specs.declared.fault.ImposeFault.TheVariants as fault
+use Rattle.impose_messages.specs.declared.finished.Done.{Done}
+use Rattle.impose_messages.specs.declared.finished.Done.TheVariants as done
 
 -- ---- what comes of it
 

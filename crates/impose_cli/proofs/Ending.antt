@@ -12,7 +12,7 @@ use Rattle.rules.specs.Specification.{Spec}
 use Rattle.rules.specs.Parts.{NestedUnit}
 use Rattle.rules.specs.Sheets.{Plan}
 use Rattle.sheet_plan.specs.Plans.{planned, planned_in}
-use Rattle.sheet_plan.specs.Refusals.{Refuses, RefusesIn}
+use Rattle.sheet_plan.specs.Refusals.{RefusesPlan, RefusesIn}
 use Rattle.sheet_plan.specs.declared.error.PlanError.{PlanError}
 use Rattle.sheet_text.specs.Jobs.{JobView, is_border, of_frame}
 use Rattle.sheet_writer.specs.Sinks.{fresh_sink}
@@ -23,18 +23,18 @@ use Rattle.imposer.specs.Runs.{Accepted, Reports, frame_of}
 use Rattle.imposer.specs.Options.{AreOptions}
 use Rattle.imposer.specs.Workers.{AreWorkers}
 use Rattle.imposer.specs.declared.outcome.RunError.{RunError}
-use Rattle.impose_said.specs.declared.fault.ImposeFault.{ImposeFault}
-use Rattle.impose_said.specs.declared.fault.ImposeFault.TheVariants as fault
-use Rattle.impose_said.specs.declared.finished.Done.{Done}
+use Rattle.impose_messages.specs.declared.fault.ImposeFault.{ImposeFault}
+use Rattle.impose_messages.specs.declared.fault.ImposeFault.TheVariants as fault
+use Rattle.impose_messages.specs.declared.finished.Done.{Done}
 use Rattle.impose_cli.specs.Abouts.{reported_by}
-use Rattle.impose_cli.specs.Endings.{Edge, Comes, IsImposed, RefusesImposing, RefusesSpecRun, RefusesTaskRun, Runs, WritesJob, WritesTask}
+use Rattle.impose_cli.specs.Endings.{Edge, Comes, IsImposed, RefusesImposing, RefusesSpecRun, RefusesTaskRun, RunsRequest, WritesJob, WritesTask}
 use Rattle.impose_cli.specs.Refusals.{RefusesTask}
 use Rattle.impose_cli.specs.declared.runs.About.{About}
 use Rattle.impose_cli.proofs.Coming.{comes_as, comes_refused, comes_reported}
 use Rattle.imposer.specs.declared.outcome.Report.{Report}
 use Rattle.impose_cli.specs.Claims.{IsToldBy}
-use Rattle.impose_said.specs.declared.finished.Told.{Told}
-use Rattle.impose_cli.specs.Tasks.{FinishesSpec, IsPlaced, IsSpec, IsTask, asked_by}
+use Rattle.impose_messages.specs.declared.finished.Claims.{Claims}
+use Rattle.impose_cli.specs.Tasks.{FinishesSpec, ComesToSpec, IsSpecLayout, IsTask, run_asked}
 use Rattle.world.specs.declared.rest.Rest.{Rest}
 use Rattle.world.specs.declared.rest.Rest.TheVariants.{World}
 use Rattle.impose_words.specs.declared.request.Spacing.{Spacing}
@@ -44,13 +44,13 @@ use Rattle.impose_words.specs.declared.request.ImposeRequest.{ImposeRequest}
 use Rattle.impose_cli.specs.declared.task.Task.{Task}
 
 -- a specification that is named is what is run, without signatures
-placed_as_named : (l : Layout) (s : Spacing) (named : List ℕ) (page_paper sheet_paper : Paper) (pages : ℕ) (text : List ℕ) (sides : Option ℕ) → IsSpec l named
-    → IsPlaced l s page_paper sheet_paper pages text sides → (text ≡ named) × (sides ≡ None)
+placed_as_named : (l : Layout) (s : Spacing) (named : List ℕ) (page_paper sheet_paper : Paper) (pages : ℕ) (text : List ℕ) (sides : Option ℕ) → IsSpecLayout l named
+    → ComesToSpec l s page_paper sheet_paper pages text sides → (text ≡ named) × (sides ≡ None)
 placed_as_named (layout.Spec specs) s named page_paper sheet_paper pages text sides is h = (h.0 ∙ sym is, h.1)
 placed_as_named other s named page_paper sheet_paper pages text sides is h = absurd is
 
-pub finishes : (r : ImposeRequest) (input : List ℕ) (task : Task) (told : Told) (old new : Option (List ℕ)) (report : Report) → ((text : List ℕ) × IsSpec r.layout text) → IsTask r input task → IsToldBy r input told
-    → Accepted (asked_by task) (λ spec us. Appends old new (output (frame_of task.options) task.options.sides spec us) × Reports (frame_of task.options) task.options.sides spec us report)
+pub finishes : (r : ImposeRequest) (input : List ℕ) (task : Task) (told : Claims) (old new : Option (List ℕ)) (report : Report) → ((text : List ℕ) × IsSpecLayout r.layout text) → IsTask r input task → IsToldBy r input told
+    → Accepted (run_asked task) (λ spec us. Appends old new (output (frame_of task.options) task.options.sides spec us) × Reports (frame_of task.options) task.options.sides spec us report)
     → FinishesSpec r input old new (record { report = report; page_paper = task.options.paper; origin = task.origin; cut = None; reach = task.counted.reach; behind = task.counted.behind; told = told })
 finishes r input task told old new report named is tells h =
     let spec = h.0 in
@@ -84,32 +84,32 @@ finishes r input task told old new report named is tells h =
 -- ---- what comes of a request
 
 -- a request whose layout is a specification is refused as one by it
-by_spec : (l : Layout) (text : List ℕ) (r : ImposeRequest) (input : List ℕ) (f : ImposeFault) → IsSpec l text → RefusesSpecRun r input f → RefusesImposing l r input f
+by_spec : (l : Layout) (text : List ℕ) (r : ImposeRequest) (input : List ℕ) (f : ImposeFault) → IsSpecLayout l text → RefusesSpecRun r input f → RefusesImposing l r input f
 by_spec (layout.Spec specs) text r input f is h = h
 by_spec other text r input f is h = absurd is
 
 -- there is no task
-pub spec_stops : {V O : Type 0} (r : ImposeRequest) (input : List ℕ) (tells : Edge V O) (f : ImposeFault) (outcome : Result Done ImposeFault) (world : V) (rest : Rest V O) (written : Option (List ℕ)) → ((text : List ℕ) × IsSpec r.layout text) → outcome ≡ Err f → rest ≡ World world
-    → RefusesTask r input f → Runs r input tells outcome world rest written
+pub spec_stops : {V O : Type 0} (r : ImposeRequest) (input : List ℕ) (tells : Edge V O) (f : ImposeFault) (outcome : Result Done ImposeFault) (world : V) (rest : Rest V O) (written : Option (List ℕ)) → ((text : List ℕ) × IsSpecLayout r.layout text) → outcome ≡ Err f → rest ≡ World world
+    → RefusesTask r input f → RunsRequest r input tells outcome world rest written
 spec_stops r input tells f outcome world rest written named is none why =
     comes_refused (RefusesImposing r.layout r input) (IsImposed r input) _ tells f outcome world rest written is none (by_spec r.layout named.0 r input f named.1 (inl why))
 
-abbrev pub about_spec : Task → (told : Told) → About
+abbrev pub about_spec : Task → (told : Claims) → About
 about_spec t told = record { page_paper = t.options.paper; origin = t.origin; cut = None; reach = t.counted.reach; behind = t.counted.behind; told = told }
 
 -- what comes of its run comes of the request
-pub spec_runs : {V O : Type 0} (r : ImposeRequest) (input : List ℕ) (t : Task) (told : Told) (tells : Edge V O) (outcome : Result Done ImposeFault) (left : Result Report ImposeFault) (world : V) (rest : Rest V O) (name written : Option (List ℕ))
-    → ((text : List ℕ) × IsSpec r.layout text) → IsTask r input t → IsToldBy r input told → outcome ≡ reported_by (about_spec t told) left → name ≡ option_map string_bytes r.outfile
-    → Comes (RefusesTaskRun t) (WritesTask t) name tells left world rest written → Runs r input tells outcome world rest written
+pub spec_runs : {V O : Type 0} (r : ImposeRequest) (input : List ℕ) (t : Task) (told : Claims) (tells : Edge V O) (outcome : Result Done ImposeFault) (left : Result Report ImposeFault) (world : V) (rest : Rest V O) (name written : Option (List ℕ))
+    → ((text : List ℕ) × IsSpecLayout r.layout text) → IsTask r input t → IsToldBy r input told → outcome ≡ reported_by (about_spec t told) left → name ≡ option_map string_bytes r.outfile
+    → Comes (RefusesTaskRun t) (WritesTask t) name tells left world rest written → RunsRequest r input tells outcome world rest written
 spec_runs r input t told tells outcome left world rest name written text is tells_it reports named h =
-    subst (λ o. Runs r input tells o world rest written) (sym reports)
+    subst (λ o. RunsRequest r input tells o world rest written) (sym reports)
     (comes_reported (RefusesTaskRun t) (RefusesImposing r.layout r input) (WritesTask t) (IsImposed r input) (about_spec t told) (option_map string_bytes r.outfile) tells left world rest written
     (λ f why. by_spec r.layout text.0 r input f text.1 (inr (record { task = t; is_task = is; refused = why })))
     (λ old new report done. inl (finishes r input t told old new report text is tells_it done))
     (subst (λ n. Comes (RefusesTaskRun t) (WritesTask t) n tells left world rest written) named h))
 
 -- a task of a request that names a specification has no signatures, and so many workers
-pub sides_of : (r : ImposeRequest) (input : List ℕ) (t : Task) → ((text : List ℕ) × IsSpec r.layout text) → IsTask r input t → t.options.sides ≡ None
+pub sides_of : (r : ImposeRequest) (input : List ℕ) (t : Task) → ((text : List ℕ) × IsSpecLayout r.layout text) → IsTask r input t → t.options.sides ≡ None
 sides_of r input t text is = (placed_as_named r.layout r.spacing text.0 _ _ _ _ _ text.1 is.placed).1
 
 pub workers_of : (r : ImposeRequest) (input : List ℕ) (t : Task) → IsTask r input t → AreWorkers t.options.workers
@@ -117,9 +117,9 @@ workers_of r input t is = subst AreWorkers (sym is.workers) (record { a_preparer
 
 -- its plan is refused
 pub plan_refused : (t : Task) (spec : Spec) (us : List NestedUnit) (n : ℕ) (e : PlanError) (f : ImposeFault) (error : RunError) → f ≡ fault.Run error → error ≡ of_plan e → t.options.sides ≡ None
-    → AreOptions t.options → Takes most_slots (string_bytes t.spec) spec → document_of t.text.items ≡ Ok us → n ≡ length (pages us) → Refuses spec n e → RefusesTaskRun t f
+    → AreOptions t.options → Takes most_slots (string_bytes t.spec) spec → document_of t.text.items ≡ Ok us → n ≡ length (pages us) → RefusesPlan spec n e → RefusesTaskRun t f
 plan_refused t spec us n e f error is named sides options takes document count why =
-    let said = refused_plan (asked_by t) e spec us n options takes document count (subst (λ s. RefusesIn s spec n e) (sym sides) why) in
+    let said = refused_plan (run_asked t) e spec us n options takes document count (subst (λ s. RefusesIn s spec n e) (sym sides) why) in
     (of_plan e, is ∙ ap fault.Run named, said.0, said.1)
 
 -- what comes of its sheets comes of the task
@@ -130,7 +130,7 @@ pub job_comes : {V O : Type 0} (t : Task) (spec : Spec) (us : List NestedUnit) (
 job_comes t spec us plan n job name tells outcome world rest written sides options takes document count is_plan accepted is_job h =
     comes_as (λ f. ⊥) (RefusesTaskRun t) (WritesJob job) (WritesTask t) name tells outcome world rest written
     (λ f none. absurd none)
-    (λ old new report done. (job_answers (asked_by t) t.options (record { spec = spec; document = us }) plan n job (fresh_sink old) (fresh_sink new) (Ok report)
+    (λ old new report done. (job_answers (run_asked t) t.options (record { spec = spec; document = us }) plan n job (fresh_sink old) (fresh_sink new) (Ok report)
     (record { same_options = refl; options = options; takes = takes; document = document }) count
     (subst (λ s. plan ≡ planned_in s spec n) (sym sides) is_plan) (subst (λ s. plan_in s spec n ≡ Ok (sheets_in s spec n)) (sym sides) accepted) is_job
     (done.0, refl, done.1)).0)

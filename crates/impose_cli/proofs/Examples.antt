@@ -6,7 +6,7 @@ use Rattle.impose_words.specs.declared.request.Layout.TheVariants as layout
 use Rattle.guard.specs.Guard.{guarded}
 use Rattle.rules.specs.Choice.{InOne as in_one, Auto as by_itself, sides_for}
 use Rattle.papers.specs.declared.media.Comment.TheVariants.{DocumentMedia}
-use Rattle.impose_said.specs.declared.finished.PaperOrigin.TheVariants.{Named, ByComment, AtHome}
+use Rattle.impose_messages.specs.declared.finished.PaperOrigin.TheVariants.{Named, ByComment, ByDefault}
 use Rattle.impose_cli.specs.RowTasks.{guarded_in}
 use Rattle.impose_cli.specs.Tasks.{own_or_home, page_paper_found, sheet_paper_found, taken_text}
 
@@ -26,7 +26,7 @@ named = refl
 own : own_or_home (points 3 4) (Some (points 1 2, DocumentMedia)) ≡ (points 1 2, ByComment DocumentMedia)
 own = refl
 
-at_home : own_or_home (points 612 792) None ≡ (points 612 792, AtHome)
+at_home : own_or_home (points 612 792) None ≡ (points 612 792, ByDefault)
 at_home = refl
 
 sheet_named : sheet_paper_found (Some (points 1 2)) (points 3 4) ≡ points 1 2

@@ -1,9 +1,9 @@
 -- What comes of a look at a task.
 use Rattle.std.proofs.Common.{inr, subst, sym, List, ℕ}
-use Rattle.impose_cli.specs.Endings.{RefusesRow, RefusesRowTaskRun}
+use Rattle.impose_cli.specs.Endings.{RefusesRowRun, RefusesRowTaskRun}
 use Rattle.impose_cli.specs.Looks.{TellsRow, TellsTask}
 use Rattle.impose_cli.specs.RowTasks.{ArePapersOf, IsRowTask}
-use Rattle.impose_said.specs.declared.fault.ImposeFault.{ImposeFault}
+use Rattle.impose_messages.specs.declared.fault.ImposeFault.{ImposeFault}
 use Rattle.impose_cli.specs.declared.look.Overview.{Overview}
 use Rattle.impose_words.specs.declared.request.ImposeRequest.{ImposeRequest}
 use Rattle.impose_cli.specs.declared.row_task.RowTask.{RowTask}
@@ -20,5 +20,5 @@ tells_row r input t look text is h = record {
   told = h.2;
 }
 
-pub refuses_row : (r : ImposeRequest) (input : List ℕ) (t : RowTask) (f : ImposeFault) → IsRowTask r input t → RefusesRowTaskRun r t f → RefusesRow r input f
+pub refuses_row : (r : ImposeRequest) (input : List ℕ) (t : RowTask) (f : ImposeFault) → IsRowTask r input t → RefusesRowTaskRun r t f → RefusesRowRun r input f
 refuses_row r input t f is h = inr (record { task = t; is_task = is; refused = h })

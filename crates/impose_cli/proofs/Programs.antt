@@ -4,26 +4,26 @@ use Rattle.clap.specs.Words.{Row, Text}
 use Rattle.std.specs.Prelude.{⊤, ◌⊎◌, option_map, string_bytes}
 use Rattle.std.specs.Io.KnownBytes.{Appends}
 use Rattle.world.specs.Outputs.{OutputView, fresh_output, told_if}
-use Rattle.impose_cli.specs.Endings.{AfterWrite, Edge, IsSaidOf, IsUncreated, Runs, has_output, shown}
+use Rattle.impose_cli.specs.Endings.{AfterWrite, Edge, IsSaidOf, IsUncreatedFault, RunsRequest, has_output, shown}
 use Rattle.imposer.specs.declared.outcome.RunError.TheVariants as run
 use Rattle.world.specs.Input.{IsFirst, most_bytes}
 use Rattle.world.specs.Worlds.{WorldView}
 use Rattle.impose_cli.specs.Looks.{MayBeMade, TellsRow}
 use Rattle.impose_words.specs.Products.{lays_rows}
-use Rattle.impose_cli.specs.Programs.{BreaksAt, CarriesOut, FailsToWrite, Gives, HasGiven, IsCreatedFor, IsReading, Makes, Prints, Shows, Writes}
+use Rattle.impose_cli.specs.Programs.{BreaksAt, CarriesOut, FailsToWrite, Inputs, HasGiven, IsCreatedFor, IsReading, MakesProduct, Prints, ShowsSheets, Writes}
 use Rattle.impose_cli.specs.RowTasks.{LaysRows}
 use Rattle.rules.specs.Papers.{Paper}
-use Rattle.impose_words.specs.Words.{Entered, MakesBy, Reads}
+use Rattle.impose_words.specs.Words.{Entered, MakesBy, ReadsRequest}
 use Rattle.impose_cli.specs.Printed.{printed_text}
 use Rattle.impose_cli.specs.Refusals.{HasNoFault}
-use Rattle.impose_cli.specs.Unread.{MayBeRead, RefusesRequest}
+use Rattle.impose_cli.specs.Precheck.{MayBeRead, RefusesRequest}
 use Rattle.impose_cli.specs.Tasks.{IsTask}
 use Rattle.world.specs.declared.rest.Rest.{Rest}
 use Rattle.world.specs.declared.rest.Rest.TheVariants.{Output, World}
-use Rattle.impose_said.specs.declared.fault.ImposeFault.{ImposeFault}
-use Rattle.impose_said.specs.declared.fault.ImposeFault.TheVariants as fault
-use Rattle.impose_said.specs.declared.finished.Done.{Done}
-use Rattle.impose_said.specs.declared.finished.Done.TheVariants as done
+use Rattle.impose_messages.specs.declared.fault.ImposeFault.{ImposeFault}
+use Rattle.impose_messages.specs.declared.fault.ImposeFault.TheVariants as fault
+use Rattle.impose_messages.specs.declared.finished.Done.{Done}
+use Rattle.impose_messages.specs.declared.finished.Done.TheVariants as done
 use Rattle.impose_cli.specs.declared.look.Overview.{Overview}
 use Rattle.impose_words.specs.declared.request.Layout.{Layout}
 use Rattle.impose_words.specs.declared.request.Layout.TheVariants as layout
@@ -33,17 +33,17 @@ use Rattle.impose_words.specs.declared.request.ImposeRequest.{ImposeRequest}
 use Rattle.impose_cli.specs.declared.task.Task.{Task}
 
 -- nothing was created: the request is refused unread, or the input can't be read
-pub stopped_before : {V O : Type 0} (seen : V → WorldView) (r : ImposeRequest) (gives : Gives) (tells : Edge V O) (f : ImposeFault) (outcome : Result Done ImposeFault)
+pub stopped_before : {V O : Type 0} (seen : V → WorldView) (r : ImposeRequest) (gives : Inputs) (tells : Edge V O) (f : ImposeFault) (outcome : Result Done ImposeFault)
     (world left : V) (rest : Rest V O) (written : Option (List ℕ)) → outcome ≡ Err f → rest ≡ World left
     → (RefusesRequest r f × (left ≡ world)) ⊎ (MayBeRead r × IsReading (option_map string_bytes r.infile) (seen world) (seen left) f)
     → CarriesOut seen r gives tells outcome world rest written
 stopped_before seen r gives tells f outcome world left rest written told none why = inl (f, left, told, none, why)
 
 -- the input was read, and what is asked for was made of it
-pub took : {V O : Type 0} (seen : V → WorldView) (r : ImposeRequest) (gives : Gives) (tells told : Edge V O) (input : List ℕ) (name : Option (List ℕ))
+pub took : {V O : Type 0} (seen : V → WorldView) (r : ImposeRequest) (gives : Inputs) (tells told : Edge V O) (input : List ℕ) (name : Option (List ℕ))
     (outcome : Result Done ImposeFault) (world read : V) (rest : Rest V O) (written : Option (List ℕ))
     → name ≡ option_map string_bytes r.infile → IsFirst most_bytes (gives name) input → HasGiven name (seen world) (seen read)
-    → MayBeRead r → told ≡ tells → Makes r.product r input told outcome read rest written
+    → MayBeRead r → told ≡ tells → MakesProduct r.product r input told outcome read rest written
     → CarriesOut seen r gives tells outcome world rest written
 took seen r gives tells told input name outcome world read rest written named first given possible same taken =
     inr (
@@ -52,11 +52,11 @@ took seen r gives tells told input name outcome world read rest written named fi
       subst (λ n. IsFirst most_bytes (gives n) input) named first,
       subst (λ n. HasGiven n (seen world) (seen read)) named given,
       possible,
-      subst (λ t. Makes r.product r input t outcome read rest written) same taken,
+      subst (λ t. MakesProduct r.product r input t outcome read rest written) same taken,
     )
 
 -- the request was carried out in the world that was asked for the paper at home, which is as it was else
-pub at_home : {V O : Type 0} (seen : V → WorldView) (r : ImposeRequest) (gives given : Gives) (tells told : Edge V O) (outcome : Result Done ImposeFault)
+pub at_home : {V O : Type 0} (seen : V → WorldView) (r : ImposeRequest) (gives given : Inputs) (tells told : Edge V O) (outcome : Result Done ImposeFault)
     (world : V) (rest : Rest V O) (written : Option (List ℕ)) → given ≡ gives → told ≡ tells
     → CarriesOut seen r given told outcome world rest written → CarriesOut seen r gives tells outcome world rest written
 at_home seen r gives given tells told outcome world rest written same_gives same_tells h =
@@ -82,7 +82,7 @@ wrote_part name text what e world output rest start n f outcome began within wro
 
 -- no output could be created
 pub uncreated : {V O : Type 0} (name : Option (List ℕ)) (text : List ℕ) (what : Done) (tells : Edge V O) (f : ImposeFault) (outcome : Result Done ImposeFault)
-    (world : V) (rest : Rest V O) (written : Option (List ℕ)) → outcome ≡ Err f → IsUncreated tells name (tells.seen world) f rest
+    (world : V) (rest : Rest V O) (written : Option (List ℕ)) → outcome ≡ Err f → IsUncreatedFault tells name (tells.seen world) f rest
     → Writes name text what tells outcome world rest written
 uncreated name text what tells f outcome world rest written told none =
     subst (λ o. Writes name text what tells o world rest written) (sym told) (inl none)
@@ -105,9 +105,9 @@ printed r input tells task lines outcome world rest written is is_task none h =
 -- the plan or the picture was written to the output of that name
 pub shown_whole : {V O : Type 0} (l : Overview) (name : Option (List ℕ)) (r : ImposeRequest) (input : List ℕ) (tells : Edge V O) (text : List ℕ)
     (outcome : Result Done ImposeFault) (world : V) (rest : Rest V O) (written : Option (List ℕ)) → TellsRow r input l text
-    → Writes name text done.Shown tells outcome world rest written → Shows l name r input tells outcome world rest written
+    → Writes name text done.Shown tells outcome world rest written → ShowsSheets l name r input tells outcome world rest written
 shown_whole l name r input tells text (Ok what) world rest written told h =
-    subst (λ d. Shows l name r input tells (Ok d) world rest written) (sym h.0) (text, told, h.1, h.2)
+    subst (λ d. ShowsSheets l name r input tells (Ok d) world rest written) (sym h.0) (text, told, h.1, h.2)
 shown_whole l name r input tells text (Err f) world rest written told h = inr (text, told, h)
 
 lays : (l : Layout) → lays_rows l ≡ true → LaysRows l
@@ -124,16 +124,16 @@ made_by false found product.Plan l lays h = let e = h.planned in cc
 made_by true found (product.Picture file) l lays h = lays refl
 made_by false found (product.Picture file) l lays h = let e = h.pictured in cc
 
-may_be_made : (name : Text) (found : List Row) (r : ImposeRequest) → Reads name found r → MayBeMade r.product r.layout
+may_be_made : (name : Text) (found : List Row) (r : ImposeRequest) → ReadsRequest name found r → MayBeMade r.product r.layout
 may_be_made name found r h = made_by (lays_rows r.layout) found r.product r.layout (lays r.layout) h.product
 
-pub may_be_made_at_home : (words : List Text) (r given : ImposeRequest) (home : Paper) → given ≡ record r { home_paper = home } → Entered words (λ name found. Reads name found r)
+pub may_be_made_at_home : (words : List Text) (r given : ImposeRequest) (home : Paper) → given ≡ record r { default_paper = home } → Entered words (λ name found. ReadsRequest name found r)
     → MayBeMade given.product given.layout
 may_be_made_at_home words r given home e h = subst (λ (q : ImposeRequest). MayBeMade q.product q.layout) (sym e) (may_be_made h.0 h.1 r h.3)
 
 -- ---- an output that exists
 
-uncreated_after : {V O : Type 0} (e : Edge V O) (name : Option (List ℕ)) (before : WorldView) (f : ImposeFault) (rest : Rest V O) → IsUncreated e name before f rest → AfterWrite f (λ n. ⊤) (λ n. ⊤)
+uncreated_after : {V O : Type 0} (e : Edge V O) (name : Option (List ℕ)) (before : WorldView) (f : ImposeFault) (rest : Rest V O) → IsUncreatedFault e name before f rest → AfterWrite f (λ n. ⊤) (λ n. ⊤)
 uncreated_after e name before (fault.Write n (Some cause)) rest h = tt
 uncreated_after e name before other rest h = absurd h
 
@@ -152,7 +152,7 @@ text_created name text tells f world rest written h = elim h [
   | inr broke ↦ inr (breaks_after (told_if tells.tells name []) written text tells f rest broke)
 ]
 
-run_created : {V O : Type 0} (r : ImposeRequest) (input : List ℕ) (tells : Edge V O) (f : ImposeFault) (world : V) (rest : Rest V O) (written : Option (List ℕ)) → Runs r input tells (Err f) world rest written → IsCreatedFor (Err f) rest
+run_created : {V O : Type 0} (r : ImposeRequest) (input : List ℕ) (tells : Edge V O) (f : ImposeFault) (world : V) (rest : Rest V O) (written : Option (List ℕ)) → RunsRequest r input tells (Err f) world rest written → IsCreatedFor (Err f) rest
 run_created r input tells f world rest written h = elim h [
   | inl stopped ↦ inl (ap has_output stopped.1)
   | inr some ↦ elim some.3 [
@@ -164,7 +164,7 @@ run_created r input tells f world rest written h = elim h [
   ]
 ]
 
-made_created : {V O : Type 0} (p : Product) (r : ImposeRequest) (input : List ℕ) (tells : Edge V O) (f : ImposeFault) (world : V) (rest : Rest V O) (written : Option (List ℕ)) → Makes p r input tells (Err f) world rest written → IsCreatedFor (Err f) rest
+made_created : {V O : Type 0} (p : Product) (r : ImposeRequest) (input : List ℕ) (tells : Edge V O) (f : ImposeFault) (world : V) (rest : Rest V O) (written : Option (List ℕ)) → MakesProduct p r input tells (Err f) world rest written → IsCreatedFor (Err f) rest
 made_created product.Sheets r input tells f world rest written h = run_created r input tells f world rest written h
 made_created product.Specification r input tells f world rest written h = elim h [
   | inl stopped ↦ inl (ap has_output stopped.1)
@@ -179,7 +179,7 @@ made_created (product.Picture file) r input tells f world rest written h = elim 
   | inr some ↦ text_created (option_map string_bytes file) some.0 tells f world rest written some.2
 ]
 
-pub created_for : {V O : Type 0} (seen : V → WorldView) (r : ImposeRequest) (gives : Gives) (tells : Edge V O) (outcome : Result Done ImposeFault) (world : V) (rest : Rest V O) (written : Option (List ℕ)) → CarriesOut seen r gives tells outcome world rest written → IsCreatedFor outcome rest
+pub created_for : {V O : Type 0} (seen : V → WorldView) (r : ImposeRequest) (gives : Inputs) (tells : Edge V O) (outcome : Result Done ImposeFault) (world : V) (rest : Rest V O) (written : Option (List ℕ)) → CarriesOut seen r gives tells outcome world rest written → IsCreatedFor outcome rest
 created_for seen r gives tells (Ok what) world rest written h = tt
 created_for seen r gives tells (Err f) world rest written h = elim h [
   | inl stopped ↦ inl (ap has_output stopped.3)

@@ -4,7 +4,7 @@ use Rattle.std.specs.Prelude.{Option, None, if◌then◌else◌, get_or, unwrap_
 use Rattle.rules.specs.Papers.{Paper}
 use Rattle.rules.specs.Parts.{NestedUnit}
 use Rattle.paper_names.specs.Names.{paper_named}
-use Rattle.papers.specs.Own.{own_papers}
+use Rattle.papers.specs.Own.{papers_of_each_page}
 use Rattle.papers.specs.Reach.{Placing, extent_of, if_beyond, reach_of, reaching, told_reach}
 use Rattle.papers.specs.declared.boxes.Edges.{Edges}
 use Rattle.impose_words.specs.declared.request.ImposeRequest.{ImposeRequest}
@@ -24,10 +24,10 @@ same_reaching f g own boxes apart n (p ∷ ps) same =
 
 -- without a paper that is named for pages, those that are found for them are their own
 pub own_are_told : (r : ImposeRequest) (input : List ℕ) (us : List NestedUnit) (own : List Paper) → r.page_paper ≡ None
-    → own ≡ own_papers r.page_paper paper_named r.home_paper input us → own ≡ told_own r input us
+    → own ≡ papers_of_each_page r.page_paper paper_named r.default_paper input us → own ≡ told_own r input us
 own_are_told r input us own none are =
-    are ∙ ap (λ p. own_papers p paper_named r.home_paper input us) none
-    ∙ sym (ap (λ p. own_papers None paper_named (unwrap_or p r.home_paper) input us) none)
+    are ∙ ap (λ p. papers_of_each_page p paper_named r.default_paper input us) none
+    ∙ sym (ap (λ p. papers_of_each_page None paper_named (unwrap_or p r.default_paper) input us) none)
 
 -- pages are taken alike as far as there are any
 pub same_reach : (f g : ℕ → Bool) (own : List Paper) (boxes : List (Option Edges)) (apart : Bool) (placed : List Paper) → ((k : ℕ) → k < length placed → f k ≡ g k)

@@ -4,8 +4,8 @@ use Rattle.std.specs.Prelude.{IfSome, length, map, option_map, string_bytes}
 use Rattle.rules.specs.Rows.{Row}
 use Rattle.rules.specs.Papers.{Paper}
 use Rattle.std.proofs.lemmas.List.{length-map}
-use Rattle.papers.specs.Media.{header, trailer_lines}
-use Rattle.papers.specs.Own.{own_paper, own_papers}
+use Rattle.papers.specs.Media.{header, trailer_lines, usual_in}
+use Rattle.papers.specs.Own.{own_paper, papers_of_each_page}
 use Rattle.dsc.proofs.Reading.{accepted_cut}
 use Rattle.dsc.proofs.Slices.{text_whole}
 use Rattle.rules.specs.Parts.{NestedUnit, bytes_of, pages}
@@ -15,32 +15,32 @@ use Rattle.imposer.specs.declared.outcome.Report.{Report}
 use Rattle.row_runs.specs.declared.run.RowJob.{RowJob}
 use Rattle.impose_cli.specs.RowRuns.{Imposes}
 use Rattle.impose_cli.specs.Abouts.{reported_by}
-use Rattle.impose_cli.specs.Endings.{Edge, Comes, IsImposed, RefusesImposing, RefusesRow, RefusesRowJob, RefusesRowTaskRun, Runs}
+use Rattle.impose_cli.specs.Endings.{Edge, Comes, IsImposed, RefusesImposing, RefusesRowRun, RefusesRowJob, RefusesRowTaskRun, RunsRequest}
 use Rattle.impose_cli.specs.declared.runs.About.{About}
 use Rattle.impose_cli.proofs.Coming.{comes_as, comes_refused, comes_reported}
-use Rattle.papers.specs.AsOne.{kinds, most_kinds, paper_among}
+use Rattle.papers.specs.AsOne.{kinds, most_kinds, kind_paper}
 use Rattle.papers.specs.declared.cuts.Cut.{Cut}
 use Rattle.paper_names.specs.Names.{paper_named}
-use Rattle.impose_said.specs.Faults.{without_memory}
+use Rattle.impose_messages.specs.Faults.{without_memory}
 use Rattle.dsc.specs.PagesBehind.{pages_behind}
 use Rattle.dsc.specs.Serving.{ArePartsOf, Serve}
 use Rattle.dsc.specs.declared.parts.Parts.{Parts}
-use Rattle.impose_said.specs.declared.finished.PaperOrigin.{PaperOrigin}
+use Rattle.impose_messages.specs.declared.finished.PaperOrigin.{PaperOrigin}
 use Rattle.impose_cli.specs.Claims.{IsToldBy}
-use Rattle.impose_said.specs.declared.finished.Told.{Told}
-use Rattle.impose_cli.specs.Tasks.{HasBehind, HasPages}
+use Rattle.impose_messages.specs.declared.finished.Claims.{Claims}
+use Rattle.impose_cli.specs.Tasks.{HasBehind, HasPageCount}
 use Rattle.impose_cli.specs.Refusals.{RefusesDocument, RefusesFor, RefusesOptions, RefusesRowTask}
 use Rattle.impose_cli.specs.Reaches.{HasReachOver, reach_in, reach_over}
 use Rattle.papers.specs.declared.reach.Reach.{Reach}
-use Rattle.impose_cli.specs.RowTasks.{ArePapersOf, cut_in, papers_in, placed_in, row_paper, text_for, why_no_row, FinishesRow, ImposesTask, IsJobOf, IsRowJob, IsRowPaper, IsRowTask, LaysRows, HasReach, cells_paper, counted_in, own_in, row_in, row_papers}
+use Rattle.impose_cli.specs.RowTasks.{ArePapersOf, cut_in, papers_in, papers_to_place, row_paper, text_for, why_no_row, FinishesRow, ImposesTask, IsJobOf, IsRowJob, IsRowPaper, IsRowTask, LaysRows, HasReach, cells_paper, counted_in, own_in, row_in, row_papers}
 use Rattle.world.specs.declared.rest.Rest.{Rest}
 use Rattle.world.specs.declared.rest.Rest.TheVariants.{World}
-use Rattle.impose_said.specs.declared.fault.ImposeFault.{ImposeFault}
+use Rattle.impose_messages.specs.declared.fault.ImposeFault.{ImposeFault}
 use Rattle.impose_words.specs.declared.request.Layout.{Layout}
 use Rattle.impose_words.specs.declared.request.Layout.TheVariants as layout
 use Rattle.impose_words.specs.declared.request.ImposeRequest.{ImposeRequest}
 use Rattle.impose_cli.specs.declared.row_task.RowTask.{RowTask}
-use Rattle.impose_said.specs.declared.finished.Done.{Done}
+use Rattle.impose_messages.specs.declared.finished.Done.{Done}
 
 pub is_row_job : (r : ImposeRequest) (input : List ℕ) (t : RowTask) (job : RowJob) → IsRowTask r input t → IsJobOf r t job → IsRowJob r input t.page_paper job
 is_row_job r input t job is of = record {
@@ -55,7 +55,7 @@ is_row_job r input t job is of = record {
   border = of.border;
   inset = of.inset;
   marks = of.marks;
-  mirrored = of.mirrored;
+  swapped = of.swapped;
 }
 
 -- an accepted document is the whole of its text
@@ -69,11 +69,11 @@ are_papers r input us papers cut read own cuts = let same = whole input us read 
 
 -- papers are found one after another: the pages' own, those of the row, those that count, and those of turned pages
 pub are_placed : (r : ImposeRequest) (us : List NestedUnit) (row : Row) (own taken counted papers : List Paper) → own ≡ own_in r (bytes_of us) us
-    → row ≡ row_in r us → taken ≡ row_papers row own → counted ≡ placed_in r.layout taken own → papers ≡ map (cells_paper r) counted
+    → row ≡ row_in r us → taken ≡ row_papers row own → counted ≡ papers_to_place r.layout taken own → papers ≡ map (cells_paper r) counted
     → papers ≡ papers_in r (bytes_of us) us
 are_placed r us row own taken counted papers own_is row_is taken_is counted_is are =
-    are ∙ ap (map (cells_paper r)) (counted_is ∙ ap (λ t. placed_in r.layout t own) (taken_is ∙ ap (λ w. row_papers w own) row_is)
-    ∙ ap (λ o. placed_in r.layout (row_papers (row_in r us) o) o) own_is)
+    are ∙ ap (map (cells_paper r)) (counted_is ∙ ap (λ t. papers_to_place r.layout t own) (taken_is ∙ ap (λ w. row_papers w own) row_is)
+    ∙ ap (λ o. papers_to_place r.layout (row_papers (row_in r us) o) o) own_is)
 
 pub is_row_paper : (r : ImposeRequest) (input : List ℕ) (us : List NestedUnit) (found : Paper × PaperOrigin) → document_of input ≡ Ok us
     → found ≡ row_paper r (bytes_of us) us → IsRowPaper r input found
@@ -97,24 +97,24 @@ serve_itself text p are = record { of = text; are = are; longer = omega arith; a
 pub has_behind : (input : List ℕ) (us : List NestedUnit) (n : ℕ) → document_of input ≡ Ok us → n ≡ pages_behind us → HasBehind input n
 has_behind input us n read e = (us, read, e)
 
-pub accepted_has_pages : (input : List ℕ) (us : List NestedUnit) → document_of input ≡ Ok us → (n : ℕ) × HasPages input n
+pub accepted_has_pages : (input : List ℕ) (us : List NestedUnit) → document_of input ≡ Ok us → (n : ℕ) × HasPageCount input n
 accepted_has_pages input us read = (length (pages us), (us, read, refl))
 
 -- as many papers as pages
 pub papers_len : (named : Option Paper) (names : List ℕ → Option Paper) (home : Paper) (text : List ℕ) (us : List NestedUnit)
-    → length (own_papers named names home text us) ≡ length (pages us)
+    → length (papers_of_each_page named names home text us) ≡ length (pages us)
 papers_len (Some paper) names home text us = length-map (pages us) (λ page. paper)
-papers_len None names home text us = length-map (pages us) (own_paper names home (header text) (trailer_lines us))
+papers_len None names home text us = length-map (pages us) (own_paper names (usual_in home text) (header text) (trailer_lines us))
 
-placed_len : (l : Layout) (taken own : List Paper) → length (placed_in l taken own) ≡ length own
-placed_len layout.Selection taken own = length-map own (paper_among (kinds most_kinds taken))
+placed_len : (l : Layout) (taken own : List Paper) → length (papers_to_place l taken own) ≡ length own
+placed_len layout.Selection taken own = length-map own (kind_paper (kinds most_kinds taken))
 placed_len other taken own = refl
 
 pub as_many : (r : ImposeRequest) (us : List NestedUnit) (taken own counted papers : List Paper) (n : ℕ) → n ≡ length (pages us)
-    → own ≡ own_papers r.page_paper paper_named r.home_paper (bytes_of us) us → counted ≡ placed_in r.layout taken own → papers ≡ map (cells_paper r) counted
+    → own ≡ papers_of_each_page r.page_paper paper_named r.default_paper (bytes_of us) us → counted ≡ papers_to_place r.layout taken own → papers ≡ map (cells_paper r) counted
     → n ≡ length papers
 as_many r us taken own counted papers n count is placed turned = count
-    ∙ sym (ap length turned ∙ length-map counted (cells_paper r) ∙ ap length placed ∙ placed_len r.layout taken own ∙ ap length is ∙ papers_len r.page_paper paper_named r.home_paper (bytes_of us) us)
+    ∙ sym (ap length turned ∙ length-map counted (cells_paper r) ∙ ap length placed ∙ placed_len r.layout taken own ∙ ap length is ∙ papers_len r.page_paper paper_named r.default_paper (bytes_of us) us)
 
 -- why there is no task for a document that is accepted, with sheets and cells for this paper
 abbrev pub RefusesAccepted : ImposeRequest → (page_paper : Paper) → ImposeFault → Type 0
@@ -125,13 +125,13 @@ pub refused_after : (r : ImposeRequest) (input : List ℕ) (found : Paper × Pap
     → RefusesRowTask r input f
 refused_after r input found f is why = inr (found, is, why)
 
-pub refused_found : (r : ImposeRequest) (input : List ℕ) (f : ImposeFault) → RefusesDocument input f ⊎ ((n : ℕ) × HasPages input n × (f ≡ without_memory)) → RefusesRowTask r input f
+pub refused_found : (r : ImposeRequest) (input : List ℕ) (f : ImposeFault) → RefusesDocument input f ⊎ ((n : ℕ) × HasPageCount input n × (f ≡ without_memory)) → RefusesRowTask r input f
 refused_found r input f h = elim h [
   | inl refused ↦ inl refused
   | inr spent ↦ let us = spent.1.0 in refused_after r input (row_paper r input us) f (us, spent.1.1, refl) (inl (inl spent.2))
 ]
 
-pub finishes_row : (r : ImposeRequest) (input : List ℕ) (t : RowTask) (told : Told) (old new : Option (List ℕ)) (report : Report) → IsRowTask r input t → IsToldBy r input told → ImposesTask r t old new report
+pub finishes_row : (r : ImposeRequest) (input : List ℕ) (t : RowTask) (told : Claims) (old new : Option (List ℕ)) (report : Report) → IsRowTask r input t → IsToldBy r input told → ImposesTask r t old new report
     → FinishesRow r input old new (record { report = report; page_paper = t.page_paper; origin = t.origin; cut = t.cut; reach = t.reach; behind = t.behind; told = told })
 finishes_row r input t told old new report is tells h = record {
   page_paper = is.page_paper;
@@ -145,27 +145,27 @@ finishes_row r input t told old new report is tells h = record {
 }
 
 -- a request whose layout lays rows is refused as one on its row
-on_row : (l : Layout) (r : ImposeRequest) (input : List ℕ) (f : ImposeFault) → LaysRows l → RefusesRow r input f → RefusesImposing l r input f
+on_row : (l : Layout) (r : ImposeRequest) (input : List ℕ) (f : ImposeFault) → LaysRows l → RefusesRowRun r input f → RefusesImposing l r input f
 on_row (layout.Spec specs) r input f rows h = absurd rows
 on_row (layout.SpecRow specs signing) r input f rows h = absurd rows
 on_row other r input f rows h = h
 
 -- there is no task
 pub row_stops : {V O : Type 0} (r : ImposeRequest) (input : List ℕ) (tells : Edge V O) (f : ImposeFault) (outcome : Result Done ImposeFault) (world : V) (rest : Rest V O) (written : Option (List ℕ)) → LaysRows r.layout → outcome ≡ Err f → rest ≡ World world
-    → RefusesRowTask r input f → Runs r input tells outcome world rest written
+    → RefusesRowTask r input f → RunsRequest r input tells outcome world rest written
 row_stops r input tells f outcome world rest written rows is none why =
     comes_refused (RefusesImposing r.layout r input) (IsImposed r input) _ tells f outcome world rest written is none (on_row r.layout r input f rows (inl why))
 
 -- what is reported of a task with a row
-abbrev pub about_row : RowTask → (told : Told) → About
+abbrev pub about_row : RowTask → (told : Claims) → About
 about_row t told = record { page_paper = t.page_paper; origin = t.origin; cut = t.cut; reach = t.reach; behind = t.behind; told = told }
 
 -- what comes of its run comes of the request
-pub row_runs : {V O : Type 0} (r : ImposeRequest) (input : List ℕ) (t : RowTask) (told : Told) (tells : Edge V O) (outcome : Result Done ImposeFault) (left : Result Report ImposeFault) (world : V) (rest : Rest V O) (written : Option (List ℕ))
+pub row_runs : {V O : Type 0} (r : ImposeRequest) (input : List ℕ) (t : RowTask) (told : Claims) (tells : Edge V O) (outcome : Result Done ImposeFault) (left : Result Report ImposeFault) (world : V) (rest : Rest V O) (written : Option (List ℕ))
     → LaysRows r.layout → IsRowTask r input t → IsToldBy r input told → outcome ≡ reported_by (about_row t told) left
-    → Comes (RefusesRowTaskRun r t) (ImposesTask r t) (option_map string_bytes r.outfile) tells left world rest written → Runs r input tells outcome world rest written
+    → Comes (RefusesRowTaskRun r t) (ImposesTask r t) (option_map string_bytes r.outfile) tells left world rest written → RunsRequest r input tells outcome world rest written
 row_runs r input t told tells outcome left world rest written rows is tells_it reports h =
-    subst (λ o. Runs r input tells o world rest written) (sym reports)
+    subst (λ o. RunsRequest r input tells o world rest written) (sym reports)
     (comes_reported (RefusesRowTaskRun r t) (RefusesImposing r.layout r input) (ImposesTask r t) (IsImposed r input) (about_row t told) (option_map string_bytes r.outfile) tells left world rest written
     (λ f why. on_row r.layout r input f rows (inr (record { task = t; is_task = is; refused = why })))
     (λ old new report done. inr (inl (finishes_row r input t told old new report is tells_it done))) h)

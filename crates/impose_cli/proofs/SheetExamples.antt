@@ -3,7 +3,7 @@ use Rattle.std.proofs.Common.{◌≡◌, ℕ, ◌+◌, ◌*◌, List, [], ◌∷
 use Rattle.std.specs.Prelude.{ℤ, pos, negsuc, Option, None, Some, option_map}
 use Rattle.rules.specs.Papers.{Paper, points}
 use Rattle.rules.specs.Specification.{Turn, Upright, Left, Right}
-use Rattle.rules.specs.Choice.{signed}
+use Rattle.rules.specs.Choice.{signed_if}
 use Rattle.rules.specs.Made.{MadeSheet, MadeSlot, Blank, Placed}
 use Rattle.rules.specs.Rows.{all_pages}
 use Rattle.layouts.specs.Grids.{leaf_order}
@@ -11,24 +11,24 @@ use Rattle.layouts.specs.Placed.{Room}
 use Rattle.layouts.specs.declared.arrangement.Cells.TheVariants.{Exactly}
 use Rattle.rows.specs.Sewing.{signing_of}
 use Rattle.rows.specs.declared.sewing.Signing.TheVariants.{InOne}
-use Rattle.row_runs.specs.Mirrored.{mirror_in, mirrored}
+use Rattle.row_runs.specs.SwappedMargins.{swapped_room_in, swapped}
 use Rattle.row_runs.specs.Sheets.{leaves_in, sheets_laid}
-use Rattle.row_runs.specs.declared.asked.Laying.{Laying}
-use Rattle.impose_words.specs.Spacings.{is_mirrored, nothing_kept}
+use Rattle.row_runs.specs.declared.sheet_request.Laying.{Laying}
+use Rattle.impose_words.specs.Spacings.{swaps_margins, nothing_kept}
 use Rattle.impose_words.specs.declared.request.Layout.{Layout}
 use Rattle.impose_words.specs.declared.request.Layout.TheVariants as layout
 use Rattle.impose_words.specs.declared.request.Spacing.{Spacing}
 use Rattle.impose_cli.specs.RowTasks.{laying_in, signing_in}
 
-abbrev mirror_or_none : Bool → Option Laying → Option Room
-mirror_or_none exchanged None = None
-mirror_or_none exchanged (Some l) = mirror_in exchanged l
+abbrev swapped_room_or_none : Bool → Option Laying → Option Room
+swapped_room_or_none exchanged None = None
+swapped_room_or_none exchanged (Some l) = swapped_room_in exchanged l
 
 abbrev laid_or_none : Layout → (page : Paper) → (pages : ℕ) → Option Laying → List MadeSheet
 laid_or_none l page pages None = []
 laid_or_none l page pages (Some how) =
     let sewn = option_map signing_of (signing_in l) in
-    sheets_laid how (leaves_in sewn (all_pages pages)) (map (λ k. page) (all_pages pages)) (signed sewn (all_pages pages))
+    sheets_laid how (leaves_in sewn (all_pages pages)) (map (λ k. page) (all_pages pages)) (signed_if sewn (all_pages pages))
 
 -- a page, counted from 1: how it is turned, and where its lower left corner is, in 10^-9 of a point
 abbrev Lies : Type 0
@@ -45,7 +45,7 @@ at page turn x y = Some (page, turn, pos (1_000_000_000 * x), pos (1_000_000_000
 -- the sheets of so many pages of this paper, with backs as they are written
 abbrev sheets_of : Layout → Spacing → (page sheet : Paper) → (pages : ℕ) → List (List Lies)
 sheets_of l s page sheet pages = let how = laying_in l s page sheet in
-    map (λ (made : MadeSheet). map lies made.slots) (mirrored (mirror_or_none (is_mirrored l s) how) (laid_or_none l page pages how))
+    map (λ (made : MadeSheet). map lies made.slots) (swapped (swapped_room_or_none (swaps_margins l s) how) (laid_or_none l page pages how))
 
 abbrev square : Paper
 square = points 100 100

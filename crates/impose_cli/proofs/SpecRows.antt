@@ -7,23 +7,23 @@ use Rattle.imposer.specs.declared.outcome.Report.{Report}
 use Rattle.row_runs.specs.declared.by_spec.SpecJob.{SpecJob}
 use Rattle.impose_cli.specs.RowRuns.{ImposesBySpec}
 use Rattle.impose_cli.specs.Abouts.{reported_by}
-use Rattle.impose_cli.specs.Endings.{Edge, Comes, IsImposed, RefusesImposing, Runs}
+use Rattle.impose_cli.specs.Endings.{Edge, Comes, IsImposed, RefusesImposing, RunsRequest}
 use Rattle.impose_cli.specs.SpecRows.{FinishesSpecRow, ImposesSpecTask, IsSpecJobOf, IsSpecRowTask, LaysSpecRow, TakesNamed, RefusesSpecRowJob, RefusesSpecRowRun, RefusesSpecRowTask, RefusesSpecTaskRun}
 use Rattle.impose_cli.specs.declared.runs.About.{About}
 use Rattle.impose_cli.specs.Claims.{IsToldBy}
-use Rattle.impose_said.specs.declared.finished.Told.{Told}
+use Rattle.impose_messages.specs.declared.finished.Claims.{Claims}
 use Rattle.impose_cli.specs.Tasks.{taken_text}
 use Rattle.world.specs.declared.rest.Rest.{Rest}
 use Rattle.world.specs.declared.rest.Rest.TheVariants.{World}
-use Rattle.impose_said.specs.declared.fault.ImposeFault.{ImposeFault}
+use Rattle.impose_messages.specs.declared.fault.ImposeFault.{ImposeFault}
 use Rattle.impose_words.specs.declared.request.Layout.{Layout}
 use Rattle.impose_words.specs.declared.request.Layout.TheVariants as layout
 use Rattle.impose_words.specs.declared.request.ImposeRequest.{ImposeRequest}
 use Rattle.impose_cli.specs.declared.spec_row.SpecRowTask.{SpecRowTask}
-use Rattle.impose_said.specs.declared.finished.Done.{Done}
+use Rattle.impose_messages.specs.declared.finished.Done.{Done}
 use Rattle.impose_cli.proofs.Coming.{comes_as, comes_refused, comes_reported}
 
-pub finishes_spec_row : (r : ImposeRequest) (input : List ℕ) (t : SpecRowTask) (told : Told) (old new : Option (List ℕ)) (report : Report) → IsSpecRowTask r input t → IsToldBy r input told → ImposesSpecTask r t old new report
+pub finishes_spec_row : (r : ImposeRequest) (input : List ℕ) (t : SpecRowTask) (told : Claims) (old new : Option (List ℕ)) (report : Report) → IsSpecRowTask r input t → IsToldBy r input told → ImposesSpecTask r t old new report
     → FinishesSpecRow r input old new (record { report = report; page_paper = t.page_paper; origin = t.origin; cut = None; reach = t.counted.reach; behind = t.counted.behind; told = told })
 finishes_spec_row r input t told old new report is tells h =
     let of = h.1 in
@@ -52,20 +52,20 @@ on_spec_row other r input f rows h = absurd rows
 
 -- there is no task
 pub spec_row_stops : {V O : Type 0} (r : ImposeRequest) (input : List ℕ) (tells : Edge V O) (f : ImposeFault) (outcome : Result Done ImposeFault) (world : V) (rest : Rest V O) (written : Option (List ℕ)) → LaysSpecRow r.layout → outcome ≡ Err f → rest ≡ World world
-    → RefusesSpecRowTask r input f → Runs r input tells outcome world rest written
+    → RefusesSpecRowTask r input f → RunsRequest r input tells outcome world rest written
 spec_row_stops r input tells f outcome world rest written rows is none why =
     comes_refused (RefusesImposing r.layout r input) (IsImposed r input) _ tells f outcome world rest written is none (on_spec_row r.layout r input f rows (inl why))
 
 -- what is reported of a task
-abbrev pub about_spec_row : SpecRowTask → (told : Told) → About
+abbrev pub about_spec_row : SpecRowTask → (told : Claims) → About
 about_spec_row t told = record { page_paper = t.page_paper; origin = t.origin; cut = None; reach = t.counted.reach; behind = t.counted.behind; told = told }
 
 -- what comes of its run comes of the request
-pub spec_row_runs : {V O : Type 0} (r : ImposeRequest) (input : List ℕ) (t : SpecRowTask) (told : Told) (tells : Edge V O) (outcome : Result Done ImposeFault) (left : Result Report ImposeFault) (world : V) (rest : Rest V O) (written : Option (List ℕ))
+pub spec_row_runs : {V O : Type 0} (r : ImposeRequest) (input : List ℕ) (t : SpecRowTask) (told : Claims) (tells : Edge V O) (outcome : Result Done ImposeFault) (left : Result Report ImposeFault) (world : V) (rest : Rest V O) (written : Option (List ℕ))
     → LaysSpecRow r.layout → IsSpecRowTask r input t → IsToldBy r input told → outcome ≡ reported_by (about_spec_row t told) left
-    → Comes (RefusesSpecTaskRun r t) (ImposesSpecTask r t) (option_map string_bytes r.outfile) tells left world rest written → Runs r input tells outcome world rest written
+    → Comes (RefusesSpecTaskRun r t) (ImposesSpecTask r t) (option_map string_bytes r.outfile) tells left world rest written → RunsRequest r input tells outcome world rest written
 spec_row_runs r input t told tells outcome left world rest written rows is tells_it reports h =
-    subst (λ o. Runs r input tells o world rest written) (sym reports)
+    subst (λ o. RunsRequest r input tells o world rest written) (sym reports)
     (comes_reported (RefusesSpecTaskRun r t) (RefusesImposing r.layout r input) (ImposesSpecTask r t) (IsImposed r input) (about_spec_row t told) (option_map string_bytes r.outfile) tells left world rest written
     (λ f why. on_spec_row r.layout r input f rows (inr (record { task = t; is_task = is; refused = why })))
     (λ old new report done. inr (inr (finishes_spec_row r input t told old new report is tells_it done))) h)

@@ -4,7 +4,7 @@ use Rattle.std.specs.Prelude.{Option, None, Some, option_and_then, slice_get, ge
 use Rattle.std.proofs.lemmas.List.{take_more, length-take-le}
 use Rattle.rules.specs.Papers.{Paper}
 use Rattle.rules.specs.Rows.{Row}
-use Rattle.impose_cli.specs.Reaches.{is_page, takes}
+use Rattle.impose_cli.specs.Reaches.{is_entry_of, takes}
 use Rattle.impose_cli.specs.RowTasks.{or_without, row_papers, taken_from}
 
 swapped : (a b c : Bool) → (a || (b || c)) ≡ (b || (a || c))
@@ -12,17 +12,17 @@ swapped true true c = refl
 swapped true false c = refl
 swapped false b c = refl
 
-takes_more : (row : Row) (e : Option ℕ) (k : ℕ) → takes (row ++ e ∷ []) k ≡ (is_page e k || takes row k)
+takes_more : (row : Row) (e : Option ℕ) (k : ℕ) → takes (row ++ e ∷ []) k ≡ (is_entry_of e k || takes row k)
 takes_more [] e k = refl
-takes_more (first ∷ row) e k = ap (λ b. is_page first k || b) (takes_more row e k) ∙ swapped (is_page first k) (is_page e k) (takes row k)
+takes_more (first ∷ row) e k = ap (λ b. is_entry_of first k || b) (takes_more row e k) ∙ swapped (is_entry_of first k) (is_entry_of e k) (takes row k)
 
 -- one entry more was marked
 pub marked : (row : Row) (i : ℕ) (e : Option ℕ) (old new : List Bool) (k : ℕ) → i < length row → e ≡ get_or row i None
-    → get_or old k false ≡ takes (take i row) k → get_or new k false ≡ (is_page e k || get_or old k false)
+    → get_or old k false ≡ takes (take i row) k → get_or new k false ≡ (is_entry_of e k || get_or old k false)
     → get_or new k false ≡ takes (take (i + 1) row) k
 marked row i e old new k l at before made =
-    made ∙ ap (λ b. is_page e k || b) before
-    ∙ ap (λ x. is_page x k || takes (take i row) k) at
+    made ∙ ap (λ b. is_entry_of e k || b) before
+    ∙ ap (λ x. is_entry_of x k || takes (take i row) k) at
     ∙ sym (takes_more (take i row) (get_or row i None) k)
     ∙ ap (λ r. takes r k) (sym (take_more row i None l))
 

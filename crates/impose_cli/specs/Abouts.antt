@@ -1,10 +1,10 @@
 -- What is reported of a run that wrote its sheets.
 use Rattle.std.specs.Prelude.{Result, Ok, Err}
 use Rattle.imposer.specs.declared.outcome.Report.{Report}
-use Rattle.impose_said.specs.declared.fault.ImposeFault.{ImposeFault}
-use Rattle.impose_said.specs.declared.finished.Done.{Done}
-use Rattle.impose_said.specs.declared.finished.Done.TheVariants as done
-use Rattle.impose_said.specs.declared.finished.Finished.{Finished}
+use Rattle.impose_messages.specs.declared.fault.ImposeFault.{ImposeFault}
+use Rattle.impose_messages.specs.declared.finished.Done.{Done}
+use Rattle.impose_messages.specs.declared.finished.Done.TheVariants as done
+use Rattle.impose_messages.specs.declared.finished.Finished.{Finished}
 use Rattle.impose_cli.specs.declared.runs.About.{About}
 
 -- the numbers of its report, and what was found before

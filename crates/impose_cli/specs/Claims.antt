@@ -8,9 +8,9 @@ use Rattle.papers.specs.Media.{comment_value, document_paper, header, is_at_end}
 use Rattle.papers.specs.declared.media.Comment.{Comment}
 use Rattle.papers.specs.declared.media.Comment.TheVariants.{BoundingBox, DocumentMedia, DocumentPaperSizes, Setup}
 use Rattle.impose_words.specs.declared.request.ImposeRequest.{ImposeRequest}
-use Rattle.impose_said.specs.Said.{shown_name}
-use Rattle.impose_said.specs.declared.finished.Told.{Told}
-use Rattle.row_runs.specs.ToldPages.{told_pages}
+use Rattle.impose_messages.specs.Said.{shown_name}
+use Rattle.impose_messages.specs.declared.finished.Claims.{Claims}
+use Rattle.row_runs.specs.DeclaredPages.{declared_page_count}
 
 -- a comment names papers or media
 abbrev pub is_name : Comment → Bool
@@ -38,6 +38,6 @@ abbrev pub unknown_paper : (named : Option Paper) → (usual : Paper) → (text 
 unknown_paper (Some named) usual text = None
 unknown_paper None usual text = unknown_name usual text
 
-pub record IsToldBy (r : ImposeRequest) (input : List ℕ) (told : Told) : Type 0 where
-  pub pages : told.pages ≡ told_pages input
-  pub unknown : told.unknown ≡ option_map shown_name (unknown_paper r.page_paper r.home_paper input)
+pub record IsToldBy (r : ImposeRequest) (input : List ℕ) (told : Claims) : Type 0 where
+  pub pages : told.pages ≡ declared_page_count input
+  pub unknown : told.unknown ≡ option_map shown_name (unknown_paper r.page_paper r.default_paper input)

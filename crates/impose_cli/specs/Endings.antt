@@ -13,16 +13,16 @@ use Rattle.world.specs.Outputs.{OutputView, named, told_if}
 use Rattle.world.specs.Worlds.{HasRefused, WorldView, creating}
 pub use Rattle.world.specs.Rests.{has_output, shown}
 use Rattle.imposer.specs.Gathering.{ReportsOf}
-use Rattle.imposer.specs.Runs.{Accepted, IsRefusal, IsUnwritten, Reports, frame_of}
+use Rattle.imposer.specs.Runs.{Accepted, IsRunRefusal, IsUnwritten, Reports, frame_of}
 use Rattle.imposer.specs.declared.outcome.Report.{Report}
 use Rattle.imposer.specs.declared.outcome.RunError.{RunError}
 use Rattle.imposer.specs.declared.outcome.RunError.TheVariants as run
 use Rattle.row_runs.specs.Runs.{RefusesRun, page_count}
-use Rattle.row_runs.specs.declared.error.AskedError.{AskedError}
+use Rattle.row_runs.specs.declared.error.SheetError.{SheetError}
 use Rattle.row_runs.specs.declared.run.RowJob.{RowJob}
-use Rattle.impose_said.specs.Faults.{without_memory}
+use Rattle.impose_messages.specs.Faults.{without_memory}
 use Rattle.impose_cli.specs.Faults.{of_asked}
-use Rattle.impose_cli.specs.Tasks.{FinishesSpec, IsTask, asked_by}
+use Rattle.impose_cli.specs.Tasks.{FinishesSpec, IsTask, run_asked}
 use Rattle.impose_cli.specs.RowTasks.{FinishesRow, IsJobOf, IsRowTask}
 use Rattle.impose_cli.specs.SpecRows.{FinishesSpecRow, RefusesSpecRowRun}
 use Rattle.impose_cli.specs.Refusals.{RefusesRowTask, RefusesTask, RefusesText}
@@ -33,11 +33,11 @@ use Rattle.impose_cli.specs.declared.task.Task.{Task}
 use Rattle.impose_words.specs.declared.request.Layout.{Layout}
 use Rattle.impose_words.specs.declared.request.Layout.TheVariants as layout
 use Rattle.impose_words.specs.declared.request.ImposeRequest.{ImposeRequest}
-use Rattle.impose_said.specs.declared.fault.ImposeFault.{ImposeFault}
-use Rattle.impose_said.specs.declared.fault.ImposeFault.TheVariants as fault
-use Rattle.impose_said.specs.declared.finished.Done.{Done}
-use Rattle.impose_said.specs.declared.finished.Done.TheVariants as done
-use Rattle.impose_said.specs.declared.finished.Finished.{Finished}
+use Rattle.impose_messages.specs.declared.fault.ImposeFault.{ImposeFault}
+use Rattle.impose_messages.specs.declared.fault.ImposeFault.TheVariants as fault
+use Rattle.impose_messages.specs.declared.finished.Done.{Done}
+use Rattle.impose_messages.specs.declared.finished.Done.TheVariants as done
+use Rattle.impose_messages.specs.declared.finished.Finished.{Finished}
 
 -- ---- what is written
 
@@ -53,35 +53,35 @@ pub record Edge (W O : Type 0) : Type 0 where
   pub seen : W → WorldView
   pub shows : O → OutputView
 
-abbrev pub edge : {W O : Type 0} → Bool → (W → WorldView) → (O → OutputView) → Edge W O
-edge tells seen shows = record { tells = tells; seen = seen; shows = shows }
+abbrev pub edge_of_world : {W O : Type 0} → Bool → (W → WorldView) → (O → OutputView) → Edge W O
+edge_of_world tells seen shows = record { tells = tells; seen = seen; shows = shows }
 
 -- the world is back, and has refused an output of this name with an error of this kind
 abbrev pub Refused : {W O : Type 0} → Edge W O → (name : Option (List ℕ)) → ErrorKind → (before : WorldView) → Rest W O → Type 0
-Refused {W} edge name cause before rest = (left : W) × (rest ≡ World left) × HasRefused (creating name) cause before (edge.seen left)
+Refused {W} edge_of_world name cause before rest = (left : W) × (rest ≡ World left) × HasRefused (creating name) cause before (edge_of_world.seen left)
 
 -- the world is back, and the same is seen of it: it was asked for nothing
 abbrev pub IsBack : {W O : Type 0} → Edge W O → (before : WorldView) → Rest W O → Type 0
-IsBack {W} edge before rest = (left : W) × (rest ≡ World left) × (edge.seen left ≡ before)
+IsBack {W} edge_of_world before rest = (left : W) × (rest ≡ World left) × (edge_of_world.seen left ≡ before)
 
 -- no output of this name could be created: the fault says so, with the world's cause
-abbrev pub IsUncreated : {W O : Type 0} → Edge W O → (name : Option (List ℕ)) → (before : WorldView) → ImposeFault → Rest W O → Type 0
-IsUncreated edge name before (fault.Write n (Some cause)) rest = (n ≡ 0) × Refused edge name (error_kind cause) before rest
-IsUncreated edge name before other rest = ⊥
+abbrev pub IsUncreatedFault : {W O : Type 0} → Edge W O → (name : Option (List ℕ)) → (before : WorldView) → ImposeFault → Rest W O → Type 0
+IsUncreatedFault edge_of_world name before (fault.Write n (Some cause)) rest = (n ≡ 0) × Refused edge_of_world name (error_kind cause) before rest
+IsUncreatedFault edge_of_world name before other rest = ⊥
 
 -- or memory ran out before there was a byte to write: then the world was asked for nothing, or has refused for want of memory
 abbrev pub IsNotCreated : {W O : Type 0} → Edge W O → (name : Option (List ℕ)) → (before : WorldView) → ImposeFault → Rest W O → Type 0
-IsNotCreated edge name before f rest =
-    ((f ≡ without_memory) × (IsBack edge before rest ⊎ Refused edge name OutOfMemory before rest)) ⊎ IsUncreated edge name before f rest
+IsNotCreated edge_of_world name before f rest =
+    ((f ≡ without_memory) × (IsBack edge_of_world before rest ⊎ Refused edge_of_world name OutOfMemory before rest)) ⊎ IsUncreatedFault edge_of_world name before f rest
 
 -- the output is there, and hasn't failed
 abbrev pub IsUnfailed : {W O : Type 0} → Edge W O → Rest W O → Type 0
-IsUnfailed {W} {O} edge rest = (output : O) × (rest ≡ Output output) × ((edge.shows output).failures ≡ 0)
+IsUnfailed {W} {O} edge_of_world rest = (output : O) × (rest ≡ Output output) × ((edge_of_world.shows output).failures ≡ 0)
 
 -- the output is there, and has failed, for this cause
 abbrev pub HasFailed : {W O : Type 0} → Edge W O → Option Error → Rest W O → Type 0
-HasFailed {W} {O} edge cause rest =
-    (output : O) × (rest ≡ Output output) × (0 < (edge.shows output).failures) × (cause ≡ (edge.shows output).cause)
+HasFailed {W} {O} edge_of_world cause rest =
+    (output : O) × (rest ≡ Output output) × (0 < (edge_of_world.shows output).failures) × (cause ≡ (edge_of_world.shows output).cause)
 
 -- what is said of an output after so many bytes: its failure, or if it hasn't failed and has taken a byte, that memory ran out
 abbrev pub IsSaidOf : OutputView → (n : ℕ) → ImposeFault → Type 0
@@ -95,35 +95,35 @@ HasFirst old new text n = IfSome old (λ start. (n ≤ length text) × (new ≡ 
 
 -- an output of this name is there, with as many of the first bytes of this text as the fault says
 abbrev pub IsBroken : {W O : Type 0} → Edge W O → (name : Option (List ℕ)) → (text : List ℕ) → ImposeFault → Rest W O → Type 0
-IsBroken {W} {O} edge name text f rest =
-    (output : O) × (rest ≡ Output output) × (n : ℕ) × IsSaidOf (edge.shows output) n f
-    × HasFirst (told_if edge.tells name []) (edge.shows output).bytes text n
+IsBroken {W} {O} edge_of_world name text f rest =
+    (output : O) × (rest ≡ Output output) × (n : ℕ) × IsSaidOf (edge_of_world.shows output) n f
+    × HasFirst (told_if edge_of_world.tells name []) (edge_of_world.shows output).bytes text n
 
 -- the output is there, with all that its sink told, and failed as often
 abbrev pub Holds : {W O : Type 0} → Edge W O → SinkView → Rest W O → Type 0
-Holds {W} {O} edge sink rest =
-    (output : O) × (rest ≡ Output output) × Keeps sink.bytes (edge.shows output).bytes × ((edge.shows output).failures ≡ sink.failures)
+Holds {W} {O} edge_of_world sink rest =
+    (output : O) × (rest ≡ Output output) × Keeps sink.bytes (edge_of_world.shows output).bytes × ((edge_of_world.shows output).failures ≡ sink.failures)
 
 -- Memory ran out or a write failed, when the sink had taken so many bytes and told these: none was created, or an output of
 -- this name is there, with all of them but some that wait.
 abbrev pub BreaksOff : {W O : Type 0} → Edge W O → (name : Option (List ℕ)) → (before : WorldView) → (taken : ℕ)
     → (told : Option (List ℕ)) → ImposeFault → Rest W O → Type 0
-BreaksOff {W} {O} edge name before taken told f rest =
-    IsNotCreated edge name before f rest
-    ⊎ ((output : O) × (rest ≡ Output output) × (waiting : List ℕ) × IsSaidOf (edge.shows output) (taken - length waiting) f
-    × (told ≡ append_known (named (edge.shows output).bytes) waiting))
+BreaksOff {W} {O} edge_of_world name before taken told f rest =
+    IsNotCreated edge_of_world name before f rest
+    ⊎ ((output : O) × (rest ≡ Output output) × (waiting : List ℕ) × IsSaidOf (edge_of_world.shows output) (taken - length waiting) f
+    × (told ≡ append_known (named (edge_of_world.shows output).bytes) waiting))
 
 -- What comes of what is to be written to the output of this name. It was written whole, without a failure; or it is refused, and
 -- this very world is back; or a whole output would have this text, and none was created, or one has its front. `Refuses` says why it is
 -- refused, and `Wrote` what a whole output was before and is now.
 abbrev pub Comes : {T W O : Type 0} → (Refuses : ImposeFault → Type 0) → (Wrote : (old new : Option (List ℕ)) → T → Type 0)
-    → (name : Option (List ℕ)) → (edge : Edge W O) → Result T ImposeFault → (world : W) → (rest : Rest W O) → (written : Option (List ℕ)) → Type 0
-Comes {T} Refuses Wrote name edge (Ok what) world rest written =
-    Wrote (told_if edge.tells name []) written what × IsUnfailed edge rest
-Comes {T} Refuses Wrote name edge (Err f) world rest written =
+    → (name : Option (List ℕ)) → (edge_of_world : Edge W O) → Result T ImposeFault → (world : W) → (rest : Rest W O) → (written : Option (List ℕ)) → Type 0
+Comes {T} Refuses Wrote name edge_of_world (Ok what) world rest written =
+    Wrote (told_if edge_of_world.tells name []) written what × IsUnfailed edge_of_world rest
+Comes {T} Refuses Wrote name edge_of_world (Err f) world rest written =
     (Refuses f × (rest ≡ World world))
     ⊎ ((text : List ℕ) × (what : T) × Wrote (Some []) (Some text) what
-    × (IsNotCreated edge name (edge.seen world) f rest ⊎ IsBroken edge name text f rest))
+    × (IsNotCreated edge_of_world name (edge_of_world.seen world) f rest ⊎ IsBroken edge_of_world name text f rest))
 
 -- ---- the sheets of a job
 
@@ -134,11 +134,11 @@ WritesJob j old new report = Appends old new (output_of j) × ReportsOf j report
 
 -- the fault names the first check of a run of the task that fails
 abbrev pub RefusesTaskRun : Task → ImposeFault → Type 0
-RefusesTaskRun t f = (error : RunError) × (f ≡ fault.Run error) × IsRefusal (asked_by t) error × IsUnwritten error
+RefusesTaskRun t f = (error : RunError) × (f ≡ fault.Run error) × IsRunRefusal (run_asked t) error × IsUnwritten error
 
 -- exactly the output of the task's specification was appended, and the report has its numbers
 abbrev pub WritesTask : Task → (old new : Option (List ℕ)) → Report → Type 0
-WritesTask t old new report = Accepted (asked_by t) (λ spec us.
+WritesTask t old new report = Accepted (run_asked t) (λ spec us.
     Appends old new (output (frame_of t.options) t.options.sides spec us)
     × Reports (frame_of t.options) t.options.sides spec us report)
 
@@ -155,7 +155,7 @@ RefusesSpecRun r input f = RefusesTask r input f ⊎ RefusesInTask r input f
 
 -- the fault names the first check of a job that fails
 abbrev pub RefusesRowJob : RowJob → ImposeFault → Type 0
-RefusesRowJob job f = (error : AskedError) × (f ≡ of_asked (page_count job) error) × RefusesRun job error
+RefusesRowJob job f = (error : SheetError) × (f ≡ of_asked (page_count job) error) × RefusesRun job error
 
 -- the text of a task is refused, or its job
 abbrev pub RefusesRowTaskRun : ImposeRequest → RowTask → ImposeFault → Type 0
@@ -167,8 +167,8 @@ pub record RefusesInRow (r : ImposeRequest) (input : List ℕ) (f : ImposeFault)
   pub refused : RefusesRowTaskRun r task f
 
 -- there is no task, or its run is refused
-abbrev pub RefusesRow : ImposeRequest → (input : List ℕ) → ImposeFault → Type 0
-RefusesRow r input f = RefusesRowTask r input f ⊎ RefusesInRow r input f
+abbrev pub RefusesRowRun : ImposeRequest → (input : List ℕ) → ImposeFault → Type 0
+RefusesRowRun r input f = RefusesRowTask r input f ⊎ RefusesInRow r input f
 
 -- ---- all of them
 
@@ -185,10 +185,10 @@ IsImposed r input old new other = ⊥
 abbrev pub RefusesImposing : Layout → ImposeRequest → (input : List ℕ) → ImposeFault → Type 0
 RefusesImposing (layout.Spec specs) r input f = RefusesSpecRun r input f
 RefusesImposing (layout.SpecRow specs signing) r input f = RefusesSpecRowRun r input f
-RefusesImposing other r input f = RefusesRow r input f
+RefusesImposing other r input f = RefusesRowRun r input f
 
 -- what comes of a request to impose this input
-abbrev pub Runs : {W O : Type 0} → ImposeRequest → (input : List ℕ) → (edge : Edge W O) → Result Done ImposeFault
+abbrev pub RunsRequest : {W O : Type 0} → ImposeRequest → (input : List ℕ) → (edge_of_world : Edge W O) → Result Done ImposeFault
     → (world : W) → (rest : Rest W O) → (written : Option (List ℕ)) → Type 0
-Runs r input edge outcome world rest written =
-    Comes (RefusesImposing r.layout r input) (IsImposed r input) (option_map string_bytes r.outfile) edge outcome world rest written
+RunsRequest r input edge_of_world outcome world rest written =
+    Comes (RefusesImposing r.layout r input) (IsImposed r input) (option_map string_bytes r.outfile) edge_of_world outcome world rest written

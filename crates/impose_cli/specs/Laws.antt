@@ -18,14 +18,14 @@ use Rattle.papers.specs.Told.{telling}
 use Rattle.dressing.specs.Numbered.{drawn_on, nothing_drawn}
 use Rattle.row_runs.specs.Runs.{border_on, drawn_of}
 use Rattle.row_runs.specs.BySpec.{border_by_spec}
-use Rattle.row_runs.specs.declared.asked.Laying.{Laying}
-use Rattle.row_runs.specs.declared.asked.Laying.TheVariants as laying
+use Rattle.row_runs.specs.declared.sheet_request.Laying.{Laying}
+use Rattle.row_runs.specs.declared.sheet_request.Laying.TheVariants as laying
 use Rattle.impose_cli.specs.RowTasks.{guarded_paper, laying_by}
 use Rattle.impose_cli.specs.Tasks.{FinishesSpec, frame_used}
 use Rattle.impose_words.specs.Choices.{choice_in}
 use Rattle.impose_cli.specs.Endings.{Finishes}
 use Rattle.impose_words.specs.declared.request.ImposeRequest.{ImposeRequest}
-use Rattle.impose_said.specs.declared.finished.Finished.{Finished}
+use Rattle.impose_messages.specs.declared.finished.Finished.{Finished}
 
 -- The text, written of a document with these sheets, is a document again: it is accepted, and its preamble and trailer
 -- are the texts that were written. Its pages are the sheets if the document's last page leaves no embedded document

@@ -13,6 +13,6 @@ pub mod Endings
 pub mod Abouts
 pub mod Looks
 pub mod Printed
-pub mod Unread
+pub mod Precheck
 pub mod Laws
 pub mod Programs

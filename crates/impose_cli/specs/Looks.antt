@@ -12,7 +12,7 @@ use Rattle.impose_words.specs.declared.request.Product.{Product}
 use Rattle.impose_words.specs.declared.request.Product.TheVariants as product
 use Rattle.impose_words.specs.declared.request.ImposeRequest.{ImposeRequest}
 use Rattle.impose_cli.specs.declared.row_task.RowTask.{RowTask}
-use Rattle.impose_said.specs.declared.finished.PaperOrigin.{PaperOrigin}
+use Rattle.impose_messages.specs.declared.finished.PaperOrigin.{PaperOrigin}
 
 -- a plan or a picture is asked for of a layout that lays rows
 abbrev pub MayBeMade : Product → Layout → Type 0
@@ -22,16 +22,16 @@ MayBeMade product.Plan l = LaysRows l
 MayBeMade (product.Picture file) l = LaysRows l
 
 -- how many sheets or leaves are listed, or sheets drawn (RULES, 17)
-abbrev pub most_told : ℕ
-most_told = 40
+abbrev pub most_listed : ℕ
+most_listed = 40
 
 -- the text reports on the sheets that the run of this job would impose
-abbrev pub Tells : Overview → RowJob → (text : List ℕ) → Type 0
-Tells Plan job text = TellsPlan job most_told text
-Tells Picture job text = TellsPicture job most_told text
+abbrev pub TellsSheets : Overview → RowJob → (text : List ℕ) → Type 0
+TellsSheets Plan job text = TellsPlan job most_listed text
+TellsSheets Picture job text = TellsPicture job most_listed text
 
 abbrev pub TellsTask : ImposeRequest → RowTask → Overview → (text : List ℕ) → Type 0
-TellsTask r t look text = (job : RowJob) × IsJobOf r t job × Tells look job text
+TellsTask r t look text = (job : RowJob) × IsJobOf r t job × TellsSheets look job text
 
 -- the text reports on the sheets on which the layout of the request lays its row of this document
 pub record TellsRow (r : ImposeRequest) (input : List ℕ) (look : Overview) (text : List ℕ) : Type 0 where
@@ -41,4 +41,4 @@ pub record TellsRow (r : ImposeRequest) (input : List ℕ) (look : Overview) (te
   pub job : RowJob
   pub papers : ArePapersOf r input job.papers.now cut
   pub is_job : IsRowJob r input page_paper.0 job
-  pub told : Tells look job text
+  pub told : TellsSheets look job text

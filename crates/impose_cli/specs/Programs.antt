@@ -10,21 +10,21 @@ use Rattle.world.specs.Input.{IsFirst, most_bytes}
 use Rattle.world.specs.Rests.{has_output}
 use Rattle.world.specs.Worlds.{HasGranted, WasAsked, WorldView, opening}
 use Rattle.rules.specs.Papers.{Paper}
-use Rattle.paper_names.specs.Home.{home_paper}
-use Rattle.impose_cli.specs.Endings.{AfterWrite, Edge, HasFailed, IsUncreated, IsUnfailed, RefusesRow, Runs}
-use Rattle.impose_said.specs.Faults.{without_memory}
+use Rattle.paper_names.specs.Home.{default_paper}
+use Rattle.impose_cli.specs.Endings.{AfterWrite, Edge, HasFailed, IsUncreatedFault, IsUnfailed, RefusesRowRun, RunsRequest}
+use Rattle.impose_messages.specs.Faults.{without_memory}
 use Rattle.impose_cli.specs.Looks.{TellsRow}
 use Rattle.impose_cli.specs.Printed.{printed_text}
 use Rattle.impose_cli.specs.Refusals.{HasNoFault, RefusesTask}
-use Rattle.impose_said.specs.Statuses.{fault_status}
+use Rattle.impose_messages.specs.Statuses.{fault_status}
 use Rattle.impose_cli.specs.Tasks.{IsTask}
-use Rattle.impose_cli.specs.Unread.{MayBeRead, RefusesRequest}
-use Rattle.impose_words.specs.Faults.{Refuses}
-use Rattle.impose_words.specs.Words.{Entered, Reads}
-use Rattle.impose_said.specs.declared.fault.ImposeFault.{ImposeFault}
-use Rattle.impose_said.specs.declared.fault.ImposeFault.TheVariants as fault
-use Rattle.impose_said.specs.declared.finished.Done.{Done}
-use Rattle.impose_said.specs.declared.finished.Done.TheVariants as done
+use Rattle.impose_cli.specs.Precheck.{MayBeRead, RefusesRequest}
+use Rattle.impose_words.specs.Faults.{RefusesCommand}
+use Rattle.impose_words.specs.Words.{Entered, ReadsRequest}
+use Rattle.impose_messages.specs.declared.fault.ImposeFault.{ImposeFault}
+use Rattle.impose_messages.specs.declared.fault.ImposeFault.TheVariants as fault
+use Rattle.impose_messages.specs.declared.finished.Done.{Done}
+use Rattle.impose_messages.specs.declared.finished.Done.TheVariants as done
 use Rattle.world.specs.declared.rest.Rest.{Rest}
 use Rattle.world.specs.declared.rest.Rest.TheVariants.{World}
 use Rattle.impose_cli.specs.declared.look.Overview.{Overview}
@@ -40,8 +40,8 @@ status_of (Ok what) = 0
 status_of (Err f) = fault_status f
 
 -- what files and standard input give, by the file's name
-abbrev pub Gives : Type 0
-Gives = Option (List ℕ) → Option (List ℕ)
+abbrev pub Inputs : Type 0
+Inputs = Option (List ℕ) → Option (List ℕ)
 
 -- ---- the paper at home
 
@@ -55,16 +55,16 @@ most_home_bytes = 4_096
 
 -- What was read of that file, with the world before and after. Nothing, and it was passed over: it is no regular file, as far as that
 -- is known. Nothing, and the world failed: the file couldn't be opened or read. Or its first bytes.
-abbrev pub LooksHome : Gives → (regular : List ℕ → Option Bool) → (old new : WorldView) → (file : List ℕ) → Type 0
+abbrev pub LooksHome : Inputs → (regular : List ℕ → Option Bool) → (old new : WorldView) → (file : List ℕ) → Type 0
 LooksHome gives regular old new file =
     ((new ≡ old) × IfSome (regular home_file) (λ is. is ≡ false) × (file ≡ []))
     ⊎ ((WasAsked (opening (Some home_file)) old new × (new.failures ≡ old.failures + 1) × (file ≡ []))
     ⊎ (HasGranted (opening (Some home_file)) old new × IsFirst most_home_bytes (gives (Some home_file)) file))
 
 -- the paper at home is by the value of PAPERSIZE and by what was read of that file
-abbrev pub FindsHome : (variable : List ℕ) → Gives → (regular : List ℕ → Option Bool) → (old new : WorldView) → Paper → Type 0
+abbrev pub FindsHome : (variable : List ℕ) → Inputs → (regular : List ℕ → Option Bool) → (old new : WorldView) → Paper → Type 0
 FindsHome variable gives regular old new home =
-    (file : List ℕ) × LooksHome gives regular old new file × (home ≡ home_paper variable file)
+    (file : List ℕ) × LooksHome gives regular old new file × (home ≡ default_paper variable file)
 
 -- ---- faults
 
@@ -96,7 +96,7 @@ BreaksAt old new text edge other rest = ⊥
 abbrev pub FailsToWrite : {W O : Type 0} → (name : Option (List ℕ)) → (text : List ℕ) → (edge : Edge W O) → ImposeFault
     → (world : W) → (rest : Rest W O) → (written : Option (List ℕ)) → Type 0
 FailsToWrite name text edge f world rest written =
-    IsUncreated edge name (edge.seen world) f rest ⊎ BreaksAt (told_if edge.tells name []) written text edge f rest
+    IsUncreatedFault edge name (edge.seen world) f rest ⊎ BreaksAt (told_if edge.tells name []) written text edge f rest
 
 -- What comes of a text that is written to the output of this name: the output tells its name and exactly the text, and hasn't
 -- failed; or a write failed.
@@ -124,39 +124,39 @@ Prints r input edge (Err f) world rest written =
 -- What comes of a request to show the sheets for this input: the output of this name has exactly the text that reports on the
 -- sheets that would be imposed; or the request is refused as its run would be, and the world is back; or there is such a
 -- text, and a write failed.
-abbrev pub Shows : {W O : Type 0} → Overview → (name : Option (List ℕ)) → ImposeRequest → (input : List ℕ) → (edge : Edge W O) → Result Done ImposeFault
+abbrev pub ShowsSheets : {W O : Type 0} → Overview → (name : Option (List ℕ)) → ImposeRequest → (input : List ℕ) → (edge : Edge W O) → Result Done ImposeFault
     → (world : W) → (rest : Rest W O) → (written : Option (List ℕ)) → Type 0
-Shows l name r input edge (Ok (done.Imposed finished)) world rest written = ⊥
-Shows l name r input edge (Ok done.Printed) world rest written = ⊥
-Shows l name r input edge (Ok done.Shown) world rest written =
+ShowsSheets l name r input edge (Ok (done.Imposed finished)) world rest written = ⊥
+ShowsSheets l name r input edge (Ok done.Printed) world rest written = ⊥
+ShowsSheets l name r input edge (Ok done.Shown) world rest written =
     (text : List ℕ) × TellsRow r input l text × Appends (told_if edge.tells name []) written text × IsUnfailed edge rest
-Shows l name r input edge (Err f) world rest written =
-    (RefusesRow r input f × (rest ≡ World world))
+ShowsSheets l name r input edge (Err f) world rest written =
+    (RefusesRowRun r input f × (rest ≡ World world))
     ⊎ ((text : List ℕ) × TellsRow r input l text × FailsToWrite name text edge f world rest written)
 
 -- ---- all of it
 
 -- this is made of what the input gives: the sheets in OUTFILE, a specification or a plan on standard output, or a picture in
 -- its own file
-abbrev pub Makes : {W O : Type 0} → Product → ImposeRequest → (input : List ℕ) → (edge : Edge W O) → Result Done ImposeFault
+abbrev pub MakesProduct : {W O : Type 0} → Product → ImposeRequest → (input : List ℕ) → (edge : Edge W O) → Result Done ImposeFault
     → (world : W) → (rest : Rest W O) → (written : Option (List ℕ)) → Type 0
-Makes product.Sheets r input edge outcome world rest written = Runs r input edge outcome world rest written
-Makes product.Specification r input edge outcome world rest written = Prints r input edge outcome world rest written
-Makes product.Plan r input edge outcome world rest written =
-    Shows look.Plan None r input edge outcome world rest written
-Makes (product.Picture file) r input edge outcome world rest written =
-    Shows look.Picture (option_map string_bytes file) r input edge outcome world rest written
+MakesProduct product.Sheets r input edge outcome world rest written = RunsRequest r input edge outcome world rest written
+MakesProduct product.Specification r input edge outcome world rest written = Prints r input edge outcome world rest written
+MakesProduct product.Plan r input edge outcome world rest written =
+    ShowsSheets look.Plan None r input edge outcome world rest written
+MakesProduct (product.Picture file) r input edge outcome world rest written =
+    ShowsSheets look.Picture (option_map string_bytes file) r input edge outcome world rest written
 
 -- What comes of a request: it is refused before its input is read; or it isn't, and its input can't be read, and the world is
 -- back; or the input was read, and what is asked for is made of it (RULES, 16)
-abbrev pub CarriesOut : {W O : Type 0} → (seen : W → WorldView) → ImposeRequest → Gives → (edge : Edge W O) → Result Done ImposeFault
+abbrev pub CarriesOut : {W O : Type 0} → (seen : W → WorldView) → ImposeRequest → Inputs → (edge : Edge W O) → Result Done ImposeFault
     → (world : W) → (rest : Rest W O) → (written : Option (List ℕ)) → Type 0
 CarriesOut {W} seen r gives edge outcome world rest written =
     ((f : ImposeFault) × (left : W) × (outcome ≡ Err f) × (rest ≡ World left)
     × ((RefusesRequest r f × (left ≡ world)) ⊎ (MayBeRead r × IsReading (option_map string_bytes r.infile) (seen world) (seen left) f)))
     ⊎ ((input : List ℕ) × (read : W) × IsFirst most_bytes (gives (option_map string_bytes r.infile)) input
     × HasGiven (option_map string_bytes r.infile) (seen world) (seen read) × MayBeRead r
-    × Makes r.product r input edge outcome read rest written)
+    × MakesProduct r.product r input edge outcome read rest written)
 
 -- what is refused has no output: one that exists is that of a request that was carried out, or for which a write failed or
 -- memory ran out
@@ -166,14 +166,14 @@ IsCreatedFor (Err f) rest = (has_output rest ≡ false) ⊎ AfterWrite f (λ n. 
 
 -- How the program ends: the words are refused, and the world is back; or they make a request, with the paper at home,
 -- and this comes of it.
-abbrev pub EndsProgram : {W O : Type 0} → (seen : W → WorldView) → (words : List Text) → (variable : List ℕ) → Gives
+abbrev pub EndsProgram : {W O : Type 0} → (seen : W → WorldView) → (words : List Text) → (variable : List ℕ) → Inputs
     → (regular : List ℕ → Option Bool) → (edge : Edge W O) → Option ImposeRequest → Result Done ImposeFault → (world : W)
     → (rest : Rest W O) → (written : Option (List ℕ)) → Type 0
 EndsProgram seen words variable gives regular edge None (Ok what) world rest written = ⊥
 EndsProgram seen words variable gives regular edge None (Err (fault.Command f)) world rest written =
-    Refuses words f × (rest ≡ World world)
+    RefusesCommand words f × (rest ≡ World world)
 EndsProgram seen words variable gives regular edge None (Err other) world rest written = ⊥
 EndsProgram {W} seen words variable gives regular edge (Some r) outcome world rest written =
-    Entered words (λ name found. Reads name found r) × (looked : W)
-    × FindsHome variable gives regular (seen world) (seen looked) r.home_paper
+    Entered words (λ name found. ReadsRequest name found r) × (looked : W)
+    × FindsHome variable gives regular (seen world) (seen looked) r.default_paper
     × CarriesOut seen r gives edge outcome looked rest written

@@ -6,7 +6,7 @@ use Rattle.rules.specs.Run.{document_of}
 use Rattle.rules.specs.Choice.{RowFault, imposed_row}
 use Rattle.rules.specs.Rows.{Row}
 use Rattle.paper_names.specs.Names.{paper_named}
-use Rattle.papers.specs.Own.{own_papers}
+use Rattle.papers.specs.Own.{papers_of_each_page}
 use Rattle.papers.specs.Reach.{page_boxes, reach_of}
 use Rattle.papers.specs.declared.boxes.Edges.{Edges}
 use Rattle.papers.specs.declared.reach.Reach.{Reach}
@@ -14,14 +14,14 @@ use Rattle.impose_words.specs.Choices.{choice_in}
 use Rattle.impose_words.specs.declared.request.ImposeRequest.{ImposeRequest}
 
 -- an entry of a row is this page
-abbrev pub is_page : Option ℕ → (page : ℕ) → Bool
-is_page None page = false
-is_page (Some entry) page = entry == page
+abbrev pub is_entry_of : Option ℕ → (page : ℕ) → Bool
+is_entry_of None page = false
+is_entry_of (Some entry) page = entry == page
 
 -- a row takes this page
 abbrev pub takes : Row → (page : ℕ) → Bool
 takes [] page = false
-takes (entry ∷ row) page = is_page entry page || takes row page
+takes (entry ∷ row) page = is_entry_of entry page || takes row page
 
 -- those of a row, without which there are none
 abbrev pub reach_on : (cut_apart : Bool) → Result Row RowFault → (placed own : List Paper) → (boxes : List (Option Edges)) → Option Reach
@@ -30,7 +30,7 @@ reach_on apart (Err fault) placed own boxes = None
 
 -- what pages have of their own: one that names no paper has the one that is named for all, else the document's
 abbrev pub told_own : ImposeRequest → (input : List ℕ) → List NestedUnit → List Paper
-told_own r input us = own_papers None paper_named (unwrap_or r.page_paper r.home_paper) input us
+told_own r input us = papers_of_each_page None paper_named (unwrap_or r.page_paper r.default_paper) input us
 
 -- RULES, 17
 abbrev pub reach_in : (cut_apart : Bool) → ImposeRequest → (placed : List Paper) → (input : List ℕ) → List NestedUnit → Option Reach

@@ -8,39 +8,39 @@ use Rattle.imposer.specs.declared.outcome.RunError.TheVariants as run
 use Rattle.dsc.specs.declared.errors.DscError.{DscError}
 use Rattle.dsc.specs.Faults as dsc
 use Rattle.imposer.specs.Outcomes.{of_document as of_read}
-use Rattle.impose_said.specs.Faults.{without_memory}
-use Rattle.impose_said.specs.Inputs.{of_document}
-use Rattle.impose_cli.specs.RowTasks.{HasOptions, IsRowPaper, TellsOnePaper, has_specification, is_of_one_paper, why_no_row, why_not_laid}
+use Rattle.impose_messages.specs.Faults.{without_memory}
+use Rattle.impose_messages.specs.Inputs.{refused_document}
+use Rattle.impose_cli.specs.RowTasks.{HasOptions, IsRowPaper, TellsOnePaper, has_specification, is_of_one_paper, why_no_row, why_no_layout}
 use Rattle.impose_cli.specs.Tasks.{is_said, page_paper_found, sheet_paper_found}
 use Rattle.impose_words.specs.declared.request.Spacing.{Spacing}
 use Rattle.impose_words.specs.declared.request.Layout.{Layout}
 use Rattle.impose_words.specs.declared.request.Layout.TheVariants as layout
 use Rattle.impose_words.specs.declared.request.ImposeRequest.{ImposeRequest}
-use Rattle.impose_said.specs.declared.fault.ImposeFault.{ImposeFault}
-use Rattle.impose_said.specs.declared.fault.ImposeFault.TheVariants as fault
-use Rattle.impose_said.specs.declared.finished.PaperOrigin.{PaperOrigin}
+use Rattle.impose_messages.specs.declared.fault.ImposeFault.{ImposeFault}
+use Rattle.impose_messages.specs.declared.fault.ImposeFault.TheVariants as fault
+use Rattle.impose_messages.specs.declared.finished.PaperOrigin.{PaperOrigin}
 
 -- ---- the document
 
 -- the document is refused for this reason, if it isn't for memory
-abbrev pub IsRefusedFor : (input : List ℕ) → DscError → Type 0
-IsRefusedFor input e = IfSome (dsc.fault_told e) (λ f. document_of input ≡ Err f)
+abbrev pub IsDocumentRefused : (input : List ℕ) → DscError → Type 0
+IsDocumentRefused input e = IfSome (dsc.fault_told e) (λ f. document_of input ≡ Err f)
 
 -- the fault is that of a reason for which the document is refused. Out of memory comes after the checks that need none
 -- (RULES, 16, step 7)
 abbrev pub RefusesDocument : (input : List ℕ) → ImposeFault → Type 0
-RefusesDocument input f = (why : DscError) × (f ≡ of_document why input) × IsRefusedFor input why
+RefusesDocument input f = (why : DscError) × (f ≡ refused_document why input) × IsDocumentRefused input why
     × dsc.PassedFirstChecks why input
 
 -- the text that is imposed is refused for this reason: with its guard a document may be too long
 abbrev pub RefusesText : (text : List ℕ) → ImposeFault → Type 0
-RefusesText text f = (why : DscError) × (f ≡ fault.Run (of_read why)) × IsRefusedFor text why
+RefusesText text f = (why : DscError) × (f ≡ fault.Run (of_read why)) × IsDocumentRefused text why
 
 -- ---- the layout
 
 -- the fault is why the layout can't lay pages of this paper on sheets of that
-abbrev pub RefusesLaying : Layout → Spacing → (page_paper sheet_paper : Paper) → ImposeFault → Type 0
-RefusesLaying l s page_paper sheet_paper f = why_not_laid l s page_paper sheet_paper ≡ Some f
+abbrev pub RefusesLayout : Layout → Spacing → (page_paper sheet_paper : Paper) → ImposeFault → Type 0
+RefusesLayout l s page_paper sheet_paper f = why_no_layout l s page_paper sheet_paper ≡ Some f
 
 -- out of memory, or this fault, if there is one
 abbrev pub RefusesFor : Option ImposeFault → ImposeFault → Type 0
@@ -49,8 +49,8 @@ RefusesFor found f = (f ≡ without_memory) ⊎ (found ≡ Some f)
 -- ---- a task by a specification
 
 -- the fault of a test that fails, and otherwise what follows
-abbrev pub first_of : Bool → ImposeFault → Option ImposeFault → Option ImposeFault
-first_of holds f next = if holds then next else Some f
+abbrev pub fault_unless : Bool → ImposeFault → Option ImposeFault → Option ImposeFault
+fault_unless holds f next = if holds then next else Some f
 
 -- a specification says the layout: one that is named, or one that is made for it, unless leaves creep
 abbrev pub is_specified : Layout → Spacing → Bool
@@ -63,7 +63,7 @@ is_specified other s = false
 -- why none does, with pages of this paper on sheets of that
 abbrev pub why_not_specified : Layout → Spacing → (page_paper sheet_paper : Paper) → Option ImposeFault
 why_not_specified l s page_paper sheet_paper =
-    first_of (is_specified l s) fault.NoSpecification (why_not_laid l s page_paper sheet_paper)
+    fault_unless (is_specified l s) fault.NoSpecification (why_no_layout l s page_paper sheet_paper)
 
 -- if a specification is made for the layout, all pages have this paper
 abbrev pub are_alike : ImposeRequest → (input : List ℕ) → List NestedUnit → Paper → Bool
@@ -72,9 +72,9 @@ are_alike r input us paper = not (has_specification r.layout) || is_of_one_paper
 -- the first reason why no specification says what is asked for of a document: pages are chosen or turned, or marks or one scale asked
 -- for; or pages have other papers; or the layout has none, or is refused (RULES, 16, steps 8 and 9)
 abbrev pub why_no_task : ImposeRequest → (input : List ℕ) → List NestedUnit → Option ImposeFault
-why_no_task r input us = let page_paper = (page_paper_found r.page_paper r.home_paper input).0 in
-    first_of (is_said r) fault.NoSpecification
-    (first_of (are_alike r input us page_paper) fault.SeveralPapers
+why_no_task r input us = let page_paper = (page_paper_found r.page_paper r.default_paper input).0 in
+    fault_unless (is_said r) fault.NoSpecification
+    (fault_unless (are_alike r input us page_paper) fault.SeveralPapers
     (why_not_specified r.layout r.spacing page_paper (sheet_paper_found r.sheet_paper page_paper)))
 
 -- the document is accepted, and there is no such reason

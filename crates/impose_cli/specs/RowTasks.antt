@@ -12,29 +12,29 @@ use Rattle.rows.specs.Choices.{choice_of}
 use Rattle.rows.specs.Sewing.{MayBeSewn}
 use Rattle.rows.specs.declared.sewing.Signing.{Signing}
 use Rattle.layouts.specs.Fitted.{binding_setting_of, setting_of}
-use Rattle.layouts.specs.Grids.{count_of, rounded_down, rounded_up, is_same}
-use Rattle.layouts.specs.Refusals.{first_of, is_length, why_not_arranged, why_not_bound}
+use Rattle.layouts.specs.Grids.{cells_per_sheet, rounded_down, rounded_up, is_same}
+use Rattle.layouts.specs.Refusals.{error_unless, is_length, why_not_arranged, why_not_bound}
 use Rattle.layouts.specs.declared.arrangement.Free.{Free}
 use Rattle.layouts.specs.declared.arrangement.Arrangement.{Arrangement}
 use Rattle.layouts.specs.declared.error.ArrangementError.TheVariants as why
 use Rattle.paper_names.specs.Names.{paper_named}
-use Rattle.papers.specs.Own.{own_papers}
-use Rattle.papers.specs.AsOne.{as_one, first_instead_of, kinds, most_kinds, paper_among}
+use Rattle.papers.specs.Own.{papers_of_each_page}
+use Rattle.papers.specs.AsOne.{merge_near_sizes, first_instead_of, kinds, most_kinds, kind_paper}
 use Rattle.papers.specs.Cuts.{cut_of}
 use Rattle.papers.specs.declared.cuts.Cut.{Cut}
 use Rattle.impose_cli.specs.RowRuns.{Imposes}
 use Rattle.row_runs.specs.Sheets.{MayBeLaid}
 use Rattle.sheet_text.specs.Jobs.{is_border}
 use Rattle.imposer.specs.declared.outcome.Report.{Report}
-use Rattle.row_runs.specs.declared.asked.Laying.{Laying}
-use Rattle.row_runs.specs.declared.asked.Laying.TheVariants as laying
-use Rattle.row_runs.specs.declared.asked.Scheme.{Scheme}
-use Rattle.row_runs.specs.declared.asked.Scheme.TheVariants as scheme
+use Rattle.row_runs.specs.declared.sheet_request.Laying.{Laying}
+use Rattle.row_runs.specs.declared.sheet_request.Laying.TheVariants as laying
+use Rattle.row_runs.specs.declared.sheet_request.Scheme.{Scheme}
+use Rattle.row_runs.specs.declared.sheet_request.Scheme.TheVariants as scheme
 use Rattle.row_runs.specs.declared.run.RowJob.{RowJob}
 use Rattle.impose_words.specs.Choices.{choice_in}
 use Rattle.row_sheets.specs.Posters.{why_no_poster}
 use Rattle.row_sheets.specs.declared.poster.Poster.{Poster}
-use Rattle.impose_words.specs.Spacings.{arrangement_in, binding_in, is_mirrored, notes_in, zine_in}
+use Rattle.impose_words.specs.Spacings.{arrangement_in, binding_in, swaps_margins, notes_in, zine_in}
 use Rattle.impose_words.specs.declared.request.Spacing.{Spacing}
 use Rattle.impose_cli.specs.Claims.{IsToldBy}
 use Rattle.impose_cli.specs.Reaches.{reach_in, takes}
@@ -42,14 +42,14 @@ use Rattle.pagespec.specs.Items.{turn_of}
 use Rattle.row_runs.specs.Turning.{turned_paper}
 use Rattle.papers.specs.declared.reach.Reach.{Reach}
 use Rattle.impose_cli.specs.Tasks.{HasBehind, page_paper_found, sheet_paper_found, taken_text}
-use Rattle.impose_said.specs.declared.fault.ImposeFault.{ImposeFault}
-use Rattle.impose_said.specs.declared.fault.ImposeFault.TheVariants as fault
+use Rattle.impose_messages.specs.declared.fault.ImposeFault.{ImposeFault}
+use Rattle.impose_messages.specs.declared.fault.ImposeFault.TheVariants as fault
 use Rattle.impose_words.specs.declared.request.Layout.{Layout}
 use Rattle.impose_words.specs.declared.request.Layout.TheVariants as layout
 use Rattle.impose_words.specs.declared.request.ImposeRequest.{ImposeRequest}
-use Rattle.impose_said.specs.declared.finished.Finished.{Finished}
-use Rattle.impose_said.specs.declared.finished.PaperOrigin.{PaperOrigin}
-use Rattle.impose_said.specs.declared.finished.PaperOrigin.TheVariants.{FirstPage}
+use Rattle.impose_messages.specs.declared.finished.Finished.{Finished}
+use Rattle.impose_messages.specs.declared.finished.PaperOrigin.{PaperOrigin}
+use Rattle.impose_messages.specs.declared.finished.PaperOrigin.TheVariants.{FirstPage}
 use Rattle.impose_cli.specs.declared.row_task.RowTask.{RowTask}
 
 -- how a layout's row is sewn
@@ -68,12 +68,12 @@ sheet_paper_in layout.Selection named page_paper = page_paper
 sheet_paper_in other named page_paper = sheet_paper_found named page_paper
 
 -- the cells that a layout asks for, or else those of a zine
-abbrev pub cells_in : Layout → Spacing → Arrangement
-cells_in (layout.NUp cells) s = arrangement_in s cells
-cells_in (layout.Cards cells) s = arrangement_in s cells
-cells_in (layout.Stack cells duplex) s = arrangement_in s cells
-cells_in (layout.Notes pages) s = notes_in s pages
-cells_in other s = zine_in s
+abbrev pub cells_of_layout : Layout → Spacing → Arrangement
+cells_of_layout (layout.NUp cells) s = arrangement_in s cells
+cells_of_layout (layout.Cards cells) s = arrangement_in s cells
+cells_of_layout (layout.Stack cells duplex) s = arrangement_in s cells
+cells_of_layout (layout.Notes pages) s = notes_in s pages
+cells_of_layout other s = zine_in s
 
 -- how a row is put into so many: it goes on from cell to cell, unless the layout has another scheme
 abbrev pub scheme_in : Layout → (cells : ℕ) → Scheme
@@ -84,7 +84,7 @@ scheme_in layout.Zine n = scheme.Zine
 scheme_in other n = scheme.Grid n
 
 abbrev pub filled_in : Layout → Arrangement → (page_paper sheet_paper : Paper) → Laying
-filled_in l a page sheet = laying.InCells (setting_of page sheet a) (scheme_in l (count_of a.cells))
+filled_in l a page sheet = laying.InCells (setting_of page sheet a) (scheme_in l (cells_per_sheet a.cells))
 
 -- so many columns and rows of sheets of a paper, with one margin along all edges: of it and of the overlap none is lost
 abbrev pub poster_in : Spacing → (columns rows : ℕ) → (sheet : Paper) → Poster
@@ -104,7 +104,7 @@ laying_in (layout.Poster columns rows) s page sheet = Some (laying.Poster (poste
 laying_in layout.Selection s page sheet = Some (laying.AsTheyAre sheet)
 laying_in (layout.Spec specs) s page sheet = None
 laying_in (layout.SpecRow specs signing) s page sheet = None
-laying_in other s page sheet = Some (filled_in other (cells_in other s) page sheet)
+laying_in other s page sheet = Some (filled_in other (cells_of_layout other s) page sheet)
 
 -- as much is kept free along opposite edges, or along all
 abbrev pub has_even_margins : Free → Bool
@@ -123,18 +123,18 @@ is_even_enough other f = true
 -- the fault that says why it can't, with margins that are (RULES, 16, step 9)
 abbrev pub why_not_placed : Layout → Spacing → (page_paper sheet_paper : Paper) → Option ImposeFault
 why_not_placed (layout.Booklet signing long_edge) s page sheet = option_map fault.Layout
-    (first_of (is_length s.creep) why.LengthOutOfRange (why_not_bound page sheet (binding_in s long_edge)))
+    (error_unless (is_length s.creep) why.LengthOutOfRange (why_not_bound page sheet (binding_in s long_edge)))
 why_not_placed (layout.Poster columns rows) s page sheet = if is_length s.free.left && is_length s.overlap
     then option_map fault.Poster (why_no_poster page (poster_in s columns rows sheet))
     else Some (fault.Layout why.LengthOutOfRange)
 why_not_placed layout.Selection s page sheet = None
 why_not_placed (layout.Spec specs) s page sheet = None
 why_not_placed (layout.SpecRow specs signing) s page sheet = None
-why_not_placed other s page sheet = option_map fault.Layout (why_not_arranged page sheet (cells_in other s))
+why_not_placed other s page sheet = option_map fault.Layout (why_not_arranged page sheet (cells_of_layout other s))
 
 -- and with others
-abbrev pub why_not_laid : Layout → Spacing → (page_paper sheet_paper : Paper) → Option ImposeFault
-why_not_laid l s page sheet =
+abbrev pub why_no_layout : Layout → Spacing → (page_paper sheet_paper : Paper) → Option ImposeFault
+why_no_layout l s page sheet =
     if is_even_enough l s.free then why_not_placed l s page sheet else Some (fault.Layout why.UnevenMargins)
 
 -- the paper of the pages once they are turned
@@ -149,7 +149,7 @@ laying_by r page_paper = let paper = cells_paper r page_paper in
 -- and why it can't
 abbrev pub why_no_row : ImposeRequest → (page_paper : Paper) → Option ImposeFault
 why_no_row r page_paper = let paper = cells_paper r page_paper in
-    why_not_laid r.layout r.spacing paper (sheet_paper_in r.layout r.sheet_paper paper)
+    why_no_layout r.layout r.spacing paper (sheet_paper_in r.layout r.sheet_paper paper)
 
 -- the paper of a selection's first sheet; blank sheets have this one
 abbrev pub first_paper : Result Row RowFault → (papers : List Paper) → (blank : Paper) → Paper
@@ -173,7 +173,7 @@ text_for r papers page_paper input = taken_text r.is_guarded (guarded_paper r pa
 
 -- the papers of the document's pages: the one that is named, and else each page's own
 abbrev pub own_in : ImposeRequest → (input : List ℕ) → List NestedUnit → List Paper
-own_in r input us = own_papers r.page_paper paper_named r.home_paper input us
+own_in r input us = papers_of_each_page r.page_paper paper_named r.default_paper input us
 
 -- the row that is imposed, before it is sewn; an empty one if there is no such row, which the run says
 abbrev pub row_or_none : Result Row RowFault → Row
@@ -202,7 +202,7 @@ paper_for found taken = or_first found (first_instead_of found.0 taken)
 
 -- a selection's counts among those of the row's pages as theirs do, since its blanks lie between these (RULES, 12.5)
 abbrev pub counted_among : Layout → (taken : List Paper) → Paper → Paper
-counted_among layout.Selection taken paper = paper_among (kinds most_kinds taken) paper
+counted_among layout.Selection taken paper = kind_paper (kinds most_kinds taken) paper
 counted_among other taken paper = paper
 
 abbrev pub counted_for : Layout → (taken : List Paper) → Paper × PaperOrigin → Paper × PaperOrigin
@@ -212,18 +212,18 @@ counted_for l taken found = (counted_among l taken found.0, found.1)
 -- near to it, and else that of the row's first page (RULES, 12.5)
 abbrev pub row_paper : ImposeRequest → (input : List ℕ) → List NestedUnit → Paper × PaperOrigin
 row_paper r input us = let taken = row_papers (row_in r us) (own_in r input us) in
-    counted_for r.layout taken (paper_for (page_paper_found r.page_paper r.home_paper input) taken)
+    counted_for r.layout taken (paper_for (page_paper_found r.page_paper r.default_paper input) taken)
 
 abbrev pub IsRowPaper : ImposeRequest → (input : List ℕ) → Paper × PaperOrigin → Type 0
 IsRowPaper r input found = (us : List NestedUnit) × (document_of input ≡ Ok us) × (found ≡ row_paper r input us)
 
 -- the papers of the pages: each its own. A selection puts pages whose papers count as one on one (RULES, 12.4)
-abbrev pub placed_in : Layout → (taken own : List Paper) → List Paper
-placed_in layout.Selection taken own = as_one taken own
-placed_in other taken own = own
+abbrev pub papers_to_place : Layout → (taken own : List Paper) → List Paper
+papers_to_place layout.Selection taken own = merge_near_sizes taken own
+papers_to_place other taken own = own
 
 abbrev pub counted_in : ImposeRequest → (input : List ℕ) → List NestedUnit → List Paper
-counted_in r input us = let own = own_in r input us in placed_in r.layout (row_papers (row_in r us) own) own
+counted_in r input us = let own = own_in r input us in papers_to_place r.layout (row_papers (row_in r us) own) own
 
 -- by which the pages are placed, once they are turned
 abbrev pub papers_in : ImposeRequest → (input : List ℕ) → List NestedUnit → List Paper
@@ -261,7 +261,7 @@ cut_on row paper own = cut_of paper (taken_from row paper 0 own)
 -- the pages that the named paper cuts, of those that are taken: one that names no paper has the named one
 abbrev pub cut_by_named : Option Paper → Row → (input : List ℕ) → List NestedUnit → Option Cut
 cut_by_named None row input us = None
-cut_by_named (Some named) row input us = cut_on row named (own_papers None paper_named named input us)
+cut_by_named (Some named) row input us = cut_on row named (papers_of_each_page None paper_named named input us)
 
 -- RULES, 17
 abbrev pub cut_in : ImposeRequest → (input : List ℕ) → List NestedUnit → Option Cut
@@ -306,7 +306,7 @@ pub record IsJobOf (r : ImposeRequest) (t : RowTask) (job : RowJob) : Type 0 whe
   pub border : job.border ≡ r.border
   pub inset : job.inset ≡ r.spacing.free.trim
   pub marks : job.marks ≡ r.marks
-  pub mirrored : job.mirrored ≡ is_mirrored r.layout r.spacing
+  pub swapped : job.swapped ≡ swaps_margins r.layout r.spacing
 
 abbrev pub ImposesTask : ImposeRequest → RowTask → (old new : Option (List ℕ)) → Report → Type 0
 ImposesTask r t old new report = (job : RowJob) × IsJobOf r t job × Imposes job old new report
@@ -325,7 +325,7 @@ pub record IsRowJob (r : ImposeRequest) (input : List ℕ) (page_paper : Paper) 
   pub border : job.border ≡ r.border
   pub inset : job.inset ≡ r.spacing.free.trim
   pub marks : job.marks ≡ r.marks
-  pub mirrored : job.mirrored ≡ is_mirrored r.layout r.spacing
+  pub swapped : job.swapped ≡ swaps_margins r.layout r.spacing
 
 -- The request was carried out for this document: exactly the output was appended of the sheets on which its layout lays
 -- its row, with the lines by which they report their papers and the marks that it asks for.

@@ -7,25 +7,25 @@ use Rattle.rows.specs.Choices.{choice_of}
 use Rattle.rows.specs.Sewing.{MayBeSewn}
 use Rattle.sheet_text.specs.Jobs.{is_border}
 use Rattle.imposer.specs.declared.outcome.Report.{Report}
-use Rattle.row_runs.specs.BySpec.{RefusesBySpec, pages_of}
+use Rattle.row_runs.specs.BySpec.{RefusesBySpec, page_count_of}
 use Rattle.impose_cli.specs.RowRuns.{ImposesBySpec}
 use Rattle.row_runs.specs.declared.by_spec.SpecJob.{SpecJob}
-use Rattle.row_runs.specs.declared.error.AskedError.{AskedError}
+use Rattle.row_runs.specs.declared.error.SheetError.{SheetError}
 use Rattle.impose_words.specs.Choices.{choice_in}
-use Rattle.impose_said.specs.Faults.{without_memory}
+use Rattle.impose_messages.specs.Faults.{without_memory}
 use Rattle.impose_cli.specs.Faults.{of_asked}
 use Rattle.impose_cli.specs.Refusals.{RefusesDocument, RefusesOptions, RefusesText}
 use Rattle.impose_cli.specs.RowTasks.{HasOptions, signing_in}
-use Rattle.impose_cli.specs.Tasks.{HasBehind, HasPages, page_paper_found, sheet_paper_found, taken_text}
+use Rattle.impose_cli.specs.Tasks.{HasBehind, HasPageCount, page_paper_found, sheet_paper_found, taken_text}
 use Rattle.impose_cli.specs.Claims.{IsToldBy}
 use Rattle.impose_cli.specs.Reaches.{HasReachOver}
-use Rattle.impose_cli.specs.Unread.{RefusesSpecification}
-use Rattle.impose_said.specs.declared.fault.ImposeFault.{ImposeFault}
+use Rattle.impose_cli.specs.Precheck.{RefusesSpecification}
+use Rattle.impose_messages.specs.declared.fault.ImposeFault.{ImposeFault}
 use Rattle.impose_words.specs.declared.request.Layout.{Layout}
 use Rattle.impose_words.specs.declared.request.Layout.TheVariants as layout
 use Rattle.impose_words.specs.declared.request.ImposeRequest.{ImposeRequest}
 use Rattle.impose_cli.specs.declared.spec_row.SpecRowTask.{SpecRowTask}
-use Rattle.impose_said.specs.declared.finished.Finished.{Finished}
+use Rattle.impose_messages.specs.declared.finished.Finished.{Finished}
 
 -- the layout is a specification on a row
 abbrev pub LaysSpecRow : Layout → Type 0
@@ -49,12 +49,12 @@ RefusesNamed other f = ⊥
 -- the task is what the request asks for with this document
 pub record IsSpecRowTask (r : ImposeRequest) (input : List ℕ) (t : SpecRowTask) : Type 0 where
   pub page_count : ℕ
-  pub document : HasPages input page_count
+  pub document : HasPageCount input page_count
   pub behind : HasBehind input t.counted.behind
   pub reach : HasReachOver r input t.page_paper t.counted.reach
   pub spec : TakesNamed r.layout t.spec
   pub signing : t.signing ≡ signing_in r.layout
-  pub page_paper : (t.page_paper, t.origin) ≡ page_paper_found r.page_paper r.home_paper input
+  pub page_paper : (t.page_paper, t.origin) ≡ page_paper_found r.page_paper r.default_paper input
   pub sheet_paper : t.sheet_paper ≡ sheet_paper_found r.sheet_paper t.page_paper
   pub text : t.text.items ≡ taken_text r.is_guarded t.sheet_paper input
   pub may_be_sewn : IfSome t.signing MayBeSewn
@@ -76,7 +76,7 @@ ImposesSpecTask r t old new report = (job : SpecJob) × IsSpecJobOf r t job × I
 -- The request was carried out for this document: exactly the output was appended of the sheets that its specification names
 -- on its row, with the lines by which they report their papers.
 pub record FinishesSpecRow (r : ImposeRequest) (input : List ℕ) (old new : Option (List ℕ)) (done : Finished) : Type 0 where
-  pub page_paper : (done.page_paper, done.origin) ≡ page_paper_found r.page_paper r.home_paper input
+  pub page_paper : (done.page_paper, done.origin) ≡ page_paper_found r.page_paper r.default_paper input
   pub behind : HasBehind input done.behind
   pub told : IsToldBy r input done.told
   pub job : SpecJob
@@ -99,14 +99,14 @@ pub record FinishesSpecRow (r : ImposeRequest) (input : List ℕ) (old new : Opt
 abbrev pub RefusesSpecRowTask : ImposeRequest → (input : List ℕ) → ImposeFault → Type 0
 RefusesSpecRowTask r input f =
     RefusesDocument input f
-    ⊎ ((n : ℕ) × HasPages input n
+    ⊎ ((n : ℕ) × HasPageCount input n
     × ((f ≡ without_memory)
     ⊎ (RefusesNamed r.layout f
     ⊎ ((spec : Spec) × TakesNamed r.layout spec × RefusesOptions r f))))
 
 -- the fault names the first check of a job that fails
 abbrev pub RefusesSpecRowJob : SpecJob → ImposeFault → Type 0
-RefusesSpecRowJob job f = (error : AskedError) × (f ≡ of_asked (pages_of job) error) × RefusesBySpec job error
+RefusesSpecRowJob job f = (error : SheetError) × (f ≡ of_asked (page_count_of job) error) × RefusesBySpec job error
 
 -- the text of a task is refused, or its job
 abbrev pub RefusesSpecTaskRun : ImposeRequest → SpecRowTask → ImposeFault → Type 0

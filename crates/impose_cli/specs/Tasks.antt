@@ -22,23 +22,23 @@ use Rattle.imposer.specs.Runs.{Reports}
 use Rattle.imposer.specs.Runs as runs
 use Rattle.papers.specs.Media.{document_paper}
 use Rattle.papers.specs.declared.media.Comment.{Comment}
-use Rattle.impose_said.specs.declared.finished.PaperOrigin.{PaperOrigin}
-use Rattle.impose_said.specs.declared.finished.PaperOrigin.TheVariants.{Named, ByComment, AtHome}
-use Rattle.impose_words.specs.Choices.{is_whole}
+use Rattle.impose_messages.specs.declared.finished.PaperOrigin.{PaperOrigin}
+use Rattle.impose_messages.specs.declared.finished.PaperOrigin.TheVariants.{Named, ByComment, ByDefault}
+use Rattle.impose_words.specs.Choices.{is_all_pages}
 use Rattle.pagespec.specs.declared.item.Turn.{Turn}
 use Rattle.pagespec.specs.declared.item.Turn.TheVariants as turned
 use Rattle.sheet_text.specs.Jobs.{is_border}
-use Rattle.impose_words.specs.Spacings.{arrangement_in, binding_in, is_mirrored}
+use Rattle.impose_words.specs.Spacings.{arrangement_in, binding_in, swaps_margins}
 use Rattle.impose_words.specs.declared.request.Spacing.{Spacing}
 use Rattle.impose_words.specs.declared.request.Layout.{Layout}
 use Rattle.impose_words.specs.declared.request.Layout.TheVariants as layout
 use Rattle.impose_words.specs.declared.request.ImposeRequest.{ImposeRequest}
 use Rattle.impose_cli.specs.declared.task.Task.{Task}
-use Rattle.impose_said.specs.declared.finished.Finished.{Finished}
+use Rattle.impose_messages.specs.declared.finished.Finished.{Finished}
 
 -- the paper of the pages: the one that is named, else the document's own, else the one at home
 abbrev pub own_or_home : (home : Paper) → Option (Paper × Comment) → Paper × PaperOrigin
-own_or_home home None = (home, AtHome)
+own_or_home home None = (home, ByDefault)
 own_or_home home (Some own) = (own.0, ByComment own.1)
 
 -- RULES, 12.2
@@ -55,8 +55,8 @@ abbrev pub taken_text : (is_guarded : Bool) → (sheet_paper : Paper) → List �
 taken_text is_guarded sheet_paper input = if is_guarded then guarded (Some sheet_paper) input else input
 
 -- the document is accepted and has so many pages
-abbrev pub HasPages : (input : List ℕ) → ℕ → Type 0
-HasPages input n = (us : List NestedUnit) × (document_of input ≡ Ok us) × (n ≡ length (pages us))
+abbrev pub HasPageCount : (input : List ℕ) → ℕ → Type 0
+HasPageCount input n = (us : List NestedUnit) × (document_of input ≡ Ok us) × (n ≡ length (pages us))
 
 -- the document is accepted, and so many pages follow its trailer
 abbrev pub HasBehind : (input : List ℕ) → ℕ → Type 0
@@ -68,19 +68,19 @@ IsWritten spec text = (text ≡ canonical spec) × Takes most_slots text spec
 
 -- The text of the specification and the sides of a signature to which a layout comes, for so many pages of a paper. None
 -- says a selection, a zine, cards, a stack, lines for notes, a poster, or leaves that creep (RULES, 14)
-abbrev pub IsPlaced : Layout → Spacing → (page_paper sheet_paper : Paper) → (pages : ℕ) → (text : List ℕ)
+abbrev pub ComesToSpec : Layout → Spacing → (page_paper sheet_paper : Paper) → (pages : ℕ) → (text : List ℕ)
     → (sides : Option ℕ) → Type 0
-IsPlaced (layout.NUp cells) s page_paper sheet_paper pages text sides = let a = arrangement_in s cells in
+ComesToSpec (layout.NUp cells) s page_paper sheet_paper pages text sides = let a = arrangement_in s cells in
     (IsWritten (arranged page_paper sheet_paper a) text
     × IsArranged page_paper sheet_paper a (arranged page_paper sheet_paper a)) × (sides ≡ None)
-IsPlaced (layout.Booklet signing long_edge) s page_paper sheet_paper pages text sides = let b = binding_in s long_edge in
+ComesToSpec (layout.Booklet signing long_edge) s page_paper sheet_paper pages text sides = let b = binding_in s long_edge in
     (s.creep ≡ pos 0)
     × (IsWritten (bound page_paper sheet_paper b) text × IsBound page_paper sheet_paper b (bound page_paper sheet_paper b))
     × (sides ≡ Some (sides_for (signing_of signing) pages))
-IsPlaced (layout.Spec specs) s page_paper sheet_paper pages text sides = (text ≡ string_bytes specs) × (sides ≡ None)
-IsPlaced (layout.SpecRow specs signing) s page_paper sheet_paper pages text sides =
+ComesToSpec (layout.Spec specs) s page_paper sheet_paper pages text sides = (text ≡ string_bytes specs) × (sides ≡ None)
+ComesToSpec (layout.SpecRow specs signing) s page_paper sheet_paper pages text sides =
     (text ≡ string_bytes specs) × (sides ≡ option_map (λ how. sides_for (signing_of how) pages) signing)
-IsPlaced other s page_paper sheet_paper pages text sides = ⊥
+ComesToSpec other s page_paper sheet_paper pages text sides = ⊥
 
 -- no page is turned
 abbrev pub is_unturned : Turn → Bool
@@ -94,18 +94,18 @@ is_unmarked m = not (m.fold || m.cut || m.ruled || is_some m.numbers)
 -- beside the layout a specification says what is asked for: all pages, in their order, unturned, unmarked, each in its own
 -- scale, and backs as fronts (RULES, 16, step 8)
 abbrev pub is_said : ImposeRequest → Bool
-is_said r = is_whole r.choice && is_unturned r.turn && is_unmarked r.marks && not r.spacing.same_scale
-    && not (is_mirrored r.layout r.spacing)
+is_said r = is_all_pages r.choice && is_unturned r.turn && is_unmarked r.marks && not r.spacing.same_scale
+    && not (swaps_margins r.layout r.spacing)
 
 -- the task is what the request asks for with this document
 pub record IsTask (request : ImposeRequest) (input : List ℕ) (task : Task) : Type 0 where
   pub page_count : ℕ
-  pub document : HasPages input page_count
+  pub document : HasPageCount input page_count
   pub behind : HasBehind input task.counted.behind
   pub reach : HasReachOver request input task.options.paper task.counted.reach
   pub said : is_said request ≡ true
-  pub page_paper : (task.options.paper, task.origin) ≡ page_paper_found request.page_paper request.home_paper input
-  pub placed : IsPlaced request.layout request.spacing task.options.paper (sheet_paper_found request.sheet_paper task.options.paper)
+  pub page_paper : (task.options.paper, task.origin) ≡ page_paper_found request.page_paper request.default_paper input
+  pub placed : ComesToSpec request.layout request.spacing task.options.paper (sheet_paper_found request.sheet_paper task.options.paper)
       page_count (string_bytes task.spec) task.options.sides
   pub text : task.text.items
       ≡ taken_text request.is_guarded (sheet_paper_found request.sheet_paper task.options.paper) input
@@ -113,15 +113,15 @@ pub record IsTask (request : ImposeRequest) (input : List ℕ) (task : Task) : T
   pub workers : task.options.workers ≡ record { preparers = 2; imposers = 2 }
 
 -- what a task asks of a run
-abbrev pub asked_by : Task → runs.Request
-asked_by t = runs.request t.options (string_bytes t.spec) t.text.items
+abbrev pub run_asked : Task → runs.Request
+run_asked t = runs.request t.options (string_bytes t.spec) t.text.items
 
 -- ---- what comes of a request
 
 -- the layout is this text of a specification
-abbrev pub IsSpec : Layout → (text : List ℕ) → Type 0
-IsSpec (layout.Spec specs) text = text ≡ string_bytes specs
-IsSpec other text = ⊥
+abbrev pub IsSpecLayout : Layout → (text : List ℕ) → Type 0
+IsSpecLayout (layout.Spec specs) text = text ≡ string_bytes specs
+IsSpecLayout other text = ⊥
 
 -- how the pages were placed: by their paper, and with the border that is asked for
 abbrev pub frame_used : ImposeRequest → Finished → Frame
@@ -131,10 +131,10 @@ frame_used r done = framed done.page_paper r.border
 -- for it and the document, with the guard in it if it is asked for.
 pub record FinishesSpec (r : ImposeRequest) (input : List ℕ) (old new : Option (List ℕ)) (done : Finished) : Type 0 where
   pub page_count : ℕ
-  pub document : HasPages input page_count
-  pub page_paper : (done.page_paper, done.origin) ≡ page_paper_found r.page_paper r.home_paper input
+  pub document : HasPageCount input page_count
+  pub page_paper : (done.page_paper, done.origin) ≡ page_paper_found r.page_paper r.default_paper input
   pub text : List ℕ
-  pub is_text : IsSpec r.layout text
+  pub is_text : IsSpecLayout r.layout text
   pub said : is_said r ≡ true
   pub border : is_border r.border ≡ true
   pub spec : Spec

@@ -1,23 +1,23 @@
 //! What a document says of itself.
 ghost use Rattle.std.specs.Prelude.{◌≡◌, codes, option_map};
 ghost use Rattle.papers.specs.Media.{comment_value, contents};
-ghost use Rattle.impose_said.specs.Said.{shown_name};
+ghost use Rattle.impose_messages.specs.Said.{shown_name};
 ghost use Rattle.impose_cli.specs.Claims as meaning;
 
 use dsc::header_len;
-use impose_said::{ShownName, Told};
+use impose_messages::{Claims, ShownName};
 use impose_words::ImposeRequest;
 use lengths::Paper;
 use papers::{Comment, document_paper, first_comment, first_name, is_at_end};
-use row_runs::told_pages;
+use row_runs::declared_page_count;
 
 /// A document's claims about itself, as far as they are reported. It needs no memory.
-pub(crate) fn told_by(request: &ImposeRequest, input: &[u8]) -> Told
+pub(crate) fn claims_of(request: &ImposeRequest, input: &[u8]) -> Claims
     ensures { meaning.IsToldBy request.now input.now result }
 {
-    let pages = told_pages(input);
+    let pages = declared_page_count(input);
     let unknown = shown(unknown_paper(request, input));
-    Told { pages, unknown }
+    Claims { pages, unknown }
 }
 
 /// A name as it is shown.
@@ -33,11 +33,11 @@ fn shown(name: Option<&[u8]>) -> Option<ShownName>
 /// The name of the document's paper, if it isn't known, and no paper is named for the pages.
 fn unknown_paper<'t>(request: &ImposeRequest, input: &'t [u8]) -> Option<&'t [u8]>
     ensures { option_map (λ name. name.now) result
-        ≡ meaning.unknown_paper request.now.page_paper request.now.home_paper input.now }
+        ≡ meaning.unknown_paper request.now.page_paper request.now.default_paper input.now }
 {
     match request.page_paper {
         Some(_) => None,
-        None => unknown_name(&request.home_paper, input),
+        None => unknown_name(&request.default_paper, input),
     }
 }
 

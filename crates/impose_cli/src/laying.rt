@@ -1,19 +1,19 @@
 //! How a layout lays a row of pages on sheets.
 ghost use Rattle.std.specs.Prelude.{◌≡◌, ◌↔◌, ◌≤◌, IfErr, IfOk, IfSome, IsTrue, OnOk, None, Some, option_map, true};
-ghost use Rattle.layouts.specs.Grids.{count_of};
+ghost use Rattle.layouts.specs.Grids.{cells_per_sheet};
 ghost use Rattle.layouts.specs.Refusals.{most_on_sheet, why_not_arranged};
 ghost use Rattle.rows.specs.Sewing.{MayBeSewn};
 ghost use Rattle.sheet_text.specs.Jobs.{is_border};
 ghost use Rattle.row_runs.specs.Sheets.{MayBeLaid};
-ghost use Rattle.impose_cli.specs.Refusals.{RefusesLaying, RefusesOptions};
+ghost use Rattle.impose_cli.specs.Refusals.{RefusesLayout, RefusesOptions};
 ghost use Rattle.impose_cli.specs.RowTasks.{has_even_margins as are_even, has_one_margin as are_one, is_even_enough as are_even_enough};
-ghost use Rattle.impose_cli.specs.RowTasks.{cells_in, filled_in, laying_in, scheme_in, why_not_laid, why_not_placed};
+ghost use Rattle.impose_cli.specs.RowTasks.{cells_of_layout, filled_in, laying_in, scheme_in, why_no_layout, why_not_placed};
 ghost use Rattle.impose_cli.specs.RowTasks.{cells_paper, sheet_paper_in, signing_in};
-ghost use Rattle.impose_cli.specs.Unread.{kept_free as kept_free_in, why_no_sheets};
+ghost use Rattle.impose_cli.specs.Precheck.{kept_free as kept_free_in, why_no_sheets};
 ghost use Rattle.impose_words.specs.declared.request.Layout.TheVariants as layout;
-ghost use Rattle.impose_said.specs.declared.fault.ImposeFault.TheVariants as faults;
+ghost use Rattle.impose_messages.specs.declared.fault.ImposeFault.TheVariants as faults;
 
-use impose_said::ImposeFault;
+use impose_messages::ImposeFault;
 use impose_words::{ImposeRequest, Layout, Spacing};
 use imposer::RunError;
 use layouts::{
@@ -50,18 +50,18 @@ pub(crate) fn laying_for(
     ensures laying { IfOk result (λ laying.
         laying ≡ laying_in layout.now spacing.now papers.now.page papers.now.sheet) }
     ensures may_be { IfOk result (λ laying. IfSome laying MayBeLaid) }
-    ensures possible { OnOk result (why_not_laid layout.now spacing.now papers.now.page papers.now.sheet ≡ None) }
-    ensures refused { IfErr result (RefusesLaying layout.now spacing.now papers.now.page papers.now.sheet) }
+    ensures possible { OnOk result (why_no_layout layout.now spacing.now papers.now.page papers.now.sheet ≡ None) }
+    ensures refused { IfErr result (RefusesLayout layout.now spacing.now papers.now.page papers.now.sheet) }
 {
     if !is_even_enough(layout, &spacing.free) {
         return Err(ImposeFault::Layout(ArrangementError::UnevenMargins));
     }
     match layout {
         Layout::NUp(_) | Layout::Cards(_) | Layout::Stack { .. } => {
-            in_cells(layout, spacing, papers)
+            cell_laying(layout, spacing, papers)
         }
-        Layout::Notes { .. } => in_cells(layout, spacing, papers),
-        Layout::Zine => in_cells(layout, spacing, papers),
+        Layout::Notes { .. } => cell_laying(layout, spacing, papers),
+        Layout::Zine => cell_laying(layout, spacing, papers),
         Layout::Booklet { signing, long_edge } => {
             booklet_laying(*signing, *long_edge, spacing, papers)
         }
@@ -122,19 +122,19 @@ fn is_even_enough(layout: &Layout, free: &Free) -> bool
 }
 
 /// Pages in the cells that the layout asks for.
-fn in_cells(
+fn cell_laying(
     layout: &Layout,
     spacing: &Spacing,
     papers: &Papers,
 ) -> Result<Option<Laying>, ImposeFault>
     requires { are_even_enough layout.now spacing.now.free ≡ true }
     ensures laying { IfOk result (λ laying.
-        laying ≡ Some (filled_in layout.now (cells_in layout.now spacing.now) papers.now.page papers.now.sheet)) }
+        laying ≡ Some (filled_in layout.now (cells_of_layout layout.now spacing.now) papers.now.page papers.now.sheet)) }
     ensures may_be { IfOk result (λ laying. IfSome laying MayBeLaid) }
     ensures possible { OnOk result (option_map faults.Layout
-        (why_not_arranged papers.now.page papers.now.sheet (cells_in layout.now spacing.now)) ≡ None) }
+        (why_not_arranged papers.now.page papers.now.sheet (cells_of_layout layout.now spacing.now)) ≡ None) }
     ensures refused { IfErr result (λ fault. option_map faults.Layout
-        (why_not_arranged papers.now.page papers.now.sheet (cells_in layout.now spacing.now)) ≡ Some fault) }
+        (why_not_arranged papers.now.page papers.now.sheet (cells_of_layout layout.now spacing.now)) ≡ Some fault) }
 {
     let arrangement = cells_for(layout, spacing);
     match Setting::of(papers, &arrangement) {
@@ -148,7 +148,7 @@ fn in_cells(
 
 /// The cells that the layout asks for, or else those of a zine.
 fn cells_for(layout: &Layout, spacing: &Spacing) -> Arrangement
-    ensures { result ≡ cells_in layout.now spacing.now }
+    ensures { result ≡ cells_of_layout layout.now spacing.now }
 {
     match layout {
         Layout::NUp(cells) | Layout::Cards(cells) => spacing.arrangement(*cells),
@@ -160,8 +160,8 @@ fn cells_for(layout: &Layout, spacing: &Spacing) -> Arrangement
 
 /// How a row is put into these cells.
 fn scheme_for(layout: &Layout, cells: Cells) -> Scheme
-    requires { count_of cells ≤ most_on_sheet }
-    ensures { result ≡ scheme_in layout.now (count_of cells) }
+    requires { cells_per_sheet cells ≤ most_on_sheet }
+    ensures { result ≡ scheme_in layout.now (cells_per_sheet cells) }
 {
     let cells = cells.count() as u32;
     match layout {

@@ -1,11 +1,12 @@
 //! The command of impose: its words are read, and what they ask for is made of a document and written.
 #![tactic(auto)]
 
+mod attempt;
 mod claims;
 pub mod laws;
 mod laying;
-mod left;
 mod look;
+mod precheck;
 mod printed;
 mod program;
 mod reach;
@@ -14,21 +15,20 @@ mod runs;
 mod spec_row;
 mod taken;
 mod task;
-mod unread;
 
 pub use guard::RoomyText;
-pub use impose_said::{
-    Done, Finished, IdleOption, ImposeFault, Packing, PaperOrigin, ReportText, Told, command_text,
-    fault_status, fault_text, text_of_fault, text_said, words_text,
+pub use impose_messages::{
+    Claims, Compression, Done, Finished, IdleOption, ImposeFault, PaperOrigin, ReportText,
+    command_text, fault_status, fault_text, text_of_fault, text_said, words_text,
 };
 pub use impose_words::{
-    GridCommand, ImposeRequest, Layout, Opt, PageChoice, Product, ProductOption, RequestFault,
-    Spacing, cells_named, exact_cells, noted_cells, number_alone, read_command, run_named,
+    CellCommand, ImposeRequest, Layout, OptionId, PageChoice, Product, ProductOption, RequestFault,
+    Spacing, cells_named, exact_cells, parse_note_count, parse_number, read_command, run_named,
     signing_named, size_named, turned_named,
 };
 pub use look::{Overview, look_text};
+pub use precheck::check_request;
 pub use printed::printed_task;
 pub use program::{Ended, impose};
 pub use task::{Task, check_layout, task_for};
-pub use unread::check_request;
 pub use world::Rest;

@@ -4,17 +4,17 @@ ghost use Rattle.rows.specs.Sewing.{MayBeSewn};
 ghost use Rattle.dsc.specs.Serving.{Serve};
 ghost use Rattle.row_runs.specs.Runs.{RefusesRun};
 ghost use Rattle.row_runs.specs.Sheets.{MayBeAsked, MayBeLaid};
-ghost use Rattle.impose_cli.specs.Endings.{RefusesRow, RefusesRowTaskRun};
-ghost use Rattle.impose_cli.specs.Looks.{Tells, TellsRow, TellsTask};
+ghost use Rattle.impose_cli.specs.Endings.{RefusesRowRun, RefusesRowTaskRun};
+ghost use Rattle.impose_cli.specs.Looks.{TellsSheets, TellsRow, TellsTask};
 ghost use Rattle.impose_cli.specs.RowTasks.{LaysRows};
 
 use crate::row_task::{RowTask, asked_fault_of, row_task};
 use dsc::{Document, Parts};
 use guard::RoomyText;
-use impose_said::ImposeFault;
+use impose_messages::ImposeFault;
 use impose_words::ImposeRequest;
 use imposer::RunError;
-use row_runs::{Asked, AskedError, RowJob, row_plan, row_preview};
+use row_runs::{RowJob, SheetError, SheetRequest, row_plan, row_preview};
 use std::alloc::Global;
 
 /// The most sheets or leaves that are listed, or sheets that are drawn.
@@ -39,7 +39,7 @@ pub fn look_text(
 ) -> Result<Vec<u8>, ImposeFault>
     requires rows { LaysRows request.now.layout }
     ensures told { IfOk result (λ text. TellsRow request.now input.items look text.items) }
-    ensures refused { IfErr result (RefusesRow request.now input.items) }
+    ensures refused { IfErr result (RefusesRowRun request.now input.items) }
 {
     let (task, parts) = row_task(alloc, request, input)?;
     let text = task_text(alloc, request, &task, parts, look)?;
@@ -69,13 +69,13 @@ fn task_text(
         document: &document,
         turn: request.turn,
         papers: task.papers.as_slice(),
-        asked: Asked {
+        asked: SheetRequest {
             choice: request.choice.as_choice(),
             signing: task.signing,
             laying: task.laying,
             same_scale: request.spacing.same_scale,
         },
-        mirrored: request.is_mirrored(),
+        swapped: request.swaps_margins(),
         border: request.border,
         inset: request.spacing.free.trim,
         marks: request.marks,
@@ -87,9 +87,9 @@ fn task_text(
 }
 
 /// The plan or the picture of a job.
-fn job_text(alloc: Global, job: &RowJob<'_, '_>, look: Overview) -> Result<Vec<u8>, AskedError>
+fn job_text(alloc: Global, job: &RowJob<'_, '_>, look: Overview) -> Result<Vec<u8>, SheetError>
     requires asked { MayBeAsked job.now.asked }
-    ensures told { IfOk result (λ text. Tells look job.now text.items) }
+    ensures told { IfOk result (λ text. TellsSheets look job.now text.items) }
     ensures refused { IfErr result (RefusesRun job.now) }
 {
     match look {

@@ -1,11 +1,12 @@
 //! The specification of a task as it is printed, with the line of pstops that does the same.
 ghost use Rattle.std.specs.Prelude.{◌≡◌, ◌++◌, IfOk, OnOk};
-ghost use Rattle.impose_cli.specs.Printed.{call_text, command_text, comments_text, is_border_trimmed};
-ghost use Rattle.impose_cli.specs.Printed.{options_text, printed_text, spec_text};
+ghost use Rattle.impose_cli.specs.Printed.{call_text, printed_command, comments_text, is_border_trimmed};
+ghost use Rattle.impose_cli.specs.Printed.{options_text, printed_text, quoted_spec};
 
 use crate::task::Task;
 use command_words::{
-    append_border, append_files, append_if, append_length, append_sides, begins_with_minus, name_of,
+    append_border_option, append_files, append_if, append_length, append_sides, begins_with_minus,
+    name_of,
 };
 use impose_words::ImposeRequest;
 use imposer::Options;
@@ -30,7 +31,7 @@ pub fn printed_task(
 }
 
 fn append_command(request: &ImposeRequest, task: &Task, out: &mut Vec<u8>) -> Result<(), AllocError>
-    ensures { OnOk result (out.new.items ≡ out.old.items ++ command_text request.now task.now) }
+    ensures { OnOk result (out.new.items ≡ out.old.items ++ printed_command request.now task.now) }
 {
     append_call(request, &task.options, out)?;
     out.extend_from_slice(b" '")?;
@@ -79,7 +80,7 @@ const GUARD_COMMENT: &[u8] =
 /// A specification has no byte that the shell reads in quotes. One that begins with a minus sign is written with its
 /// modulo, as pstops would take it for an option.
 fn append_spec(spec: &str, out: &mut Vec<u8>) -> Result<(), AllocError>
-    ensures { OnOk result (out.new.items ≡ out.old.items ++ spec_text spec.now) }
+    ensures { OnOk result (out.new.items ≡ out.old.items ++ quoted_spec spec.now) }
 {
     append_if(begins_with_minus(spec), b"1:", out)?;
     out.extend_from_slice(spec.as_bytes())
@@ -93,5 +94,5 @@ fn append_options(options: &Options, out: &mut Vec<u8>) -> Result<(), AllocError
     append_length(options.paper.width(), out)?;
     out.extend_from_slice(b" -h ")?;
     append_length(options.paper.height(), out)?;
-    append_border(options.border, out)
+    append_border_option(options.border, out)
 }

@@ -3,25 +3,25 @@ ghost use Rattle.std.specs.Prelude.{◌≡◌, ◌+◌, ◌<◌, ◌≤◌, map,
 ghost use Rattle.std.specs.Prelude.{Some, IfOk, IfErr, OnOk};
 ghost use Rattle.std.specs.Io.KnownBytes.{Appends};
 ghost use Rattle.world.specs.Input.{IsFirst, most_bytes};
-ghost use Rattle.impose_cli.specs.Endings.{edge, shown};
+ghost use Rattle.impose_cli.specs.Endings.{edge_of_world, shown};
 ghost use Rattle.impose_cli.specs.Looks.{MayBeMade};
-ghost use Rattle.impose_cli.specs.Programs.{CarriesOut, EndsProgram, FindsHome, HasGiven, IsCreatedFor, IsReading, IsUnread, Makes};
-ghost use Rattle.impose_cli.specs.Programs.{Prints, Shows, Writes, status_of};
+ghost use Rattle.impose_cli.specs.Programs.{CarriesOut, EndsProgram, FindsHome, HasGiven, IsCreatedFor, IsReading, IsUnread, MakesProduct};
+ghost use Rattle.impose_cli.specs.Programs.{Prints, ShowsSheets, Writes, status_of};
 ghost use Rattle.impose_cli.specs.RowTasks.{LaysRows};
-ghost use Rattle.impose_said.specs.declared.fault.ImposeFault.TheVariants as faults;
+ghost use Rattle.impose_messages.specs.declared.fault.ImposeFault.TheVariants as faults;
 
-use crate::left::{Left, stopped};
+use crate::attempt::{Attempt, refused_before};
 use crate::look::{Overview, look_text};
+use crate::precheck::check_request;
 use crate::printed::printed_task;
-use crate::runs::run_request;
+use crate::runs::run_on_document;
 use crate::task::task_for;
-use crate::unread::check_request;
 use command_words::name_of;
 use guard::RoomyText;
-use impose_said::{Done, ImposeFault, fault_status};
+use impose_messages::{Done, ImposeFault, fault_status};
 use impose_words::{ImposeRequest, Product, read_command};
 use lengths::Paper;
-use papers::home_paper;
+use papers::default_paper;
 use std::alloc::Global;
 use std::io;
 use std::io::ErrorKind;
@@ -67,7 +67,7 @@ pub fn impose<R: Threads + Wait + Sync, W: World>(
 ) -> Ended<W>
     requires countable { (W.seen world).failures + 1 < u64.MAX }
     ensures ended { EndsProgram W.seen (map string_bytes words.now) paper_size.now (W.gives world) (W.regular world)
-        (edge (W.tells world) W.seen W.Output.seen) result.request result.outcome world result.rest (shown W.Output.seen result.rest) }
+        (edge_of_world (W.tells world) W.seen W.Output.seen) result.request result.outcome world result.rest (shown W.Output.seen result.rest) }
     // A refusal has created no output, and gives the world back. An output that exists has all that was to be
     // written, or a write failed or memory ran out.
     ensures created { IsCreatedFor result.outcome result.rest }
@@ -92,10 +92,10 @@ pub fn impose<R: Threads + Wait + Sync, W: World>(
 
 /// The request where this is the paper at home.
 fn at_home(request: ImposeRequest, home: Paper) -> ImposeRequest
-    ensures { result ≡ record request { home_paper = home } }
+    ensures { result ≡ record request { default_paper = home } }
 {
     ImposeRequest {
-        home_paper: home,
+        default_paper: home,
         ..request
     }
 }
@@ -115,18 +115,18 @@ fn home_of<W: World>(paper_size: &[u8], world: &mut W) -> Paper
     ensures tells { W.tells world.new ≡ W.tells world.old }
 {
     if !world.is_file(HOME_FILE) {
-        return home_paper(paper_size, b"");
+        return default_paper(paper_size, b"");
     }
     let Ok(file) = world.open(Some(HOME_FILE)) else {
-        return home_paper(paper_size, b"");
+        return default_paper(paper_size, b"");
     };
     let mut head = [0; HOME_BYTES];
     let mut source = ReadSource::new(file);
     let read = read_front(&mut head, &mut source);
     drop(world.close(source));
     match read {
-        Ok(count) => home_paper(paper_size, &head[..count]),
-        Err(_) => home_paper(paper_size, b""),
+        Ok(count) => default_paper(paper_size, &head[..count]),
+        Err(_) => default_paper(paper_size, b""),
     }
 }
 
@@ -136,19 +136,19 @@ fn carry_out<R: Threads + Wait + Sync, W: World>(
     alloc: Global,
     request: &ImposeRequest,
     mut world: W,
-) -> Left<W, Done>
+) -> Attempt<W, Done>
     requires product { MayBeMade request.now.product request.now.layout }
     requires countable { (W.seen world).failures < u64.MAX }
-    ensures { CarriesOut W.seen request.now (W.gives world) (edge (W.tells world) W.seen W.Output.seen) result.outcome world result.rest
+    ensures { CarriesOut W.seen request.now (W.gives world) (edge_of_world (W.tells world) W.seen W.Output.seen) result.outcome world result.rest
         (shown W.Output.seen result.rest) }
 {
     match check_request(alloc, request) {
         Ok(()) => {}
-        Err(fault) => return stopped(fault, world),
+        Err(fault) => return refused_before(fault, world),
     }
-    match input_of(alloc, name_of(&request.infile), &mut world) {
+    match roomy_input(alloc, name_of(&request.infile), &mut world) {
         Ok(input) => make(rt, alloc, request, input, world),
-        Err(fault) => stopped(fault, world),
+        Err(fault) => refused_before(fault, world),
     }
 }
 
@@ -159,14 +159,14 @@ fn make<R: Threads + Wait + Sync, W: World>(
     request: &ImposeRequest,
     input: RoomyText,
     world: W,
-) -> Left<W, Done>
+) -> Attempt<W, Done>
     requires product { MayBeMade request.now.product request.now.layout }
     requires countable { (W.seen world).failures < u64.MAX }
-    ensures { Makes request.now.product request.now input.items (edge (W.tells world) W.seen W.Output.seen) result.outcome world result.rest
+    ensures { MakesProduct request.now.product request.now input.items (edge_of_world (W.tells world) W.seen W.Output.seen) result.outcome world result.rest
         (shown W.Output.seen result.rest) }
 {
     match &request.product {
-        Product::Sheets => run_request(rt, alloc, request, input, world),
+        Product::Sheets => run_on_document(rt, alloc, request, input, world),
         Product::Specification => print_input(alloc, request, input, world),
         Product::Plan => show_input(alloc, request, input, Overview::Plan, None, world),
         Product::Picture(file) => {
@@ -183,7 +183,7 @@ fn make<R: Threads + Wait + Sync, W: World>(
 }
 
 /// All that the file of this name, or standard input, gives.
-fn input_of<W: World>(
+fn roomy_input<W: World>(
     alloc: Global,
     name: Option<&str>,
     world: &mut W,
@@ -222,7 +222,7 @@ fn read_from<W: World>(
     let read = read_input_behind(alloc, ROOM, &mut source);
     let cause = world.close(source);
     match read {
-        Ok(bytes) => Ok(RoomyText::behind(ROOM as usize, bytes)),
+        Ok(bytes) => Ok(RoomyText::with_headroom(ROOM as usize, bytes)),
         Err(ReadFault::NoMemory) => Err(ImposeFault::no_memory()),
         Err(ReadFault::Device) => Err(ImposeFault::Read(cause)),
     }
@@ -234,20 +234,20 @@ fn print_input<W: World>(
     request: &ImposeRequest,
     input: RoomyText,
     world: W,
-) -> Left<W, Done>
+) -> Attempt<W, Done>
     requires countable { (W.seen world).failures < u64.MAX }
-    ensures { Prints request.now input.items (edge (W.tells world) W.seen W.Output.seen) result.outcome world result.rest
+    ensures { Prints request.now input.items (edge_of_world (W.tells world) W.seen W.Output.seen) result.outcome world result.rest
         (shown W.Output.seen result.rest) }
 {
     let (task, _) = match task_for(alloc, request, input) {
         Ok(found) => found,
-        Err(fault) => return stopped(fault, world),
+        Err(fault) => return refused_before(fault, world),
     };
     let lines = match printed_task(alloc, request, &task) {
         Ok(lines) => lines,
-        Err(_) => return stopped(ImposeFault::no_memory(), world),
+        Err(_) => return refused_before(ImposeFault::no_memory(), world),
     };
-    write_text(None, lines.as_slice(), Done::Printed, world)
+    create_with_text(None, lines.as_slice(), Done::Printed, world)
 }
 
 /// Writes the plan or the picture of the sheets to the output of that name.
@@ -258,36 +258,41 @@ fn show_input<W: World>(
     look: Overview,
     name: Option<&str>,
     world: W,
-) -> Left<W, Done>
+) -> Attempt<W, Done>
     requires rows { LaysRows request.now.layout }
     requires countable { (W.seen world).failures < u64.MAX }
-    ensures { Shows look (option_map (λ n. n.now) name.entry) request.now input.items (edge (W.tells world) W.seen W.Output.seen) result.outcome
+    ensures { ShowsSheets look (option_map (λ n. n.now) name.entry) request.now input.items (edge_of_world (W.tells world) W.seen W.Output.seen) result.outcome
         world result.rest (shown W.Output.seen result.rest) }
 {
     match look_text(alloc, request, input, look) {
-        Ok(text) => write_text(name, text.as_slice(), Done::Shown, world),
-        Err(fault) => stopped(fault, world),
+        Ok(text) => create_with_text(name, text.as_slice(), Done::Shown, world),
+        Err(fault) => refused_before(fault, world),
     }
 }
 
 /// Writes a text to the output of that name, which is created for it.
-fn write_text<W: World>(name: Option<&str>, text: &[u8], done: Done, world: W) -> Left<W, Done>
+fn create_with_text<W: World>(
+    name: Option<&str>,
+    text: &[u8],
+    done: Done,
+    world: W,
+) -> Attempt<W, Done>
     requires countable { (W.seen world).failures < u64.MAX }
-    ensures { Writes (option_map (λ n. n.now) name.entry) text.now done (edge (W.tells world) W.seen W.Output.seen) result.outcome world result.rest
+    ensures { Writes (option_map (λ n. n.now) name.entry) text.now done (edge_of_world (W.tells world) W.seen W.Output.seen) result.outcome world result.rest
         (shown W.Output.seen result.rest) }
 {
     let mut output = match world.create(name) {
         Ok(output) => output,
-        Err(refused) => return stopped(failed_at(0, Some(refused.cause)), refused.world),
+        Err(refused) => return refused_before(failed_at(0, Some(refused.cause)), refused.world),
     };
     match write_all(&mut output, text) {
-        Ok(()) => Left {
+        Ok(()) => Attempt {
             outcome: Ok(done),
             rest: Rest::Output(output),
         },
         Err(broken) => {
             let fault = failed_at(broken.written, output.cause());
-            Left {
+            Attempt {
                 outcome: Err(fault),
                 rest: Rest::Output(output),
             }

@@ -2,7 +2,7 @@
 ghost use Rattle.std.specs.Prelude.{◌≡◌, IfOk, Ok, true};
 ghost use Rattle.rules.specs.Parts.{bytes_of};
 ghost use Rattle.paper_names.specs.Names.{paper_named};
-ghost use Rattle.papers.specs.Own.{own_papers};
+ghost use Rattle.papers.specs.Own.{papers_of_each_page};
 ghost use Rattle.papers.specs.Reach.{page_boxes};
 ghost use Rattle.impose_cli.specs.Reaches as meaning;
 
@@ -10,7 +10,7 @@ use crate::taken::pages_taken;
 use dsc::Document;
 use impose_words::ImposeRequest;
 use lengths::Paper;
-use papers::{PlacedPages, Reach, own_papers, reach_beyond};
+use papers::{PlacedPages, Reach, page_papers, reach_beyond};
 use rows::{RowError, imposed_row};
 use std::alloc::{AllocError, Global};
 
@@ -22,8 +22,8 @@ fn told_own(
 ) -> Result<Vec<Paper>, AllocError>
     ensures { IfOk result (λ papers. papers.items ≡ meaning.told_own request.now (bytes_of document.now) document.now) }
 {
-    let usual = request.page_paper.unwrap_or(request.home_paper);
-    own_papers(alloc, document, None, &usual)
+    let usual = request.page_paper.unwrap_or(request.default_paper);
+    page_papers(alloc, document, None, &usual)
 }
 
 /// The pages that reach beyond the papers by which they are placed, of those that are taken, where these are the papers that
@@ -35,7 +35,7 @@ pub(crate) fn reach_of_row(
     papers: &[Paper],
     own: &[Paper],
 ) -> Result<Option<Reach>, AllocError>
-    requires { own.now ≡ own_papers request.now.page_paper paper_named request.now.home_paper (bytes_of document.now) document.now }
+    requires { own.now ≡ papers_of_each_page request.now.page_paper paper_named request.now.default_paper (bytes_of document.now) document.now }
     ensures { IfOk result (λ reach. reach ≡ meaning.reach_in true request.now papers.now (bytes_of document.now) document.now) }
 {
     match request.page_paper {
@@ -98,7 +98,7 @@ pub(crate) fn reach_over(
 ) -> Result<Option<Reach>, AllocError>
     ensures { IfOk result (λ reach. reach ≡ meaning.reach_over request.now paper.now (bytes_of document.now) document.now) }
 {
-    let papers = own_papers(alloc, document, Some(*paper), paper)?;
+    let papers = page_papers(alloc, document, Some(*paper), paper)?;
     let told = told_own(alloc, request, document)?;
     reach_of_pages(
         alloc,

@@ -3,11 +3,11 @@ ghost use Rattle.std.specs.Prelude.{◌≡◌, ◌<◌, ◌≤◌, ◌&&◌, ◌
 ghost use Rattle.std.specs.Prelude.{option_map, string_bytes};
 ghost use Rattle.rows.specs.Sewing.{MayBeSewn};
 ghost use Rattle.row_runs.specs.Sheets.{MayBeLaid};
-ghost use Rattle.impose_cli.specs.Endings.{Comes, RefusesRowTaskRun, edge, shown};
+ghost use Rattle.impose_cli.specs.Endings.{Comes, RefusesRowTaskRun, edge_of_world, shown};
 ghost use Rattle.rules.specs.Parts.{bytes_of};
 ghost use Rattle.sheet_text.specs.Jobs.{is_border};
-ghost use Rattle.impose_said.specs.Faults.{without_memory};
-ghost use Rattle.impose_cli.specs.Faults.{of_asked as asked_fault, of_row as row_fault};
+ghost use Rattle.impose_messages.specs.Faults.{without_memory};
+ghost use Rattle.impose_cli.specs.Faults.{of_asked as asked_fault, row_fault as row_fault};
 ghost use Rattle.rules.specs.Run.{most_pages};
 ghost use Rattle.rules.specs.Choice.{imposed_row as row_of};
 ghost use Rattle.impose_words.specs.Choices.{choice_in};
@@ -16,15 +16,15 @@ ghost use Rattle.impose_cli.specs.RowTasks.{ArePapersOf, HasReach, ImposesTask, 
 ghost use Rattle.std.specs.List.{list_all};
 ghost use Rattle.impose_cli.specs.RowTasks.{TellsOnePaper};
 ghost use Rattle.layouts.specs.Grids.{is_same as are_same};
-ghost use Rattle.impose_cli.specs.RowTasks.{counted_among, cut_by_named, cut_in, paper_for, papers_in as papers_found, placed_in, row_paper};
+ghost use Rattle.impose_cli.specs.RowTasks.{counted_among, cut_by_named, cut_in, paper_for, papers_in as papers_found, papers_to_place, row_paper};
 ghost use Rattle.impose_cli.specs.Reaches.{reach_in};
 ghost use Rattle.impose_cli.specs.Refusals.{RefusesDocument, RefusesRowTask};
-ghost use Rattle.impose_cli.specs.Tasks.{HasBehind, HasPages, page_paper_found};
+ghost use Rattle.impose_cli.specs.Tasks.{HasBehind, HasPageCount, page_paper_found};
 ghost use Rattle.dsc.specs.PagesBehind.{pages_behind};
 ghost use Rattle.dsc.specs.Serving.{ArePartsOf, Serve};
 
+use crate::attempt::{Attempt, refused_before};
 use crate::laying::{laying_for, papers_for, signing_for};
-use crate::left::{Left, stopped};
 use crate::reach::reach_of_row;
 use crate::runs::impose_job;
 use crate::taken::{papers_on_row, papers_taken, row_of_choice};
@@ -32,13 +32,13 @@ use crate::task::{paper_of_pages, text_to_impose};
 use command_words::name_of;
 use dsc::{Document, Parts};
 use guard::RoomyText;
-use impose_said::{ImposeFault, PaperOrigin, of_document};
+use impose_messages::{ImposeFault, PaperOrigin, refused_document};
 use impose_words::{ImposeRequest, Layout, PageChoice};
 use imposer::{Report, RunError};
 use layouts::is_of_size;
 use lengths::Paper;
-use papers::{Cut, Reach, as_one, cut_by, first_instead_of, own_papers};
-use row_runs::{Asked, AskedError, Laying, RowJob, turned_papers};
+use papers::{Cut, Reach, cut_by, first_instead_of, merge_near_sizes, page_papers};
+use row_runs::{Laying, RowJob, SheetError, SheetRequest, turned_papers};
 use rows::{RowError, Signing, imposed_row};
 use std::alloc::{AllocError, Global};
 use std::sync::Wait;
@@ -131,11 +131,11 @@ fn papers_of(
     ensures few { IfOk result (λ found. found.0.pages ≤ most_pages) }
     ensures parts { IfOk result (λ found. ArePartsOf input.now found.1) }
     ensures refused { IfErr result (λ f.
-        RefusesDocument input.now f ⊎ ((n : ℕ) × HasPages input.now n × (f ≡ without_memory))) }
+        RefusesDocument input.now f ⊎ ((n : ℕ) × HasPageCount input.now n × (f ≡ without_memory))) }
 {
     let document = match Document::read(alloc, input) {
         Ok(document) => document,
-        Err(error) => return Err(of_document(error, input)),
+        Err(error) => return Err(refused_document(error, input)),
     };
     let found = papers_in(alloc, request, &document)?;
     Ok((found, document.into_parts()))
@@ -191,7 +191,7 @@ fn papers_in(
     ensures count { IfOk result (λ found. found.pages ≡ length found.papers.items) }
     ensures few { IfOk result (λ found. found.pages ≤ most_pages) }
 {
-    let own = own_papers(alloc, document, request.page_paper, &request.home_paper)?;
+    let own = page_papers(alloc, document, request.page_paper, &request.default_paper)?;
     let row = row_of_choice(alloc, document.pages(), &request.choice)?;
     let taken = papers_on_row(alloc, row.as_slice(), own.as_slice())?;
     let (found, origin) = paper_of_row(request, document.text(), taken.as_slice());
@@ -214,7 +214,7 @@ fn papers_in(
 /// The paper for which sheets and cells are made: the document's, if a page that is taken has it or one near to it, and else
 /// that of the first one taken.
 fn paper_of_row(request: &ImposeRequest, input: &[u8], taken: &[Paper]) -> (Paper, PaperOrigin)
-    ensures { result ≡ paper_for (page_paper_found request.now.page_paper request.now.home_paper input.now) taken.now }
+    ensures { result ≡ paper_for (page_paper_found request.now.page_paper request.now.default_paper input.now) taken.now }
 {
     let (page_paper, origin) = paper_of_pages(request, input);
     match first_instead_of(&page_paper, taken) {
@@ -235,7 +235,7 @@ fn counted_paper(
 {
     match layout {
         Layout::Selection => {
-            let counted = as_one(alloc, taken, &[*paper])?;
+            let counted = merge_near_sizes(alloc, taken, &[*paper])?;
             match counted.first() {
                 Some(counted) => Ok(*counted),
                 None => Ok(*paper),
@@ -252,10 +252,10 @@ fn papers_placed(
     taken: &[Paper],
     own: &[Paper],
 ) -> Result<Vec<Paper>, AllocError>
-    ensures { IfOk result (λ papers. papers.items ≡ placed_in layout.now taken.now own.now) }
+    ensures { IfOk result (λ papers. papers.items ≡ papers_to_place layout.now taken.now own.now) }
 {
     match layout {
-        Layout::Selection => as_one(alloc, taken, own),
+        Layout::Selection => merge_near_sizes(alloc, taken, own),
         _ => {
             let mut papers = Vec::new(alloc);
             papers.extend_from_slice(own)?;
@@ -277,7 +277,7 @@ fn cut_pages(
         return Ok(None);
     };
     // A page that names no paper has the one that is named, which doesn't cut it.
-    let own = own_papers(alloc, document, None, &named)?;
+    let own = page_papers(alloc, document, None, &named)?;
     let taken = papers_taken(alloc, row, own.as_slice(), &named)?;
     Ok(cut_by(&named, taken.as_slice()))
 }
@@ -344,31 +344,31 @@ pub(crate) fn impose_task<R: Threads + Wait + Sync, W: World>(
     task: &RowTask,
     parts: Parts,
     world: W,
-) -> Left<W, Report>
+) -> Attempt<W, Report>
     requires countable { (W.seen world).failures < u64.MAX }
     requires laid { MayBeLaid task.now.laying }
     requires sewn { IfSome task.now.signing MayBeSewn }
     requires border { IsTrue (is_border request.now.border) }
     requires parts { Serve parts task.now.text.items }
     ensures { Comes (RefusesRowTaskRun request.now task.now) (ImposesTask request.now task.now)
-        (option_map string_bytes request.now.outfile) (edge (W.tells world) W.seen W.Output.seen) result.outcome
+        (option_map string_bytes request.now.outfile) (edge_of_world (W.tells world) W.seen W.Output.seen) result.outcome
         world result.rest (shown W.Output.seen result.rest) }
 {
     let document = match Document::from_parts(task.text.as_slice(), parts) {
         Ok(document) => document,
-        Err(error) => return stopped(ImposeFault::Run(RunError::from(error)), world),
+        Err(error) => return refused_before(ImposeFault::Run(RunError::from(error)), world),
     };
     let job = RowJob {
         document: &document,
         turn: request.turn,
         papers: task.papers.as_slice(),
-        asked: Asked {
+        asked: SheetRequest {
             choice: request.choice.as_choice(),
             signing: task.signing,
             laying: task.laying,
             same_scale: request.spacing.same_scale,
         },
-        mirrored: request.is_mirrored(),
+        swapped: request.swaps_margins(),
         border: request.border,
         inset: request.spacing.free.trim,
         marks: request.marks,
@@ -377,16 +377,16 @@ pub(crate) fn impose_task<R: Threads + Wait + Sync, W: World>(
 }
 
 /// The fault that an error of the run is, for a document with this number of pages.
-pub(crate) fn asked_fault_of(error: AskedError, pages: u32) -> ImposeFault
+pub(crate) fn asked_fault_of(error: SheetError, pages: u32) -> ImposeFault
     ensures { result ≡ asked_fault pages error }
 {
     match error {
-        AskedError::Row(error) => row_fault_of(error, pages),
-        AskedError::Arrangement(error) => ImposeFault::Layout(error),
-        AskedError::Poster(error) => ImposeFault::Poster(error),
-        AskedError::Sheets(error) => ImposeFault::Sheets(error),
-        AskedError::OutOfReach => ImposeFault::OutOfReach,
-        AskedError::NoMemory => ImposeFault::no_memory(),
+        SheetError::Row(error) => row_fault_of(error, pages),
+        SheetError::Arrangement(error) => ImposeFault::Layout(error),
+        SheetError::Poster(error) => ImposeFault::Poster(error),
+        SheetError::Sheets(error) => ImposeFault::Sheets(error),
+        SheetError::OutOfReach => ImposeFault::OutOfReach,
+        SheetError::NoMemory => ImposeFault::no_memory(),
     }
 }
 

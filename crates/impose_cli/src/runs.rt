@@ -2,39 +2,39 @@
 ghost use Rattle.std.specs.Prelude.{◌≡◌, ◌<◌, ◌⊎◌, [], ℕ, List, IfErr, IfOk, IfSome, IsTrue, MatchResult, OnOk, None, Some, Ok, Err, option_map, string_bytes, true};
 ghost use Rattle.std.specs.IoError.{error_kind};
 ghost use Rattle.std.specs.declared.io.ErrorKind.TheVariants.{OutOfMemory};
-ghost use Rattle.impose_said.specs.Faults.{without_memory};
+ghost use Rattle.impose_messages.specs.Faults.{without_memory};
 ghost use Rattle.rules.specs.Admissible.{Takes, most_slots};
 ghost use Rattle.rules.specs.Run.{document_of};
 ghost use Rattle.rows.specs.Sewing.{MayBeSewn};
 ghost use Rattle.sheet_text.specs.Jobs.{is_border};
 ghost use Rattle.imposer.specs.Outcomes.{AfterError, IsNoRefusal};
-ghost use Rattle.imposer.specs.Runs.{IsRefusal, IsUnwritten};
+ghost use Rattle.imposer.specs.Runs.{IsRunRefusal, IsUnwritten};
 ghost use Rattle.imposer.specs.Options.{AreOptions};
 ghost use Rattle.imposer.specs.Workers.{AreWorkers};
 ghost use Rattle.row_runs.specs.Sheets.{MayBeAsked};
 ghost use Rattle.dsc.specs.Serving.{Serve};
-ghost use Rattle.impose_cli.specs.Tasks.{IsSpec, asked_by};
+ghost use Rattle.impose_cli.specs.Tasks.{IsSpecLayout, run_asked};
 ghost use Rattle.impose_cli.specs.RowRuns.{Imposes, ImposesBySpec};
 ghost use Rattle.impose_cli.specs.RowTasks.{LaysRows};
 ghost use Rattle.impose_cli.specs.SpecRows.{LaysSpecRow, RefusesSpecRowJob};
-ghost use Rattle.impose_cli.specs.Endings.{Comes, RefusesRowJob, RefusesTaskRun, Runs, edge, shown};
+ghost use Rattle.impose_cli.specs.Endings.{Comes, RefusesRowJob, RefusesTaskRun, RunsRequest, edge_of_world, shown};
 ghost use Rattle.impose_cli.specs.Endings.{BreaksOff, Holds, IsNotCreated, IsSaidOf, WritesJob, WritesTask};
 ghost use Rattle.impose_cli.specs.Abouts.{reported_by};
-ghost use Rattle.impose_said.specs.declared.fault.ImposeFault.TheVariants as faults;
+ghost use Rattle.impose_messages.specs.declared.fault.ImposeFault.TheVariants as faults;
 ghost use Rattle.world.specs.declared.rest.Rest.TheVariants as rests;
 
-use crate::claims::told_by;
+use crate::attempt::{Attempt, refused_before};
+use crate::claims::claims_of;
 use crate::laying::is_drawn;
-use crate::left::{Left, stopped};
 use crate::row_task::{asked_fault_of, impose_task, row_task};
 use crate::spec_row::{impose_spec_task, spec_row_task};
 use crate::task::{Task, WORKERS, task_for};
 use command_words::name_of;
 use dsc::{Document, Parts};
 use guard::RoomyText;
-use impose_said::{Done, Finished, ImposeFault, PaperOrigin, Told};
+use impose_messages::{Claims, Done, Finished, ImposeFault, PaperOrigin};
 use impose_words::{ImposeRequest, Layout};
-use imposer::{Job, Nobody, Open, Report, RunError, Sink, run_plan};
+use imposer::{Job, NoListener, Open, Report, RunError, Sink, run_plan};
 use lengths::{Grains, Paper};
 use pagespec::{Spec, read_spec};
 use papers::{Cut, Reach};
@@ -49,15 +49,15 @@ use world::{Asked, Before, Buffered, Fate, Late, Output, Refused, Rest, World};
 
 /// Carries a request out for this document: a document that is refused is refused first, then a layout that there isn't, then
 /// what its run refuses. The output that the request names is created once all of it is checked: what is refused has none.
-pub(crate) fn run_request<R: Threads + Wait + Sync, W: World>(
+pub(crate) fn run_on_document<R: Threads + Wait + Sync, W: World>(
     rt: &R,
     alloc: Global,
     request: &ImposeRequest,
     input: RoomyText,
     world: W,
-) -> Left<W, Done>
+) -> Attempt<W, Done>
     requires countable { (W.seen world).failures < u64.MAX }
-    ensures { Runs request.now input.items (edge (W.tells world) W.seen W.Output.seen) result.outcome
+    ensures { RunsRequest request.now input.items (edge_of_world (W.tells world) W.seen W.Output.seen) result.outcome
         world result.rest (shown W.Output.seen result.rest) }
 {
     match &request.layout {
@@ -76,16 +76,16 @@ fn run_row<R: Threads + Wait + Sync, W: World>(
     request: &ImposeRequest,
     input: RoomyText,
     world: W,
-) -> Left<W, Done>
+) -> Attempt<W, Done>
     requires countable { (W.seen world).failures < u64.MAX }
     requires rows { LaysRows request.now.layout }
-    ensures { Runs request.now input.items (edge (W.tells world) W.seen W.Output.seen) result.outcome
+    ensures { RunsRequest request.now input.items (edge_of_world (W.tells world) W.seen W.Output.seen) result.outcome
         world result.rest (shown W.Output.seen result.rest) }
 {
-    let told = told_by(request, input.as_slice());
+    let told = claims_of(request, input.as_slice());
     let (task, parts) = match row_task(alloc, request, input) {
         Ok(found) => found,
-        Err(fault) => return stopped(fault, world),
+        Err(fault) => return refused_before(fault, world),
     };
     let left = impose_task(rt, alloc, request, &task, parts, world);
     let about = About {
@@ -96,7 +96,7 @@ fn run_row<R: Threads + Wait + Sync, W: World>(
         behind: task.behind,
         told,
     };
-    Left {
+    Attempt {
         outcome: reported(left.outcome, about),
         rest: left.rest,
     }
@@ -109,21 +109,21 @@ pub(crate) fn impose_job<R: Threads + Wait + Sync, W: World>(
     job: &RowJob<'_, '_>,
     name: Option<&str>,
     world: W,
-) -> Left<W, Report>
+) -> Attempt<W, Report>
     requires countable { (W.seen world).failures < u64.MAX }
     requires asked { MayBeAsked job.now.asked }
     requires border { IsTrue (is_border job.now.border) }
-    ensures { Comes (RefusesRowJob job.now) (Imposes job.now) (option_map (λ n. n.now) name.entry) (edge (W.tells world) W.seen W.Output.seen) result.outcome
+    ensures { Comes (RefusesRowJob job.now) (Imposes job.now) (option_map (λ n. n.now) name.entry) (edge_of_world (W.tells world) W.seen W.Output.seen) result.outcome
         world result.rest (shown W.Output.seen result.rest) }
 {
     let pages = job.document.pages();
     let (sheets, dress) = match job.lay(alloc) {
         Ok(laid) => laid,
-        Err(error) => return stopped(asked_fault_of(error, pages), world),
+        Err(error) => return refused_before(asked_fault_of(error, pages), world),
     };
     let plan = match Plan::of_sheets(alloc, pages, &sheets) {
         Ok(plan) => plan,
-        Err(error) => return stopped(asked_fault_of(plan_error(error), pages), world),
+        Err(error) => return refused_before(asked_fault_of(plan_error(error), pages), world),
     };
     let made = Job::made(&plan, job.document, &sheets, job.border, job.inset, &dress);
     write_job(rt, alloc, &made, name, world)
@@ -138,16 +138,16 @@ fn run_spec_row<R: Threads + Wait + Sync, W: World>(
     request: &ImposeRequest,
     input: RoomyText,
     world: W,
-) -> Left<W, Done>
+) -> Attempt<W, Done>
     requires countable { (W.seen world).failures < u64.MAX }
     requires rows { LaysSpecRow request.now.layout }
-    ensures { Runs request.now input.items (edge (W.tells world) W.seen W.Output.seen) result.outcome
+    ensures { RunsRequest request.now input.items (edge_of_world (W.tells world) W.seen W.Output.seen) result.outcome
         world result.rest (shown W.Output.seen result.rest) }
 {
-    let told = told_by(request, input.as_slice());
+    let told = claims_of(request, input.as_slice());
     let (task, parts) = match spec_row_task(alloc, request, input) {
         Ok(found) => found,
-        Err(fault) => return stopped(fault, world),
+        Err(fault) => return refused_before(fault, world),
     };
     let left = impose_spec_task(rt, alloc, request, &task, parts, world);
     let about = About {
@@ -158,7 +158,7 @@ fn run_spec_row<R: Threads + Wait + Sync, W: World>(
         behind: task.counted.behind,
         told,
     };
-    Left {
+    Attempt {
         outcome: reported(left.outcome, about),
         rest: left.rest,
     }
@@ -171,22 +171,22 @@ pub(crate) fn impose_spec_job<R: Threads + Wait + Sync, W: World>(
     job: &SpecJob<'_, '_>,
     name: Option<&str>,
     world: W,
-) -> Left<W, Report>
+) -> Attempt<W, Report>
     requires countable { (W.seen world).failures < u64.MAX }
     requires sewn { IfSome job.now.signing MayBeSewn }
     requires border { IsTrue (is_border job.now.border) }
-    ensures { Comes (RefusesSpecRowJob job.now) (ImposesBySpec job.now) (option_map (λ n. n.now) name.entry) (edge (W.tells world) W.seen W.Output.seen) result.outcome
+    ensures { Comes (RefusesSpecRowJob job.now) (ImposesBySpec job.now) (option_map (λ n. n.now) name.entry) (edge_of_world (W.tells world) W.seen W.Output.seen) result.outcome
         world result.rest (shown W.Output.seen result.rest) }
 {
     let document = job.document;
     let pages = document.pages();
     let (sheets, dress) = match job.lay(alloc) {
         Ok(laid) => laid,
-        Err(error) => return stopped(asked_fault_of(error, pages), world),
+        Err(error) => return refused_before(asked_fault_of(error, pages), world),
     };
     let plan = match Plan::of_sheets(alloc, pages, &sheets) {
         Ok(plan) => plan,
-        Err(error) => return stopped(asked_fault_of(plan_error(error), pages), world),
+        Err(error) => return refused_before(asked_fault_of(plan_error(error), pages), world),
     };
     let made = Job::made(&plan, document, &sheets, job.border, Grains::ZERO, &dress);
     write_job(rt, alloc, &made, name, world)
@@ -201,16 +201,16 @@ fn run_spec<R: Threads + Wait + Sync, W: World>(
     request: &ImposeRequest,
     input: RoomyText,
     world: W,
-) -> Left<W, Done>
+) -> Attempt<W, Done>
     requires countable { (W.seen world).failures < u64.MAX }
-    requires spec { (text : List ℕ) × IsSpec request.now.layout text }
-    ensures { Runs request.now input.items (edge (W.tells world) W.seen W.Output.seen) result.outcome
+    requires spec { (text : List ℕ) × IsSpecLayout request.now.layout text }
+    ensures { RunsRequest request.now input.items (edge_of_world (W.tells world) W.seen W.Output.seen) result.outcome
         world result.rest (shown W.Output.seen result.rest) }
 {
-    let told = told_by(request, input.as_slice());
+    let told = claims_of(request, input.as_slice());
     let (task, parts) = match task_for(alloc, request, input) {
         Ok(found) => found,
-        Err(fault) => return stopped(fault, world),
+        Err(fault) => return refused_before(fault, world),
     };
     let left = impose_by_spec(rt, alloc, &task, parts, name_of(&request.outfile), world);
     let about = About {
@@ -221,7 +221,7 @@ fn run_spec<R: Threads + Wait + Sync, W: World>(
         behind: task.counted.behind,
         told,
     };
-    Left {
+    Attempt {
         outcome: reported(left.outcome, about),
         rest: left.rest,
     }
@@ -235,21 +235,21 @@ fn impose_by_spec<R: Threads + Wait + Sync, W: World>(
     parts: Parts,
     name: Option<&str>,
     world: W,
-) -> Left<W, Report>
+) -> Attempt<W, Report>
     requires countable { (W.seen world).failures < u64.MAX }
     requires sides { task.now.options.sides ≡ None }
     requires workers { AreWorkers task.now.options.workers }
     requires parts { Serve parts task.now.text.items }
-    ensures { Comes (RefusesTaskRun task.now) (WritesTask task.now) (option_map (λ n. n.now) name.entry) (edge (W.tells world) W.seen W.Output.seen) result.outcome
+    ensures { Comes (RefusesTaskRun task.now) (WritesTask task.now) (option_map (λ n. n.now) name.entry) (edge_of_world (W.tells world) W.seen W.Output.seen) result.outcome
         world result.rest (shown W.Output.seen result.rest) }
 {
     let (spec, document) = match read_task(alloc, task, parts) {
         Ok(read) => read,
-        Err(error) => return stopped(ImposeFault::Run(error), world),
+        Err(error) => return refused_before(ImposeFault::Run(error), world),
     };
     let plan = match Plan::new(alloc, &spec, document.pages()) {
         Ok(plan) => plan,
-        Err(error) => return stopped(ImposeFault::Run(RunError::from(error)), world),
+        Err(error) => return refused_before(ImposeFault::Run(RunError::from(error)), world),
     };
     let job = Job::new(&plan, &document, task.options.paper, task.options.border);
     write_job(rt, alloc, &job, name, world)
@@ -267,7 +267,7 @@ fn read_task<'t>(
     ensures options { OnOk result (AreOptions task.now.options) }
     ensures spec { IfOk result (λ read. Takes most_slots (string_bytes task.now.spec) read.0) }
     ensures document { IfOk result (λ read. document_of task.now.text.items ≡ Ok read.1) }
-    ensures refused { IfErr result (IsRefusal (asked_by task.now)) }
+    ensures refused { IfErr result (IsRunRefusal (run_asked task.now)) }
     ensures unwritten { IfErr result IsUnwritten }
 {
     if !is_drawn(task.options.border) {
@@ -286,7 +286,7 @@ struct About {
     cut: Option<Cut>,
     reach: Option<Reach>,
     behind: usize,
-    told: Told,
+    told: Claims,
 }
 
 /// The outcome of a run, with the facts that are reported of it.
@@ -320,9 +320,9 @@ fn write_job<R: Threads + Wait + Sync, W: World>(
     job: &Job<'_, '_>,
     name: Option<&str>,
     world: W,
-) -> Left<W, Report>
+) -> Attempt<W, Report>
     requires countable { (W.seen world).failures < u64.MAX }
-    ensures { Comes (λ fault. ⊥) (WritesJob job.now) (option_map (λ n. n.now) name.entry) (edge (W.tells world) W.seen W.Output.seen) result.outcome
+    ensures { Comes (λ fault. ⊥) (WritesJob job.now) (option_map (λ n. n.now) name.entry) (edge_of_world (W.tells world) W.seen W.Output.seen) result.outcome
         world result.rest (shown W.Output.seen result.rest) }
 {
     write_asked::<Brand, R, W>(rt, alloc, job, Asked { name, world })
@@ -334,20 +334,20 @@ fn write_asked<B: Before, R: Threads + Wait + Sync, W: World>(
     alloc: Global,
     job: &Job<'_, '_>,
     asked: Asked<'_, W>,
-) -> Left<W, Report>
+) -> Attempt<W, Report>
     requires named { option_map (λ n. n.now) asked.name ≡ B.name }
     requires seen { W.seen asked.world ≡ B.seen }
     requires countable { B.seen.failures < u64.MAX }
-    ensures { Comes (λ fault. ⊥) (WritesJob job.now) B.name (edge (W.tells asked.entry.world) W.seen W.Output.seen)
+    ensures { Comes (λ fault. ⊥) (WritesJob job.now) B.name (edge_of_world (W.tells asked.entry.world) W.seen W.Output.seen)
         result.outcome asked.entry.world result.rest (shown W.Output.seen result.rest) }
 {
     let name = asked.name;
     let buffer = match Vec::with_capacity(alloc, WRITTEN_AT_ONCE) {
         Ok(buffer) => buffer,
-        Err(_) => return stopped(ImposeFault::no_memory(), asked.world),
+        Err(_) => return refused_before(ImposeFault::no_memory(), asked.world),
     };
     let mut sink: Buffered<Late<'_, W, B>> = Buffered::new(buffer, Late::new(asked));
-    match run_plan(rt, alloc, job, WORKERS, &Open, &mut sink, &mut Nobody) {
+    match run_plan(rt, alloc, job, WORKERS, &Open, &mut sink, &mut NoListener) {
         Ok(report) => match sink.write_out() {
             Ok(()) => written_out(report, name, sink),
             Err(_) => broken_off(report.bytes, sink),
@@ -361,21 +361,21 @@ fn written_out<'n, B: Before, W: World>(
     report: Report,
     name: Option<&str>,
     sink: Buffered<Late<'n, W, B>>,
-) -> Left<W, Report>
+) -> Attempt<W, Report>
     requires named { option_map (λ n. n.now) name ≡ B.name }
     requires countable { B.seen.failures < u64.MAX }
     requires empty { sink.buffer.items ≡ [] }
     ensures { MatchResult result.outcome
-        (λ r. (r ≡ report) × Holds (edge true W.seen W.Output.seen) (⟦<Buffered<Late<'n, W, B>> as Sink>⟧.seen sink.entry) result.rest)
-        (λ f. IsNotCreated (edge true W.seen W.Output.seen) B.name B.seen f result.rest) }
+        (λ r. (r ≡ report) × Holds (edge_of_world true W.seen W.Output.seen) (⟦<Buffered<Late<'n, W, B>> as Sink>⟧.seen sink.entry) result.rest)
+        (λ f. IsNotCreated (edge_of_world true W.seen W.Output.seen) B.name B.seen f result.rest) }
 {
     match sink.into_output().fate() {
-        Fate::Created(output) => Left {
+        Fate::Created(output) => Attempt {
             outcome: Ok(report),
             rest: Rest::Output(output),
         },
         Fate::Unasked(world) => match world.create(name) {
-            Ok(output) => Left {
+            Ok(output) => Attempt {
                 outcome: Ok(report),
                 rest: Rest::Output(output),
             },
@@ -389,14 +389,14 @@ fn written_out<'n, B: Before, W: World>(
 fn broken_off<'n, B: Before, W: World>(
     taken: u64,
     sink: Buffered<Late<'n, W, B>>,
-) -> Left<W, Report>
-    ensures { MatchResult result.outcome (λ r. ⊥) (λ f. BreaksOff (edge true W.seen W.Output.seen) B.name B.seen taken
+) -> Attempt<W, Report>
+    ensures { MatchResult result.outcome (λ r. ⊥) (λ f. BreaksOff (edge_of_world true W.seen W.Output.seen) B.name B.seen taken
         (⟦<Buffered<Late<'n, W, B>> as Sink>⟧.seen sink.entry).bytes f result.rest) }
 {
     let written = taken.saturating_sub(sink.waiting() as u64);
     match sink.into_output().fate() {
         // Only an output that was asked for fails.
-        Fate::Unasked(world) => stopped(ImposeFault::no_memory(), world),
+        Fate::Unasked(world) => refused_before(ImposeFault::no_memory(), world),
         Fate::Refused(refused) => uncreated(refused),
         Fate::Created(output) => failed(written, output),
     }
@@ -414,23 +414,23 @@ fn taken_before(error: &RunError) -> u64
 }
 
 /// No output could be created.
-fn uncreated<W: World>(refused: Refused<W>) -> Left<W, Report>
+fn uncreated<W: World>(refused: Refused<W>) -> Attempt<W, Report>
     ensures fault { ((error_kind refused.cause ≡ OutOfMemory) × (result.outcome ≡ Err without_memory))
         ⊎ (¬ (error_kind refused.cause ≡ OutOfMemory) × (result.outcome ≡ Err (faults.Write 0 (Some refused.cause)))) }
     ensures rest { result.rest ≡ rests.World refused.world }
 {
     if refused.cause.kind() == ErrorKind::OutOfMemory {
-        return stopped(ImposeFault::no_memory(), refused.world);
+        return refused_before(ImposeFault::no_memory(), refused.world);
     }
     let fault = ImposeFault::Write {
         written: 0,
         cause: Some(refused.cause),
     };
-    stopped(fault, refused.world)
+    refused_before(fault, refused.world)
 }
 
 /// The output is there with so many bytes. If it failed, that is told; else memory ran out.
-fn failed<W: World>(written: u64, output: W::Output) -> Left<W, Report>
+fn failed<W: World>(written: u64, output: W::Output) -> Attempt<W, Report>
     requires begun { (W.Output.seen output).failures ≡ 0 → (W.Output.seen output).has_taken ≡ true }
     ensures fault { MatchResult result.outcome (λ report. ⊥) (IsSaidOf (W.Output.seen output) written) }
     ensures rest { result.rest ≡ rests.Output output }
@@ -443,7 +443,7 @@ fn failed<W: World>(written: u64, output: W::Output) -> Left<W, Report>
             cause: output.cause(),
         }
     };
-    Left {
+    Attempt {
         outcome: Err(fault),
         rest: Rest::Output(output),
     }

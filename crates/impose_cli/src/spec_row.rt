@@ -1,20 +1,20 @@
 //! What is imposed by a specification on a row of pages, and how.
 ghost use Rattle.std.specs.Prelude.{◌<◌, IfErr, IfOk, IfSome, IsTrue, option_map, string_bytes};
 ghost use Rattle.sheet_text.specs.Jobs.{is_border};
-ghost use Rattle.impose_cli.specs.Endings.{Comes, edge, shown};
+ghost use Rattle.impose_cli.specs.Endings.{Comes, edge_of_world, shown};
 ghost use Rattle.rows.specs.Sewing.{MayBeSewn};
 ghost use Rattle.dsc.specs.Serving.{Serve};
 ghost use Rattle.impose_cli.specs.SpecRows.{ImposesSpecTask, IsSpecRowTask, LaysSpecRow, TakesNamed};
 ghost use Rattle.impose_cli.specs.SpecRows.{RefusesNamed, RefusesSpecRowTask, RefusesSpecTaskRun};
 
+use crate::attempt::{Attempt, refused_before};
 use crate::laying::signing_for;
-use crate::left::{Left, stopped};
 use crate::runs::impose_spec_job;
 use crate::task::{CountedPages, pages_of, paper_of_pages, paper_of_sheets, text_to_impose};
 use command_words::name_of;
 use dsc::{Document, Parts};
 use guard::RoomyText;
-use impose_said::{ImposeFault, PaperOrigin};
+use impose_messages::{ImposeFault, PaperOrigin};
 use impose_words::{ImposeRequest, Layout};
 use imposer::{Report, RunError};
 use lengths::Paper;
@@ -94,18 +94,18 @@ pub(crate) fn impose_spec_task<R: Threads + Wait + Sync, W: World>(
     task: &SpecRowTask,
     parts: Parts,
     world: W,
-) -> Left<W, Report>
+) -> Attempt<W, Report>
     requires countable { (W.seen world).failures < u64.MAX }
     requires sewn { IfSome task.now.signing MayBeSewn }
     requires border { IsTrue (is_border request.now.border) }
     requires parts { Serve parts task.now.text.items }
     ensures { Comes (RefusesSpecTaskRun request.now task.now) (ImposesSpecTask request.now task.now)
-        (option_map string_bytes request.now.outfile) (edge (W.tells world) W.seen W.Output.seen) result.outcome
+        (option_map string_bytes request.now.outfile) (edge_of_world (W.tells world) W.seen W.Output.seen) result.outcome
         world result.rest (shown W.Output.seen result.rest) }
 {
     let document = match Document::from_parts(task.text.as_slice(), parts) {
         Ok(document) => document,
-        Err(error) => return stopped(ImposeFault::Run(RunError::from(error)), world),
+        Err(error) => return refused_before(ImposeFault::Run(RunError::from(error)), world),
     };
     let job = SpecJob {
         document: &document,

@@ -3,7 +3,7 @@ ghost use Rattle.std.specs.Prelude.{◌≡◌, ℕ, ◌<◌, ◌≤◌, ◌==◌
 ghost use Rattle.std.specs.Prelude.{[], ◌++◌, option_and_then, slice_get};
 ghost use Rattle.rules.specs.Choice.{imposed_row as row_of, most_entries};
 ghost use Rattle.impose_words.specs.Choices.{choice_in};
-ghost use Rattle.impose_cli.specs.Reaches.{is_page, takes};
+ghost use Rattle.impose_cli.specs.Reaches.{is_entry_of, takes};
 ghost use Rattle.impose_cli.specs.RowTasks.{or_without, row_or_none, row_papers, taken_from};
 
 use impose_words::PageChoice;
@@ -108,7 +108,7 @@ pub(crate) fn pages_taken(
 fn mark_entry(taken: &mut Vec<bool>, entry: &Option<u32>)
     ensures len { length taken.new.items ≡ length taken.old.items }
     ensures each { (k : ℕ) → k < length taken.old.items
-        → get_or taken.new.items k false ≡ (is_page entry.now k || get_or taken.old.items k false) }
+        → get_or taken.new.items k false ≡ (is_entry_of entry.now k || get_or taken.old.items k false) }
 {
     if let Some(page) = entry {
         mark_page(taken, *page as usize);

@@ -10,22 +10,22 @@ ghost use Rattle.layouts.specs.Grids.{bound};
 ghost use Rattle.layouts.specs.Laws.{IsBound};
 ghost use Rattle.layouts.specs.Refusals.{why_not_bound};
 ghost use Rattle.layouts.specs.declared.error.ArrangementError.{ArrangementError};
-ghost use Rattle.impose_said.specs.Faults.{without_memory};
+ghost use Rattle.impose_messages.specs.Faults.{without_memory};
 ghost use Rattle.impose_cli.specs.RowTasks.{has_specification as is_made_for};
-ghost use Rattle.impose_cli.specs.Tasks.{HasBehind, HasPages, IsPlaced, IsTask, IsWritten, page_paper_found};
+ghost use Rattle.impose_cli.specs.Tasks.{HasBehind, HasPageCount, ComesToSpec, IsTask, IsWritten, page_paper_found};
 ghost use Rattle.impose_cli.specs.Tasks.{is_said as says, sheet_paper_found, taken_text};
 ghost use Rattle.impose_cli.specs.Reaches.{HasReachOver};
 ghost use Rattle.impose_cli.specs.Refusals.{HasNoFault, HasOnePaper, HasOtherPapers, RefusesDocument, RefusesFor, RefusesTask, why_not_specified};
-ghost use Rattle.impose_cli.specs.Unread.{IsPossible, IsSpecification, RefusesSpecification, RefusesUnread, cells_named};
+ghost use Rattle.impose_cli.specs.Precheck.{IsPossible, IsSpecification, RefusesSpecification, RefusesUnread, named_cells_paper};
 ghost use Rattle.impose_words.specs.declared.request.Layout.TheVariants as layout;
-ghost use Rattle.impose_said.specs.declared.fault.ImposeFault.TheVariants as faults;
+ghost use Rattle.impose_messages.specs.declared.fault.ImposeFault.TheVariants as faults;
 
 use crate::laying::{check_sheets, laying_for, papers_for};
 use crate::reach::reach_over;
 use crate::row_task::has_one_paper;
 use dsc::{Document, Parts};
 use guard::RoomyText;
-use impose_said::{ImposeFault, PaperOrigin, of_document};
+use impose_messages::{ImposeFault, PaperOrigin, refused_document};
 use impose_words::{ImposeRequest, Layout, Spacing};
 use imposer::{Options, RunError, Workers};
 use layouts::{Binding, Cells, Papers, arrange, bind};
@@ -71,9 +71,9 @@ pub(crate) const WORKERS: Workers = Workers {
 /// room for pages.
 pub fn check_layout(alloc: Global, request: &ImposeRequest) -> Result<(), ImposeFault>
     ensures possible { OnOk result
-        (IsPossible request.now.layout request.now.spacing (cells_named request.now) request.now.sheet_paper) }
+        (IsPossible request.now.layout request.now.spacing (named_cells_paper request.now) request.now.sheet_paper) }
     ensures refused { IfErr result
-        (RefusesUnread request.now.layout request.now.spacing (cells_named request.now) request.now.sheet_paper) }
+        (RefusesUnread request.now.layout request.now.spacing (named_cells_paper request.now) request.now.sheet_paper) }
 {
     match (&request.layout, &request.page_paper) {
         (Layout::Spec(specs), _) => check_spec(alloc, specs.as_str()),
@@ -109,7 +109,7 @@ fn is_said(request: &ImposeRequest) -> bool
         && request.turn == Turn::None
         && !(marks.fold || marks.cut || marks.ruled || marks.numbers.is_some())
         && !request.spacing.same_scale
-        && !request.is_mirrored()
+        && !request.swaps_margins()
 }
 
 /// The specification that says what a request asks for, with what a run by it takes; and the fault if there is none: a
@@ -208,13 +208,13 @@ pub(crate) fn text_to_impose(
 
 /// The paper of the pages: the one that is named, else the document's own, else the one at home.
 pub(crate) fn paper_of_pages(request: &ImposeRequest, input: &[u8]) -> (Paper, PaperOrigin)
-    ensures { result ≡ page_paper_found request.now.page_paper request.now.home_paper input.now }
+    ensures { result ≡ page_paper_found request.now.page_paper request.now.default_paper input.now }
 {
     match request.page_paper {
         Some(page_paper) => (page_paper, PaperOrigin::Named),
-        None => match document_paper(input, &request.home_paper) {
+        None => match document_paper(input, &request.default_paper) {
             Some((page_paper, comment)) => (page_paper, PaperOrigin::ByComment(comment)),
-            None => (request.home_paper, PaperOrigin::AtHome),
+            None => (request.default_paper, PaperOrigin::ByDefault),
         },
     }
 }
@@ -236,18 +236,18 @@ pub(crate) fn pages_of(
     input: &[u8],
     paper: &Paper,
 ) -> Result<(CountedPages, Parts), ImposeFault>
-    ensures counted { IfOk result (λ found. HasPages input.now found.0.pages) }
+    ensures counted { IfOk result (λ found. HasPageCount input.now found.0.pages) }
     ensures behind { IfOk result (λ found. HasBehind input.now found.0.behind) }
     ensures reach { IfOk result (λ found. HasReachOver request.now input.now paper.now found.0.reach) }
     ensures some { IfOk result (λ found. 0 < found.0.pages) }
     ensures within { IfOk result (λ found. found.0.pages ≤ most_pages) }
     ensures parts { IfOk result (λ found. ArePartsOf input.now found.1) }
     ensures refused { IfErr result (λ f.
-        RefusesDocument input.now f ⊎ ((n : ℕ) × HasPages input.now n × (f ≡ without_memory))) }
+        RefusesDocument input.now f ⊎ ((n : ℕ) × HasPageCount input.now n × (f ≡ without_memory))) }
 {
     let document = match Document::read(alloc, input) {
         Ok(document) => document,
-        Err(error) => return Err(of_document(error, input)),
+        Err(error) => return Err(refused_document(error, input)),
     };
     let reach = reach_over(alloc, request, &document, paper)?;
     let counted = CountedPages {
@@ -271,7 +271,7 @@ fn placing(
     requires some { 0 < pages }
     requires few { pages ≤ most_pages }
     ensures placed { IfOk result (λ placed.
-        IsPlaced layout.now spacing.now papers.now.page papers.now.sheet pages (string_bytes placed.0) placed.1) }
+        ComesToSpec layout.now spacing.now papers.now.page papers.now.sheet pages (string_bytes placed.0) placed.1) }
     ensures possible { OnOk result (why_not_specified layout.now spacing.now papers.now.page papers.now.sheet ≡ None) }
     ensures refused { IfErr result (RefusesFor
         (why_not_specified layout.now spacing.now papers.now.page papers.now.sheet)) }
@@ -282,7 +282,7 @@ fn placing(
             if creeps(spacing) {
                 return Err(ImposeFault::NoSpecification);
             }
-            let sides = sides_of(*signing, pages);
+            let sides = signature_sides(*signing, pages);
             booklet_placing(alloc, &spacing.binding(*long_edge), papers, sides)
         }
         Layout::Cards(_) | Layout::Stack { .. } | Layout::Selection => Err(
@@ -321,7 +321,7 @@ fn nup_placing(
     papers: &Papers,
 ) -> Result<PlacedItem, ImposeFault>
     ensures placed { IfOk result (λ placed.
-        IsPlaced (layout.NUp cells) spacing.now papers.now.page papers.now.sheet 0 (string_bytes placed.0) placed.1) }
+        ComesToSpec (layout.NUp cells) spacing.now papers.now.page papers.now.sheet 0 (string_bytes placed.0) placed.1) }
     ensures possible { OnOk result
         (why_not_specified (layout.NUp cells) spacing.now papers.now.page papers.now.sheet ≡ None) }
     ensures refused { IfErr result (RefusesFor
@@ -369,13 +369,13 @@ fn row_sides(signing: Option<Signing>, pages: u32) -> Option<u32>
     ensures { result ≡ option_map (λ how. sides_for (signing_of how) pages) signing }
 {
     match signing {
-        Some(how) => Some(sides_of(how, pages)),
+        Some(how) => Some(signature_sides(how, pages)),
         None => None,
     }
 }
 
 /// The number of sides of a signature, for this number of pages.
-fn sides_of(signing: Signing, pages: u32) -> u32
+fn signature_sides(signing: Signing, pages: u32) -> u32
     requires some { 0 < pages }
     requires few { pages ≤ most_pages }
     ensures { result ≡ sides_for (signing_of signing) pages }

@@ -11,7 +11,7 @@ use Rattle.paper_names.specs.Names.{papers}
 use Rattle.rules.specs.Papers.{points}
 use Rattle.layouts.specs.Grids.{nothing_free, plain_order}
 use Rattle.layouts.specs.declared.arrangement.Cells.TheVariants.{AtLeast, Exactly}
-use Rattle.layouts.specs.declared.arrangement.Run.TheVariants.{Columns}
+use Rattle.layouts.specs.declared.arrangement.FillOrder.TheVariants.{Columns}
 use Rattle.layouts.specs.declared.arrangement.Turned.TheVariants as sideways
 use Rattle.rows.specs.declared.choices.Part.TheVariants as part
 use Rattle.rows.specs.declared.sewing.Signing.TheVariants as signing
@@ -20,8 +20,8 @@ use Rattle.impose_words.specs.Command.{impose}
 use Rattle.impose_words.specs.Arranging.{lines_alone, no_marks}
 use Rattle.impose_words.specs.Spacings.{keeps_room, nothing_kept}
 use Rattle.impose_words.specs.Products.{is_picture_file, lays_rows}
-use Rattle.impose_words.specs.Words.{AsksFor, ChoosesBy, Entered, Enters, MakesBy, Reads, ReadsSizes, SpacesBy, file_asked, given, has_flag, is_outfile, marks_found, ranges_id}
-use Rattle.impose_words.specs.declared.fault.Opt.TheVariants as opt
+use Rattle.impose_words.specs.Words.{AsksFor, ChoosesBy, Entered, Enters, MakesBy, ReadsRequest, ReadsSizes, SpacesBy, file_asked, given, has_flag, is_outfile, marks_found, ranges_id}
+use Rattle.impose_words.specs.declared.fault.OptionId.TheVariants as opt
 use Rattle.impose_words.specs.declared.request.ImposeRequest.{ImposeRequest}
 use Rattle.impose_words.specs.declared.request.Layout.{Layout}
 use Rattle.impose_words.specs.declared.request.Layout.TheVariants as layout
@@ -30,7 +30,7 @@ use Rattle.impose_words.specs.declared.request.Product.TheVariants as product
 
 -- the words after `impose` make this request
 abbrev Makes : List Text → ImposeRequest → Type 0
-Makes words r = Entered (codes "impose" ∷ words) (λ name found. Reads name found r)
+Makes words r = Entered (codes "impose" ∷ words) (λ name found. ReadsRequest name found r)
 
 -- all pages, without any option, from standard input to standard output
 abbrev all_pages : PageChoice
@@ -43,7 +43,7 @@ plain l = record {
   choice = all_pages;
   turn = turn.None;
   page_paper = None;
-  home_paper = a4;
+  default_paper = a4;
   sheet_paper = None;
   border = None;
   marks = no_marks;

@@ -6,8 +6,8 @@ use Rattle.rules.specs.Papers.{points}
 use Rattle.layouts.specs.Grids.{nothing_free, plain_order}
 use Rattle.layouts.specs.declared.arrangement.Cells.TheVariants.{AtLeast, Exactly}
 use Rattle.layouts.specs.declared.arrangement.Order.{Order}
-use Rattle.layouts.specs.declared.arrangement.Run.{Run}
-use Rattle.layouts.specs.declared.arrangement.Run.TheVariants.{Rows, Columns}
+use Rattle.layouts.specs.declared.arrangement.FillOrder.{FillOrder}
+use Rattle.layouts.specs.declared.arrangement.FillOrder.TheVariants.{Rows, Columns}
 use Rattle.layouts.specs.declared.arrangement.Turned.TheVariants.{Upright, Left, Right}
 use Rattle.rows.specs.declared.choices.Part.TheVariants.{All, Odd, Even}
 use Rattle.rows.specs.declared.sewing.Signing.TheVariants.{OfSides, Auto}
@@ -17,7 +17,7 @@ use Rattle.impose_words.specs.Signatures.{signing_named}
 use Rattle.impose_words.specs.Sizes.{border_with_unit, length_with_unit, number_alone, size_named}
 use Rattle.impose_words.specs.Arranging.{booklet_marks_named, cells_named, cut_marks_named, noted_alone, number_size_named, run_named, turned_named}
 use Rattle.impose_words.specs.Spacings.{nothing_kept, on_fronts}
-use Rattle.impose_words.specs.Words.{asked, file_asked, first_named, is_outfile, order_by, part_by}
+use Rattle.impose_words.specs.Words.{asked, file_asked, first_number, is_outfile, order_by, part_by}
 
 -- Sizes of paper.
 
@@ -143,7 +143,7 @@ runs = refl
 unasked : order_by (asked (Rows, false) run_named None) false (asked Upright turned_named None) ≡ Some plain_order
 unasked = refl
 
-abbrev from_right : Run → Order
+abbrev from_right : FillOrder → Order
 from_right run = record { run = run; right_to_left = true; turned = Upright }
 
 turned_round : map (λ run. order_by (Some run) true (Some Upright)) ((Rows, false) ∷ (Columns, false) ∷ (Rows, true) ∷ (Columns, true) ∷ [])
@@ -183,10 +183,10 @@ sizes : map number_size_named (codes "10pt" ∷ codes "72pt" ∷ codes "0" ∷ c
 unfolding number_at
 sizes = refl
 
-first_numbers : map (first_named true) (None ∷ Some (codes "7") ∷ Some (codes "x") ∷ Some (codes "+7") ∷ []) ≡ Some 1 ∷ Some 7 ∷ None ∷ None ∷ []
+first_numbers : map (first_number true) (None ∷ Some (codes "7") ∷ Some (codes "x") ∷ Some (codes "+7") ∷ []) ≡ Some 1 ∷ Some 7 ∷ None ∷ None ∷ []
 first_numbers = refl
 
-no_first_number : first_named false (Some (codes "7")) ≡ None
+no_first_number : first_number false (Some (codes "7")) ≡ None
 no_first_number = refl
 
 outfiles : map is_outfile (None ∷ Some (codes "out.ps") ∷ Some (codes "./-q") ∷ Some (codes "-q") ∷ Some (codes "-") ∷ []) ≡ true ∷ true ∷ true ∷ false ∷ false ∷ []

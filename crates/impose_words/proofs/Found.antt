@@ -6,14 +6,14 @@ use Rattle.clap.specs.Words.{Row, Text, found_of, rows_of, subcommand_name_of, s
 use Rattle.clap.specs.declared.parser.matches.ArgMatches.{ArgMatches}
 use Rattle.clap.specs.declared.parser.matches.ArgMatches.TheViews.{out-ArgMatches, out-SubCommand}
 use Rattle.rules.specs.Papers.{Paper}
-use Rattle.impose_words.specs.Faults.{NoValue, ParseRefuses, Refuses, RefusesFound, Says, Wrong, first, wrong_among, wrong_choice, wrong_marks}
+use Rattle.impose_words.specs.Faults.{NoValue, ParseRefuses, RefusesCommand, RefusesFound, SaysWrong, Wrong, first, wrong_among, wrong_choice, wrong_marks}
 use Rattle.impose_words.specs.Faults.{wrong_lines, wrong_numbers, wrong_order, wrong_sizes, wrong_spacing}
-use Rattle.impose_words.specs.Words.{ChoosesBy, Entered, Enters, Reads, ReadsSizes, SpacesBy, file_asked, given, has_flag, is_outfile}
-use Rattle.impose_words.specs.Arranging.{numbering, with_numbers}
+use Rattle.impose_words.specs.Words.{ChoosesBy, Entered, Enters, ReadsRequest, ReadsSizes, SpacesBy, file_asked, given, has_flag, is_outfile}
+use Rattle.impose_words.specs.Arranging.{numbering, marks_and_numbers}
 use Rattle.impose_words.specs.Words.{first_found, has_numbers, lines_found, number_size_found, numbers_found}
 use Rattle.impose_words.specs.Words.{gaps_found, length_found, margins_found, marks_found, order_by, order_found, run_found, scale_found, turned_found}
 use Rattle.layouts.specs.declared.arrangement.Free.{Free}
-use Rattle.impose_words.specs.Edges.{spaced}
+use Rattle.impose_words.specs.Edges.{free_with}
 use Rattle.impose_words.specs.declared.edges.Margins.{Margins}
 use Rattle.impose_words.specs.declared.request.Layout.{Layout}
 use Rattle.impose_words.specs.declared.request.Layout.TheVariants as layout
@@ -24,11 +24,11 @@ use Rattle.pagespec.specs.declared.item.Turn.{Turn}
 use Rattle.dressing.specs.declared.numbers.Numbering.{Numbering}
 use Rattle.dressing.specs.declared.strokes.Marks.{Marks}
 use Rattle.layouts.specs.declared.arrangement.Order.{Order}
-use Rattle.layouts.specs.declared.arrangement.Run.{Run}
+use Rattle.layouts.specs.declared.arrangement.FillOrder.{FillOrder}
 use Rattle.layouts.specs.declared.arrangement.Turned.{Turned}
 use Rattle.impose_words.specs.declared.fault.RequestFault.{RequestFault}
 use Rattle.impose_words.specs.declared.fault.RequestFault.TheVariants as fault
-use Rattle.impose_words.specs.declared.fault.Opt.TheVariants as opt
+use Rattle.impose_words.specs.declared.fault.OptionId.TheVariants as opt
 
 some_same : {X : Type 0} (a b : X) → Some a ≡ Some b → a ≡ b
 some_same a b e = ap (λ o. unwrap_or o a) e
@@ -61,7 +61,7 @@ unmet m e =
     of_none (λ b. (out-SubCommand (box_value b)).name.now) (λ b. rows_of (found_of (out-SubCommand (box_value b)).matches))
     (out-ArgMatches m).subcommand e
 
-pub refuses_parse : (words : List Text) (f : RequestFault) → ParseRefuses words f → Refuses words f
+pub refuses_parse : (words : List Text) (f : RequestFault) → ParseRefuses words f → RefusesCommand words f
 refuses_parse words (fault.Words error) h = h
 refuses_parse words fault.NoMemory h = tt
 refuses_parse words fault.NoText h = h
@@ -71,11 +71,11 @@ refuses_parse words (fault.BadValue option text) h = absurd h
 refuses_parse words (fault.TwoProducts one other) h = absurd h
 
 -- a fault that says nothing of what was found is none of its refusals
-unsaid : (name : Text) (found : List Row) (f : RequestFault) → ((wrong : Option Wrong) → Says found f wrong → ⊥) → RefusesFound name found f → ⊥
+unsaid : (name : Text) (found : List Row) (f : RequestFault) → ((wrong : Option Wrong) → SaysWrong found f wrong → ⊥) → RefusesFound name found f → ⊥
 unsaid name found f never (inl h) = never _ h
 unsaid name found f never (inr h) = never _ h.3
 
-pub refuses_words : (words : List Text) (name : Text) (found : List Row) (f : RequestFault) → Enters words name found → RefusesFound name found f → Refuses words f
+pub refuses_words : (words : List Text) (name : Text) (found : List Row) (f : RequestFault) → Enters words name found → RefusesFound name found f → RefusesCommand words f
 refuses_words words name found (fault.Words error) e h = absurd (unsaid name found (fault.Words error) (λ wrong never. never) h)
 refuses_words words name found fault.NoText e h = unsaid name found fault.NoText (λ wrong never. never) h
 refuses_words words name found fault.NoMemory e h = tt
@@ -99,7 +99,7 @@ next is h = rw is h
 pub at_once : {a : Option Wrong} (b : Option Wrong) {wrong : Wrong} → a ≡ Some wrong → first a b ≡ Some wrong
 at_once b is = rw is refl
 
-pub says_first : (found : List Row) (f : RequestFault) (a b : Option Wrong) → Says found f a → Says found f (first a b)
+pub says_first : (found : List Row) (f : RequestFault) (a b : Option Wrong) → SaysWrong found f a → SaysWrong found f (first a b)
 says_first found (fault.BadValue option text) a b h = (at_once b h.0, h.1)
 says_first found fault.Lacking a b h = at_once b h
 says_first found fault.OddAndEven a b h = at_once b h
@@ -108,8 +108,8 @@ says_first found fault.NoMemory a b h = tt
 says_first found (fault.Words error) a b h = h
 says_first found fault.NoText a b h = h
 
-pub says_next : (found : List Row) (f : RequestFault) (a b : Option Wrong) → a ≡ None → Says found f b → Says found f (first a b)
-says_next found f a b is h = subst (λ o. Says found f (first o b)) (sym is) h
+pub says_next : (found : List Row) (f : RequestFault) (a b : Option Wrong) → a ≡ None → SaysWrong found f b → SaysWrong found f (first a b)
+says_next found f a b is h = subst (λ o. SaysWrong found f (first o b)) (sym is) h
 
 -- ---- nothing is wrong with what was read
 
@@ -117,7 +117,7 @@ pub sizes_right : (found : List Row) (page_paper sheet_paper : Option Paper) (bo
 sizes_right found page_paper sheet_paper border turn r = past _ r.page_paper_is (past _ r.sheet_paper_is (past _ r.border_is (past _ r.turn_is refl)))
 
 -- an order that is read has parts that are
-order_parts : (run : Option (Run × Bool)) (rtl : Bool) (turned : Option Turned) (order : Order) (w v : Wrong) → order_by run rtl turned ≡ Some order
+order_parts : (run : Option (FillOrder × Bool)) (rtl : Bool) (turned : Option Turned) (order : Order) (w v : Wrong) → order_by run rtl turned ≡ Some order
     → (if is_some run then (if is_some turned then None else Some w) else Some v) ≡ None
 order_parts None rtl turned order w v e = cc
 order_parts (Some run) rtl None order w v e = cc
@@ -127,7 +127,7 @@ pub order_right : (found : List Row) (order : Order) → order_found found ≡ S
 order_right found order e = order_parts (run_found found) (has_flag (codes "rtl") found) (turned_found found) order _ _ e
 
 -- so has what is kept free
-free_parts : (margins : Option Margins) (gaps : Option Free) (trim : Option ℤ) (free : Free) (w v u : Wrong) {e : Option Wrong} → spaced margins gaps trim ≡ Some free → e ≡ None
+free_parts : (margins : Option Margins) (gaps : Option Free) (trim : Option ℤ) (free : Free) (w v u : Wrong) {e : Option Wrong} → free_with margins gaps trim ≡ Some free → e ≡ None
     → (if is_some margins then (if is_some gaps then (if is_some trim then e else Some w) else Some v) else Some u) ≡ None
 free_parts None gaps trim free w v u s h = cc
 free_parts (Some margins) None trim free w v u s h = cc
@@ -173,7 +173,7 @@ numbers_right false found numbers e = refl
 numbers_right true found numbers e = sizes_read (number_size_found found) (first_found found) numbers _ _ e
 
 -- marks that are read have parts that are
-parts : (lines : Option Marks) (numbers : Option (Option Numbering)) (marks : Marks) → with_numbers lines numbers ≡ Some marks
+parts : (lines : Option Marks) (numbers : Option (Option Numbering)) (marks : Marks) → marks_and_numbers lines numbers ≡ Some marks
     → ((l : Marks) × (lines ≡ Some l)) × ((n : Option Numbering) × (numbers ≡ Some n))
 parts None numbers marks e = cc
 parts (Some lines) None marks e = cc
@@ -194,7 +194,7 @@ outfile_right found outfile e is = rw (e, is) refl
 -- ---- the paper at home
 
 -- it is no matter of the words
-reads_at_home : (name : Text) (found : List Row) (r : ImposeRequest) (home : Paper) → Reads name found r → Reads name found (record r { home_paper = home })
+reads_at_home : (name : Text) (found : List Row) (r : ImposeRequest) (home : Paper) → ReadsRequest name found r → ReadsRequest name found (record r { default_paper = home })
 reads_at_home name found r home h = record {
   layout = h.layout;
   spacing = h.spacing;
@@ -212,7 +212,7 @@ reads_at_home name found r home h = record {
   no_option = h.no_option;
 }
 
-pub entered_at_home : (words : List Text) (r given : ImposeRequest) (home : Paper) → given ≡ record r { home_paper = home } → Entered words (λ name found. Reads name found r)
-    → Entered words (λ name found. Reads name found given)
+pub entered_at_home : (words : List Text) (r given : ImposeRequest) (home : Paper) → given ≡ record r { default_paper = home } → Entered words (λ name found. ReadsRequest name found r)
+    → Entered words (λ name found. ReadsRequest name found given)
 entered_at_home words r given home e h =
-    subst (λ q. Entered words (λ name found. Reads name found q)) (sym e) (h.0, h.1, h.2, reads_at_home h.0 h.1 r home h.3)
+    subst (λ q. Entered words (λ name found. ReadsRequest name found q)) (sym e) (h.0, h.1, h.2, reads_at_home h.0 h.1 r home h.3)

@@ -3,7 +3,7 @@ use Rattle.std.proofs.Common.{◌≡◌, true, false, [], ◌∷◌, refl, map}
 use Rattle.std.specs.Prelude.{negsuc, pos, None, Some}
 use Rattle.layouts.specs.Grids.{leaf_order}
 use Rattle.layouts.specs.declared.arrangement.Cells.TheVariants.{Exactly}
-use Rattle.layouts.specs.declared.arrangement.Run.TheVariants.{Columns}
+use Rattle.layouts.specs.declared.arrangement.FillOrder.TheVariants.{Columns}
 use Rattle.layouts.specs.declared.arrangement.Turned.TheVariants.{Upright}
 use Rattle.impose_words.specs.Spacings.{binding_in, fold_gap, nothing_kept, notes_in, zine_in}
 use Rattle.impose_words.specs.declared.request.Spacing.{Spacing}

@@ -11,8 +11,8 @@ use Rattle.dressing.specs.declared.strokes.Marks.{Marks}
 use Rattle.impose_words.specs.Sizes.{length_with_unit}
 use Rattle.layouts.specs.declared.arrangement.Cells.{Cells}
 use Rattle.layouts.specs.declared.arrangement.Cells.TheVariants.{AtLeast, Exactly}
-use Rattle.layouts.specs.declared.arrangement.Run.{Run}
-use Rattle.layouts.specs.declared.arrangement.Run.TheVariants.{Rows, Columns}
+use Rattle.layouts.specs.declared.arrangement.FillOrder.{FillOrder}
+use Rattle.layouts.specs.declared.arrangement.FillOrder.TheVariants.{Rows, Columns}
 use Rattle.layouts.specs.declared.arrangement.Turned.{Turned}
 use Rattle.layouts.specs.declared.arrangement.Turned.TheVariants.{Left, Right}
 use Rattle.pagespec.specs.declared.item.Turn.{Turn}
@@ -65,7 +65,7 @@ noted_alone (Some (Exactly columns rows)) = None
 -- ---- in which order
 
 -- along what pages run, and whether from the right: what comes first says where the second page is (RULES, 13.6)
-abbrev pub run_named : List ℕ → Option (Run × Bool)
+abbrev pub run_named : List ℕ → Option (FillOrder × Bool)
 run_named text =
     if bytes_eq text (codes "right-down") then Some (Rows, false)
     else (if bytes_eq text (codes "down-right") then Some (Columns, false)
@@ -130,6 +130,6 @@ numbering (Some size) None = None
 numbering (Some size) (Some first) = Some (option_map (λ size. record { size = size; first = first }) size)
 
 -- marks and numbers
-abbrev pub with_numbers : Option Marks → Option (Option Numbering) → Option Marks
-with_numbers None numbers = None
-with_numbers (Some marks) numbers = option_map (λ numbers. record marks { numbers = numbers }) numbers
+abbrev pub marks_and_numbers : Option Marks → Option (Option Numbering) → Option Marks
+marks_and_numbers None numbers = None
+marks_and_numbers (Some marks) numbers = option_map (λ numbers. record marks { numbers = numbers }) numbers

@@ -16,5 +16,5 @@ is_all Odd = false
 is_all Even = false
 
 -- all pages in their order, without any range
-abbrev pub is_whole : PageChoice → Bool
-is_whole c = is_none c.ranges && is_all c.part && not c.backwards
+abbrev pub is_all_pages : PageChoice → Bool
+is_all_pages c = is_none c.ranges && is_all c.part && not c.backwards

@@ -24,11 +24,11 @@ flag_rule id = record (new_rule id) { long = Some id; action = Some SetTrue }
 abbrev pub lettered : (letter : ℕ) → Rule → Rule
 lettered letter rule = record rule { short = Some letter }
 
-abbrev pub letter_p : ℕ
-letter_p = 112
+abbrev pub short_p : ℕ
+short_p = 112
 
-abbrev pub letter_q : ℕ
-letter_q = 113
+abbrev pub short_q : ℕ
+short_q = 113
 
 -- the arguments that every subcommand has
 abbrev pub common_rules : List Rule
@@ -38,12 +38,12 @@ common_rules =
     ∷ flag_rule (codes "reverse")
     ∷ positional_rule (codes "infile")
     ∷ positional_rule (codes "outfile")
-    ∷ lettered letter_p (option_rule (codes "paper"))
+    ∷ lettered short_p (option_rule (codes "paper"))
     ∷ option_rule (codes "sheet")
     ∷ option_rule (codes "border")
     ∷ flag_rule (codes "unguarded")
     ∷ flag_rule (codes "print-spec")
-    ∷ lettered letter_q (flag_rule (codes "quiet"))
+    ∷ lettered short_q (flag_rule (codes "quiet"))
     ∷ []
 
 -- a subcommand with arguments of its own, those that it shares with some others, and after them those

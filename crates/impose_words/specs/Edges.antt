@@ -121,6 +121,6 @@ margins_named text = if is_some (cut_at equals text) then option_map along_edges
 
 -- ---- all that is kept free
 
-abbrev pub spaced : Option Margins → (gaps : Option Free) → (trim : Option ℤ) → Option Free
-spaced (Some m) (Some gaps) (Some trim) = Some (record m.free { across = gaps.across; up = gaps.up; trim = trim })
-spaced margins gaps trim = None
+abbrev pub free_with : Option Margins → (gaps : Option Free) → (trim : Option ℤ) → Option Free
+free_with (Some m) (Some gaps) (Some trim) = Some (record m.free { across = gaps.across; up = gaps.up; trim = trim })
+free_with margins gaps trim = None

@@ -12,10 +12,10 @@ use Rattle.impose_words.specs.Words.{gaps_found, is_outfile, margins_found, leng
 use Rattle.impose_words.specs.Words.{turn_found, turned_found, two_found}
 use Rattle.impose_words.specs.declared.fault.RequestFault.{RequestFault}
 use Rattle.impose_words.specs.declared.fault.RequestFault.TheVariants as fault
-use Rattle.impose_words.specs.declared.fault.GridCommand.{GridCommand}
-use Rattle.impose_words.specs.declared.fault.GridCommand.TheVariants as grid
-use Rattle.impose_words.specs.declared.fault.Opt.{Opt}
-use Rattle.impose_words.specs.declared.fault.Opt.TheVariants as opt
+use Rattle.impose_words.specs.declared.fault.CellCommand.{CellCommand}
+use Rattle.impose_words.specs.declared.fault.CellCommand.TheVariants as grid
+use Rattle.impose_words.specs.declared.fault.OptionId.{OptionId}
+use Rattle.impose_words.specs.declared.fault.OptionId.TheVariants as opt
 use Rattle.impose_words.specs.declared.fault.ProductOption.{ProductOption}
 use Rattle.impose_words.specs.declared.request.Layout.{Layout}
 use Rattle.impose_words.specs.declared.request.Layout.TheVariants as layout
@@ -24,7 +24,7 @@ use Rattle.impose_words.specs.declared.request.Layout.TheVariants as layout
 -- sheets
 pub data Wrong : Type 0 where
   Missing : Wrong
-  NoValue : Opt → Wrong
+  NoValue : OptionId → Wrong
   OddEven : Wrong
   Two : ProductOption → ProductOption → Wrong
 
@@ -41,7 +41,7 @@ is_picture_asked None = true
 is_picture_asked (Some file) = is_picture_file file
 
 -- what was found for the option is one of its values
-abbrev pub is_value : Opt → (found : List Row) → Bool
+abbrev pub is_value : OptionId → (found : List Row) → Bool
 is_value opt.Paper found = is_some (size_found opt.Paper found)
 is_value opt.Sheet found = is_some (size_found opt.Sheet found)
 is_value opt.Border found = is_some (border_found found)
@@ -64,7 +64,7 @@ is_value opt.Outfile found = is_outfile (file_asked (given opt.Outfile found))
 is_value opt.Preview found = is_picture_asked (picture_found found)
 
 -- the first of these options whose value is none
-abbrev pub wrong_among : List Opt → (found : List Row) → Option Wrong
+abbrev pub wrong_among : List OptionId → (found : List Row) → Option Wrong
 wrong_among [] found = None
 wrong_among (option ∷ options) found = if is_value option found then wrong_among options found else Some (NoValue option)
 
@@ -78,7 +78,7 @@ wrong_sizes found = wrong_among (opt.Paper ∷ opt.Sheet ∷ opt.Border ∷ opt.
 abbrev pub missing_or : (id : Text) → (found : List Row) → Option Wrong → Option Wrong
 missing_or id found wrong = if is_some (first_of id found) then wrong else Some Missing
 
-abbrev pub wrong_cells : GridCommand → (found : List Row) → Option Wrong
+abbrev pub wrong_cells : CellCommand → (found : List Row) → Option Wrong
 wrong_cells command found = missing_or (codes "count") found (wrong_among (opt.Count command ∷ []) found)
 
 -- a specification is sewn only if it is laid on a row
@@ -146,36 +146,36 @@ wrong_for layout found =
 -- ---- the refusals
 
 -- the text after the option, or none
-abbrev pub text_given : Opt → (found : List Row) → Text
+abbrev pub text_given : OptionId → (found : List Row) → Text
 text_given option found = unwrap_or (given option found) []
 
 -- a fault says what is wrong with what was found, unless it is that memory is short
-abbrev pub Says : (found : List Row) → RequestFault → Option Wrong → Type 0
-Says found (fault.BadValue option text) wrong = (wrong ≡ Some (NoValue option)) × (text_given option found ≡ string_bytes text)
-Says found fault.Lacking wrong = wrong ≡ Some Missing
-Says found fault.OddAndEven wrong = wrong ≡ Some OddEven
-Says found (fault.TwoProducts one other) wrong = wrong ≡ Some (Two one other)
-Says found fault.NoMemory wrong = ⊤
-Says found (fault.Words error) wrong = ⊥
-Says found fault.NoText wrong = ⊥
+abbrev pub SaysWrong : (found : List Row) → RequestFault → Option Wrong → Type 0
+SaysWrong found (fault.BadValue option text) wrong = (wrong ≡ Some (NoValue option)) × (text_given option found ≡ string_bytes text)
+SaysWrong found fault.Lacking wrong = wrong ≡ Some Missing
+SaysWrong found fault.OddAndEven wrong = wrong ≡ Some OddEven
+SaysWrong found (fault.TwoProducts one other) wrong = wrong ≡ Some (Two one other)
+SaysWrong found fault.NoMemory wrong = ⊤
+SaysWrong found (fault.Words error) wrong = ⊥
+SaysWrong found fault.NoText wrong = ⊥
 
 -- a refusal of what was found: of the papers, the border, the turn or what asks for a layout; or of what comes after the layout that they ask
 -- for
 abbrev pub RefusesFound : (name : Text) → (found : List Row) → RequestFault → Type 0
-RefusesFound name found f = Says found f (first (wrong_sizes found) (wrong_layout name found))
-    ⊎ ((layout : Layout) × AsksFor name found layout × (wrong_sizes found ≡ None) × Says found f (wrong_for layout found))
+RefusesFound name found f = SaysWrong found f (first (wrong_sizes found) (wrong_layout name found))
+    ⊎ ((layout : Layout) × AsksFor name found layout × (wrong_sizes found ≡ None) × SaysWrong found f (wrong_for layout found))
 
 -- what a refusal says of the words: clap's own faults are those of the words, or a call for help or for the version. All others
 -- come only if the command takes the words, so that help is told as nothing else
-abbrev pub Refuses : (words : List Text) → RequestFault → Type 0
-Refuses words (fault.Words error) = IsAmong (kind_of error) (fault_of impose words)
-Refuses words fault.NoText = ⊥
-Refuses words fault.NoMemory = ⊤
-Refuses words fault.Lacking = ((fault_of impose words ≡ []) × (subcommand_of impose words ≡ None))
+abbrev pub RefusesCommand : (words : List Text) → RequestFault → Type 0
+RefusesCommand words (fault.Words error) = IsAmong (kind_of error) (fault_of impose words)
+RefusesCommand words fault.NoText = ⊥
+RefusesCommand words fault.NoMemory = ⊤
+RefusesCommand words fault.Lacking = ((fault_of impose words ≡ []) × (subcommand_of impose words ≡ None))
     ⊎ Entered words (λ name found. RefusesFound name found fault.Lacking)
-Refuses words fault.OddAndEven = Entered words (λ name found. RefusesFound name found fault.OddAndEven)
-Refuses words (fault.BadValue option text) = Entered words (λ name found. RefusesFound name found (fault.BadValue option text))
-Refuses words (fault.TwoProducts one other) =
+RefusesCommand words fault.OddAndEven = Entered words (λ name found. RefusesFound name found fault.OddAndEven)
+RefusesCommand words (fault.BadValue option text) = Entered words (λ name found. RefusesFound name found (fault.BadValue option text))
+RefusesCommand words (fault.TwoProducts one other) =
     Entered words (λ name found. RefusesFound name found (fault.TwoProducts one other))
 
 -- what a refusal says of the words before what was found is looked at

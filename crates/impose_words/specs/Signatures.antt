@@ -3,13 +3,13 @@ use Rattle.std.specs.Prelude.{ℕ, ◌%◌, ◌==◌, ◌&&◌, Bool, nat_eq, na
 use Rattle.std.specs.List.{starts_with}
 use Rattle.std.specs.Str.{bytes_eq}
 use Rattle.rules.specs.Signatures.{most_sides}
-use Rattle.command_words.specs.Matches.{number_of}
+use Rattle.command_words.specs.Matches.{u32_of}
 use Rattle.rows.specs.declared.sewing.Signing.{Signing}
 use Rattle.rows.specs.declared.sewing.Signing.TheVariants.{OfSides, Auto}
 
 -- a whole number in digits alone, as no sign is before a count
 abbrev pub whole_number : List ℕ → Option ℕ
-whole_number text = if starts_with nat_eq text (codes "+") then None else number_of text
+whole_number text = if starts_with nat_eq text (codes "+") then None else u32_of text
 
 -- a signature may have so many sides: each of its leaves has four (RULES, 11.3)
 abbrev pub are_sides : ℕ → Bool

@@ -9,7 +9,7 @@ use Rattle.layouts.specs.declared.arrangement.Cells.{Cells}
 use Rattle.layouts.specs.declared.arrangement.Cells.TheVariants.{Exactly}
 use Rattle.layouts.specs.declared.arrangement.Free.{Free}
 use Rattle.layouts.specs.declared.arrangement.Order.{Order}
-use Rattle.layouts.specs.declared.arrangement.Run.TheVariants.{Columns}
+use Rattle.layouts.specs.declared.arrangement.FillOrder.TheVariants.{Columns}
 use Rattle.layouts.specs.declared.arrangement.Turned.TheVariants.{Upright}
 use Rattle.impose_words.specs.declared.request.Layout.{Layout}
 use Rattle.impose_words.specs.declared.request.Layout.TheVariants as layout
@@ -47,9 +47,9 @@ on_fronts s = record s.free { left = unwrap_or s.inner s.free.left }
 
 -- the inner margin is the right one on backs: left and right margins are exchanged there. Booklets alone have another
 -- inner edge
-abbrev pub is_mirrored : Layout → Spacing → Bool
-is_mirrored (layout.NUp cells) s = is_some s.inner
-is_mirrored other s = false
+abbrev pub swaps_margins : Layout → Spacing → Bool
+swaps_margins (layout.NUp cells) s = is_some s.inner
+swaps_margins other s = false
 
 -- the arrangement of these cells, with the margins and gaps of a request
 abbrev pub arrangement_in : Spacing → Cells → Arrangement

@@ -9,8 +9,8 @@ use Rattle.command_words.specs.Matches.{has_true}
 use Rattle.layouts.specs.declared.arrangement.Cells.{Cells}
 use Rattle.layouts.specs.declared.arrangement.Cells.TheVariants.{AtLeast, Exactly}
 use Rattle.layouts.specs.declared.arrangement.Order.{Order}
-use Rattle.layouts.specs.declared.arrangement.Run.{Run}
-use Rattle.layouts.specs.declared.arrangement.Run.TheVariants.{Rows}
+use Rattle.layouts.specs.declared.arrangement.FillOrder.{FillOrder}
+use Rattle.layouts.specs.declared.arrangement.FillOrder.TheVariants.{Rows}
 use Rattle.layouts.specs.declared.arrangement.Turned.{Turned}
 use Rattle.layouts.specs.declared.arrangement.Turned.TheVariants.{Upright}
 use Rattle.pagespec.specs.declared.item.Turn.{Turn}
@@ -22,11 +22,11 @@ use Rattle.rows.specs.declared.choices.Part.TheVariants.{All, Odd, Even}
 use Rattle.dressing.specs.declared.numbers.Numbering.{Numbering}
 use Rattle.dressing.specs.declared.strokes.Marks.{Marks}
 use Rattle.impose_words.specs.Arranging.{booklet_marks_named, cells_named, cut_marks_named, exact_alone, lines_alone, no_marks, noted_alone}
-use Rattle.impose_words.specs.Arranging.{number_size_named, numbering, run_named, turn_named, turned_named, with_numbers}
-use Rattle.impose_words.specs.Choices.{is_whole}
+use Rattle.impose_words.specs.Arranging.{number_size_named, numbering, run_named, turn_named, turned_named, marks_and_numbers}
+use Rattle.impose_words.specs.Choices.{is_all_pages}
 use Rattle.layouts.specs.Grids.{nothing_free}
 use Rattle.layouts.specs.declared.arrangement.Free.{Free}
-use Rattle.impose_words.specs.Edges.{gaps_named, margins_in, margins_named, spaced}
+use Rattle.impose_words.specs.Edges.{gaps_named, margins_in, margins_named, free_with}
 use Rattle.impose_words.specs.declared.edges.Margins.{Margins}
 use Rattle.impose_words.specs.declared.request.PageChoice.{PageChoice}
 use Rattle.impose_words.specs.Command.{impose}
@@ -39,10 +39,10 @@ use Rattle.impose_words.specs.declared.request.Product.{Product}
 use Rattle.impose_words.specs.Products.{is_picture_file, is_plan, is_specification, lays_rows, picture_in}
 use Rattle.impose_words.specs.Spacings.{keeps_room, nothing_kept}
 use Rattle.impose_words.specs.declared.request.Spacing.{Spacing}
-use Rattle.impose_words.specs.declared.fault.GridCommand.{GridCommand}
-use Rattle.impose_words.specs.declared.fault.GridCommand.TheVariants as grid
-use Rattle.impose_words.specs.declared.fault.Opt.{Opt}
-use Rattle.impose_words.specs.declared.fault.Opt.TheVariants as opt
+use Rattle.impose_words.specs.declared.fault.CellCommand.{CellCommand}
+use Rattle.impose_words.specs.declared.fault.CellCommand.TheVariants as grid
+use Rattle.impose_words.specs.declared.fault.OptionId.{OptionId}
+use Rattle.impose_words.specs.declared.fault.OptionId.TheVariants as opt
 use Rattle.impose_words.specs.declared.fault.ProductOption.{ProductOption}
 use Rattle.impose_words.specs.declared.fault.ProductOption.TheVariants as instead
 
@@ -53,7 +53,7 @@ abbrev pub has_flag : (id : Text) → (found : List Row) → Bool
 has_flag id found = has_true (first_of id found)
 
 -- the name of its argument
-abbrev pub opt_id : Opt → Text
+abbrev pub opt_id : OptionId → Text
 opt_id opt.Paper = codes "paper"
 opt_id opt.Sheet = codes "sheet"
 opt_id opt.Border = codes "border"
@@ -76,7 +76,7 @@ opt_id opt.Outfile = codes "outfile"
 opt_id opt.Preview = codes "preview"
 
 -- the text after an option
-abbrev pub given : Opt → (found : List Row) → Option Text
+abbrev pub given : OptionId → (found : List Row) → Option Text
 given option found = first_of (opt_id option) found
 
 -- what the text after an option asks for; without one something stands in its place, and a text may mean nothing
@@ -84,7 +84,7 @@ abbrev pub asked : {A : Type 0} → (unasked : A) → (Text → Option A) → Op
 asked unasked named None = Some unasked
 asked unasked named (Some text) = named text
 
-abbrev pub size_found : Opt → (found : List Row) → Option (Option Paper)
+abbrev pub size_found : OptionId → (found : List Row) → Option (Option Paper)
 size_found option found = asked None (λ text. option_map (λ size. Some size) (size_named text)) (given option found)
 
 abbrev pub border_found : (found : List Row) → Option (Option ℤ)
@@ -93,7 +93,7 @@ border_found found = asked None border_with_unit (given opt.Border found)
 abbrev pub turn_found : (found : List Row) → Option Turn
 turn_found found = asked turn.None turn_named (given opt.Turn found)
 
-abbrev pub length_found : Opt → (found : List Row) → Option ℤ
+abbrev pub length_found : OptionId → (found : List Row) → Option ℤ
 length_found option found = asked (pos 0) length_with_unit (given option found)
 
 -- what is kept free along edges, and between cells
@@ -104,7 +104,7 @@ abbrev pub gaps_found : (found : List Row) → Option Free
 gaps_found found = asked nothing_free gaps_named (given opt.Gap found)
 
 abbrev pub free_found : (found : List Row) → Option Free
-free_found found = spaced (margins_found found) (gaps_found found) (length_found opt.Trim found)
+free_found found = free_with (margins_found found) (gaps_found found) (length_found opt.Trim found)
 
 -- how leaves are sewn, if anything is asked for
 abbrev pub signing_found : (found : List Row) → Option (Option Signing)
@@ -115,7 +115,7 @@ abbrev pub row_asked : (found : List Row) → Bool
 row_asked found = is_some (first_of (codes "pages") found) || is_some (given opt.Signature found)
     || has_flag (codes "odd") found || has_flag (codes "even") found || has_flag (codes "reverse") found
 
-abbrev pub command_name : GridCommand → Text
+abbrev pub command_name : CellCommand → Text
 command_name grid.NUp = codes "nup"
 command_name grid.Cards = codes "cards"
 command_name grid.Stack = codes "stack"
@@ -124,18 +124,18 @@ command_name grid.Poster = codes "poster"
 
 -- the cells that a text after such a command means; those of notes are a number of pages, and those of a poster are its sheets,
 -- in so many columns and rows
-abbrev pub cells_in : GridCommand → Text → Option Cells
-cells_in grid.NUp text = cells_named text
-cells_in grid.Cards text = cells_named text
-cells_in grid.Stack text = cells_named text
-cells_in grid.Notes text = noted_alone (cells_named text)
-cells_in grid.Poster text = exact_alone (cells_named text)
+abbrev pub cells_of_command : CellCommand → Text → Option Cells
+cells_of_command grid.NUp text = cells_named text
+cells_of_command grid.Cards text = cells_named text
+cells_of_command grid.Stack text = cells_named text
+cells_of_command grid.Notes text = noted_alone (cells_named text)
+cells_of_command grid.Poster text = exact_alone (cells_named text)
 
 -- the cells that come after such a command
-abbrev pub cells_found : GridCommand → (found : List Row) → Option Cells
-cells_found command found = option_and_then (cells_in command) (given (opt.Count command) found)
+abbrev pub cells_found : CellCommand → (found : List Row) → Option Cells
+cells_found command found = option_and_then (cells_of_command command) (given (opt.Count command) found)
 
-abbrev pub run_found : (found : List Row) → Option (Run × Bool)
+abbrev pub run_found : (found : List Row) → Option (FillOrder × Bool)
 run_found found = asked (Rows, false) run_named (given opt.Order found)
 
 abbrev pub turned_found : (found : List Row) → Option Turned
@@ -145,7 +145,7 @@ abbrev pub scale_found : (found : List Row) → Option (Option ℤ)
 scale_found found = asked None (λ text. option_map (λ scale. Some scale) (number_alone text)) (given opt.Scale found)
 
 -- --rtl turns right into left in whatever order (RULES, 13.6)
-abbrev pub order_by : (run : Option (Run × Bool)) → (rtl : Bool) → Option Turned → Option Order
+abbrev pub order_by : (run : Option (FillOrder × Bool)) → (rtl : Bool) → Option Turned → Option Order
 order_by None rtl turned = None
 order_by (Some run) rtl None = None
 order_by (Some run) rtl (Some turned) = Some (record { run = run.0; right_to_left = run.1 || rtl; turned = turned })
@@ -170,13 +170,13 @@ abbrev pub number_size_found : (found : List Row) → Option (Option ℤ)
 number_size_found found = asked None (λ text. option_map (λ size. Some size) (number_size_named text)) (given opt.Numbers found)
 
 -- the first number is 1, and another one is only named if there are numbers
-abbrev pub first_named : (numbered : Bool) → Option Text → Option ℕ
-first_named numbered None = Some 1
-first_named false (Some text) = None
-first_named true (Some text) = whole_number text
+abbrev pub first_number : (numbered : Bool) → Option Text → Option ℕ
+first_number numbered None = Some 1
+first_number false (Some text) = None
+first_number true (Some text) = whole_number text
 
 abbrev pub first_found : (found : List Row) → Option ℕ
-first_found found = first_named (is_some (given opt.Numbers found)) (given opt.NumbersFrom found)
+first_found found = first_number (is_some (given opt.Numbers found)) (given opt.NumbersFrom found)
 
 -- zines, posters, and what specifications place, have no numbers
 abbrev pub has_numbers : Layout → Bool
@@ -190,7 +190,7 @@ abbrev pub numbers_found : Layout → (found : List Row) → Option (Option Numb
 numbers_found l found = if has_numbers l then numbering (number_size_found found) (first_found found) else Some None
 
 abbrev pub marks_found : Layout → (found : List Row) → Option Marks
-marks_found l found = with_numbers (lines_found l found) (numbers_found l found)
+marks_found l found = marks_and_numbers (lines_found l found) (numbers_found l found)
 
 abbrev pub part_by : (odd even : Bool) → Option Part
 part_by false false = Some All
@@ -265,7 +265,7 @@ ranges_id other = Some (codes "pages")
 
 -- what was found asks for these pages: as that argument says, or for all
 abbrev pub ChoosesBy : Option Text → (found : List Row) → PageChoice → Type 0
-ChoosesBy None found choice = is_whole choice ≡ true
+ChoosesBy None found choice = is_all_pages choice ≡ true
 ChoosesBy (Some id) found choice = (first_of id found ≡ option_map string_bytes choice.ranges)
     × (part_found found ≡ Some choice.part) × (has_flag (codes "reverse") found ≡ choice.backwards)
 
@@ -298,7 +298,7 @@ pub record ReadsSizes (found : List Row) (page_paper sheet_paper : Option Paper)
   pub turn_is : turn_found found ≡ Some turn
 
 -- the request is what was found (RULES, 11 to 15)
-pub record Reads (name : Text) (found : List Row) (r : ImposeRequest) : Type 0 where
+pub record ReadsRequest (name : Text) (found : List Row) (r : ImposeRequest) : Type 0 where
   pub layout : AsksFor name found r.layout
   pub spacing : SpacesBy (keeps_room r.layout) found r.spacing
   pub choice : ChoosesBy (ranges_id r.layout) found r.choice

@@ -4,7 +4,7 @@ ghost use Rattle.impose_words.specs.Arranging as meaning;
 
 use crate::sizes::length_with_unit;
 use dressing::Marks;
-use layouts::{Cells, MOST_ON_SHEET, Run, Turned};
+use layouts::{Cells, FillOrder, MOST_ON_SHEET, Turned};
 use lengths::{Grains, read_digits};
 use pagespec::Turn;
 
@@ -63,7 +63,7 @@ pub fn exact_cells(text: &str) -> Option<Cells>
 }
 
 /// The number of pages that the text means, if a sheet takes as many cells again for notes beside them.
-pub fn noted_cells(text: &str) -> Option<Cells>
+pub fn parse_note_count(text: &str) -> Option<Cells>
     ensures { result ≡ meaning.noted_alone (meaning.cells_named text.now) }
 {
     match cells_named(text) {
@@ -84,14 +84,14 @@ fn with_notes(pages: u32) -> Option<Cells>
 }
 
 /// Along what pages run, and whether from the right to the left.
-pub fn run_named(text: &str) -> Option<(Run, bool)>
+pub fn run_named(text: &str) -> Option<(FillOrder, bool)>
     ensures { result ≡ meaning.run_named text.now }
 {
     match text {
-        "right-down" => Some((Run::Rows, false)),
-        "down-right" => Some((Run::Columns, false)),
-        "left-down" => Some((Run::Rows, true)),
-        "down-left" => Some((Run::Columns, true)),
+        "right-down" => Some((FillOrder::Rows, false)),
+        "down-right" => Some((FillOrder::Columns, false)),
+        "left-down" => Some((FillOrder::Rows, true)),
+        "down-left" => Some((FillOrder::Columns, true)),
         _ => None,
     }
 }

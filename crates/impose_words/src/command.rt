@@ -3,34 +3,34 @@ ghost use Rattle.std.specs.Prelude.{◌≡◌, [], ◌∷◌, IfOk, IfErr, None,
 ghost use Rattle.clap.specs.Words.{Text, fault_of, first_of, found_of, is_simple, rows_of, subcommand_of, subcommand_rows_of};
 ghost use Rattle.lengths.specs.Lengths.{a4};
 ghost use Rattle.impose_words.specs.Command.{impose};
-ghost use Rattle.impose_words.specs.Words.{AsksFor, Entered, ReadsSizes, Reads, border_found, file_asked, given, is_outfile};
+ghost use Rattle.impose_words.specs.Words.{AsksFor, Entered, ReadsSizes, ReadsRequest, border_found, file_asked, given, is_outfile};
 ghost use Rattle.impose_words.specs.Words.{gaps_found, margins_found};
 ghost use Rattle.impose_words.specs.Words.{ChoosesBy, MakesBy, NamesPicture, SpacesBy, length_found, ranges_id, part_by as of_both};
-ghost use Rattle.impose_words.specs.Words.{cells_in as cells_of_command, command_name, order_found, run_found, scale_found};
+ghost use Rattle.impose_words.specs.Words.{cells_of_command as cells_of_command, command_name, order_found, run_found, scale_found};
 ghost use Rattle.impose_words.specs.Words.{first_found, has_numbers, lines_found, number_size_found, numbers_found};
 ghost use Rattle.impose_words.specs.Words.{marks_found, row_asked, signing_found, size_found, turn_found, turned_found};
 ghost use Rattle.impose_words.specs.Products.{is_plan, is_specification, lays_rows, picture_in};
 ghost use Rattle.impose_words.specs.Spacings.{keeps_room};
-ghost use Rattle.impose_words.specs.Faults.{NoValue, ParseRefuses, Wrong, Refuses, RefusesFound, Says, wrong_among, wrong_cells, wrong_choice};
+ghost use Rattle.impose_words.specs.Faults.{NoValue, ParseRefuses, Wrong, RefusesCommand, RefusesFound, SaysWrong, wrong_among, wrong_cells, wrong_choice};
 ghost use Rattle.impose_words.specs.Faults.{wrong_for, wrong_layout, wrong_marks, wrong_order, wrong_product, wrong_sizes, wrong_spacing};
 ghost use Rattle.impose_words.specs.Faults.{wrong_lines, wrong_numbers, wrong_specs};
-ghost use Rattle.impose_words.specs.declared.fault.Opt.TheVariants as opt;
+ghost use Rattle.impose_words.specs.declared.fault.OptionId.TheVariants as opt;
 
 use crate::arguments::command;
 use crate::arranging::{
-    NO_MARKS, booklet_marks_named, cells_named, cut_marks_named, exact_cells, noted_cells,
-    number_size_named, run_named, turn_named, turned_named,
+    NO_MARKS, booklet_marks_named, cells_named, cut_marks_named, exact_cells, number_size_named,
+    parse_note_count, run_named, turn_named, turned_named,
 };
 use crate::edges::{Margins, gaps_named, margins_named};
-use crate::fault::{GridCommand, Opt, ProductOption, RequestFault};
+use crate::fault::{CellCommand, OptionId, ProductOption, RequestFault};
 use crate::request::{ImposeRequest, Layout, PageChoice, Product, Spacing};
-use crate::signature::{number_in, signing_named};
-use crate::sizes::{border_with_unit, length_with_unit, number_alone, size_named};
+use crate::signature::{signing_named, whole_number};
+use crate::sizes::{border_with_unit, length_with_unit, parse_number, size_named};
 use clap::ArgMatches;
 use clap::error::ErrorKind;
 use command_words::{is_set, owned, text_of};
 use dressing::{Marks, Numbering};
-use layouts::{Cells, Free, Order, Run, Turned};
+use layouts::{Cells, FillOrder, Free, Order, Turned};
 use lengths::{Grains, Number, Paper, a4};
 use pagespec::Turn;
 use rows::{Part, Signing};
@@ -49,22 +49,22 @@ use std::alloc::Global;
 pub fn read_command(alloc: Global, words: &[String]) -> Result<ImposeRequest, RequestFault>
     // The command takes the words, and the request is what it finds among them.
     ensures read { IfOk result (λ request.
-        Entered (map string_bytes words.now) (λ name found. Reads name found request)) }
-    ensures home { IfOk result (λ request. request.home_paper ≡ a4) }
+        Entered (map string_bytes words.now) (λ name found. ReadsRequest name found request)) }
+    ensures home { IfOk result (λ request. request.default_paper ≡ a4) }
     // A fault is the first that there is.
-    ensures refused { IfErr result (Refuses (map string_bytes words.now)) }
+    ensures refused { IfErr result (RefusesCommand (map string_bytes words.now)) }
     // The command is a simple one: the words alone decide whether it takes them and what it finds in them.
     ensures simple { is_simple impose ≡ true }
 {
-    let matches = parse(alloc, words)?;
+    let matches = parse_words(alloc, words)?;
     match matches.subcommand() {
-        Some((name, found)) => request_of(alloc, name, found),
+        Some((name, found)) => subcommand_request(alloc, name, found),
         None => Err(RequestFault::Lacking),
     }
 }
 
 /// The values that the command finds among the words.
-fn parse<'a>(alloc: Global, words: &'a [String]) -> Result<ArgMatches<'a>, RequestFault>
+fn parse_words<'a>(alloc: Global, words: &'a [String]) -> Result<ArgMatches<'a>, RequestFault>
     ensures taken { IfOk result (λ _. fault_of impose (map string_bytes words.entry.now) ≡ []) }
     ensures found { IfOk result (λ m. subcommand_rows_of m ≡ subcommand_of impose (map string_bytes words.entry.now)) }
     ensures refused { IfErr result (ParseRefuses (map string_bytes words.entry.now)) }
@@ -83,13 +83,13 @@ fn parse<'a>(alloc: Global, words: &'a [String]) -> Result<ArgMatches<'a>, Reque
 }
 
 /// The request that the subcommand with this name and its matches make.
-fn request_of(
+fn subcommand_request(
     alloc: Global,
     name: &str,
     found: &ArgMatches<'_>,
 ) -> Result<ImposeRequest, RequestFault>
-    ensures read { IfOk result (Reads name.now (rows_of (found_of found.now))) }
-    ensures home { IfOk result (λ request. request.home_paper ≡ a4) }
+    ensures read { IfOk result (ReadsRequest name.now (rows_of (found_of found.now))) }
+    ensures home { IfOk result (λ request. request.default_paper ≡ a4) }
     ensures refused { IfErr result (RefusesFound name.now (rows_of (found_of found.now))) }
 {
     let sizes = match sizes_of(found) {
@@ -109,9 +109,9 @@ fn request_for(
 ) -> Result<ImposeRequest, RequestFault>
     requires sizes { ReadsSizes (rows_of (found_of found.now)) sizes.page_paper sizes.sheet_paper sizes.border sizes.turn }
     ensures read { (name : Text) → AsksFor name (rows_of (found_of found.now)) layout
-        → IfOk result (Reads name (rows_of (found_of found.now))) }
-    ensures home { IfOk result (λ request. request.home_paper ≡ a4) }
-    ensures refused { IfErr result (λ f. Says (rows_of (found_of found.now)) f (wrong_for layout (rows_of (found_of found.now)))) }
+        → IfOk result (ReadsRequest name (rows_of (found_of found.now))) }
+    ensures home { IfOk result (λ request. request.default_paper ≡ a4) }
+    ensures refused { IfErr result (λ f. SaysWrong (rows_of (found_of found.now)) f (wrong_for layout (rows_of (found_of found.now)))) }
 {
     let spacing = match spacing_of(&layout, found) {
         Ok(spacing) => spacing,
@@ -131,7 +131,7 @@ fn request_for(
         choice,
         turn: sizes.turn,
         page_paper: sizes.page_paper,
-        home_paper: a4(),
+        default_paper: a4(),
         sheet_paper: sizes.sheet_paper,
         border: sizes.border,
         marks,
@@ -153,22 +153,22 @@ struct Sizes {
 }
 
 /// The first of them that names none is at fault.
-fn sizes_of(found: &ArgMatches<'_>) -> Result<Sizes, Opt>
+fn sizes_of(found: &ArgMatches<'_>) -> Result<Sizes, OptionId>
     ensures read { IfOk result (λ sizes.
         ReadsSizes (rows_of (found_of found.now)) sizes.page_paper sizes.sheet_paper sizes.border sizes.turn) }
     ensures refused { IfErr result (λ option. wrong_sizes (rows_of (found_of found.now)) ≡ Some (NoValue option)) }
 {
-    let Some(page_paper) = paper_of(found, Opt::Paper) else {
-        return Err(Opt::Paper);
+    let Some(page_paper) = paper_option(found, OptionId::Paper) else {
+        return Err(OptionId::Paper);
     };
-    let Some(sheet_paper) = paper_of(found, Opt::Sheet) else {
-        return Err(Opt::Sheet);
+    let Some(sheet_paper) = paper_option(found, OptionId::Sheet) else {
+        return Err(OptionId::Sheet);
     };
     let Some(border) = border_of(found) else {
-        return Err(Opt::Border);
+        return Err(OptionId::Border);
     };
     let Some(turn) = turn_of(found) else {
-        return Err(Opt::Turn);
+        return Err(OptionId::Turn);
     };
     Ok(Sizes {
         page_paper,
@@ -179,7 +179,7 @@ fn sizes_of(found: &ArgMatches<'_>) -> Result<Sizes, Opt>
 }
 
 /// The paper that an option names, if it is there.
-fn paper_of(found: &ArgMatches<'_>, option: Opt) -> Option<Option<Paper>>
+fn paper_option(found: &ArgMatches<'_>, option: OptionId) -> Option<Option<Paper>>
     ensures { result ≡ size_found option (rows_of (found_of found.now)) }
 {
     match text_of(found, option.id()) {
@@ -209,8 +209,8 @@ fn turn_of(found: &ArgMatches<'_>) -> Option<Turn>
 }
 
 /// The fault of a value that is none.
-fn bad_value(alloc: Global, found: &ArgMatches<'_>, option: Opt) -> RequestFault
-    ensures { (wrong : Option Wrong) → wrong ≡ Some (NoValue option) → Says (rows_of (found_of found.now)) result wrong }
+fn bad_value(alloc: Global, found: &ArgMatches<'_>, option: OptionId) -> RequestFault
+    ensures { (wrong : Option Wrong) → wrong ≡ Some (NoValue option) → SaysWrong (rows_of (found_of found.now)) result wrong }
 {
     match text_of(found, option.id()) {
         None => RequestFault::BadValue(option, String::new(alloc)),
@@ -224,16 +224,16 @@ fn bad_value(alloc: Global, found: &ArgMatches<'_>, option: Opt) -> RequestFault
 /// The layout of the subcommand with this name.
 fn layout_of(alloc: Global, name: &str, found: &ArgMatches<'_>) -> Result<Layout, RequestFault>
     ensures read { IfOk result (AsksFor name.now (rows_of (found_of found.now))) }
-    ensures refused { IfErr result (λ f. Says (rows_of (found_of found.now)) f (wrong_layout name.now (rows_of (found_of found.now)))) }
+    ensures refused { IfErr result (λ f. SaysWrong (rows_of (found_of found.now)) f (wrong_layout name.now (rows_of (found_of found.now)))) }
 {
     match name {
-        "nup" => grid_of(alloc, GridCommand::NUp, found),
+        "nup" => cells_layout(alloc, CellCommand::NUp, found),
         "booklet" => booklet_of(alloc, found),
         "zine" => Ok(Layout::Zine),
-        "cards" => grid_of(alloc, GridCommand::Cards, found),
-        "stack" => grid_of(alloc, GridCommand::Stack, found),
-        "notes" => grid_of(alloc, GridCommand::Notes, found),
-        "poster" => grid_of(alloc, GridCommand::Poster, found),
+        "cards" => cells_layout(alloc, CellCommand::Cards, found),
+        "stack" => cells_layout(alloc, CellCommand::Stack, found),
+        "notes" => cells_layout(alloc, CellCommand::Notes, found),
+        "poster" => cells_layout(alloc, CellCommand::Poster, found),
         "select" => selection_of(found),
         "spec" => spec_of(alloc, found),
         _ => Err(RequestFault::Lacking),
@@ -241,57 +241,57 @@ fn layout_of(alloc: Global, name: &str, found: &ArgMatches<'_>) -> Result<Layout
 }
 
 /// The layout of a command that has cells.
-fn grid_of(
+fn cells_layout(
     alloc: Global,
-    command: GridCommand,
+    command: CellCommand,
     found: &ArgMatches<'_>,
 ) -> Result<Layout, RequestFault>
     ensures read { IfOk result (AsksFor (command_name command) (rows_of (found_of found.now))) }
-    ensures refused { IfErr result (λ f. Says (rows_of (found_of found.now)) f (wrong_cells command (rows_of (found_of found.now)))) }
+    ensures refused { IfErr result (λ f. SaysWrong (rows_of (found_of found.now)) f (wrong_cells command (rows_of (found_of found.now)))) }
 {
     let Some(text) = text_of(found, "count") else {
         return Err(RequestFault::Lacking);
     };
     let Some(cells) = cells_in(command, text) else {
-        return Err(bad_value(alloc, found, Opt::Count(command)));
+        return Err(bad_value(alloc, found, OptionId::Count(command)));
     };
     Ok(match (command, cells) {
-        (GridCommand::NUp, cells) => Layout::NUp(cells),
-        (GridCommand::Cards, cells) => Layout::Cards(cells),
-        (GridCommand::Stack, cells) => Layout::Stack {
+        (CellCommand::NUp, cells) => Layout::NUp(cells),
+        (CellCommand::Cards, cells) => Layout::Cards(cells),
+        (CellCommand::Stack, cells) => Layout::Stack {
             cells,
             duplex: is_set(found, "duplex"),
         },
-        (GridCommand::Notes, Cells::AtLeast(pages)) => Layout::Notes { pages },
-        (GridCommand::Poster, Cells::Exactly { columns, rows }) => Layout::Poster { columns, rows },
-        (GridCommand::Notes, Cells::Exactly { .. }) => unreachable!(),
-        (GridCommand::Poster, Cells::AtLeast(_)) => unreachable!(),
+        (CellCommand::Notes, Cells::AtLeast(pages)) => Layout::Notes { pages },
+        (CellCommand::Poster, Cells::Exactly { columns, rows }) => Layout::Poster { columns, rows },
+        (CellCommand::Notes, Cells::Exactly { .. }) => unreachable!(),
+        (CellCommand::Poster, Cells::AtLeast(_)) => unreachable!(),
     })
 }
 
 /// The cells that a text after the command means. Those of notes are a number of pages, and those of a poster are its sheets,
 /// in so many columns and rows.
-fn cells_in(command: GridCommand, text: &str) -> Option<Cells>
+fn cells_in(command: CellCommand, text: &str) -> Option<Cells>
     ensures { result ≡ cells_of_command command text.now }
 {
     match command {
-        GridCommand::Notes => noted_cells(text),
-        GridCommand::Poster => exact_cells(text),
-        GridCommand::NUp | GridCommand::Cards | GridCommand::Stack => cells_named(text),
+        CellCommand::Notes => parse_note_count(text),
+        CellCommand::Poster => exact_cells(text),
+        CellCommand::NUp | CellCommand::Cards | CellCommand::Stack => cells_named(text),
     }
 }
 
 fn booklet_of(alloc: Global, found: &ArgMatches<'_>) -> Result<Layout, RequestFault>
     ensures read { IfOk result (AsksFor (codes "booklet") (rows_of (found_of found.now))) }
     ensures refused { IfErr result (λ f.
-        Says (rows_of (found_of found.now)) f (wrong_among (opt.Signature ∷ []) (rows_of (found_of found.now)))) }
+        SaysWrong (rows_of (found_of found.now)) f (wrong_among (opt.Signature ∷ []) (rows_of (found_of found.now)))) }
 {
     match signing_of(found) {
         Some(signing) => Ok(Layout::Booklet {
             signing: signing.unwrap_or(Signing::InOne),
             long_edge: is_set(found, "long-edge"),
         }),
-        None => Err(bad_value(alloc, found, Opt::Signature)),
+        None => Err(bad_value(alloc, found, OptionId::Signature)),
     }
 }
 
@@ -308,7 +308,7 @@ fn signing_of(found: &ArgMatches<'_>) -> Option<Option<Signing>>
 fn selection_of(found: &ArgMatches<'_>) -> Result<Layout, RequestFault>
     ensures read { IfOk result (AsksFor (codes "select") (rows_of (found_of found.now))) }
     ensures refused { IfErr result (λ f.
-        Says (rows_of (found_of found.now)) f (wrong_layout (codes "select") (rows_of (found_of found.now)))) }
+        SaysWrong (rows_of (found_of found.now)) f (wrong_layout (codes "select") (rows_of (found_of found.now)))) }
 {
     match text_of(found, "ranges") {
         Some(_) => Ok(Layout::Selection),
@@ -318,7 +318,7 @@ fn selection_of(found: &ArgMatches<'_>) -> Result<Layout, RequestFault>
 
 fn spec_of(alloc: Global, found: &ArgMatches<'_>) -> Result<Layout, RequestFault>
     ensures read { IfOk result (AsksFor (codes "spec") (rows_of (found_of found.now))) }
-    ensures refused { IfErr result (λ f. Says (rows_of (found_of found.now)) f (wrong_specs (rows_of (found_of found.now)))) }
+    ensures refused { IfErr result (λ f. SaysWrong (rows_of (found_of found.now)) f (wrong_specs (rows_of (found_of found.now)))) }
 {
     let specs = match text_of(found, "specs") {
         Some(specs) => String::from_str(alloc, specs)?,
@@ -329,7 +329,7 @@ fn spec_of(alloc: Global, found: &ArgMatches<'_>) -> Result<Layout, RequestFault
     }
     match signing_of(found) {
         Some(signing) => Ok(Layout::SpecRow { specs, signing }),
-        None => Err(bad_value(alloc, found, Opt::Signature)),
+        None => Err(bad_value(alloc, found, OptionId::Signature)),
     }
 }
 
@@ -345,7 +345,7 @@ fn asks_for_row(found: &ArgMatches<'_>) -> bool
 }
 
 /// The margins and gaps of the layout's sheets, the order in which these are read, and the scale of the pages.
-fn spacing_of(layout: &Layout, found: &ArgMatches<'_>) -> Result<Spacing, Opt>
+fn spacing_of(layout: &Layout, found: &ArgMatches<'_>) -> Result<Spacing, OptionId>
     ensures read { IfOk result (SpacesBy (keeps_room layout.now) (rows_of (found_of found.now))) }
     ensures refused { IfErr result (λ option.
         wrong_spacing (keeps_room layout.now) (rows_of (found_of found.now)) ≡ Some (NoValue option)) }
@@ -354,23 +354,23 @@ fn spacing_of(layout: &Layout, found: &ArgMatches<'_>) -> Result<Spacing, Opt>
         return Ok(Spacing::none());
     }
     let Some(margins) = margins_of(found) else {
-        return Err(Opt::Margin);
+        return Err(OptionId::Margin);
     };
     let Some(gaps) = gaps_of(found) else {
-        return Err(Opt::Gap);
+        return Err(OptionId::Gap);
     };
-    let Some(trim) = length_of(found, Opt::Trim) else {
-        return Err(Opt::Trim);
+    let Some(trim) = length_of(found, OptionId::Trim) else {
+        return Err(OptionId::Trim);
     };
-    let Some(creep) = length_of(found, Opt::Creep) else {
-        return Err(Opt::Creep);
+    let Some(creep) = length_of(found, OptionId::Creep) else {
+        return Err(OptionId::Creep);
     };
-    let Some(overlap) = length_of(found, Opt::Overlap) else {
-        return Err(Opt::Overlap);
+    let Some(overlap) = length_of(found, OptionId::Overlap) else {
+        return Err(OptionId::Overlap);
     };
     let order = order_of(found)?;
     let Some(scale) = scale_of(found) else {
-        return Err(Opt::Scale);
+        return Err(OptionId::Scale);
     };
     Ok(Spacing {
         free: Free {
@@ -392,7 +392,7 @@ fn spacing_of(layout: &Layout, found: &ArgMatches<'_>) -> Result<Spacing, Opt>
 fn margins_of(found: &ArgMatches<'_>) -> Option<Margins>
     ensures { result ≡ margins_found (rows_of (found_of found.now)) }
 {
-    match text_of(found, Opt::Margin.id()) {
+    match text_of(found, OptionId::Margin.id()) {
         None => Some(Margins::of(Free::none())),
         Some(text) => margins_named(text),
     }
@@ -402,14 +402,14 @@ fn margins_of(found: &ArgMatches<'_>) -> Option<Margins>
 fn gaps_of(found: &ArgMatches<'_>) -> Option<Free>
     ensures { result ≡ gaps_found (rows_of (found_of found.now)) }
 {
-    match text_of(found, Opt::Gap.id()) {
+    match text_of(found, OptionId::Gap.id()) {
         None => Some(Free::none()),
         Some(text) => gaps_named(text),
     }
 }
 
 /// The length that an option names; 0 if it isn't there.
-fn length_of(found: &ArgMatches<'_>, option: Opt) -> Option<Grains>
+fn length_of(found: &ArgMatches<'_>, option: OptionId) -> Option<Grains>
     ensures { result ≡ length_found option (rows_of (found_of found.now)) }
 {
     match text_of(found, option.id()) {
@@ -419,15 +419,15 @@ fn length_of(found: &ArgMatches<'_>, option: Opt) -> Option<Grains>
 }
 
 /// In which order one reads the cells. Right is turned into left by `--rtl` in whatever order.
-fn order_of(found: &ArgMatches<'_>) -> Result<Order, Opt>
+fn order_of(found: &ArgMatches<'_>) -> Result<Order, OptionId>
     ensures read { IfOk result (λ order. order_found (rows_of (found_of found.now)) ≡ Some order) }
     ensures refused { IfErr result (λ option. wrong_order (rows_of (found_of found.now)) ≡ Some (NoValue option)) }
 {
     let Some((run, from_right)) = run_of(found) else {
-        return Err(Opt::Order);
+        return Err(OptionId::Order);
     };
     let Some(turned) = turned_of(found) else {
-        return Err(Opt::Turned);
+        return Err(OptionId::Turned);
     };
     Ok(Order {
         run,
@@ -437,11 +437,11 @@ fn order_of(found: &ArgMatches<'_>) -> Result<Order, Opt>
 }
 
 /// Along what pages run, and whether from the right by the order itself.
-fn run_of(found: &ArgMatches<'_>) -> Option<(Run, bool)>
+fn run_of(found: &ArgMatches<'_>) -> Option<(FillOrder, bool)>
     ensures { result ≡ run_found (rows_of (found_of found.now)) }
 {
     match text_of(found, "order") {
-        None => Some((Run::Rows, false)),
+        None => Some((FillOrder::Rows, false)),
         Some(text) => run_named(text),
     }
 }
@@ -462,31 +462,31 @@ fn scale_of(found: &ArgMatches<'_>) -> Option<Option<Number>>
 {
     match text_of(found, "scale") {
         None => Some(None),
-        Some(text) => Some(Some(number_alone(text)?)),
+        Some(text) => Some(Some(parse_number(text)?)),
     }
 }
 
 /// The marks and the numbers that are asked for, of those that sheets of the layout have.
-fn marks_of(layout: &Layout, found: &ArgMatches<'_>) -> Result<Marks, Opt>
+fn marks_of(layout: &Layout, found: &ArgMatches<'_>) -> Result<Marks, OptionId>
     ensures read { IfOk result (λ marks. marks_found layout.now (rows_of (found_of found.now)) ≡ Some marks) }
     ensures refused { IfErr result (λ option. wrong_marks layout.now (rows_of (found_of found.now)) ≡ Some (NoValue option)) }
 {
     let lines = lines_of(layout, found)?;
-    let numbers = numbers_of(layout, found)?;
+    let numbers = numbering_option(layout, found)?;
     Ok(Marks { numbers, ..lines })
 }
 
 /// The marks alone.
-fn lines_of(layout: &Layout, found: &ArgMatches<'_>) -> Result<Marks, Opt>
+fn lines_of(layout: &Layout, found: &ArgMatches<'_>) -> Result<Marks, OptionId>
     ensures read { IfOk result (λ marks. lines_found layout.now (rows_of (found_of found.now)) ≡ Some marks) }
     ensures refused { IfErr result (λ option. wrong_lines layout.now (rows_of (found_of found.now)) ≡ Some (NoValue option)) }
 {
     match (layout, text_of(found, "marks")) {
         (Layout::Booklet { .. }, Some(text)) => {
-            booklet_marks_named(text).ok_or(Opt::BookletMarks)
+            booklet_marks_named(text).ok_or(OptionId::BookletMarks)
         }
         (Layout::NUp(_) | Layout::Cards(_) | Layout::Stack { .. }, Some(text)) => {
-            cut_marks_named(text).ok_or(Opt::CutMarks)
+            cut_marks_named(text).ok_or(OptionId::CutMarks)
         }
         (Layout::Notes { .. }, _) => Ok(Marks {
             ruled: true,
@@ -497,7 +497,7 @@ fn lines_of(layout: &Layout, found: &ArgMatches<'_>) -> Result<Marks, Opt>
 }
 
 /// The numbers alone.
-fn numbers_of(layout: &Layout, found: &ArgMatches<'_>) -> Result<Option<Numbering>, Opt>
+fn numbering_option(layout: &Layout, found: &ArgMatches<'_>) -> Result<Option<Numbering>, OptionId>
     ensures read { IfOk result (λ numbers. numbers_found layout.now (rows_of (found_of found.now)) ≡ Some numbers) }
     ensures refused { IfErr result (λ option.
         wrong_numbers (has_numbers layout.now) (rows_of (found_of found.now)) ≡ Some (NoValue option)) }
@@ -506,11 +506,11 @@ fn numbers_of(layout: &Layout, found: &ArgMatches<'_>) -> Result<Option<Numberin
         return Ok(None);
     }
     let Some(size) = number_size_of(found) else {
-        return Err(Opt::Numbers);
+        return Err(OptionId::Numbers);
     };
     match first_of(found) {
         Some(first) => Ok(size.map(|size| Numbering { size, first })),
-        None => Err(Opt::NumbersFrom),
+        None => Err(OptionId::NumbersFrom),
     }
 }
 
@@ -531,7 +531,7 @@ fn first_of(found: &ArgMatches<'_>) -> Option<u32>
     match (text_of(found, "numbers"), text_of(found, "numbers-from")) {
         (_, None) => Some(1),
         (None, Some(_)) => None,
-        (Some(_), Some(text)) => number_in(text),
+        (Some(_), Some(text)) => whole_number(text),
     }
 }
 
@@ -543,7 +543,7 @@ fn choice_of(
 ) -> Result<PageChoice, RequestFault>
     ensures read { IfOk result (ChoosesBy (ranges_id layout.now) (rows_of (found_of found.now))) }
     ensures refused { IfErr result (λ f.
-        Says (rows_of (found_of found.now)) f (wrong_choice (ranges_id layout.now) (rows_of (found_of found.now)))) }
+        SaysWrong (rows_of (found_of found.now)) f (wrong_choice (ranges_id layout.now) (rows_of (found_of found.now)))) }
 {
     match layout {
         Layout::Spec(_) => Ok(PageChoice::whole()),
@@ -556,7 +556,7 @@ fn choice_of(
 fn choice_by(alloc: Global, id: &str, found: &ArgMatches<'_>) -> Result<PageChoice, RequestFault>
     ensures read { IfOk result (ChoosesBy (Some id.now) (rows_of (found_of found.now))) }
     ensures refused { IfErr result (λ f.
-        Says (rows_of (found_of found.now)) f (wrong_choice (Some id.now) (rows_of (found_of found.now)))) }
+        SaysWrong (rows_of (found_of found.now)) f (wrong_choice (Some id.now) (rows_of (found_of found.now)))) }
 {
     match part_of(is_set(found, "odd"), is_set(found, "even")) {
         Some(part) => Ok(PageChoice {
@@ -585,12 +585,12 @@ fn outfile_of(alloc: Global, found: &ArgMatches<'_>) -> Result<Option<String>, R
         file_asked (given opt.Outfile (rows_of (found_of found.now))) ≡ option_map string_bytes outfile) }
     ensures no_option { IfOk result (λ outfile. is_outfile (option_map string_bytes outfile) ≡ true) }
     ensures refused { IfErr result (λ f.
-        Says (rows_of (found_of found.now)) f (wrong_among (opt.Outfile ∷ []) (rows_of (found_of found.now)))) }
+        SaysWrong (rows_of (found_of found.now)) f (wrong_among (opt.Outfile ∷ []) (rows_of (found_of found.now)))) }
 {
     match file_named(text_of(found, "outfile")) {
         None => Ok(None),
         Some(name) => if name.as_bytes().starts_with(b"-") {
-            Err(bad_value(alloc, found, Opt::Outfile))
+            Err(bad_value(alloc, found, OptionId::Outfile))
         } else {
             Ok(Some(String::from_str(alloc, name)?))
         },
@@ -605,7 +605,7 @@ fn product_of(
 ) -> Result<Product, RequestFault>
     ensures read { IfOk result (MakesBy (lays_rows layout.now) (rows_of (found_of found.now))) }
     ensures refused { IfErr result (λ f.
-        Says (rows_of (found_of found.now)) f (wrong_product (lays_rows layout.now) (rows_of (found_of found.now)))) }
+        SaysWrong (rows_of (found_of found.now)) f (wrong_product (lays_rows layout.now) (rows_of (found_of found.now)))) }
 {
     let printed = is_set(found, "print-spec");
     if !layout.lays_rows() {
@@ -648,14 +648,14 @@ fn picture_of(alloc: Global, name: &str, found: &ArgMatches<'_>) -> Result<Produ
     requires { given opt.Preview (rows_of (found_of found.now)) ≡ Some name.now }
     ensures picture { IfOk result (NamesPicture name.now) }
     ensures refused { IfErr result (λ f.
-        Says (rows_of (found_of found.now)) f (wrong_among (opt.Preview ∷ []) (rows_of (found_of found.now)))) }
+        SaysWrong (rows_of (found_of found.now)) f (wrong_among (opt.Preview ∷ []) (rows_of (found_of found.now)))) }
 {
     match file_named(Some(name)) {
         None => Ok(Product::Picture(None)),
         Some(name) => if name.as_bytes().ends_with(b".svg") {
             Ok(Product::Picture(Some(String::from_str(alloc, name)?)))
         } else {
-            Err(bad_value(alloc, found, Opt::Preview))
+            Err(bad_value(alloc, found, OptionId::Preview))
         },
     }
 }

@@ -4,7 +4,7 @@ use std::alloc::AllocError;
 
 /// The command that puts pages into the cells of a grid, or beside those for notes, or over its sheets.
 #[derive(Clone, Copy, Debug, PartialEq, Eq)]
-pub enum GridCommand {
+pub enum CellCommand {
     NUp,
     Cards,
     Stack,
@@ -14,13 +14,13 @@ pub enum GridCommand {
 
 /// An argument or option whose value has a meaning of its own.
 #[derive(Clone, Copy, Debug, PartialEq, Eq)]
-pub enum Opt {
+pub enum OptionId {
     Paper,
     Sheet,
     Border,
     Turn,
     /// The word after such a command.
-    Count(GridCommand),
+    Count(CellCommand),
     Signature,
     Margin,
     Gap,
@@ -40,7 +40,7 @@ pub enum Opt {
     Preview,
 }
 
-impl Opt {
+impl OptionId {
     ghost use Rattle.std.specs.Prelude.{◌≡◌};
     ghost use Rattle.impose_words.specs.Words.{opt_id};
 
@@ -49,25 +49,25 @@ impl Opt {
         ensures { result.now ≡ opt_id self }
     {
         match self {
-            Opt::Paper => "paper",
-            Opt::Sheet => "sheet",
-            Opt::Border => "border",
-            Opt::Turn => "turn",
-            Opt::Count(_) => "count",
-            Opt::Signature => "signature",
-            Opt::Margin => "margin",
-            Opt::Gap => "gap",
-            Opt::Trim => "trim",
-            Opt::Creep => "creep",
-            Opt::Overlap => "overlap",
-            Opt::Order => "order",
-            Opt::Turned => "turned",
-            Opt::Scale => "scale",
-            Opt::BookletMarks | Opt::CutMarks => "marks",
-            Opt::Numbers => "numbers",
-            Opt::NumbersFrom => "numbers-from",
-            Opt::Outfile => "outfile",
-            Opt::Preview => "preview",
+            OptionId::Paper => "paper",
+            OptionId::Sheet => "sheet",
+            OptionId::Border => "border",
+            OptionId::Turn => "turn",
+            OptionId::Count(_) => "count",
+            OptionId::Signature => "signature",
+            OptionId::Margin => "margin",
+            OptionId::Gap => "gap",
+            OptionId::Trim => "trim",
+            OptionId::Creep => "creep",
+            OptionId::Overlap => "overlap",
+            OptionId::Order => "order",
+            OptionId::Turned => "turned",
+            OptionId::Scale => "scale",
+            OptionId::BookletMarks | OptionId::CutMarks => "marks",
+            OptionId::Numbers => "numbers",
+            OptionId::NumbersFrom => "numbers-from",
+            OptionId::Outfile => "outfile",
+            OptionId::Preview => "preview",
         }
     }
 }
@@ -90,7 +90,7 @@ pub enum RequestFault {
     /// The words name no subcommand of the command's, or lack one of its arguments, though the command takes them.
     Lacking,
     /// The value, this text, is none that the argument or option takes.
-    BadValue(Opt, String),
+    BadValue(OptionId, String),
     /// Both `--odd` and `--even` are there.
     OddAndEven,
     /// Both options are there, of which each asks for something else in place of the sheets.

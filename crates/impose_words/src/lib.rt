@@ -10,10 +10,10 @@ mod request;
 mod signature;
 mod sizes;
 
-pub use arranging::{cells_named, exact_cells, noted_cells, run_named, turned_named};
+pub use arranging::{cells_named, exact_cells, parse_note_count, run_named, turned_named};
 pub use command::read_command;
 pub use edges::{gaps_named, margins_named};
-pub use fault::{GridCommand, Opt, ProductOption, RequestFault};
+pub use fault::{CellCommand, OptionId, ProductOption, RequestFault};
 pub use request::{ImposeRequest, Layout, PageChoice, Product, Spacing};
-pub use signature::{number_in, signing_named};
-pub use sizes::{border_with_unit, lacks_unit, length_with_unit, number_alone, size_named};
+pub use signature::{signing_named, whole_number};
+pub use sizes::{border_with_unit, lacks_unit, length_with_unit, parse_number, size_named};

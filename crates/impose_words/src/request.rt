@@ -1,14 +1,14 @@
 //! What a command line asks for.
 ghost use Rattle.std.specs.Prelude.{◌≡◌, option_map, string_bytes, true};
 ghost use Rattle.rows.specs.Choices.{choice_of};
-ghost use Rattle.impose_words.specs.Choices.{choice_in, is_whole};
+ghost use Rattle.impose_words.specs.Choices.{choice_in, is_all_pages};
 ghost use Rattle.impose_words.specs.Products.{lays_rows};
 ghost use Rattle.impose_words.specs.Spacings.{arrangement_in, binding_in, keeps_room, notes_in, nothing_kept, some_gap as some_gap_of, zine_in};
-ghost use Rattle.impose_words.specs.Spacings.{at_fold as free_at_fold, fold_gap as gap_at_fold, on_fronts as free_on_fronts, is_mirrored};
+ghost use Rattle.impose_words.specs.Spacings.{at_fold as free_at_fold, fold_gap as gap_at_fold, on_fronts as free_on_fronts, swaps_margins};
 ghost use Rattle.impose_words.specs.Words.{has_numbers};
 
 use dressing::Marks;
-use layouts::{Arrangement, Binding, Cells, Free, Order, Run, Turned, grains, is_length};
+use layouts::{Arrangement, Binding, Cells, FillOrder, Free, Order, Turned, grains, is_length};
 use lengths::{Grains, Number, Paper};
 use pagespec::Turn;
 use rows::{Choice, Part, Signing};
@@ -157,7 +157,7 @@ impl Spacing {
             rows: pages,
         };
         let order = Order {
-            run: Run::Columns,
+            run: FillOrder::Columns,
             right_to_left: false,
             turned: Turned::Upright,
         };
@@ -176,7 +176,7 @@ impl Spacing {
             rows: 2,
         };
         let order = Order {
-            run: Run::Rows,
+            run: FillOrder::Rows,
             right_to_left: self.order.right_to_left,
             turned: Turned::Upright,
         };
@@ -254,7 +254,7 @@ pub struct PageChoice {
 impl PageChoice {
     /// All pages, in their order.
     pub fn whole() -> PageChoice
-        ensures { is_whole result ≡ true }
+        ensures { is_all_pages result ≡ true }
     {
         PageChoice {
             ranges: None,
@@ -265,7 +265,7 @@ impl PageChoice {
 
     /// Whether it is all pages, in their order, without any range.
     pub fn is_whole(&self) -> bool
-        ensures { result ≡ is_whole self.now }
+        ensures { result ≡ is_all_pages self.now }
     {
         self.ranges.is_none() && self.part == Part::All && !self.backwards
     }
@@ -317,7 +317,7 @@ pub struct ImposeRequest {
     /// The paper of the pages, if it is named.
     pub page_paper: Option<Paper>,
     /// The paper of the pages if neither the words nor the document name one: the usual one where the program runs.
-    pub home_paper: Paper,
+    pub default_paper: Paper,
     /// The paper of the sheets, if it is named; else it is that of the pages.
     pub sheet_paper: Option<Paper>,
     /// The width of a border round each placed page, if one is asked for.
@@ -338,8 +338,8 @@ pub struct ImposeRequest {
 
 impl ImposeRequest {
     /// Whether left and right margins are exchanged on every second sheet.
-    pub fn is_mirrored(&self) -> bool
-        ensures { result ≡ is_mirrored self.now.layout self.now.spacing }
+    pub fn swaps_margins(&self) -> bool
+        ensures { result ≡ swaps_margins self.now.layout self.now.spacing }
     {
         match &self.layout {
             Layout::NUp(_) => self.spacing.inner.is_some(),

@@ -1,6 +1,6 @@
 //! How a booklet is sewn, by the word of an option.
 ghost use Rattle.std.specs.Prelude.{◌≡◌};
-ghost use Rattle.command_words.specs.Matches.{number_of};
+ghost use Rattle.command_words.specs.Matches.{u32_of};
 ghost use Rattle.impose_words.specs.Signatures.{of_sides as signing_of_sides, signing_named as signing_by, whole_number};
 
 use rows::Signing;
@@ -12,7 +12,7 @@ pub fn signing_named(text: &str) -> Option<Signing>
     if text == "auto" {
         Some(Signing::Auto)
     } else {
-        of_sides(number_in(text))
+        of_sides(whole_number(text))
     }
 }
 
@@ -33,7 +33,7 @@ fn of_sides(sides: Option<u32>) -> Option<Signing>
 }
 
 /// The whole number that a text is, in digits alone.
-pub fn number_in(text: &str) -> Option<u32>
+pub fn whole_number(text: &str) -> Option<u32>
     ensures { result ≡ whole_number text.now }
 {
     if text.as_bytes().starts_with(b"+") {
@@ -45,7 +45,7 @@ pub fn number_in(text: &str) -> Option<u32>
 
 /// The same, with or without a plus.
 fn parsed(text: &str) -> Option<u32>
-    ensures { result ≡ number_of text.now }
+    ensures { result ≡ u32_of text.now }
 {
     match text.parse::<u32>() {
         Ok(number) => Some(number),

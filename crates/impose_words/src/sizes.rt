@@ -14,7 +14,7 @@ pub fn size_named(text: &str) -> Option<Paper>
 }
 
 /// The number that is all of the text, up to 99,999.999999999; decimals past the ninth have no effect.
-pub fn number_alone(text: &str) -> Option<Number>
+pub fn parse_number(text: &str) -> Option<Number>
     ensures { result ≡ meaning.number_alone text.now }
 {
     match read_number(text.as_bytes()) {
@@ -27,7 +27,7 @@ pub fn number_alone(text: &str) -> Option<Number>
 pub fn lacks_unit(text: &str, is_listed: bool) -> bool
     ensures { result ≡ meaning.lacks_unit is_listed text.now }
 {
-    match number_alone(text) {
+    match parse_number(text) {
         Some(number) => is_listed || number.billionths() != 0,
         None => false,
     }

@@ -10,7 +10,7 @@ use Rattle.rules.specs.Numbers.{number_of}
 use Rattle.rules.specs.Bytes.{line}
 use Rattle.imposed_again.specs.Seams.{no_ends, IsLine, line_unit, lf, ends}
 use Rattle.rules.specs.Units.{is_end, TextUnit, BlockFault, content_of, line_len, lines_len, begins_block, fields, counts_lines, or_short, data_len, block, first_unit}
-use Rattle.dsc.specs.Fields.{counted}
+use Rattle.dsc.specs.Fields.{block_len}
 use Rattle.dsc.proofs.Cases.{by_test}
 use Rattle.dsc.proofs.LineLengths.{line_len-within, lines_len-least}
 use Rattle.dsc.proofs.Fronts.{data-within, bytes_or}
@@ -34,8 +34,8 @@ not_end false b e = refl
 
 -- The data of a block.
 
-pub counted_same : (in_lines : Bool) (n : ℕ) (x r s : List ℕ) (m : ℕ) → counted in_lines n (x ++ r) ≡ Ok m → m ≤ length x → (lf s ≡ true → lf r ≡ true)
-    → (r ≡ [] → 0 < length x → ends x ≡ true) → counted in_lines n (x ++ s) ≡ Ok m
+pub counted_same : (in_lines : Bool) (n : ℕ) (x r s : List ℕ) (m : ℕ) → block_len in_lines n (x ++ r) ≡ Ok m → m ≤ length x → (lf s ≡ true → lf r ≡ true)
+    → (r ≡ [] → 0 < length x → ends x ≡ true) → block_len in_lines n (x ++ s) ≡ Ok m
 counted_same true n x r s m e h j k = ap or_short (lines_same n x r s m (short_some _ m e) h j k)
 counted_same false n x r s m e h j k =
     let w = bytes_ok _ n m (short_some _ m e) in
@@ -133,7 +133,7 @@ fed_short : (old : ℕ) (new : Option ℕ) (most : ℕ) → FedLines old new mos
 fed_short old new most (inl p) = inl (ap or_short p)
 fed_short old new most (inr p) = inr (p.0, ap or_short p.1)
 
-fed_counted : (in_lines : Bool) (n : ℕ) (x ys : List ℕ) (m : ℕ) → counted in_lines n x ≡ Ok m → FedData m (counted in_lines n (x ++ 10 ∷ ys)) (length x)
+fed_counted : (in_lines : Bool) (n : ℕ) (x ys : List ℕ) (m : ℕ) → block_len in_lines n x ≡ Ok m → FedData m (block_len in_lines n (x ++ 10 ∷ ys)) (length x)
 fed_counted true n x ys m e = fed_short m _ (length x) (fed_lines n x ys m (short_some _ m e))
 fed_counted false n x ys m e =
     let w = bytes_ok _ n m (short_some _ m e) in
@@ -148,7 +148,7 @@ fed_data content x ys (f ∷ fs) m e = by_test (list_all is_ascii_digit f)
     (λ not. let e = (rw not at e) in cc)
 
 -- there are no data, whatever follows
-counted_none : (in_lines : Bool) (n : ℕ) (ys : List ℕ) (m : ℕ) → counted in_lines n [] ≡ Ok m → counted in_lines n ys ≡ Ok 0
+counted_none : (in_lines : Bool) (n : ℕ) (ys : List ℕ) (m : ℕ) → block_len in_lines n [] ≡ Ok m → block_len in_lines n ys ≡ Ok 0
 counted_none true n ys m e =
     let least = lines_len-least n [] m (short_some _ m e) in
     let none : n ≡ 0 = omega (arith, least.0, least.1) in

@@ -19,7 +19,7 @@ use Rattle.imposer.specs.Options.{AreOptions}
 use Rattle.sheet_writer.specs.Sinks.{SinkView}
 use Rattle.sheet_writer.specs.Writing.{WroteFirst}
 use Rattle.imposer.specs.Gathering.{Answers, ReportsOf, WrotePartOf}
-use Rattle.imposer.specs.Runs.{Request, frame_of, IsAccepted, Accepted, Reports, IsRefusal, IsUnwritten, HasWritten, WrotePart, IsGiven, AnswersRequest}
+use Rattle.imposer.specs.Runs.{Request, frame_of, IsRunAccepted, Accepted, Reports, IsRunRefusal, IsUnwritten, HasWritten, WrotePart, IsGiven, AnswersRequest}
 use Rattle.imposer.specs.declared.options.Options.{Options}
 use Rattle.imposer.specs.declared.runs.Given.{Given}
 use Rattle.imposer.specs.declared.outcome.RunError.{RunError}
@@ -27,7 +27,7 @@ use Rattle.imposer.specs.declared.outcome.RunError.TheVariants as error
 use Rattle.imposer.specs.declared.outcome.Report.{Report}
 
 pub accepted_of : (r : Request) (s : Spec) (us : List NestedUnit) (n : ℕ) → AreOptions r.options → Takes most_slots r.spec s → document_of r.input ≡ Ok us → n ≡ length (pages us)
-    → plan_in r.options.sides s n ≡ Ok (sheets_in r.options.sides s n) → IsAccepted r s us
+    → plan_in r.options.sides s n ≡ Ok (sheets_in r.options.sides s n) → IsRunAccepted r s us
 accepted_of r s us n options takes document count plan = record { options = options; takes = takes; document = document; plan = rw (← count) plan }
 
 -- nothing was written, and the sink is as it was
@@ -48,7 +48,7 @@ unwritten_steady (error.NoMemory written) sink none = inl refl
 unwritten_steady (error.Write written) sink none = absurd none
 
 -- a refusal before anything was written
-pub refused_answers : (r : Request) (sink : SinkView) (e : RunError) → IsRefusal r e → IsUnwritten e → AnswersRequest r sink sink (Err e)
+pub refused_answers : (r : Request) (sink : SinkView) (e : RunError) → IsRunRefusal r e → IsUnwritten e → AnswersRequest r sink sink (Err e)
 refused_answers r sink e refusal none = (refusal, unwritten_kept r sink e none, unwritten_steady e sink none)
 
 -- what a job that was made of an accepted request answers is the request's answer
@@ -70,7 +70,7 @@ job_answers r chosen given plan n job old new result is count plan_is accepted j
     whole : output_of job ≡ output frame r.options.sides given.spec us
     whole = ap output_of here ∙ output_is frame r.options.sides given.spec us
 
-    taken : IsAccepted r given.spec us
+    taken : IsRunAccepted r given.spec us
     taken = accepted_of r given.spec us n is.options is.takes is.document count (subst (λ (o : Options). plan_in o.sides given.spec n ≡ Ok (sheets_in o.sides given.spec n)) (sym is.same_options) accepted)
 
     part : (w : ℕ) → WroteFirst job old new w → WrotePart r old new w
@@ -108,7 +108,7 @@ pub says_finished : (r : Request) (old new : SinkView) (result : Result Report R
 says_finished r old new (Ok report) answers = answers.0
 says_finished r old new (Err e) answers = tt
 
-pub says_refused : (r : Request) (old new : SinkView) (result : Result Report RunError) → AnswersRequest r old new result → IfErr result (λ e. IsRefusal r e)
+pub says_refused : (r : Request) (old new : SinkView) (result : Result Report RunError) → AnswersRequest r old new result → IfErr result (λ e. IsRunRefusal r e)
 says_refused r old new (Ok report) answers = tt
 says_refused r old new (Err e) answers = answers.0
 

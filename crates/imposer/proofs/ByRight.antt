@@ -5,7 +5,7 @@ use mathlib.Core.Logic.{dite}
 use native.Mathlib.Decide.{ℕ_discrete}
 use Rattle.std.proofs.lemmas.List.{length-map}
 use Rattle.rules.specs.Sheets.{Plan, Layout, layout}
-use Rattle.rules.specs.Seats.{total, times}
+use Rattle.rules.specs.Seats.{total, occurrences}
 use Rattle.rules.specs.SeatRules.{entries_at}
 use Rattle.rules.proofs.SeatTotals.{times_same, times_else}
 use Rattle.sheet_plan.specs.Places.{places_of}
@@ -25,7 +25,7 @@ use Rattle.run_steps.proofs.PlacesOf.{Each, each_map, places_stand}
 use Rattle.run_steps.proofs.Shares.{completed_few, completed_counted}
 use Rattle.run_steps.specs.declared.delivery.Delivered.{Delivered}
 use Rattle.imposer.specs.Tokens as held
-use Rattle.imposer.specs.Tokens.{AreTokens, AreUnused, done, put, completed_below}
+use Rattle.imposer.specs.Tokens.{AreTokens, AreUnused, calls_done, put_by, completed_below}
 use Rattle.imposer.specs.Rooms.{PutsAll, HasRoomFrom, HasRoomForPage, PutsByRight}
 use Rattle.imposer.specs.declared.tokens.Tokens.{Tokens}
 use Rattle.imposer.proofs.Held.{calls_called, puts_and_back, unused_put}
@@ -33,7 +33,7 @@ use Rattle.imposer.proofs.Held.{calls_called, puts_and_back, unused_put}
 -- how often numbers below n are in a list
 abbrev pub times_below : ℕ → List ℕ → ℕ
 times_below zero xs = 0
-times_below (suc n) xs = times_below n xs + times n xs
+times_below (suc n) xs = times_below n xs + occurrences n xs
 
 times_below_none : (n : ℕ) → times_below n [] ≡ 0
 times_below_none zero = refl
@@ -55,7 +55,7 @@ times_below_one zero x lt = absurd (omega arith)
 times_below_one (suc n) x lt = dite (ℕ_discrete x n)
     (λ same.
     let h = times_below_past n x (omega arith) in
-    let o : times n (x ∷ []) ≡ 1 = subst (λ y. times n (y ∷ []) ≡ 1) (sym same) (times_same n) in
+    let o : occurrences n (x ∷ []) ≡ 1 = subst (λ y. occurrences n (y ∷ []) ≡ 1) (sym same) (times_same n) in
     omega arith)
     (λ other. let h = times_below_one n x (omega arith) in let z = times_else n x other in omega arith)
 
@@ -87,14 +87,14 @@ delivery_within layout p d =
     (each_map _ (λ (x : ℕ × ℕ). x.0 < length layout.sheets) (places_of layout p) (λ x st. st.0) (places_stand layout p))
 
 -- what is completed of a sheet, and of the first n, when calls come
-completed_called : (s : ℕ) (old new : Tokens) (es : List Entry) → table.Makes old.seat es new.seat
-    → held.completed s new ≡ held.completed s old + times s (completed es)
+completed_called : (s : ℕ) (old new : Tokens) (es : List Entry) → table.MakesCalls old.seat es new.seat
+    → held.completed_by s new ≡ held.completed_by s old + occurrences s (completed es)
 completed_called s old new es made =
     let more = calls_called (λ e. if completes s e then 1 else 0) old.seat new.seat es made in
-    let these : times s (completed es) ≡ completings s es = completed_counted s es in
+    let these : occurrences s (completed es) ≡ completings s es = completed_counted s es in
     omega arith
 
-below_called : (n : ℕ) (old new : Tokens) (es : List Entry) → table.Makes old.seat es new.seat
+below_called : (n : ℕ) (old new : Tokens) (es : List Entry) → table.MakesCalls old.seat es new.seat
     → completed_below n new ≡ completed_below n old + times_below n (completed es)
 below_called zero old new es made = refl
 below_called (suc n) old new es made =
@@ -107,12 +107,12 @@ below_few : (n : ℕ) (tokens : Tokens) → IsSeat tokens.seat → completed_bel
 below_few zero tokens k = omega arith
 below_few (suc n) tokens k =
     let rest = below_few n tokens k in
-    let one : held.completed n tokens ≤ 1 = seats_complete_once.0 tokens.seat n k in
+    let one : held.completed_by n tokens ≤ 1 = seats_complete_once.0 tokens.seat n k in
     omega arith
 
 -- what a delivery completes is put, if there is room for it
 pub delivered_by_right : (q : QueueView) (t : TableView) (n : ℕ) (layout : Layout) (p : ℕ) (d : Delivered) (old new : Tokens)
-    → AreTokens t q n old → table.Makes old.seat (calls_of layout p d) new.seat
+    → AreTokens t q n old → table.MakesCalls old.seat (calls_of layout p d) new.seat
     → HandedOn q (completed (calls_of layout p d)) d.handed_back.items old.pass new.pass
     → HasRoomForPage layout p old → PutsByRight layout p old new
 delivered_by_right q t n layout p d old new are made handed room = record {
@@ -122,7 +122,7 @@ delivered_by_right q t n layout p d old new are made handed room = record {
   counted = counted;
   all = λ all s.
       let puts = puts_and_back s q calls d.handed_back.items old.pass new.pass handed in
-      let none : times s d.handed_back.items ≡ 0 = ap (times s) back.0 in
+      let none : occurrences s d.handed_back.items ≡ 0 = ap (occurrences s) back.0 in
       let did = completed_called s old new (calls_of layout p d) made in
       let was = all s in
       omega (arith, puts, none, did, was);
@@ -293,7 +293,7 @@ none_complete (LookGroup r h m ∷ es) none closed s =
     let rest = none_complete es (omega (arith, none)) (λ t g. let one = closed t g in omega (arith, one)) s in
     omega (arith, rest)
 
-pub imposers_complete_nothing : (tokens : Tokens) → ((w : Duty → ℕ) → done w tokens ≡ 0) → CloseWhatTheyFill (own_calls tokens.seat) → (s : ℕ) → held.completed s tokens ≡ 0
+pub imposers_complete_nothing : (tokens : Tokens) → ((w : Duty → ℕ) → calls_done w tokens ≡ 0) → CloseWhatTheyFill (own_calls tokens.seat) → (s : ℕ) → held.completed_by s tokens ≡ 0
 imposers_complete_nothing tokens nothing close s =
     let none = nothing (λ d. 1) in
     none_complete (own_calls tokens.seat) none (λ t g. close t g ∙ none_fill (own_calls tokens.seat) none t g) s

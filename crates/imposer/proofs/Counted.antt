@@ -8,7 +8,7 @@ use Rattle.std.proofs.lemmas.Bool.{cases_eq, cases_lt}
 use Rattle.std.proofs.lemmas.List.{get_or_past}
 use Rattle.std.proofs.lemmas.Grind.{get_or_default_zero}
 use Rattle.std.proofs.lemmas.Nat.Bits.{bit_at-zero, bit_at-trailing_zeros}
-use Rattle.imposer.specs.SheetNumbers.{has_bit, numbers, AreCounted, IsFirst, HasNoneBelow}
+use Rattle.imposer.specs.SheetNumbers.{has_number, numbers, AreCounted, IsSmallest, HasNoneBelow}
 use Rattle.imposer.proofs.Passing.{few, member, same_numbers, one_more, one_less}
 
 -- there are no words at first
@@ -17,7 +17,7 @@ none_yet = record { few = omega arith; blank = λ k lt. absurd (omega arith); co
 
 -- the count fits
 pub count_is_small : (words : List ℕ) (first count : ℕ) → AreCounted words first count → count ≤ 4294967296
-count_is_small words first count a = let f = few (has_bit words) (64 * length words) in let l = a.few in let c = a.counted in omega (arith, f, l, c)
+count_is_small words first count a = let f = few (has_number words) (64 * length words) in let l = a.few in let c = a.counted in omega (arith, f, l, c)
 
 -- the count is 0 if the set is empty, and only then
 pub empty_is : (words : List ℕ) (first count : ℕ) → AreCounted words first count → count ≡ 0 → numbers words ≡ empty
@@ -27,7 +27,7 @@ pub count_of_empty : (words : List ℕ) (first count : ℕ) → AreCounted words
 count_of_empty words first count a e = a.counted ∙ ap len e ∙ len-empty nat_cmp
 
 pub blank_words_more : (old new : List ℕ) (first count : ℕ) → AreCounted old first count
-    → ((k : ℕ) → has_bit new k ≡ has_bit old k) → (length old ≤ 67108864 → length new ≤ 67108864) → AreCounted new first count
+    → ((k : ℕ) → has_number new k ≡ has_number old k) → (length old ≤ 67108864 → length new ≤ 67108864) → AreCounted new first count
 blank_words_more old new first count a same few = record {
   few = few a.few;
   blank = λ k lt. same k ∙ a.blank k lt;
@@ -38,10 +38,10 @@ before : (n k : ℕ) (first : ℕ) → k < 64 * min first (n / 64) → k ≢ n
 before n k first lt e = omega (arith, lt, e)
 
 pub counted_more : (old new : List ℕ) (first count n : ℕ) → AreCounted old first count → length new ≡ length old
-    → ((k : ℕ) → has_bit new k ≡ ((k == n) || has_bit old k)) → has_bit old n ≡ false → AreCounted new (min first (n / 64)) (count + 1)
+    → ((k : ℕ) → has_number new k ≡ ((k == n) || has_number old k)) → has_number old n ≡ false → AreCounted new (min first (n / 64)) (count + 1)
 counted_more old new first count n a same is absent = record {
   few = let l = a.few in omega (arith, l, same);
-  blank = λ k lt. is k ∙ ap (λ b. b || has_bit old k) (ne_eqb k n (before n k first lt)) ∙ a.blank k (omega (arith, lt));
+  blank = λ k lt. is k ∙ ap (λ b. b || has_number old k) (ne_eqb k n (before n k first lt)) ∙ a.blank k (omega (arith, lt));
   counted =
       ap (λ (c : ℕ). c + 1) a.counted
       ∙ sym (
@@ -60,7 +60,7 @@ some_counted words first count n a is = by (cases_eq count 0)
     by (inr other) = omega (arith, other)
 
 pub counted_less : (old new : List ℕ) (first count n : ℕ) → AreCounted old first count → length new ≡ length old
-    → ((k : ℕ) → has_bit new k ≡ (not (k == n) && has_bit old k)) → contains (numbers old) n ≡ true → AreCounted new first (count - 1)
+    → ((k : ℕ) → has_number new k ≡ (not (k == n) && has_number old k)) → contains (numbers old) n ≡ true → AreCounted new first (count - 1)
 counted_less old new first count n a same is there = record {
   few = let l = a.few in omega (arith, l, same);
   blank = λ k lt. is k ∙ ap (λ b. not (k == n) && b) (a.blank k lt) ∙ never (not (k == n));
@@ -79,20 +79,20 @@ counted_less old new first count n a same is there = record {
 
 -- the first word in which a bit may be set moved on
 pub moved_on : (words : List ℕ) (first next count : ℕ) → AreCounted words first count
-    → ((k : ℕ) → 64 * first ≤ k → k < 64 * next → has_bit words k ≡ false) → AreCounted words next count
+    → ((k : ℕ) → 64 * first ≤ k → k < 64 * next → has_number words k ≡ false) → AreCounted words next count
 moved_on words first next count a blank = record { few = a.few; blank = λ k lt. by k lt (cases_lt k (64 * first)); counted = a.counted }
   where
-    by : (k : ℕ) → k < 64 * next → (k < 64 * first) ⊎ (64 * first ≤ k) → has_bit words k ≡ false
+    by : (k : ℕ) → k < 64 * next → (k < 64 * first) ⊎ (64 * first ≤ k) → has_number words k ≡ false
     by k lt (inl low) = a.blank k low
     by k lt (inr high) = blank k high lt
 
-not_there : (words : List ℕ) (k : ℕ) → length words ≤ k / 64 → has_bit words k ≡ false
+not_there : (words : List ℕ) (k : ℕ) → length words ≤ k / 64 → has_number words k ≡ false
 not_there words k past = ap (λ (w : ℕ). bit_at w (k % 64) == 1) (get_or_past words (k / 64) 0 past) ∙ ap (λ (b : ℕ). b == 1) (bit_at-zero (k % 64))
 
 pub none_past : (words : List ℕ) (first count end : ℕ) → AreCounted words first count → length words ≤ first → HasNoneBelow (numbers words) end
 none_past words first count end a past k is = absurd (true≢false (sym is ∙ member words k ∙ by (cases_lt k (64 * first))))
   where
-    by : (k < 64 * first) ⊎ (64 * first ≤ k) → has_bit words k ≡ false
+    by : (k < 64 * first) ⊎ (64 * first ≤ k) → has_number words k ≡ false
     by (inl low) = a.blank k low
     by (inr high) = not_there words k (omega (arith, past, high))
 
@@ -108,7 +108,7 @@ module _ (words : List ℕ) (first count : ℕ) (a : AreCounted words first coun
   low : ℕ
   low = trailing_zeros w64 (get_or words first 0)
 
-  pub lowest : IsFirst (numbers words) (first * 64 + trailing_zeros w64 (get_or words first 0))
+  pub lowest : IsSmallest (numbers words) (first * 64 + trailing_zeros w64 (get_or words first 0))
   lowest =
       let t = bit_at-trailing_zeros w64 (get_or words first 0) some fits in
       record {
@@ -117,7 +117,7 @@ module _ (words : List ℕ) (first count : ℕ) (a : AreCounted words first coun
       }
     where
       set : trailing_zeros w64 (get_or words first 0) < 64 → bit_at (get_or words first 0) (trailing_zeros w64 (get_or words first 0)) ≡ 1
-          → has_bit words (first * 64 + trailing_zeros w64 (get_or words first 0)) ≡ true
+          → has_number words (first * 64 + trailing_zeros w64 (get_or words first 0)) ≡ true
       set small one =
           let i : (first * 64 + trailing_zeros w64 (get_or words first 0)) / 64 ≡ first = omega arith in
           let j : (first * 64 + trailing_zeros w64 (get_or words first 0)) % 64 ≡ trailing_zeros w64 (get_or words first 0) = omega arith in
@@ -125,7 +125,7 @@ module _ (words : List ℕ) (first count : ℕ) (a : AreCounted words first coun
           ∙ ap (λ (x : ℕ). bit_at (get_or words first 0) x == 1) j
           ∙ eq-eqb _ 1 one
 
-      at_least : (k : ℕ) → has_bit words k ≡ true → ((i : ℕ) → i < trailing_zeros w64 (get_or words first 0) → bit_at (get_or words first 0) i ≡ 0)
+      at_least : (k : ℕ) → has_number words k ≡ true → ((i : ℕ) → i < trailing_zeros w64 (get_or words first 0) → bit_at (get_or words first 0) i ≡ 0)
           → (k < first * 64 + trailing_zeros w64 (get_or words first 0)) ⊎ (first * 64 + trailing_zeros w64 (get_or words first 0) ≤ k)
           → (k < 64 * first) ⊎ (64 * first ≤ k)
           → first * 64 + trailing_zeros w64 (get_or words first 0) ≤ k
@@ -141,15 +141,15 @@ module _ (words : List ℕ) (first count : ℕ) (a : AreCounted words first coun
 
 -- the same of a word that was read
 pub filled : (words : List ℕ) (first count bits : ℕ) → AreCounted words first count → bits ≡ get_or words first bits → first < length words
-    → (bits ≡ 0 → ⊥) → bits < 18446744073709551616 → IsFirst (numbers words) (first * 64 + trailing_zeros w64 bits)
+    → (bits ≡ 0 → ⊥) → bits < 18446744073709551616 → IsSmallest (numbers words) (first * 64 + trailing_zeros w64 bits)
 filled words first count bits a read there some fits =
     let e : bits ≡ get_or words first 0 = read ∙ get_or_default_zero words first bits there in
     let more : 0 < bits = omega (arith, some) in
-    subst (λ (b : ℕ). IsFirst (numbers words) (first * 64 + trailing_zeros w64 b)) (sym e) (lowest words first count a (omega (arith, more, e)) (omega (arith, fits, e)))
+    subst (λ (b : ℕ). IsSmallest (numbers words) (first * 64 + trailing_zeros w64 b)) (sym e) (lowest words first count a (omega (arith, more, e)) (omega (arith, fits, e)))
 
 -- a word that was read and is 0
 pub blank_word : (words : List ℕ) (first bits : ℕ) → bits ≡ get_or words first bits → first < length words → bits ≡ 0 → get_or words first 0 ≡ 0
 blank_word words first bits read there none = sym (read ∙ get_or_default_zero words first bits there) ∙ none
 
-pub none_below_first : (s : FinSet nat_cmp) (n end : ℕ) → IsFirst s n → end ≤ n → HasNoneBelow s end
+pub none_below_first : (s : FinSet nat_cmp) (n end : ℕ) → IsSmallest s n → end ≤ n → HasNoneBelow s end
 none_below_first s n end f le k is = let h = f.least k is in omega (arith, h, le)

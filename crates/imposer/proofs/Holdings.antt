@@ -12,17 +12,17 @@ use Rattle.run_steps.specs.Delivery.{CloseWhatTheyFill}
 use Rattle.run_steps.specs.Duty.{Duty, worth, shares, owed}
 use Rattle.imposer.specs.Joining.{AreInOrderSince}
 use Rattle.imposer.specs.Tokens as held
-use Rattle.imposer.specs.Tokens.{AreTokens, AreUnused, AreOfBoth, done, put}
+use Rattle.imposer.specs.Tokens.{AreTokens, AreUnused, AreOfBoth, calls_done, put_by}
 use Rattle.imposer.specs.Promises.{IsHeld, HasPrepared, HasImposed, HasGathered}
 use Rattle.imposer.specs.declared.shared.Shared.{Shared}
 use Rattle.imposer.specs.declared.tokens.Tokens.{Tokens}
-use Rattle.imposer.specs.declared.tokens.Holding.{Holding}
+use Rattle.imposer.specs.declared.tokens.WorkerTokens.{WorkerTokens}
 use Rattle.imposer.proofs.Held.{closes_both}
 use Rattle.imposer.proofs.ByRight.{imposers_complete_nothing}
 use Rattle.run_steps.proofs.Shares.{together}
 
 -- a holding of which shares were given away has done the same
-pub given_away : {G : Type 0} (run : Shared G) (first : Tokens) (count joined n m : ℕ) (room : Option ℕ) (old : Holding) (seat : SeatView) (pass : PassView)
+pub given_away : {G : Type 0} (run : Shared G) (first : Tokens) (count joined n m : ℕ) (room : Option ℕ) (old : WorkerTokens) (seat : SeatView) (pass : PassView)
     → seat ≡ record old.tokens.seat { share = n } → pass ≡ record old.tokens.pass { share = m; room = room }
     → HasGathered run first count joined old
     → HasGathered run first count joined (record { tokens = record { seat = seat; pass = pass }; unshelved = old.unshelved })
@@ -32,17 +32,17 @@ given_away run first count joined n m room old seat pass seat_is pass_is had =
     (record { work = had.work; order = record { puts = had.order.puts; closes = had.order.closes }; puts = had.puts }))
 
 -- what was begun with, before anything was called
-pub begun : {G : Type 0} (run : Shared G) (count : ℕ) (h : Holding) (seat_unused : h.tokens.seat.own ≡ [])
+pub begun : {G : Type 0} (run : Shared G) (count : ℕ) (h : WorkerTokens) (seat_unused : h.tokens.seat.own ≡ [])
     → HasGathered run h.tokens count 0 h
 begun run count h unused =
     let first = h.tokens in record {
-      work = λ none w. ap (λ own. held.done w (record first { seat = record first.seat { own = own } })) unused;
+      work = λ none w. ap (λ own. held.calls_done w (record first { seat = record first.seat { own = own } })) unused;
       order = record {
         puts = λ s. omega arith;
         closes = subst (λ own. CloseWhatTheyFill (entries_at first.seat.front own)) (sym unused) (λ s g. refl);
       };
       puts = λ by_right s.
-          let none : held.completed s first ≡ 0 = ap (λ own. held.completed s (record first { seat = record first.seat { own = own } })) unused in
+          let none : held.completed_by s first ≡ 0 = ap (λ own. held.completed_by s (record first { seat = record first.seat { own = own } })) unused in
           omega (arith, none);
     }
 
@@ -56,7 +56,7 @@ none_of_two None two new is none = (refl, subst IsNone is none)
 none_of_two (Some a) two new is none = absurd (true≢false (subst IsNone is none))
 
 -- a preparer's holding is joined
-pub with_prepared : {G : Type 0} (run : Shared G) (first : Tokens) (count k : ℕ) (all theirs new : Holding)
+pub with_prepared : {G : Type 0} (run : Shared G) (first : Tokens) (count k : ℕ) (all theirs new : WorkerTokens)
     → AreOfBoth all.tokens theirs.tokens new.tokens → new.unshelved ≡ option_or all.unshelved theirs.unshelved
     → HasGathered run first count k all → HasPrepared run count k theirs → HasGathered run first count (k + 1) new
 with_prepared run first count k all theirs new both is had did =
@@ -64,7 +64,7 @@ with_prepared run first count k all theirs new both is had did =
       work = λ none w.
           let missing = none_of_two all.unshelved theirs.unshelved new.unshelved is none in
           let one = had.work missing.0 w in let two = did.work missing.1 w in let sum = both.calls (worth w) in
-          subst (λ n. done w new.tokens ≡ shares w run.floor.table.now.layout count run.floor.table.now.layout.pages n) grown (omega arith);
+          subst (λ n. calls_done w new.tokens ≡ shares w run.floor.table.now.layout count run.floor.table.now.layout.pages n) grown (omega arith);
       order = record {
         puts = λ s.
             let one = had.order.puts s in let two = did.order.puts s in let puts = both.puts s in
@@ -77,7 +77,7 @@ with_prepared run first count k all theirs new both is had did =
     }
 
 -- an imposer's holding is joined
-pub with_imposed : {G : Type 0} (run : Shared G) (first : Tokens) (count k : ℕ) (all theirs new : Holding)
+pub with_imposed : {G : Type 0} (run : Shared G) (first : Tokens) (count k : ℕ) (all theirs new : WorkerTokens)
     → AreOfBoth all.tokens theirs.tokens new.tokens → new.unshelved ≡ option_or all.unshelved theirs.unshelved
     → HasGathered run first count k all → HasImposed theirs → HasGathered run first count k new
 with_imposed run first count k all theirs new both is had did = record {
@@ -97,14 +97,14 @@ with_imposed run first count k all theirs new both is had did = record {
 }
 
 -- with all shares again, and all preparers joined
-pub record AllAreBack {G : Type 0} (run : Shared G) (first : Tokens) (h : Holding) : Type 0 where
+pub record AllAreBack {G : Type 0} (run : Shared G) (first : Tokens) (h : WorkerTokens) : Type 0 where
   pub tokens : AreTokens run.floor.table.now run.floor.ready.now whole_share h.tokens
   pub unshelved : IfSome h.unshelved (IsOn run.floor.shelf.now)
-  pub work : IsNone h.unshelved → (w : Duty → ℕ) → done w h.tokens ≡ owed w run.floor.table.now.layout run.floor.table.now.layout.pages
+  pub work : IsNone h.unshelved → (w : Duty → ℕ) → calls_done w h.tokens ≡ owed w run.floor.table.now.layout run.floor.table.now.layout.pages
   pub order : AreInOrderSince first h.tokens
-  pub puts : IsTrue run.by_right → (s : ℕ) → put s h.tokens ≡ put s first + held.completed s h.tokens
+  pub puts : IsTrue run.by_right → (s : ℕ) → put_by s h.tokens ≡ put_by s first + held.completed_by s h.tokens
 
-pub whole : {G : Type 0} (run : Shared G) (first : Tokens) (count : ℕ) (h : Holding) → 0 < count
+pub whole : {G : Type 0} (run : Shared G) (first : Tokens) (count : ℕ) (h : WorkerTokens) → 0 < count
     → IsHeld run h.tokens.seat.share h → h.tokens.seat.share ≡ whole_share → HasGathered run first count count h
     → AllAreBack run first h
 whole run first count h some held all did = record {
@@ -115,7 +115,7 @@ whole run first count h some held all did = record {
   puts = did.puts;
 }
 
-pub all_back : {G : Type 0} (run : Shared G) (first : Tokens) (count : ℕ) (ended : Option Holding) → 0 < count → first.seat.share ≡ whole_share
+pub all_back : {G : Type 0} (run : Shared G) (first : Tokens) (count : ℕ) (ended : Option WorkerTokens) → 0 < count → first.seat.share ≡ whole_share
     → IfSome ended (λ h. IsHeld run h.tokens.seat.share h) → IfSome ended (λ h. h.tokens.seat.share ≡ first.seat.share)
     → IfSome ended (HasGathered run first count count) → IfSome ended (AllAreBack run first)
 all_back run first count None some all held share did = tt

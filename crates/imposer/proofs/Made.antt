@@ -6,7 +6,7 @@ use Rattle.std.specs.List.{range_with_len}
 use Rattle.std.proofs.lemmas.List.{length-map}
 use Rattle.std.proofs.lemmas.List.FromFn.{length-range_with_len}
 use Rattle.rules.specs.Sheets.{Plan, layout}
-use Rattle.sheet_plan.specs.Places.{born_complete, is_blank}
+use Rattle.sheet_plan.specs.Places.{born_complete, is_blank_sheet}
 use Rattle.sheet_text.specs.Jobs.{JobView, output_of}
 use Rattle.imposer.specs.Outcomes.{FailedIn, IsNoRefusal}
 use Rattle.sheet_writer.specs.Sinks.{SinkView}
@@ -28,7 +28,7 @@ kept_few p (x ∷ xs) = by_test (p x) (omega (arith, kept_few p xs)) (omega (ari
 pub born_few : (plan : Plan) → length (born_complete (layout plan)) ≤ length plan.sheets
 born_few plan =
     let all : length (range_with_len 0 (length (layout plan).sheets)) ≡ length plan.sheets = length-range_with_len 0 (length (layout plan).sheets) ∙ length-map _ _ in
-    omega (arith, all, kept_few (is_blank (layout plan)) (range_with_len 0 (length (layout plan).sheets)))
+    omega (arith, all, kept_few (is_blank_sheet (layout plan)) (range_with_len 0 (length (layout plan).sheets)))
 
 -- the clauses of a run over a job, one by one, and back
 pub job_finished : (job : JobView) (old new : SinkView) (result : Result Report RunError) → Answers job old new result

@@ -7,7 +7,7 @@ use Rattle.std.specs.FinSet.{FinSet, insert, remove, contains, len, contains-emp
 use Rattle.std.proofs.lemmas.Bool.{cases_eq, cases_lt}
 use Rattle.std.proofs.lemmas.List.{get_or_past}
 use Rattle.std.proofs.lemmas.Nat.Bits.{bit_at-zero}
-use Rattle.imposer.specs.SheetNumbers.{has_bit, passing, numbers}
+use Rattle.imposer.specs.SheetNumbers.{has_number, passing, numbers}
 
 pub has_inserted : (s : FinSet nat_cmp) (n k : ℕ) → contains (insert s n) k ≡ ((k == n) || contains s k)
 has_inserted s n k = contains-insert nat_cmp_total s n k ∙ ap (λ b. b || contains s k) (unsigned_tied k n)
@@ -48,32 +48,32 @@ module _ (p : ℕ → Bool) where
   few (suc n) = few_step n (few n) (p n)
 
 -- the members are the numbers whose bits are set
-pub member : (words : List ℕ) (k : ℕ) → contains (numbers words) k ≡ has_bit words k
+pub member : (words : List ℕ) (k : ℕ) → contains (numbers words) k ≡ has_number words k
 member words k = by (cases_lt k (64 * length words))
   where
-    by : (k < 64 * length words) ⊎ (64 * length words ≤ k) → contains (numbers words) k ≡ has_bit words k
-    by (inl lt) = within (has_bit words) (64 * length words) k lt
+    by : (k < 64 * length words) ⊎ (64 * length words ≤ k) → contains (numbers words) k ≡ has_number words k
+    by (inl lt) = within (has_number words) (64 * length words) k lt
     by (inr ge) =
-        past (has_bit words) (64 * length words) k ge
+        past (has_number words) (64 * length words) k ge
         ∙ sym (ap (λ (w : ℕ). bit_at w (k % 64) == 1) (get_or_past words (k / 64) 0 (omega arith)) ∙ ap (λ (b : ℕ). b == 1) (bit_at-zero (k % 64)))
 
-pub same_numbers : (old new : List ℕ) → ((k : ℕ) → has_bit new k ≡ has_bit old k) → numbers new ≡ numbers old
+pub same_numbers : (old new : List ℕ) → ((k : ℕ) → has_number new k ≡ has_number old k) → numbers new ≡ numbers old
 same_numbers old new h = same_set nat_cmp_total nat_cmp-IsAntisymmetric _ _ (λ k. member new k ∙ h k ∙ sym (member old k))
 
-pub one_more : (old new : List ℕ) (n : ℕ) → ((k : ℕ) → has_bit new k ≡ ((k == n) || has_bit old k)) → numbers new ≡ insert (numbers old) n
+pub one_more : (old new : List ℕ) (n : ℕ) → ((k : ℕ) → has_number new k ≡ ((k == n) || has_number old k)) → numbers new ≡ insert (numbers old) n
 one_more old new n h =
     same_set nat_cmp_total nat_cmp-IsAntisymmetric _ _
     (λ k. member new k ∙ h k ∙ ap (λ b. (k == n) || b) (sym (member old k)) ∙ sym (has_inserted (numbers old) n k))
 
-pub one_less : (old new : List ℕ) (n : ℕ) → ((k : ℕ) → has_bit new k ≡ (not (k == n) && has_bit old k)) → numbers new ≡ remove (numbers old) n
+pub one_less : (old new : List ℕ) (n : ℕ) → ((k : ℕ) → has_number new k ≡ (not (k == n) && has_number old k)) → numbers new ≡ remove (numbers old) n
 one_less old new n h =
     same_set nat_cmp_total nat_cmp-IsAntisymmetric _ _
     (λ k. member new k ∙ h k ∙ ap (λ b. not (k == n) && b) (sym (member old k)) ∙ sym (has_removed (numbers old) n k))
 
 -- adding a number that is in the set changes nothing
-pub there_already : (words : List ℕ) (n : ℕ) → has_bit words n ≡ true → insert (numbers words) n ≡ numbers words
+pub there_already : (words : List ℕ) (n : ℕ) → has_number words n ≡ true → insert (numbers words) n ≡ numbers words
 there_already words n is = same_set nat_cmp_total nat_cmp-IsAntisymmetric _ _ (λ k. has_inserted (numbers words) n k ∙ by k (cases_eq k n))
   where
     by : (k : ℕ) → (k ≡ n) ⊎ (k ≢ n) → ((k == n) || contains (numbers words) k) ≡ contains (numbers words) k
-    by k (inl e) = ap (λ b. b || contains (numbers words) k) (eq-eqb k n e) ∙ sym (member words k ∙ ap (has_bit words) e ∙ is)
+    by k (inl e) = ap (λ b. b || contains (numbers words) k) (eq-eqb k n e) ∙ sym (member words k ∙ ap (has_number words) e ∙ is)
     by k (inr other) = ap (λ b. b || contains (numbers words) k) (ne_eqb k n other)

@@ -10,7 +10,7 @@ use Rattle.rules.specs.Output.{Frame, sheet_text, output}
 use Rattle.rules.specs.Run.{DocumentFault, document_of}
 use Rattle.dsc.specs.Faults.{fault_told}
 use Rattle.dsc.specs.Units.{units_of}
-use Rattle.imposer.specs.Runs.{Request, frame_of, IsAccepted, Reports}
+use Rattle.imposer.specs.Runs.{Request, frame_of, IsRunAccepted, Reports}
 use Rattle.imposer.specs.declared.outcome.Report.{Report}
 use Rattle.imposed_again.specs.Again.{depth_behind, IsAgain}
 use Rattle.imposed_again.proofs.Again.{imposed_again}
@@ -25,7 +25,7 @@ Says frame sides spec us count written =
     (document_of written ≡ Ok (units_of written)) × IsAgain frame (sheets_in sides spec (length (pages us))) us (units_of written)
     × (depth_behind (page_run us) ≡ 0 → length (pages (units_of written)) ≡ count)
 
-says : (r : Request) (spec : Spec) (us : List NestedUnit) (report : Report) → IsAccepted r spec us → Reports (frame_of r.options) r.options.sides spec us report → report.bytes ≤ 1_073_741_824
+says : (r : Request) (spec : Spec) (us : List NestedUnit) (report : Report) → IsRunAccepted r spec us → Reports (frame_of r.options) r.options.sides spec us report → report.bytes ≤ 1_073_741_824
     → Says (frame_of r.options) r.options.sides spec us report.sheets (output (frame_of r.options) r.options.sides spec us)
 says r spec us report a b l =
     let frame : Frame = frame_of r.options in

@@ -7,7 +7,7 @@ use Rattle.rules.specs.Output.{output}
 use Rattle.rules.specs.Run.{document_of, most_input_bytes}
 use Rattle.dsc.specs.Units.{units_of}
 use Rattle.dsc.specs.declared.errors.DscError.{DscError}
-use Rattle.imposer.specs.Runs.{Request, frame_of, Accepted, IsRefusal, Reports}
+use Rattle.imposer.specs.Runs.{Request, frame_of, Accepted, IsRunRefusal, Reports}
 use Rattle.imposer.specs.declared.outcome.Report.{Report}
 use Rattle.imposer.specs.declared.outcome.RunError.TheVariants as error
 use Rattle.imposed_again.specs.Again.{depth_behind, IsAgain}
@@ -34,4 +34,4 @@ RunIsDocument =
 abbrev pub RunsGoOn : Type 0
 RunsGoOn =
     (r next : Request) (report : Report) (e : DscError)
-    → HasRun r report next.input → report.bytes ≤ most_input_bytes → IsRefusal next (error.Document e) → ⊥
+    → HasRun r report next.input → report.bytes ≤ most_input_bytes → IsRunRefusal next (error.Document e) → ⊥

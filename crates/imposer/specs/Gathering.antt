@@ -11,12 +11,12 @@ use Rattle.handover.specs.Shelves.{IsOn}
 use Rattle.run_steps.specs.Gathered.{IsGathered, IsHandedOn, AreAllPut}
 use Rattle.sheet_text.specs.Jobs.{JobView, output_of}
 use Rattle.sheet_writer.specs.Sinks.{SinkView}
-use Rattle.sheet_writer.specs.Writing.{WroteFirst, Stands}
+use Rattle.sheet_writer.specs.Writing.{WroteFirst, IsProgress}
 use Rattle.imposer.specs.Outcomes.{AfterError}
 use Rattle.imposer.specs.Outcomes.{FailedIn}
 use Rattle.sheet_writer.specs.declared.writing.Progress.{Progress}
-use Rattle.imposer.specs.declared.shared.Floor.{Floor}
-use Rattle.imposer.specs.declared.tokens.Holding.{Holding}
+use Rattle.imposer.specs.declared.shared.RunObjects.{RunObjects}
+use Rattle.imposer.specs.declared.tokens.WorkerTokens.{WorkerTokens}
 use Rattle.imposer.specs.declared.gathering.Gathered.{Gathered}
 use Rattle.imposer.specs.declared.outcome.Report.{Report}
 use Rattle.imposer.specs.declared.outcome.RunError.{RunError}
@@ -78,7 +78,7 @@ Leaves table queue HasRoom gathered = IfSome gathered.tokens (λ t. AreWhole tab
     × (HasRoom → AreAllPut table.layout t.0.front t.1.front))
 
 -- how a gathering on this floor ends: what it answers of the sink, and what it leaves
-pub record EndsOn {G : Type 0} (floor : Floor G) (HasRoom : Type 0) (old new : SinkView) (gathered : Gathered) : Type 0 where
+pub record EndsOn {G : Type 0} (floor : RunObjects G) (HasRoom : Type 0) (old new : SinkView) (gathered : Gathered) : Type 0 where
   pub outcome : Answers floor.job.now old new gathered.outcome
   pub tokens : TokensComeBack gathered
   pub whole : Leaves floor.table.now floor.ready.now HasRoom gathered
@@ -86,10 +86,10 @@ pub record EndsOn {G : Type 0} (floor : Floor G) (HasRoom : Type 0) (old new : S
 
 -- how a run answers whose workers have ended, wherever its collector began
 abbrev pub Concludes : JobView → (old new : SinkView) → Progress → Result Report RunError → Type 0
-Concludes job old new p outcome = (start : SinkView) → Stands job start old p → Answers job start new outcome
+Concludes job old new p outcome = (start : SinkView) → IsProgress job start old p → Answers job start new outcome
 
 -- what the workers had comes back, but after out of memory
-pub record HandsBack (ended : Holding) (gathered : Gathered) : Type 0 where
+pub record HandsBackAll (ended : WorkerTokens) (gathered : Gathered) : Type 0 where
   pub tokens : TokensComeBack gathered
   pub same : IfSome gathered.tokens (λ t. (t.0 ≡ ended.tokens.seat) × (t.1 ≡ ended.tokens.pass))
   pub unshelved : gathered.unshelved ≡ ended.unshelved

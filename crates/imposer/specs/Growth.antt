@@ -18,6 +18,6 @@ GainsImposer gathered imposed all theirs new =
     (first : _) (count k : ℕ) → gathered first count k all → imposed theirs → gathered first count k new
 
 -- if it began before any preparer was joined, all of them are joined at the end
-abbrev pub GathersAll : {H : Type 0} → (H → ℕ → ℕ → H → Type 0) → (count : ℕ) → H → Option H → Type 0
-GathersAll gathered count old ended = (first : _) → gathered first count 0 old
+abbrev pub GathersAllJoined : {H : Type 0} → (H → ℕ → ℕ → H → Type 0) → (count : ℕ) → H → Option H → Type 0
+GathersAllJoined gathered count old ended = (first : _) → gathered first count 0 old
     → IfSome ended (gathered first count count)

@@ -4,7 +4,7 @@ use Rattle.rules.specs.Sheets.{Layout}
 use Rattle.sheet_plan.specs.Places.{places_of}
 use Rattle.handover.specs.Passes.{PassView, puts_in}
 use Rattle.run_steps.specs.Duty.{is_place, share_below, most_puts_in_all}
-use Rattle.imposer.specs.Tokens.{completed, completed_below, put}
+use Rattle.imposer.specs.Tokens.{completed_by, completed_below, put_by}
 use Rattle.imposer.specs.declared.tokens.Tokens.{Tokens}
 
 -- the pass has room for all puts of a gathering by so many preparers
@@ -13,7 +13,7 @@ HasRoomForAll layout count pass = most_puts_in_all layout count ≤ puts_in pass
 
 -- every sheet was put as often as calls completed it
 abbrev pub PutsAll : Tokens → Type 0
-PutsAll tokens = (s : ℕ) → put s tokens ≡ completed s tokens
+PutsAll tokens = (s : ℕ) → put_by s tokens ≡ completed_by s tokens
 
 -- there is room for what preparer `number` of `count` may complete from page n on: a put for each place that is left, or
 -- one for each sheet that it hasn't completed

@@ -12,7 +12,7 @@ use Rattle.rules.specs.Run.{document_of, plan_in}
 use Rattle.dsc.specs.Faults as dsc
 use Rattle.imposer.specs.Options.{AreOptions}
 use Rattle.pagespec.specs.Faults.{fault_named}
-use Rattle.pagespec.specs.Refusals.{IsPlaced}
+use Rattle.pagespec.specs.Refusals.{IsSyntaxPlace}
 use Rattle.sheet_plan.specs.Plans.{planned_in}
 use Rattle.sheet_plan.specs.Places.{born_complete}
 use Rattle.imposer.specs.Faults.{plan_fault_told}
@@ -37,7 +37,7 @@ abbrev pub request : Options → List ℕ → List ℕ → Request
 request options spec input = record { options = options; spec = spec; input = input }
 
 -- every check passes; the specification comes to this, and the input is cut into these units
-pub record IsAccepted (r : Request) (spec : Spec) (us : List NestedUnit) : Type 0 where
+pub record IsRunAccepted (r : Request) (spec : Spec) (us : List NestedUnit) : Type 0 where
   pub options : AreOptions r.options
   pub takes : Takes most_slots r.spec spec
   pub document : document_of r.input ≡ Ok us
@@ -45,23 +45,23 @@ pub record IsAccepted (r : Request) (spec : Spec) (us : List NestedUnit) : Type 
 
 -- the request is accepted, and this holds of what it comes to
 abbrev pub Accepted : Request → (Spec → List NestedUnit → Type 0) → Type 0
-Accepted r P = (spec : Spec) × (us : List NestedUnit) × IsAccepted r spec us × P spec us
+Accepted r P = (spec : Spec) × (us : List NestedUnit) × IsRunAccepted r spec us × P spec us
 
 -- what an error says of the checks. A refusal names one that fails, and each before it passes; a syntax fault has a place in
 -- the specification; out of memory comes after the checks that need none; a failed write comes after all of them
-abbrev pub IsRefusal : Request → RunError → Type 0
-IsRefusal r error.Options = AreOptions r.options → ⊥
-IsRefusal r (error.Spec e) =
-    AreOptions r.options × IsSomeAnd (fault_named e) (λ f. Refuses most_slots r.spec f) × IsPlaced r.spec e
-IsRefusal r (error.Document e) =
+abbrev pub IsRunRefusal : Request → RunError → Type 0
+IsRunRefusal r error.Options = AreOptions r.options → ⊥
+IsRunRefusal r (error.Spec e) =
+    AreOptions r.options × IsSomeAnd (fault_named e) (λ f. Refuses most_slots r.spec f) × IsSyntaxPlace r.spec e
+IsRunRefusal r (error.Document e) =
     AreOptions r.options × ((spec : Spec) × Takes most_slots r.spec spec)
     × IsSomeAnd (dsc.fault_told e) (λ f. document_of r.input ≡ Err f)
-IsRefusal r (error.Plan e) =
+IsRunRefusal r (error.Plan e) =
     AreOptions r.options
     × ((spec : Spec) × (us : List NestedUnit) × Takes most_slots r.spec spec × (document_of r.input ≡ Ok us)
     × IsSomeAnd (plan_fault_told e) (λ f. plan_in r.options.sides spec (length (pages us)) ≡ Err f))
-IsRefusal r (error.NoMemory written) = AreOptions r.options × (length r.spec ≤ most_spec_bytes)
-IsRefusal r (error.Write written) = Accepted r (λ spec us. ⊤)
+IsRunRefusal r (error.NoMemory written) = AreOptions r.options × (length r.spec ≤ most_spec_bytes)
+IsRunRefusal r (error.Write written) = Accepted r (λ spec us. ⊤)
 
 -- the first bytes of the output of an accepted request, as many as were written
 abbrev pub WrotePart : Request → (old new : SinkView) → ℕ → Type 0
@@ -100,4 +100,4 @@ abbrev pub AnswersRequest : Request → (old new : SinkView) → Result Report R
 AnswersRequest r old new (Ok report) =
     Accepted r (λ spec us. Appends old.bytes new.bytes (output (frame_of r.options) r.options.sides spec us)
     × Reports (frame_of r.options) r.options.sides spec us report) × (new.failures ≡ old.failures)
-AnswersRequest r old new (Err e) = IsRefusal r e × HasWritten r old new e × FailedIn e old new
+AnswersRequest r old new (Err e) = IsRunRefusal r e × HasWritten r old new e × FailedIn e old new

@@ -5,7 +5,7 @@ use Rattle.std.specs.Ordering.{nat_cmp}
 use Rattle.std.specs.FinSet.{FinSet, empty, insert, contains, len}
 
 -- the smallest number of the set
-pub record IsFirst (s : FinSet nat_cmp) (n : ℕ) : Type 0 where
+pub record IsSmallest (s : FinSet nat_cmp) (n : ℕ) : Type 0 where
   pub member : contains s n ≡ true
   pub least : (k : ℕ) → contains s k ≡ true → n ≤ k
 
@@ -14,8 +14,8 @@ abbrev pub HasNoneBelow : FinSet nat_cmp → ℕ → Type 0
 HasNoneBelow s n = (k : ℕ) → contains s k ≡ true → n ≤ k
 
 -- the bit of the number 64 k + b is bit b of word k; after the last word no bit is set
-abbrev pub has_bit : List ℕ → ℕ → Bool
-has_bit words n = bit_at (get_or words (n / 64) 0) (n % 64) == 1
+abbrev pub has_number : List ℕ → ℕ → Bool
+has_number words n = bit_at (get_or words (n / 64) 0) (n % 64) == 1
 
 -- the numbers below n that pass
 abbrev pub passing : (ℕ → Bool) → ℕ → FinSet nat_cmp
@@ -24,10 +24,10 @@ passing p (suc n) = cond (p n) (insert (passing p n) n) (passing p n)
 
 -- the numbers whose bits are set
 abbrev pub numbers : List ℕ → FinSet nat_cmp
-numbers words = passing (has_bit words) (64 * length words)
+numbers words = passing (has_number words) (64 * length words)
 
 -- words with bits for at most 2^32 numbers; none is set before this word, and this many are set in all
 pub record AreCounted (words : List ℕ) (first amount : ℕ) : Type 0 where
   pub few : length words ≤ 67108864
-  pub blank : (k : ℕ) → k < 64 * first → has_bit words k ≡ false
+  pub blank : (k : ℕ) → k < 64 * first → has_number words k ≡ false
   pub counted : amount ≡ len (numbers words)

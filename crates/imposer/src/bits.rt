@@ -1,6 +1,6 @@
 //! Bits in a row of words.
 ghost use Rattle.std.specs.Prelude.{◌≡◌, ℕ, ◌+◌, ◌*◌, ◌/◌, ◌<◌, ◌≤◌, ◌||◌, ◌&&◌, ◌==◌, not, false, length, get_or, OnOk};
-ghost use Rattle.imposer.specs.SheetNumbers.{has_bit as bit};
+ghost use Rattle.imposer.specs.SheetNumbers.{has_number as bit};
 
 use std::alloc::AllocError;
 

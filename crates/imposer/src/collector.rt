@@ -3,12 +3,12 @@ ghost use Rattle.std.specs.Prelude.{◌≡◌, None, IsTrue};
 ghost use Rattle.sheet_writer.specs.Sinks.{IsCountable};
 ghost use Rattle.crossbeam_channel.specs.Claims.{IsSeatAt};
 ghost use Rattle.crossbeam_channel.specs.Ends.{receives_on};
-ghost use Rattle.sheet_writer.specs.Writing.{Stands, GoesOn};
+ghost use Rattle.sheet_writer.specs.Writing.{IsProgress, GoesOn};
 ghost use Rattle.imposer.specs.Desks.{IsDeskOf};
 
 use crate::channel::{SheetRule, SheetTexts};
 use crate::gate::{Gate, Look};
-use crate::setup::Desk;
+use crate::setup::CollectorParts;
 use crate::shared::RunInput;
 use crate::spent::Written;
 use crate::thread_work::Collector;
@@ -22,7 +22,7 @@ use std::sync::atomic::Ordering::SeqCst;
 #[derive(Drop)]
 pub(crate) struct CollectorState<'a, 'r, S> {
     pub(crate) sink: &'a mut S,
-    pub(crate) desk: &'a mut Desk<'r>,
+    pub(crate) desk: &'a mut CollectorParts<'r>,
     pub(crate) progress: Progress,
 }
 
@@ -36,7 +36,7 @@ impl<'s, 'r, 't, 'd, 'a, T: SheetTexts, G: Gate, S: Sink> Collector<CollectorSta
         × IsCountable (S.seen state.sink.now) };
 
     ghost collected = { λ input old new.
-        Stands input.shared.now.floor.job.now (S.seen old.sink.now) (S.seen new.sink.now) new.progress
+        IsProgress input.shared.now.floor.job.now (S.seen old.sink.now) (S.seen new.sink.now) new.progress
         × IsDeskOf input.shared.now.floor.job.now new.desk.now };
 
     fn collect<R: Wait>(&self, rt: &R, state: &mut CollectorState<'a, 'r, S>) {

@@ -21,18 +21,18 @@ ghost use Rattle.imposer.specs.Desks.{IsDeskOf};
 ghost use Rattle.imposer.specs.Promises.{HavePutBlankSheets, IsEnough, IsHeld};
 ghost use Rattle.imposer.specs.Rooms.{HasRoomForAll};
 ghost use Rattle.imposer.specs.Gathering.{IsFreshSeat, IsFreshPass, ReportsOf, WrotePartOf, AreWhole, TokensComeBack};
-ghost use Rattle.imposer.specs.Gathering.{Concludes, EndsOn, HandsBack, GivesUp};
+ghost use Rattle.imposer.specs.Gathering.{Concludes, EndsOn, HandsBackAll, GivesUp};
 
+use crate::baton::Baton;
 use crate::channel::{RuledJob, SheetTexts, Ticket};
 use crate::collector::CollectorState;
 use crate::gate::Gate;
 use crate::outcome::{Report, RunError};
 use crate::rooms::most_puts_in_all;
-use crate::setup::{Desk, Setup};
-use crate::shared::{Floor, RunInput, Shared};
-use crate::threads::{Crew, Supplies, gather_by};
-use crate::tokens::{Holding, Tokens};
-use crate::turns::Turns;
+use crate::setup::{CollectorParts, Setup};
+use crate::shared::{RunInput, RunObjects, Shared};
+use crate::threads::{ThreadCounts, ThreadInputs, run_threads};
+use crate::tokens::{Tokens, WorkerTokens};
 use crate::window::{Window, bytes_of_pages};
 use crate::worker_counts::Workers;
 use gather_table::{GatherTable, Seat};
@@ -109,7 +109,7 @@ pub fn gather<'j, 'd, R: Threads + Wait + Sync, G: Gate + Sync, S: Sink>(
     ensures handed_on { IfSome result.tokens (λ t. IsHandedOn t.1.front
         × (HasRoomForAll table.now.layout workers.preparers pass → AreAllPut table.now.layout t.0.front t.1.front)) }
 {
-    let floor = Floor {
+    let floor = RunObjects {
         alloc,
         gate: &*gate,
         job: &*job,
@@ -118,14 +118,14 @@ pub fn gather<'j, 'd, R: Threads + Wait + Sync, G: Gate + Sync, S: Sink>(
         is_of_document: false,
         ready: &*ready,
     };
-    gather_on(rt, floor, Tokens { seat, pass }, workers, sink)
+    gather_objects(rt, floor, Tokens { seat, pass }, workers, sink)
 }
 
 /// `gather` on this floor, whose shelf may be that of the job's document: then pages are put as the document's own, and
 /// imposers don't compare them.
-pub(crate) fn gather_on<'d, R: Threads + Wait + Sync, G: Gate + Sync, S: Sink>(
+pub(crate) fn gather_objects<'d, R: Threads + Wait + Sync, G: Gate + Sync, S: Sink>(
     rt: &R,
-    floor: Floor<'_, '_, '_, 'd, G>,
+    floor: RunObjects<'_, '_, '_, 'd, G>,
     tokens: Tokens,
     workers: Workers,
     sink: &mut S,
@@ -151,14 +151,14 @@ pub(crate) fn gather_on<'d, R: Threads + Wait + Sync, G: Gate + Sync, S: Sink>(
         preparers_left: AtomicU32::new(workers.preparers),
         imposers_left: AtomicU32::new(workers.imposers),
         window: Window::new(job, workers, of_slots),
-        preparing: Turns::new(page_len),
-        imposing: Turns::new(page_len),
+        preparing: Baton::new(page_len),
+        imposing: Baton::new(page_len),
     };
-    gather_as::<Brand, R, G, S>(rt, &shared, tokens, workers, sink)
+    gather_with_rule::<Brand, R, G, S>(rt, &shared, tokens, workers, sink)
 }
 
 /// `gather`, with the texts of the channel's rule chosen.
-fn gather_as<
+fn gather_with_rule<
     'r,
     'd,
     T: SheetTexts + Send + Sync,
@@ -191,13 +191,13 @@ fn gather_as<
         channel,
         sending,
     } = setup;
-    let supplies = Supplies {
-        crew: Crew {
+    let supplies = ThreadInputs {
+        crew: ThreadCounts {
             alloc: shared.floor.alloc,
             preparers: workers.preparers,
             imposers: workers.imposers,
         },
-        held: Holding {
+        held: WorkerTokens {
             tokens,
             unshelved: None,
         },
@@ -212,7 +212,7 @@ fn gather_as<
         channel: &channel,
         ruled: &ruled,
     };
-    let gathered = gather_at(rt, &input, &mut desk, supplies, sink);
+    let gathered = gather_on_threads(rt, &input, &mut desk, supplies, sink);
     // By calls, so that what becomes of the parts is proved once, and not here.
     drop(desk);
     drop(channel);
@@ -222,7 +222,7 @@ fn gather_as<
 /// `gather`, once the sheets without pages are on the queue: the workers work with these supplies, the collector writes
 /// at this desk what they finish, and when all have ended the run is answered. The collector's state is taken apart, so that
 /// what became of the sink is known.
-fn gather_at<
+fn gather_on_threads<
     'r,
     'd,
     T: SheetTexts + Send + Sync,
@@ -232,8 +232,8 @@ fn gather_at<
 >(
     rt: &R,
     input: &RunInput<'_, 'r, '_, 'd, T, G>,
-    desk: &mut Desk<'r>,
-    supplies: Supplies<Holding<'d>, Ticket<'r>>,
+    desk: &mut CollectorParts<'r>,
+    supplies: ThreadInputs<WorkerTokens<'d>, Ticket<'r>>,
     sink: &mut S,
 ) -> Gathered<'d>
     requires pages { HasPages input.now.shared.now.floor.table.now.layout }
@@ -261,7 +261,7 @@ fn gather_at<
         },
     };
     let mut ended = None;
-    let mut state = gather_by(rt, &*input, &*input, supplies, state, &mut ended);
+    let mut state = run_threads(rt, &*input, &*input, supplies, state, &mut ended);
     let gathered = finish(floor.alloc, floor.job, &mut state, ended);
     let CollectorState {
         sink: _,
@@ -306,7 +306,7 @@ fn finish<'d, S: Sink>(
     alloc: Global,
     job: &Job<'_, 'd>,
     state: &mut CollectorState<'_, '_, S>,
-    ended: Option<Holding<'d>>,
+    ended: Option<WorkerTokens<'d>>,
 ) -> Gathered<'d>
     requires countable { IsSome ended → state.old.progress.halted ≡ None → IsCountable (S.seen state.old.sink.now) }
     requires next { IsSome ended → state.old.progress.halted ≡ None
@@ -315,7 +315,7 @@ fn finish<'d, S: Sink>(
     ensures same_sink { state.new.sink.ghost_name ≡ state.old.sink.ghost_name }
     ensures ended { IsSome ended.entry → Concludes job.now (S.seen state.old.sink.now) (S.seen state.new.sink.now)
         state.old.progress result.outcome }
-    ensures tokens { IfSome ended.entry (λ e. HandsBack e result) }
+    ensures tokens { IfSome ended.entry (λ e. HandsBackAll e result) }
     ensures missing { IsNone ended.entry → GivesUp state.old.progress.written result
         × (S.seen state.new.sink.now ≡ S.seen state.old.sink.now) }
 {
@@ -330,7 +330,7 @@ fn conclude<'d, S: Sink>(
     alloc: Global,
     job: &Job<'_, 'd>,
     state: &mut CollectorState<'_, '_, S>,
-    ended: Holding<'d>,
+    ended: WorkerTokens<'d>,
 ) -> Gathered<'d>
     requires countable { state.old.progress.halted ≡ None → IsCountable (S.seen state.old.sink.now) }
     requires next { state.old.progress.halted ≡ None → state.old.progress.next ≤ length job.now.plan.sheets }
@@ -338,7 +338,7 @@ fn conclude<'d, S: Sink>(
     ensures same_sink { state.new.sink.ghost_name ≡ state.old.sink.ghost_name }
     ensures ended { Concludes job.now (S.seen state.old.sink.now) (S.seen state.new.sink.now) state.old.progress
         result.outcome }
-    ensures tokens { HandsBack ended.entry result }
+    ensures tokens { HandsBackAll ended.entry result }
 
     // The report counts the sheets that hadn't come.
     ensures swept { IfOk result.outcome (λ report. report.swept ≡ not_come state.old.desk.now.early
@@ -348,7 +348,7 @@ fn conclude<'d, S: Sink>(
     let desk = &*state.desk;
     let trailer = desk.trailer.as_slice();
     let rest = write_rest(alloc, job, state.sink, progress, &desk.early, trailer);
-    let Holding { tokens, unshelved } = ended;
+    let WorkerTokens { tokens, unshelved } = ended;
     let Tokens { seat, pass } = tokens;
     let written = rest.written;
     match rest.halted {

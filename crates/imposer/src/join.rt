@@ -1,6 +1,6 @@
 //! Waits for the threads of a run, and joins what they return.
 ghost use Rattle.std.specs.Prelude.{◌≡◌, ℕ, ◌+◌, ◌<◌, IfOk, IfSome, slice_index_or, vec_len};
-ghost use Rattle.imposer.specs.Growth.{GathersAll};
+ghost use Rattle.imposer.specs.Growth.{GathersAllJoined};
 ghost use Rattle.imposer.specs.HandlePromises.{IsPreparer};
 
 use crate::start::{Imposer, Preparer};
@@ -22,7 +22,7 @@ pub(crate) fn join_preparers<'s, R: Threads, H: Drop, W: Work<H>>(
         → IsPreparer shared.now count k (slice_index_or handles.items k d).promise }
     ensures held { IfSome result (W.is_held shared.now) }
     ensures share { IfSome result (λ h. W.share shared.now h ≡ W.share shared.now held + count) }
-    ensures gathered { GathersAll (W.has_gathered shared.now) count held result }
+    ensures gathered { GathersAllJoined (W.has_gathered shared.now) count held result }
 {
     let mut all = Some(held);
     for handle in handles {

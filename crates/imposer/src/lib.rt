@@ -2,6 +2,7 @@
 //! table, a shelf and a queue; a set of sheet numbers has one bit for each.
 #![tactic(auto)]
 
+mod baton;
 mod bits;
 mod channel;
 mod collector;
@@ -26,24 +27,23 @@ mod statuses;
 mod thread_work;
 mod threads;
 mod tokens;
-mod turns;
 mod window;
 mod work;
 mod worker_counts;
 
 pub use gate::{Gate, Look, Open, Step};
 pub use gathering::{Gathered, gather};
-pub use listener::{GatheredPlan, Listener, Nobody};
+pub use listener::{GatheredPlan, Listener, NoListener};
 pub use options::Options;
 pub use outcome::{Report, RunError};
 pub use planned::run_plan;
 pub use run_steps::{DeliverError, Delivered, ImposeError, Imposed, deliver, impose};
 pub use runs::run;
 pub use sheet_set::SheetSet;
-pub use sheet_text::{Dress, Job, Lines, Numbers, sheet_text};
+pub use sheet_text::{Job, Lines, Numbers, SheetExtras, sheet_text};
 pub use sheet_writer::{MemorySink, Sink, SinkFault, WriteSink};
 pub use statuses::run_status;
 pub use std::alloc::AllocError as NoMemory;
 pub use thread_work::{Collector, Imposing, Work};
-pub use threads::{Crew, Supplies, gather_by};
+pub use threads::{ThreadCounts, ThreadInputs, run_threads};
 pub use worker_counts::Workers;

@@ -26,9 +26,9 @@ pub trait Listener {
 
 /// The listener that does nothing.
 #[derive(Clone, Copy, Debug)]
-pub struct Nobody;
+pub struct NoListener;
 
-impl Listener for Nobody {
+impl Listener for NoListener {
     ghost heard = { λ _. None };
 
     fn ended(&mut self, ended: GatheredPlan<'_, '_>) {

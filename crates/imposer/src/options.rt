@@ -40,7 +40,7 @@ fn are_sides_valid(sides: Option<u32>) -> bool
 }
 
 /// The numbers of workers, the border and the sides of a signature are in range.
-pub(crate) fn are_valid(options: &Options) -> bool
+pub(crate) fn options_are_valid(options: &Options) -> bool
     ensures { IsTrue result ↔ AreOptions options.now }
 {
     options.workers.are_valid() && is_border_valid(options.border) && are_sides_valid(options.sides)

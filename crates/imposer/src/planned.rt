@@ -12,11 +12,11 @@ ghost use Rattle.imposer.specs.Rooms.{HasRoomForAll};
 ghost use Rattle.imposer.specs.Workers.{AreWorkers};
 
 use crate::gate::Gate;
-use crate::gathering::gather_on;
+use crate::gathering::gather_objects;
 use crate::listener::{GatheredPlan, Listener};
 use crate::outcome::{Report, RunError};
 use crate::rooms::ready_for;
-use crate::shared::Floor;
+use crate::shared::RunObjects;
 use crate::tokens::Tokens;
 use crate::worker_counts::Workers;
 use gather_table::GatherTable;
@@ -88,7 +88,7 @@ fn gather_plan<'j, 'd, R: Threads + Wait + Sync, G: Gate + Sync, S: Sink>(
 {
     let shelf = Shelf::of_document(alloc, job.document())?;
     let (table, queue, tokens) = table_and_queue(alloc, job.plan(), workers.preparers)?;
-    let floor = Floor {
+    let floor = RunObjects {
         alloc,
         gate: &*gate,
         job: &*job,
@@ -98,7 +98,7 @@ fn gather_plan<'j, 'd, R: Threads + Wait + Sync, G: Gate + Sync, S: Sink>(
         ready: &queue,
     };
     keep_blocks(alloc);
-    let gathered = gather_on(rt, floor, tokens, workers, sink);
+    let gathered = gather_objects(rt, floor, tokens, workers, sink);
     // By a call, so that what becomes of its parts is proved once, and not here.
     drop(shelf);
     Ok(GatheredPlan {

@@ -33,13 +33,13 @@ pub(crate) fn most_puts(plan: &Plan<'_>, number: u32, count: u32) -> u32
     let mut puts = 0;
     // Its own pages lie as far apart as there are preparers.
     for page in (number..plan.pages()).step_by(count as usize) {
-        puts = with_page(plan, page, puts);
+        puts = with_puts_of(plan, page, puts);
     }
     puts
 }
 
 /// The same with one page more.
-fn with_page(plan: &Plan<'_>, page: u32, puts: u32) -> u32
+fn with_puts_of(plan: &Plan<'_>, page: u32, puts: u32) -> u32
     requires page { page < plan.now.pages }
     ensures { result ≡ min (puts + length (places_of (layout plan.now) page)) (length plan.now.sheets) }
 {

@@ -8,13 +8,13 @@ ghost use Rattle.sheet_plan.specs.Plans.{planned_in};
 ghost use Rattle.sheet_plan.specs.Refusals.{RefusesIn};
 ghost use Rattle.sheet_writer.specs.Sinks.{IsCountable};
 ghost use Rattle.imposer.specs.Options.{AreOptions};
-ghost use Rattle.imposer.specs.Runs.{Request, request, frame_of, Accepted, IsRefusal, HasWritten, Reports};
+ghost use Rattle.imposer.specs.Runs.{Request, request, frame_of, Accepted, IsRunRefusal, HasWritten, Reports};
 ghost use Rattle.imposer.specs.Outcomes.{FailedIn};
 ghost use Rattle.imposer.specs.Runs.{IsUnwritten, IsGiven, AnswersRequest};
 
 use crate::gate::Gate;
-use crate::listener::Nobody;
-use crate::options::{Options, are_valid};
+use crate::listener::NoListener;
+use crate::options::{Options, options_are_valid};
 use crate::outcome::{Report, RunError};
 use crate::planned::run_plan;
 use dsc::Document;
@@ -49,7 +49,7 @@ pub fn run<R: Threads + Wait + Sync, G: Gate + Sync, S: Sink>(
         Appends (S.seen sink.old).bytes (S.seen sink.new).bytes (output (frame_of options.now) options.now.sides spec us)
         × Reports (frame_of options.now) options.now.sides spec us report)) }
     // An error names the first check that fails.
-    ensures refused { IfErr result (λ e. IsRefusal (request options.now spec.now input.now) e) }
+    ensures refused { IfErr result (λ e. IsRunRefusal (request options.now spec.now input.now) e) }
     // After an error the sink has taken as much of the output as the error says, and nothing after a refusal.
     ensures written { IfErr result (λ e.
         HasWritten (request options.now spec.now input.now) (S.seen sink.old) (S.seen sink.new) e) }
@@ -76,10 +76,10 @@ fn read_request<'d>(
     options: &Options,
 ) -> Result<Given<'d>, RunError>
     ensures read { IfOk result (λ given. IsGiven (request options.now spec.now input.now) options.now given) }
-    ensures refused { IfErr result (IsRefusal (request options.now spec.now input.now)) }
+    ensures refused { IfErr result (IsRunRefusal (request options.now spec.now input.now)) }
     ensures unwritten { IfErr result IsUnwritten }
 {
-    if !are_valid(options) {
+    if !options_are_valid(options) {
         return Err(RunError::Options);
     }
     let spec = read_spec(alloc, spec)?;
@@ -106,7 +106,15 @@ fn run_read<R: Threads + Wait + Sync, G: Gate + Sync, S: Sink>(
         Err(error) => return Err(RunError::from(error)),
     };
     let job = Job::new(&plan, &given.document, options.paper, options.border);
-    run_plan(rt, alloc, &job, options.workers, gate, sink, &mut Nobody)
+    run_plan(
+        rt,
+        alloc,
+        &job,
+        options.workers,
+        gate,
+        sink,
+        &mut NoListener,
+    )
 }
 
 /// Plans the pages in their order, or in signatures if a number of sides is given.

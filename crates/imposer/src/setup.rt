@@ -8,23 +8,23 @@ use crate::channel::{Channel, SheetRule, SheetTexts, Ticket};
 use crossbeam_channel::bounded_with;
 use crossbeam_queue::ArrayQueue;
 use sheet_text::Job;
-use sheet_writer::Early;
+use sheet_writer::ReorderBuffer;
 use std::alloc::{AllocError, Global};
 
 /// The collector's state: the texts round the sheets, places for sheets that come before their turn, and its ticket for
 /// receiving.
 #[derive(Drop)]
-pub(crate) struct Desk<'r> {
+pub(crate) struct CollectorParts<'r> {
     pub(crate) header: Vec<u8>,
     pub(crate) trailer: Vec<u8>,
-    pub(crate) early: Early<'r>,
+    pub(crate) early: ReorderBuffer<'r>,
     pub(crate) receiving: Ticket<'r>,
 }
 
 /// The collector's desk, and the channel of finished sheets with a ticket for the imposers.
 #[derive(Drop)]
 pub(crate) struct Setup<'r, T: SheetTexts> {
-    pub(crate) desk: Desk<'r>,
+    pub(crate) desk: CollectorParts<'r>,
     pub(crate) channel: Channel<'r, T>,
     pub(crate) sending: Ticket<'r>,
 }
@@ -40,9 +40,9 @@ impl<'r, T: SheetTexts> Setup<'r, T> {
         let header = job.document().dressed_preamble(job.sheets(), job.header())?;
         let trailer = job.document().trailer_text()?;
         let room = job.sheets().min(window).max(1);
-        let early = Early::new(alloc, room)?;
+        let early = ReorderBuffer::new(alloc, room)?;
         let (channel, sending, receiving) = channel_of(alloc, room as usize)?;
-        let desk = Desk {
+        let desk = CollectorParts {
             header,
             trailer,
             early,

@@ -3,8 +3,8 @@ ghost use Rattle.std.specs.Prelude.{◌≡◌, IsTrue};
 ghost use Rattle.rules.specs.Sheets.{layout};
 ghost use Rattle.handover.specs.Shelves.{IsShelfOf};
 
+use crate::baton::Baton;
 use crate::channel::{Channel, RuledJob, SheetTexts};
-use crate::turns::Turns;
 use crate::window::Window;
 use gather_table::GatherTable;
 use handover::{Ready, Shelf};
@@ -15,7 +15,7 @@ use std::sync::atomic::AtomicU32;
 /// Where a run gathers: a job, the table of its plan, the shelf on which its pages lie, and the queue of sheets that are
 /// ready.
 #[derive(Drop)]
-pub(crate) struct Floor<'s, 'r, 't, 'd, G> {
+pub(crate) struct RunObjects<'s, 'r, 't, 'd, G> {
     pub(crate) alloc: Global,
     pub(crate) gate: &'s G,
     pub(crate) job: &'s Job<'r, 'd>,
@@ -31,7 +31,7 @@ pub(crate) struct Floor<'s, 'r, 't, 'd, G> {
 /// The objects that all threads of one run share.
 #[derive(Drop)]
 pub(crate) struct Shared<'s, 'r, 't, 'd, G> {
-    pub(crate) floor: Floor<'s, 'r, 't, 'd, G>,
+    pub(crate) floor: RunObjects<'s, 'r, 't, 'd, G>,
     /// Whether the queue has room by right for all puts: then it refuses none.
     pub(crate) by_right: bool,
     /// The number of preparers that haven't ended.
@@ -41,8 +41,8 @@ pub(crate) struct Shared<'s, 'r, 't, 'd, G> {
     /// The sheets that may be imposed now.
     pub(crate) window: Window,
     /// Preparers take turns, and so do imposers.
-    pub(crate) preparing: Turns,
-    pub(crate) imposing: Turns,
+    pub(crate) preparing: Baton,
+    pub(crate) imposing: Baton,
 }
 
 /// The objects that the threads of a run need, the caller's among them: those that all share, and the channel of finished

@@ -3,7 +3,7 @@ ghost use Rattle.std.specs.Prelude.{◌≡◌, ℕ, ◌<◌, ◌≤◌, ◌↔�
 ghost use Rattle.std.specs.Ordering.{nat_cmp};
 ghost use Rattle.std.specs.Coded.{coded_ℕ};
 ghost use Rattle.std.specs.FinSet as set;
-ghost use Rattle.imposer.specs.SheetNumbers.{IsFirst, HasNoneBelow, numbers, AreCounted};
+ghost use Rattle.imposer.specs.SheetNumbers.{IsSmallest, HasNoneBelow, numbers, AreCounted};
 
 use crate::bits::{BITS, clear_bit, cover, has_bit, next_filled, set_bit};
 use std::alloc::{AllocError, Global};
@@ -65,7 +65,7 @@ impl SheetSet {
 
     /// Removes the smallest number from the set, if it is below this end. Otherwise the set is unchanged.
     pub fn take_first_before(&mut self, end: u32) -> Option<u32>
-        ensures first { IfSome result (IsFirst self.old) }
+        ensures first { IfSome result (IsSmallest self.old) }
         ensures before { IfSome result (λ sheet. sheet < end) }
         ensures taken { IfSome result (λ sheet. self.new ≡ set.remove self.old sheet) }
         ensures none { IfNone result (HasNoneBelow self.old end) }

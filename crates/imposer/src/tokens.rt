@@ -11,7 +11,7 @@ pub(crate) struct Tokens {
 
 /// A worker's tokens, and the token of a page that the shelf gave no receipt for, if there was one.
 #[derive(Drop)]
-pub(crate) struct Holding<'d> {
+pub(crate) struct WorkerTokens<'d> {
     pub(crate) tokens: Tokens,
     pub(crate) unshelved: Option<Overflow<'d>>,
 }

@@ -3,7 +3,7 @@ ghost use Rattle.std.specs.Prelude.{◌≡◌, ◌<◌, ◌≤◌, ◌↔◌, If
 ghost use Rattle.std.specs.Prelude.{if◌then◌else◌};
 ghost use Rattle.std.specs.FinSet as set;
 ghost use Rattle.std.specs.Duration.{as_nanos};
-ghost use Rattle.imposer.specs.SheetNumbers.{IsFirst, HasNoneBelow};
+ghost use Rattle.imposer.specs.SheetNumbers.{IsSmallest, HasNoneBelow};
 ghost use Rattle.rules.specs.Parts.{pages};
 ghost use Rattle.imposer.specs.Windows.{bytes_of_texts, bytes_together, window_len};
 
@@ -220,7 +220,7 @@ impl Held {
 
     /// Takes the first sheet, if it lies before this end.
     pub(crate) fn pop_before(&mut self, end: u32) -> Option<u32>
-        ensures first { IfSome result (IsFirst self.old.sheets) }
+        ensures first { IfSome result (IsSmallest self.old.sheets) }
         ensures before { IfSome result (λ sheet. sheet < end) }
         ensures taken { IfSome result (λ sheet. self.new.sheets ≡ set.remove self.old.sheets sheet) }
         ensures none { IfNone result (HasNoneBelow self.old.sheets end) }

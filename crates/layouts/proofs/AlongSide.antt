@@ -4,7 +4,7 @@
 use Rattle.std.proofs.Common.{arith, rules, ◌≡◌, ℕ, false, suc, zero, ◌+◌, ◌-◌, ◌*◌, ◌/◌, ◌<◌, ◌≤◌, ap}
 use Rattle.std.specs.Prelude.{◌==◌, if◌then◌else◌}
 use Rattle.std.proofs.Math.Nat.{mul-div-le, div-mul-le_self, lt-div-mul-add, mul-le-mul_right, mul_assoc, mul_left_comm, suc-mul, zero-div, mul-add}
-use Rattle.layouts.specs.Cells.{Along, part, fitting, slack, step, cell, left_free, kept, whole}
+use Rattle.layouts.specs.Cells.{Along, part, fitting, slack, pitch, cell, left_free, kept_length, whole_parts}
 
 -- the parts of a side are no longer than the side
 pub parts_fit : (side parts : ℕ) → 1_270_000 * (parts * part side parts) ≤ side
@@ -56,31 +56,31 @@ counted_and s v t some = omega (arith, mul-add s (v - 2 * t) t, ap (λ n. s * n)
 
 -- ---- along a side
 
-pub whole_at_least : (side n : ℕ) → 1_270_000 * n ≤ side → n ≤ whole side
+pub whole_at_least : (side n : ℕ) → 1_270_000 * n ≤ side → n ≤ whole_parts side
 whole_at_least side n h = omega (arith, h, lt-div-mul-add {a = side} {b = 1_270_000} (omega arith))
 
 -- the cells with their gaps, and what is kept free at both ends, are no longer than the side and one more gap
 pub cells_fit : (a : Along) (w c j : ℕ) → 0 < cell a w c → j < c
-    → c * step a w c + (kept a.trim a.before + kept a.trim a.after) ≤ whole w + kept a.trim a.gap
+    → c * pitch a w c + (kept_length a.trim a.before + kept_length a.trim a.after) ≤ whole_parts w + kept_length a.trim a.gap
 cells_fit a w c j some before =
-    let p = step a w c in
-    let D = kept a.trim a.gap in
-    let E = kept a.trim a.before + kept a.trim a.after in
+    let p = pitch a w c in
+    let D = kept_length a.trim a.gap in
+    let E = kept_length a.trim a.before + kept_length a.trim a.after in
     let fit = parts_fit (left_free a w + 1_270_000 * D) c in
     let one = cell_ends j c p before in
     omega (arith, some, whole_at_least w (c * p + E - D) (omega (arith, some, fit, one)))
 
 -- a page in cell j ends within what is kept free
 pub in_side : (a : Along) (w c v s j : ℕ) → 0 < cell a w c → s * v ≤ 1_270_000_000_000_000 * cell a w c → j < c
-    → 1_270_000_000_000_000 * (kept a.trim a.before + j * step a w c + slack (cell a w c) v s) + s * v + 1_270_000_000_000_000 * kept a.trim a.after ≤ 1_270_000_000_000_000 * whole w
+    → 1_270_000_000_000_000 * (kept_length a.trim a.before + j * pitch a w c + slack (cell a w c) v s) + s * v + 1_270_000_000_000_000 * kept_length a.trim a.after ≤ 1_270_000_000_000_000 * whole_parts w
 in_side a w c v s j some fits before =
-    omega (arith, some, in_cell (cell a w c) v s fits, cell_ends j c (step a w c) before, cells_fit a w c j some before)
+    omega (arith, some, in_cell (cell a w c) v s fits, cell_ends j c (pitch a w c) before, cells_fit a w c j some before)
 
 -- and so does one that is counted from its cell's other end
 pub in_side_back : (a : Along) (w c v s j : ℕ) → 0 < cell a w c → s * v ≤ 1_270_000_000_000_000 * cell a w c → j < c
-    → 1_270_000_000_000_000 * (kept a.trim a.before + j * step a w c + (cell a w c - slack (cell a w c) v s)) + 1_270_000_000_000_000 * kept a.trim a.after ≤ 1_270_000_000_000_000 * whole w
+    → 1_270_000_000_000_000 * (kept_length a.trim a.before + j * pitch a w c + (cell a w c - slack (cell a w c) v s)) + 1_270_000_000_000_000 * kept_length a.trim a.after ≤ 1_270_000_000_000_000 * whole_parts w
 in_side_back a w c v s j some fits before =
-    omega (arith, some, in_cell (cell a w c) v s fits, cell_ends j c (step a w c) before, cells_fit a w c j some before)
+    omega (arith, some, in_cell (cell a w c) v s fits, cell_ends j c (pitch a w c) before, cells_fit a w c j some before)
 
 pub behind_edge : (p D E v s j : ℕ) → s * v ≤ 1_270_000_000_000_000 * (p - D)
     → 1_270_000_000_000_000 * E + s * v ≤ 1_270_000_000_000_000 * (E + j * p + (p - D - slack (p - D) v s))

@@ -5,12 +5,12 @@ use Rattle.std.proofs.Math.Nat.{div-add-mod}
 use Rattle.std.proofs.lemmas.Int.{ints}
 use Rattle.rules.specs.Papers.{Paper}
 use Rattle.rules.specs.Specification.{Item, Turn, Upright, Left, Half, Right}
-use Rattle.layouts.specs.declared.arrangement.Run.{Run}
-use Rattle.layouts.specs.declared.arrangement.Run.TheVariants.{Rows, Columns}
+use Rattle.layouts.specs.declared.arrangement.FillOrder.{FillOrder}
+use Rattle.layouts.specs.declared.arrangement.FillOrder.TheVariants.{Rows, Columns}
 use Rattle.layouts.specs.declared.arrangement.Turned.{Turned}
 use Rattle.layouts.specs.declared.arrangement.Turned.TheVariants as sideways
-use Rattle.layouts.specs.Placed.{Room, fine, stands, held, read, across, up, ComesFirst, AreApart, IsAbove}
-use Rattle.layouts.specs.Cells.{item_in, run_in}
+use Rattle.layouts.specs.Placed.{Room, fine, stands, held, read_turned, across, upward, ComesFirst, AreApart, IsAbove}
+use Rattle.layouts.specs.Cells.{item_in_cell, run_in}
 use Rattle.layouts.specs.Laws.{IsBeside, ComesInRun, ComesInRunBefore, GridIsApart}
 use Rattle.layouts.proofs.Sides.{abs_neg}
 use Rattle.layouts.proofs.InOrder.{grid_in_order}
@@ -41,27 +41,27 @@ twice a b c h =
 
 -- which of the two comes first, if it does so measured along one of the four directions of a sheet
 backwards : (room : Room) (page page' : Paper) (one other : Item) → ComesFirst (λ p. neg_ℤ p.x) room page one page' other → ComesFirst across room page' other page one
-backwards room page page' one other h p q of of' = back _ _ (pos room.gap_across) (h q p of' of)
+backwards room page page' one other h p q of of' = back _ _ (pos room.gutter_across) (h q p of' of)
 
-downwards : (room : Room) (page page' : Paper) (one other : Item) → ComesFirst (λ p. neg_ℤ p.y) room page one page' other → ComesFirst up room page' other page one
-downwards room page page' one other h p q of of' = back _ _ (pos room.gap_up) (h q p of' of)
+downwards : (room : Room) (page page' : Paper) (one other : Item) → ComesFirst (λ p. neg_ℤ p.y) room page one page' other → ComesFirst upward room page' other page one
+downwards room page page' one other h p q of of' = back _ _ (pos room.gutter_up) (h q p of' of)
 
 -- of two pages of one turn
-across_apart : (t : Turned) (turn : Turn) (room : Room) (page page' : Paper) (one other : Item) → ComesFirst (λ p. across (read t (held turn p))) room page one page' other → AreApart room page one page' other
+across_apart : (t : Turned) (turn : Turn) (room : Room) (page page' : Paper) (one other : Item) → ComesFirst (λ p. across (read_turned t (held turn p))) room page one page' other → AreApart room page one page' other
 across_apart sideways.Upright Upright room page page' one other h = inl (inl h)
 across_apart sideways.Upright Left room page page' one other h = inr (inl h)
 across_apart sideways.Upright Half room page page' one other h = inl (inr (backwards room page page' one other h))
 across_apart sideways.Upright Right room page page' one other h = inr (inr (downwards room page page' one other h))
 across_apart sideways.Left Upright room page page' one other h = inr (inr (downwards room page page' one other h))
-across_apart sideways.Left Left room page page' one other h = inl (inl (λ p q of of'. twice (stands page one p).x (stands page' other q).x (pos room.gap_across) (h p q of of')))
-across_apart sideways.Left Half room page page' one other h = inr (inl (λ p q of of'. twice (stands page one p).y (stands page' other q).y (pos room.gap_up) (h p q of of')))
+across_apart sideways.Left Left room page page' one other h = inl (inl (λ p q of of'. twice (stands page one p).x (stands page' other q).x (pos room.gutter_across) (h p q of of')))
+across_apart sideways.Left Half room page page' one other h = inr (inl (λ p q of of'. twice (stands page one p).y (stands page' other q).y (pos room.gutter_up) (h p q of of')))
 across_apart sideways.Left Right room page page' one other h = inl (inr (backwards room page page' one other h))
 across_apart sideways.Right Upright room page page' one other h = inr (inl h)
 across_apart sideways.Right Left room page page' one other h = inl (inr (backwards room page page' one other h))
 across_apart sideways.Right Half room page page' one other h = inr (inr (downwards room page page' one other h))
 across_apart sideways.Right Right room page page' one other h = inl (inl h)
 
-up_apart : (t : Turned) (turn : Turn) (room : Room) (page page' : Paper) (one other : Item) → ComesFirst (λ p. up (read t (held turn p))) room page one page' other → AreApart room page one page' other
+up_apart : (t : Turned) (turn : Turn) (room : Room) (page page' : Paper) (one other : Item) → ComesFirst (λ p. upward (read_turned t (held turn p))) room page one page' other → AreApart room page one page' other
 up_apart sideways.Upright Upright room page page' one other h = inr (inl h)
 up_apart sideways.Upright Left room page page' one other h = inl (inr (backwards room page page' one other h))
 up_apart sideways.Upright Half room page page' one other h = inr (inr (downwards room page page' one other h))
@@ -72,8 +72,8 @@ up_apart sideways.Left Half room page page' one other h = inl (inr (backwards ro
 up_apart sideways.Left Right room page page' one other h = inr (inr (downwards room page page' one other h))
 up_apart sideways.Right Upright room page page' one other h = inl (inr (backwards room page page' one other h))
 up_apart sideways.Right Left room page page' one other h = inr (inr (downwards room page page' one other h))
-up_apart sideways.Right Half room page page' one other h = inl (inl (λ p q of of'. twice (stands page one p).x (stands page' other q).x (pos room.gap_across) (h p q of of')))
-up_apart sideways.Right Right room page page' one other h = inr (inl (λ p q of of'. twice (stands page one p).y (stands page' other q).y (pos room.gap_up) (h p q of of')))
+up_apart sideways.Right Half room page page' one other h = inl (inl (λ p q of of'. twice (stands page one p).x (stands page' other q).x (pos room.gutter_across) (h p q of of')))
+up_apart sideways.Right Right room page page' one other h = inr (inl (λ p q of of'. twice (stands page one p).y (stands page' other q).y (pos room.gutter_up) (h p q of of')))
 
 beside_apart : (t : Turned) (b : Bool) (room : Room) (page page' : Paper) (one other : Item) → IsBeside room t b page one page' other → AreApart room page one page' other
 beside_apart t false room page page' one other h = across_apart t one.turn room page page' one other h
@@ -82,18 +82,18 @@ beside_apart t true room page page' one other h = other_way room page page' one 
 above_apart : (t : Turned) (room : Room) (page page' : Paper) (one other : Item) → IsAbove room t page one page' other → AreApart room page one page' other
 above_apart t room page page' one other h = other_way room page page' one other (up_apart t one.turn room page' page other one h)
 
-pub in_run_apart : (run : Run) (t : Turned) (b : Bool) (room : Room) (page page' : Paper) (one other : Item) → ComesInRun run room t b page one page' other → AreApart room page one page' other
+pub in_run_apart : (run : FillOrder) (t : Turned) (b : Bool) (room : Room) (page page' : Paper) (one other : Item) → ComesInRun run room t b page one page' other → AreApart room page one page' other
 in_run_apart Rows t b room page page' one other h = beside_apart t b room page page' one other h
 in_run_apart Columns t b room page page' one other h = above_apart t room page page' one other h
 
-in_runs_apart : (run : Run) (t : Turned) (b : Bool) (room : Room) (page page' : Paper) (one other : Item) → ComesInRunBefore run room t b page one page' other → AreApart room page one page' other
+in_runs_apart : (run : FillOrder) (t : Turned) (b : Bool) (room : Room) (page page' : Paper) (one other : Item) → ComesInRunBefore run room t b page one page' other → AreApart room page one page' other
 in_runs_apart Rows t b room page page' one other h = above_apart t room page page' one other h
 in_runs_apart Columns t b room page page' one other h = beside_apart t b room page page' one other h
 
 pub grid_apart : GridIsApart
 grid_apart page page' room g o s s' k l is is' on place place' in_k in_l differ =
-    let i = item_in page room g o s k in
-    let j = item_in page' room g o s' l in
+    let i = item_in_cell page room g o s k in
+    let j = item_in_cell page' room g o s' l in
     let forth = grid_in_order page page' room g o s s' k l is is' on place place' in_k in_l in
     let again = grid_in_order page' page room g o s' s l k is' is on place' place in_l in_k in
     by_order (k % run_in o.run o.turned g) (l % run_in o.run o.turned g)

@@ -8,7 +8,7 @@ use Rattle.rules.specs.Placement.{Point}
 use Rattle.layouts.specs.declared.arrangement.Order.{Order}
 use Rattle.layouts.specs.declared.arrangement.Turned.TheVariants as sideways
 use Rattle.layouts.specs.Placed.{IsEven, Room, stands, fine, IsLeftOf, AreApart}
-use Rattle.layouts.specs.Cells.{half_turned, item_in, back_in, to_right, to_top, whole, row_of, column_of}
+use Rattle.layouts.specs.Cells.{half_turned, item_in_cell, back_in, to_right, to_top, whole_parts, row_of, column_of}
 use Rattle.layouts.specs.Grids.{beside}
 use Rattle.layouts.specs.Laws.{BackIsInside, BackIsHalfTurn, IsHalfTurnOf}
 use Rattle.layouts.proofs.Sides.{abs_neg, placed, LiesIn}
@@ -27,12 +27,12 @@ pub back_is_half_turn : BackIsHalfTurn
 back_is_half_turn page room g o s n k =
     let x = to_right page room g s (row_of o g k) (column_of o g k) in
     let y = to_top page room g s (row_of o g k) (column_of o g k) in
-    let half : (p : Point) → _ = half_at page g.turned k (n + k) s x y (whole (nat_abs room.paper.width)) (whole (nat_abs room.paper.height)) in
+    let half : (p : Point) → _ = half_at page g.turned k (n + k) s x y (whole_parts (nat_abs room.paper.width)) (whole_parts (nat_abs room.paper.height)) in
     record { across = λ p. (half p).0; up = λ p. (half p).1 }
 
 -- turned by half about the middle of the whole 10^-5 of a point
-turned_back : (room : Room) (x y x' y' : ℤ) → IsEven room → LiesIn room (record { x = x; y = y }) → x' ≡ (pos 1_270_000_000_000_000 *ℤ pos (whole (nat_abs room.paper.width))) -ℤ x
-    → y' ≡ (pos 1_270_000_000_000_000 *ℤ pos (whole (nat_abs room.paper.height))) -ℤ y → LiesIn room (record { x = x'; y = y' })
+turned_back : (room : Room) (x y x' y' : ℤ) → IsEven room → LiesIn room (record { x = x; y = y }) → x' ≡ (pos 1_270_000_000_000_000 *ℤ pos (whole_parts (nat_abs room.paper.width))) -ℤ x
+    → y' ≡ (pos 1_270_000_000_000_000 *ℤ pos (whole_parts (nat_abs room.paper.height))) -ℤ y → LiesIn room (record { x = x'; y = y' })
 turned_back room x y x' y' even lies across up =
     let left = lies.left in let right = lies.right in let bottom = lies.bottom in let top = lies.top in
     let beside = even.across in let above = even.up in
@@ -47,7 +47,7 @@ pub back_inside : BackIsInside
 back_inside page room g o s n k is on even place within p of =
     let fit = place_fits o.run o.right_to_left o.turned g k within in
     let half = back_is_half_turn page room g o s n k in
-    let front = stands page (item_in page room g o s k) p in
+    let front = stands page (item_in_cell page room g o s k) p in
     let back = stands page (back_in page room g o s n k) p in
     on_sheet room back on
     (turned_back room front.x front.y back.x back.y even
@@ -59,12 +59,12 @@ same_order : (a b c d H : ℤ) (e : ℕ) → (a +ℤ fine e) ≤ℤ b → c ≡ 
 same_order a b c d H e h is is' = rw (abs_neg (pos e)) (omega (arith, ints, h, is, is'))
 
 pub back_left : (page : Paper) (room : Room) (o : Order) (s n k l : ℕ)
-    → IsLeftOf room sideways.Upright page (item_in page room (beside true) o s k) page (item_in page room (beside true) o s l)
+    → IsLeftOf room sideways.Upright page (item_in_cell page room (beside true) o s k) page (item_in_cell page room (beside true) o s l)
     → IsLeftOf room sideways.Upright page (back_in page room (beside true) o s n k) page (back_in page room (beside true) o s n l)
 back_left page room o s n k l h p q of of' =
     let one = back_is_half_turn page room (beside true) o s n k in
     let other = back_is_half_turn page room (beside true) o s n l in
-    same_order _ _ _ _ (pos 1_270_000_000_000_000 *ℤ pos (whole (nat_abs room.paper.height))) room.gap_up (h p q of of') (one.up p) (other.up q)
+    same_order _ _ _ _ (pos 1_270_000_000_000_000 *ℤ pos (whole_parts (nat_abs room.paper.height))) room.gutter_up (h p q of of') (one.up p) (other.up q)
 
 -- two pages that are apart still are if the sheet is turned
 
@@ -74,10 +74,10 @@ half_turned_first H a b a' b' e h is is' = omega (arith, ints, h, is, is')
 pub half_turned_apart : (room : Room) (page page' : Paper) (one other one' other' : Item) → IsHalfTurnOf page room.paper one one' → IsHalfTurnOf page' room.paper other other'
     → AreApart room page one page' other → AreApart room page one' page' other'
 half_turned_apart room page page' one other one' other' half half' (inl (inl h)) =
-    inl (inr (λ q p of' of. half_turned_first (pos 1_270_000_000_000_000 *ℤ pos (whole (nat_abs room.paper.width))) _ _ _ _ (fine room.gap_across) (h p q of of') (half.across p) (half'.across q)))
+    inl (inr (λ q p of' of. half_turned_first (pos 1_270_000_000_000_000 *ℤ pos (whole_parts (nat_abs room.paper.width))) _ _ _ _ (fine room.gutter_across) (h p q of of') (half.across p) (half'.across q)))
 half_turned_apart room page page' one other one' other' half half' (inl (inr h)) =
-    inl (inl (λ p q of of'. half_turned_first (pos 1_270_000_000_000_000 *ℤ pos (whole (nat_abs room.paper.width))) _ _ _ _ (fine room.gap_across) (h q p of' of) (half'.across q) (half.across p)))
+    inl (inl (λ p q of of'. half_turned_first (pos 1_270_000_000_000_000 *ℤ pos (whole_parts (nat_abs room.paper.width))) _ _ _ _ (fine room.gutter_across) (h q p of' of) (half'.across q) (half.across p)))
 half_turned_apart room page page' one other one' other' half half' (inr (inl h)) =
-    inr (inr (λ q p of' of. half_turned_first (pos 1_270_000_000_000_000 *ℤ pos (whole (nat_abs room.paper.height))) _ _ _ _ (fine room.gap_up) (h p q of of') (half.up p) (half'.up q)))
+    inr (inr (λ q p of' of. half_turned_first (pos 1_270_000_000_000_000 *ℤ pos (whole_parts (nat_abs room.paper.height))) _ _ _ _ (fine room.gutter_up) (h p q of of') (half.up p) (half'.up q)))
 half_turned_apart room page page' one other one' other' half half' (inr (inr h)) =
-    inr (inl (λ p q of of'. half_turned_first (pos 1_270_000_000_000_000 *ℤ pos (whole (nat_abs room.paper.height))) _ _ _ _ (fine room.gap_up) (h q p of' of) (half'.up q) (half.up p)))
+    inr (inl (λ p q of of'. half_turned_first (pos 1_270_000_000_000_000 *ℤ pos (whole_parts (nat_abs room.paper.height))) _ _ _ _ (fine room.gutter_up) (h q p of' of) (half'.up q) (half.up p)))

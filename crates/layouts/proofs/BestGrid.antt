@@ -8,7 +8,7 @@ use Rattle.rules.specs.Papers.{Paper}
 use Rattle.layouts.specs.declared.arrangement.Turned.{Turned}
 use Rattle.layouts.specs.declared.arrangement.Turned.TheVariants as sideways
 use Rattle.layouts.specs.Placed.{Room}
-use Rattle.layouts.specs.Cells.{Along, Grid, cell, fitting, held_across, held_down, held_width, held_height, left_free, kept, step, wide, high, counted, exact_along, exact_scale, scale_in, size}
+use Rattle.layouts.specs.Cells.{Along, Grid, cell, fitting, held_across, held_down, held_width, held_height, left_free, kept_length, pitch, wide, high, trimmed_side, exact_along, exact_scale, scale_in, size}
 use Rattle.layouts.specs.Grids.{grid, is_better, better, best_of, best_grid, formed, best_formed}
 use Rattle.layouts.specs.Laws.{IsAsGood, BestIsBest, BestHasCells, BestIsLarge, Allows, AllowsAlong, IsNotTiny}
 use Rattle.layouts.proofs.InGrid.{cells, room_in, some_each}
@@ -28,7 +28,7 @@ no_page (suc page) a b some e = absurd (omega (arith, some, e, suc-mul page b))
 
 exact_le : (a : Along) (side m n page : ℕ) → 0 < n → n ≤ m → exact_along a side m page ≤ exact_along a side n page
 exact_le a side m n page some fewer =
-    let d = kept a.trim a.gap in
+    let d = kept_length a.trim a.gap in
     let gaps : d * n ≤ d * m = mul-le-mul_left d fewer in
     over_le (1_000_000_000 * left_free a side + 1_270_000_000_000_000 * d - 1_270_000_000_000_000 * (d * m))
     (1_000_000_000 * left_free a side + 1_270_000_000_000_000 * d - 1_270_000_000_000_000 * (d * n)) (page * m) (page * n)
@@ -36,7 +36,7 @@ exact_le a side m n page some fewer =
 
 scale_le : (page : Paper) (room : Room) (r c r' c' : ℕ) (b : Bool) → 0 < r' → 0 < c' → r' ≤ r → c' ≤ c → exact_scale page room (cells r c b) ≤ exact_scale page room (cells r' c' b)
 scale_le page room r c r' c' b some_rows some_columns rows columns =
-    omega (arith, exact_le (held_across b room) (held_width b room.paper) c c' (counted room page.width) some_columns columns, exact_le (held_down b room) (held_height b room.paper) r r' (counted room page.height) some_rows rows)
+    omega (arith, exact_le (held_across b room) (held_width b room.paper) c c' (trimmed_side room page.width) some_columns columns, exact_le (held_down b room) (held_height b room.paper) r r' (trimmed_side room page.height) some_rows rows)
 
 -- the better of two
 
@@ -209,8 +209,8 @@ nearly : (a : Along) (side parts page t : ℕ) → 1_397_000_000_000 ≤ page �
     → AllowsAlong a side parts page t
     → t < fitting (cell a side parts) page + 1_000
 nearly a side parts page t large some allows =
-    let p = step a side parts in
-    let d = kept a.trim a.gap in
+    let p = pitch a side parts in
+    let d = kept_length a.trim a.gap in
     let q = fitting (p - d) page in
     let free = left_free a side + 1_270_000 * d in
     let cut : free < p * (1_270_000 * parts) + 1_270_000 * parts = lt-div-mul-add {a = free} {b = 1_270_000 * parts} (omega (arith, some)) in
@@ -227,8 +227,8 @@ nearly a side parts page t large some allows =
 pub allowed : (page : Paper) (room : Room) (g : Grid) (t : ℕ) → IsNotTiny page room → 0 < g.rows → 0 < g.columns → Allows page room g t
     → t < scale_in page room g + 1_000
 allowed page room g t sides rows columns allows =
-    let across : t < fitting (wide room g) (counted room page.width) + 1_000 = nearly (held_across g.turned room) (held_width g.turned room.paper) g.columns (counted room page.width) t sides.0 columns allows.wide in
-    let down : t < fitting (high room g) (counted room page.height) + 1_000 = nearly (held_down g.turned room) (held_height g.turned room.paper) g.rows (counted room page.height) t sides.1 rows allows.high in
+    let across : t < fitting (wide room g) (trimmed_side room page.width) + 1_000 = nearly (held_across g.turned room) (held_width g.turned room.paper) g.columns (trimmed_side room page.width) t sides.0 columns allows.wide in
+    let down : t < fitting (high room g) (trimmed_side room page.height) + 1_000 = nearly (held_down g.turned room) (held_height g.turned room.paper) g.rows (trimmed_side room page.height) t sides.1 rows allows.high in
     omega (arith, across, down)
 
 -- and what exact parts allow at most is, too
@@ -237,7 +237,7 @@ product zero b some some' = absurd (omega (arith, some))
 product (suc a) b some some' = omega (arith, some', suc-mul a b)
 
 near_by : (a : Along) (side parts page t : ℕ) → 1_397_000_000_000 ≤ page → 0 < parts
-    → t * (page * parts) ≤ 1_000_000_000 * left_free a side + 1_270_000_000_000_000 * kept a.trim a.gap - 1_270_000_000_000_000 * (kept a.trim a.gap * parts)
+    → t * (page * parts) ≤ 1_000_000_000 * left_free a side + 1_270_000_000_000_000 * kept_length a.trim a.gap - 1_270_000_000_000_000 * (kept_length a.trim a.gap * parts)
     → t < fitting (cell a side parts) page + 1_000
 near_by a side parts page zero large some fits = omega arith
 near_by a side parts page (suc t) large some fits =
@@ -248,22 +248,22 @@ near_along : (a : Along) (side parts page : ℕ) → 1_397_000_000_000 ≤ page 
     → exact_along a side parts page < fitting (cell a side parts) page + 1_000
 near_along a side parts page large some =
     near_by a side parts page (exact_along a side parts page) large some
-    (div-mul-le_self (1_000_000_000 * left_free a side + 1_270_000_000_000_000 * kept a.trim a.gap - 1_270_000_000_000_000 * (kept a.trim a.gap * parts)) (page * parts))
+    (div-mul-le_self (1_000_000_000 * left_free a side + 1_270_000_000_000_000 * kept_length a.trim a.gap - 1_270_000_000_000_000 * (kept_length a.trim a.gap * parts)) (page * parts))
 
 near_exact : (page : Paper) (room : Room) (g : Grid) → IsNotTiny page room → 0 < g.rows → 0 < g.columns → exact_scale page room g < scale_in page room g + 1_000
 near_exact page room g sides rows columns =
-    omega (arith, near_along (held_across g.turned room) (held_width g.turned room.paper) g.columns (counted room page.width) sides.0 columns, near_along (held_down g.turned room) (held_height g.turned room.paper) g.rows (counted room page.height) sides.1 rows)
+    omega (arith, near_along (held_across g.turned room) (held_width g.turned room.paper) g.columns (trimmed_side room page.width) sides.0 columns, near_along (held_down g.turned room) (held_height g.turned room.paper) g.rows (trimmed_side room page.height) sides.1 rows)
 
 within_along : (a : Along) (side parts page t : ℕ) → 1_397_000_000_000 ≤ page → 0 < parts
     → AllowsAlong a side parts page t
     → t ≤ exact_along a side parts page
 within_along a side parts page t large some allows =
-    le-div t (1_000_000_000 * left_free a side + 1_270_000_000_000_000 * kept a.trim a.gap - 1_270_000_000_000_000 * (kept a.trim a.gap * parts)) (page * parts)
+    le-div t (1_000_000_000 * left_free a side + 1_270_000_000_000_000 * kept_length a.trim a.gap - 1_270_000_000_000_000 * (kept_length a.trim a.gap * parts)) (page * parts)
     (product page parts (omega (arith, large)) some) (omega (arith, allows, mul_assoc t page parts))
 
 within_exact : (page : Paper) (room : Room) (g : Grid) (t : ℕ) → IsNotTiny page room → 0 < g.rows → 0 < g.columns → Allows page room g t → t ≤ exact_scale page room g
 within_exact page room g t sides rows columns allows =
-    omega (arith, within_along (held_across g.turned room) (held_width g.turned room.paper) g.columns (counted room page.width) t sides.0 columns allows.wide, within_along (held_down g.turned room) (held_height g.turned room.paper) g.rows (counted room page.height) t sides.1 rows allows.high)
+    omega (arith, within_along (held_across g.turned room) (held_width g.turned room.paper) g.columns (trimmed_side room page.width) t sides.0 columns allows.wide, within_along (held_down g.turned room) (held_height g.turned room.paper) g.rows (trimmed_side room page.height) t sides.1 rows allows.high)
 
 pub best_is_large : BestIsLarge
 best_is_large page room n g t sides many h allows =
@@ -356,15 +356,15 @@ upright_as_large : (page sheet : Paper) (d d' : ℕ) → nat_abs page.width ≡ 
 upright_as_large page sheet d d' same same' wide high =
     let w = nat_abs page.width in
     let h = nat_abs page.height in
-    let all_wide : counted (room_in sheet d d') page.width ≡ nat_abs page.width = omega arith in
-    let all_high : counted (room_in sheet d d') page.height ≡ nat_abs page.height = omega arith in
+    let all_wide : trimmed_side (room_in sheet d d') page.width ≡ nat_abs page.width = omega arith in
+    let all_high : trimmed_side (room_in sheet d d') page.height ≡ nat_abs page.height = omega arith in
     let one : exact_scale page (room_in sheet d d') (cells 1 1 true) ≡ min (1_000_000_000 * h / w) (1_000_000_000 * w / h) =
-    ap (λ x. min (exact_along (gap_in d') (nat_abs sheet.height) 1 x) (exact_along (gap_in d) (nat_abs sheet.width) 1 (counted (room_in sheet d d') page.height))) all_wide
+    ap (λ x. min (exact_along (gap_in d') (nat_abs sheet.height) 1 x) (exact_along (gap_in d) (nat_abs sheet.width) 1 (trimmed_side (room_in sheet d d') page.height))) all_wide
     ∙ (ap (λ y. min (exact_along (gap_in d') (nat_abs sheet.height) 1 w) (exact_along (gap_in d) (nat_abs sheet.width) 1 y)) all_high
     ∙ (ap (λ x. min x (exact_along (gap_in d) (nat_abs sheet.width) 1 h)) (along_one (nat_abs sheet.height) d' w ∙ ap (λ m. 1_000_000_000 * m / w) (sym same'))
     ∙ ap (λ y. min (1_000_000_000 * h / w) y) (along_one (nat_abs sheet.width) d h ∙ ap (λ m. 1_000_000_000 * m / h) (sym same)))) in
     let two : exact_scale page (room_in sheet d d') (cells 1 1 false) ≡ min (1_000_000_000 * w / w) (1_000_000_000 * h / h) =
-    ap (λ x. min (exact_along (gap_in d) (nat_abs sheet.width) 1 x) (exact_along (gap_in d') (nat_abs sheet.height) 1 (counted (room_in sheet d d') page.height))) all_wide
+    ap (λ x. min (exact_along (gap_in d) (nat_abs sheet.width) 1 x) (exact_along (gap_in d') (nat_abs sheet.height) 1 (trimmed_side (room_in sheet d d') page.height))) all_wide
     ∙ (ap (λ y. min (exact_along (gap_in d) (nat_abs sheet.width) 1 w) (exact_along (gap_in d') (nat_abs sheet.height) 1 y)) all_high
     ∙ (ap (λ x. min x (exact_along (gap_in d') (nat_abs sheet.height) 1 h)) (along_one (nat_abs sheet.width) d w ∙ ap (λ m. 1_000_000_000 * m / w) (sym same))
     ∙ ap (λ y. min (1_000_000_000 * w / w) y) (along_one (nat_abs sheet.height) d' h ∙ ap (λ m. 1_000_000_000 * m / h) (sym same')))) in

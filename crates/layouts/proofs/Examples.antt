@@ -7,7 +7,7 @@ use Rattle.rules.specs.Specification.{canonical}
 use Rattle.layouts.specs.declared.arrangement.Arrangement.{Arrangement}
 use Rattle.layouts.specs.declared.arrangement.Cells.{Cells}
 use Rattle.layouts.specs.declared.arrangement.Cells.TheVariants.{AtLeast, Exactly}
-use Rattle.layouts.specs.declared.arrangement.Run.TheVariants.{Rows, Columns}
+use Rattle.layouts.specs.declared.arrangement.FillOrder.TheVariants.{Rows, Columns}
 use Rattle.layouts.specs.declared.arrangement.Turned.TheVariants as sideways
 use Rattle.layouts.specs.declared.arrangement.Order.{Order}
 use Rattle.layouts.specs.declared.error.ArrangementError.TheVariants as why
@@ -15,7 +15,7 @@ use Rattle.layouts.specs.Placed.{Room, bare}
 use Rattle.layouts.specs.Cells.{along_width, cells_across, gap_at}
 use Rattle.layouts.specs.Laws.{cell_at}
 use Rattle.layouts.specs.Grids.{best_grid, best_formed, arranged, bound, nothing_free, plain, plain_binding, plain_order}
-use Rattle.layouts.specs.Refusals.{is_count, is_reached, is_scale, is_length, leaves_room, why_no_scale, why_not_arranged, why_not_bound}
+use Rattle.layouts.specs.Refusals.{is_count, is_reached, is_scale_in_range, is_length, leaves_room, why_no_scale, why_not_arranged, why_not_bound}
 
 four_on_letter : best_grid (points 612 792) (bare (points 612 792)) 4 ≡ record { rows = 2; columns = 2; turned = false }
 four_on_letter = refl
@@ -210,7 +210,7 @@ trimmed_away : why_not_arranged a4 a4 (asked (AtLeast 4) (pos 0) (pos 0) (pos 37
 unfolding a4 asked
 trimmed_away = refl
 
-no_room : why_not_arranged a4 a4 (asked (AtLeast 4) (pos 37_782_500_000_000) (pos 0) (pos 0) None) ≡ Some (why.NoRoom (record { paper = a4; left = 29_750_000; right = 29_750_000; bottom = 29_750_000; top = 29_750_000; gap_across = 0; gap_up = 0; trim = 0 }))
+no_room : why_not_arranged a4 a4 (asked (AtLeast 4) (pos 37_782_500_000_000) (pos 0) (pos 0) None) ≡ Some (why.NoRoom (record { paper = a4; left = 29_750_000; right = 29_750_000; bottom = 29_750_000; top = 29_750_000; gutter_across = 0; gutter_up = 0; trim = 0 }))
 unfolding a4 asked
 no_room = refl
 
@@ -251,16 +251,16 @@ longest_in_reach = refl
 out_of_reach : is_reached 12_700_000_000_000_000 ≡ false
 out_of_reach = refl
 
-no_scale : is_scale 0 ≡ false
+no_scale : is_scale_in_range 0 ≡ false
 no_scale = refl
 
-least_scale : is_scale 1 ≡ true
+least_scale : is_scale_in_range 1 ≡ true
 least_scale = refl
 
-greatest_scale : is_scale 99_999_000_000_000 ≡ true
+greatest_scale : is_scale_in_range 99_999_000_000_000 ≡ true
 greatest_scale = refl
 
-scale_past_greatest : is_scale 99_999_000_000_001 ≡ false
+scale_past_greatest : is_scale_in_range 99_999_000_000_001 ≡ false
 scale_past_greatest = refl
 
 -- the number of pages is looked at before the papers
@@ -278,8 +278,8 @@ with_gaps trim = record {
   right = 1_000_000;
   bottom = 1_000_000;
   top = 1_000_000;
-  gap_across = 400_000;
-  gap_up = 400_000;
+  gutter_across = 400_000;
+  gutter_up = 400_000;
   trim = trim;
 }
 

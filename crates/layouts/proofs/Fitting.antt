@@ -19,9 +19,9 @@ use Rattle.layouts.specs.declared.error.ArrangementError.{ArrangementError}
 use Rattle.layouts.specs.declared.error.ArrangementError.TheVariants as why
 use Rattle.layouts.specs.declared.setting.Setting.{Setting}
 use Rattle.layouts.specs.Placed.{IsEven, Room, IsInside, AreApart, stands}
-use Rattle.layouts.specs.Cells.{Grid, along_height, size, kept, scale_in, item_in, run_in, read_rows, row_of, column_of}
-use Rattle.layouts.specs.Grids.{beside, has_bare_edges, leaf_order, alone, is_same, is_itself, room_of, grid, grid_of, better, best_grid, best_of, best_formed, scale_for, count_of, rounded_up, rounded_down, arranged, bound, sides_in}
-use Rattle.layouts.specs.Refusals.{first_of, is_count, is_even, are_lengths, are_reached, is_shown, why_no_scale, why_not_arranged, why_not_bound, folds_short}
+use Rattle.layouts.specs.Cells.{Grid, along_height, size, kept_length, scale_in, item_in_cell, run_in, read_rows, row_of, column_of}
+use Rattle.layouts.specs.Grids.{beside, has_bare_edges, leaf_order, page_alone, is_same, is_itself, room_of, grid, grid_of, better, best_grid, best_of, best_formed, scale_for, cells_per_sheet, rounded_up, rounded_down, arranged, bound, leaf_sides}
+use Rattle.layouts.specs.Refusals.{error_unless, is_count, is_even, are_lengths, is_paper_reached, is_shown, why_no_scale, why_not_arranged, why_not_bound, folds_short}
 use Rattle.layouts.specs.Laws.{IsArranged, IsBound, IsPaper, HasPlace, IsExact, IsHalfTurnOf, IsInCell, IsInMiddle, cell_at, ComesInRun, ComesInRunBefore, IsNotTiny, Allows, IsChosen}
 use Rattle.layouts.specs.Fitted.{is_whole, past_cell, scale_on, fitted, fitted_back, setting_of, binding_setting_of, why_no_scale_on, why_not_fitted, IsFitted, FittedStands, FittedIsApart, FittedIsInOrder, ArrangedIsFitted, HaveOneFold, halves, BoundIsFitted}
 use Rattle.layouts.proofs.Folds.{fold, in_middle as fold_in_middle, fold_on_sheet, lies_before, lies_behind, turned_behind, turned_before}
@@ -60,10 +60,10 @@ whole_page t page h =
 
 -- what holds of it
 record StandsWhole (page : Paper) (room : Room) (g : Grid) (o : Order) (k : ℕ) : Type 0 where
-  pub inside : IsInside room page (alone k)
-  pub in_cell : IsInCell room page (cell_at room g (row_of o g k) (column_of o g k)) 1 (alone k)
-  pub middle : IsInMiddle page (cell_at room g (row_of o g k) (column_of o g k)) (alone k)
-  pub exact : IsExact page (alone k)
+  pub inside : IsInside room page (page_alone k)
+  pub in_cell : IsInCell room page (cell_at room g (row_of o g k) (column_of o g k)) 1 (page_alone k)
+  pub middle : IsInMiddle page (cell_at room g (row_of o g k) (column_of o g k)) (page_alone k)
+  pub exact : IsExact page (page_alone k)
   pub large : (s : ℕ) → IsNotTiny page room → Allows page room g s → s < 1_000_001_000
 
 stands_whole : (page sheet : Paper) (d d' r c : ℕ) (b : Bool) (o : Order) (k : ℕ) → IsPaper page → IsPaper sheet → SameSides page sheet → r * c ≡ 1 → k < r * c
@@ -85,14 +85,14 @@ stands_whole page sheet d d' (suc (suc r)) zero b o k is on same one within = ab
 stands_whole page sheet d d' (suc (suc r)) (suc zero) b o k is on same one within = absurd (omega (arith, one))
 stands_whole page sheet d d' (suc (suc r)) (suc (suc c)) b o k is on same one within = absurd (omega (arith, one))
 
-pub whole_fitted : (t : Setting) (page : Paper) (k : ℕ) → IsPaper page → IsPaper t.room.paper → k < size t.grid → is_whole t page ≡ true → IsFitted t page k (alone k)
+pub whole_fitted : (t : Setting) (page : Paper) (k : ℕ) → IsPaper page → IsPaper t.room.paper → k < size t.grid → is_whole t page ≡ true → IsFitted t page k (page_alone k)
 whole_fitted t page k is on within h =
     let whole = whole_page t page h in
     let stands = bare_edges (λ room. StandsWhole page room t.grid t.order k) t.room whole.bare
-    (stands_whole page t.room.paper t.room.gap_across t.room.gap_up t.grid.rows t.grid.columns t.grid.turned t.order k is on whole.same whole.one within) in
+    (stands_whole page t.room.paper t.room.gutter_across t.room.gutter_up t.grid.rows t.grid.columns t.grid.turned t.order k is on whole.same whole.one within) in
     record {
       inside = stands.inside;
-      in_cell = subst (λ n. IsInCell t.room page (cell_at t.room t.grid (row_of t.order t.grid k) (column_of t.order t.grid k)) n (alone k)) (sym (cond-true (is_whole t page) 1 (kept t.room.trim 0) h)) stands.in_cell;
+      in_cell = subst (λ n. IsInCell t.room page (cell_at t.room t.grid (row_of t.order t.grid k) (column_of t.order t.grid k)) n (page_alone k)) (sym (cond-true (is_whole t page) 1 (kept_length t.room.trim 0) h)) stands.in_cell;
       middle = stands.middle;
       exact = stands.exact;
       scale = 1_000_000_000;
@@ -104,18 +104,18 @@ whole_fitted t page k is on within h =
 
 pub has_scale : (t : Setting) (page : Paper) → why_no_scale_on t page ≡ None → IsMade page t.room t.grid (scale_on t page)
 has_scale t page h =
-    let one = passed (are_reached page && are_reached t.room.paper) why.SideTooLong (first_of (is_shown page t.room) why.NothingLeftOfPage (why_no_scale t.room (scale_on t page) (scale_in page t.room t.grid))) h in
+    let one = passed (is_paper_reached page && is_paper_reached t.room.paper) why.SideTooLong (error_unless (is_shown page t.room) why.NothingLeftOfPage (why_no_scale t.room (scale_on t page) (scale_in page t.room t.grid))) h in
     let two = passed (is_shown page t.room) why.NothingLeftOfPage (why_no_scale t.room (scale_on t page) (scale_in page t.room t.grid)) one.1 in
     made page t.room t.grid (scale_on t page) two.0 (good_scale t.room (scale_on t page) (scale_in page t.room t.grid) two.1)
 
 pub cell_fitted : (t : Setting) (page : Paper) (k : ℕ) → IsPaper page → IsPaper t.room.paper → k < size t.grid → why_no_scale_on t page ≡ None
-    → IsFitted t page k (item_in page t.room t.grid t.order (scale_on t page) k)
+    → IsFitted t page k (item_in_cell page t.room t.grid t.order (scale_on t page) k)
 cell_fitted t page k is on within h =
     let has = (has_scale t page h).place in
     let some = some_each t.grid.rows t.grid.columns (omega (arith, within)) in
     record {
       inside = grid_inside page t.room t.grid t.order (scale_on t page) k is on has within;
-      in_cell = λ p of. farther (cell_at t.room t.grid (row_of t.order t.grid k) (column_of t.order t.grid k)) (kept t.room.trim 0) (past_cell t page) (stands page (item_in page t.room t.grid t.order (scale_on t page) k) p)
+      in_cell = λ p of. farther (cell_at t.room t.grid (row_of t.order t.grid k) (column_of t.order t.grid k)) (kept_length t.room.trim 0) (past_cell t page) (stands page (item_in_cell page t.room t.grid t.order (scale_on t page) k) p)
           (past_is t.room (is_whole t page)) (grid_in_cell page t.room t.grid t.order (scale_on t page) k is has p of);
       middle = grid_in_middle page t.room t.grid t.order (scale_on t page) k is has;
       exact = (printed_as_it_is page t.room t.grid t.order (scale_on t page) 0 k).0;
@@ -135,7 +135,7 @@ pub record StandsBack (t : Setting) (page : Paper) (k : ℕ) (item : Item) : Typ
 
 front_turned : (t : Setting) (page : Paper) (k : ℕ) → is_whole t page ≡ false → IsHalfTurnOf page t.room.paper (fitted t page k) (fitted_back t page k)
 front_turned t page k e =
-    subst (λ i. IsHalfTurnOf page t.room.paper i (fitted_back t page k)) (sym (cond-false (is_whole t page) (alone k) (item_in page t.room t.grid t.order (scale_on t page) k) e))
+    subst (λ i. IsHalfTurnOf page t.room.paper i (fitted_back t page k)) (sym (cond-false (is_whole t page) (page_alone k) (item_in_cell page t.room t.grid t.order (scale_on t page) k) e))
     (back_is_half_turn page t.room t.grid t.order (scale_on t page) 0 k)
 
 pub stands_back : (t : Setting) (page : Paper) (k : ℕ) → IsPaper page → IsPaper t.room.paper → k < size t.grid → why_no_scale_on t page ≡ None → StandsBack t page k (fitted_back t page k)
@@ -153,8 +153,8 @@ by_test false f g = g refl
 pub fitted_stands : FittedStands
 fitted_stands t page k is on within h =
     by_test (is_whole t page)
-    (λ e. subst (IsFitted t page k) (sym (cond-true (is_whole t page) (alone k) (item_in page t.room t.grid t.order (scale_on t page) k) e)) (whole_fitted t page k is on within e))
-    (λ e. subst (IsFitted t page k) (sym (cond-false (is_whole t page) (alone k) (item_in page t.room t.grid t.order (scale_on t page) k) e))
+    (λ e. subst (IsFitted t page k) (sym (cond-true (is_whole t page) (page_alone k) (item_in_cell page t.room t.grid t.order (scale_on t page) k) e)) (whole_fitted t page k is on within e))
+    (λ e. subst (IsFitted t page k) (sym (cond-false (is_whole t page) (page_alone k) (item_in_cell page t.room t.grid t.order (scale_on t page) k) e))
     (cell_fitted t page k is on within (sym (cond-false (is_whole t page) None (why_no_scale_on t page) e) ∙ h)))
 
 -- ---- two pages
@@ -171,9 +171,9 @@ scale_of_many t page many h = sym (cond-false (is_whole t page) None (why_no_sca
 
 -- so each stands in its cell
 pub in_cell : (t : Setting) (page : Paper) (k l : ℕ) → is_whole t page ≡ false → why_not_fitted t page ≡ None
-    → (fitted t page k ≡ item_in page t.room t.grid t.order (scale_on t page) k) × HasPlace page t.room t.grid (scale_on t page)
+    → (fitted t page k ≡ item_in_cell page t.room t.grid t.order (scale_on t page) k) × HasPlace page t.room t.grid (scale_on t page)
 in_cell t page k l not h = (
-  cond-false (is_whole t page) (alone k) (item_in page t.room t.grid t.order (scale_on t page) k) not,
+  cond-false (is_whole t page) (page_alone k) (item_in_cell page t.room t.grid t.order (scale_on t page) k) not,
   (has_scale t page (sym (cond-false (is_whole t page) None (why_no_scale_on t page) not) ∙ h)).place,
 )
 
@@ -182,7 +182,7 @@ fitted_is_apart t page page' k l is is' on h h' in_k in_l differ =
     let one = in_cell t page k l (not_whole t page k l in_k in_l differ) h in
     let other = in_cell t page' l k (not_whole t page' k l in_k in_l differ) h' in
     subst (λ i. AreApart t.room page i page' (fitted t page' l)) (sym one.0)
-    (subst (λ i. AreApart t.room page (item_in page t.room t.grid t.order (scale_on t page) k) page' i) (sym other.0)
+    (subst (λ i. AreApart t.room page (item_in_cell page t.room t.grid t.order (scale_on t page) k) page' i) (sym other.0)
     (grid_apart page page' t.room t.grid t.order (scale_on t page) (scale_on t page') k l is is' on one.1 other.1 in_k in_l differ))
 
 -- and so do two that are turned by half
@@ -202,24 +202,24 @@ fitted_is_in_order t page page' k l is is' on h h' in_k in_l =
           let one = in_cell t page k l (not_whole t page k l in_k in_l differ) h in
           let other = in_cell t page' l k (not_whole t page' k l in_k in_l differ) h' in
           subst (λ i. ComesInRun o.run t.room o.turned o.right_to_left page i page' (fitted t page' l)) (sym one.0)
-          (subst (λ i. ComesInRun o.run t.room o.turned o.right_to_left page (item_in page t.room t.grid o (scale_on t page) k) page' i) (sym other.0)
+          (subst (λ i. ComesInRun o.run t.room o.turned o.right_to_left page (item_in_cell page t.room t.grid o (scale_on t page) k) page' i) (sym other.0)
           ((grid_in_order page page' t.room t.grid o (scale_on t page) (scale_on t page') k l is is' on one.1 other.1 in_k in_l).0 less)),
       λ less.
           let differ : k ≢ l = λ e. let same : k / run ≡ l / run = ap (λ m. m / run) e in omega (arith, less, same) in
           let one = in_cell t page k l (not_whole t page k l in_k in_l differ) h in
           let other = in_cell t page' l k (not_whole t page' k l in_k in_l differ) h' in
           subst (λ i. ComesInRunBefore o.run t.room o.turned o.right_to_left page i page' (fitted t page' l)) (sym one.0)
-          (subst (λ i. ComesInRunBefore o.run t.room o.turned o.right_to_left page (item_in page t.room t.grid o (scale_on t page) k) page' i) (sym other.0)
+          (subst (λ i. ComesInRunBefore o.run t.room o.turned o.right_to_left page (item_in_cell page t.room t.grid o (scale_on t page) k) page' i) (sym other.0)
           ((grid_in_order page page' t.room t.grid o (scale_on t page) (scale_on t page') k l is is' on one.1 other.1 in_k in_l).1 less)),
     )
 
 -- ---- the grid
 
-pub chosen_as : (page : Paper) (room : Room) (t : Turned) (c : Cells) (g : Grid) → 0 < count_of c → g ≡ grid_of page room t c → IsChosen page room t c (scale_in page room g) g
+pub chosen_as : (page : Paper) (room : Room) (t : Turned) (c : Cells) (g : Grid) → 0 < cells_per_sheet c → g ≡ grid_of page room t c → IsChosen page room t c (scale_in page room g) g
 chosen_as page room t c g some e = subst (λ x. IsChosen page room t c (scale_in page room x) x) (sym e) (is_chosen page room t c some)
 
-pub enough_in : (page : Paper) (room : Room) (t : Turned) (c : Cells) (g : Grid) → 0 < count_of c → g ≡ grid_of page room t c → count_of c ≤ size g
-enough_in page room t c g some e = subst (λ x. count_of c ≤ size x) (sym e) (enough page room t c some)
+pub enough_in : (page : Paper) (room : Room) (t : Turned) (c : Cells) (g : Grid) → 0 < cells_per_sheet c → g ≡ grid_of page room t c → cells_per_sheet c ≤ size g
+enough_in page room t c g some e = subst (λ x. cells_per_sheet c ≤ size x) (sym e) (enough page room t c some)
 
 -- ---- pages of one paper
 
@@ -235,7 +235,7 @@ one_best page room =
 not_one : (n : ℕ) → 2 ≤ n → (n == 1) ≡ false
 not_one n h = search (rules, h)
 
-same_test : (page : Paper) (room : Room) (t : Turned) (c : Cells) → 1 ≤ count_of c → (size (grid_of page room t c) == 1) ≡ (count_of c == 1)
+same_test : (page : Paper) (room : Room) (t : Turned) (c : Cells) → 1 ≤ cells_per_sheet c → (size (grid_of page room t c) == 1) ≡ (cells_per_sheet c == 1)
 same_test page room t (AtLeast zero) some = absurd (omega (arith, some))
 same_test page room t (AtLeast (suc zero)) some = ap (λ n. n == 1) (one_best page room)
 same_test page room t (AtLeast (suc (suc n))) some =
@@ -257,9 +257,9 @@ counts n h = let both = both_true (nat_le 1 n) (nat_le n 1_024) h in (leb-true 1
 
 -- what holds where nothing refuses
 pub record NothingRefuses (page sheet : Paper) (a : Arrangement) : Type 0 where
-  pub some : 1 ≤ count_of a.cells
-  pub few : count_of a.cells ≤ 1_024
-  pub reached : are_reached page && are_reached sheet ≡ true
+  pub some : 1 ≤ cells_per_sheet a.cells
+  pub few : cells_per_sheet a.cells ≤ 1_024
+  pub reached : is_paper_reached page && is_paper_reached sheet ≡ true
   pub shown : is_shown page (room_of sheet a.free) ≡ true
   pub behind : (let room = room_of sheet a.free in
       let largest = scale_in page room (grid_of page room a.order.turned a.cells) in
@@ -270,23 +270,23 @@ nothing_refuses page sheet a h =
     let room = room_of sheet a.free in
     let largest = scale_in page room (grid_of page room a.order.turned a.cells) in
     let last : Option ArrangementError = if is_itself page sheet a then None else why_no_scale room (scale_for a.scale largest) largest in
-    let third = first_of (is_shown page room) why.NothingLeftOfPage last in
-    let second = first_of (are_lengths a.free) why.LengthOutOfRange third in
-    let first = first_of (are_reached page && are_reached sheet) why.SideTooLong second in
-    let one = passed (is_count (count_of a.cells)) why.CellsOutOfRange first h in
-    let two = passed (are_reached page && are_reached sheet) why.SideTooLong second one.1 in
+    let third = error_unless (is_shown page room) why.NothingLeftOfPage last in
+    let second = error_unless (are_lengths a.free) why.LengthOutOfRange third in
+    let first = error_unless (is_paper_reached page && is_paper_reached sheet) why.SideTooLong second in
+    let one = passed (is_count (cells_per_sheet a.cells)) why.CellsOutOfRange first h in
+    let two = passed (is_paper_reached page && is_paper_reached sheet) why.SideTooLong second one.1 in
     let three = passed (are_lengths a.free) why.LengthOutOfRange third two.1 in
     let four = passed (is_shown page room) why.NothingLeftOfPage last three.1 in
-    let n = counts (count_of a.cells) one.0 in
+    let n = counts (cells_per_sheet a.cells) one.0 in
     record { some = n.0; few = n.1; reached = two.0; shown = four.0; behind = four.1 }
 
 abbrev ArrangedSo : (page sheet : Paper) → Arrangement → Type 0
-ArrangedSo page sheet a = (why_not_fitted (setting_of page sheet a) page ≡ None) × (arranged page sheet a ≡ one_group (count_of a.cells) (fitted (setting_of page sheet a) page))
+ArrangedSo page sheet a = (why_not_fitted (setting_of page sheet a) page ≡ None) × (arranged page sheet a ≡ one_group (cells_per_sheet a.cells) (fitted (setting_of page sheet a) page))
 
 whole_so : (page sheet : Paper) (a : Arrangement) → is_itself page sheet a ≡ true → is_whole (setting_of page sheet a) page ≡ true → ArrangedSo page sheet a
 whole_so page sheet a e whole =
     let t = setting_of page sheet a in
-    let alone_is : fitted t page 0 ≡ alone 0 = cond-true (is_whole t page) (alone 0) _ whole in (
+    let alone_is : fitted t page 0 ≡ page_alone 0 = cond-true (is_whole t page) (page_alone 0) _ whole in (
       cond-true (is_whole t page) None _ whole,
       itself_made page sheet a e ∙ (ap single (sym alone_is) ∙ ap (λ n. one_group n (fitted t page)) (sym (is_alone page sheet a e).one)),
     )
@@ -295,10 +295,10 @@ cells_so : (page sheet : Paper) (a : Arrangement) → NothingRefuses page sheet 
 cells_so page sheet a holds e not =
     let t = setting_of page sheet a in
     let scaled : why_no_scale t.room (scale_on t page) (scale_in page t.room t.grid) ≡ None = sym (cond-false (is_itself page sheet a) None _ e) ∙ holds.behind in
-    let reasons : why_no_scale_on t page ≡ None = cond-true (are_reached page && are_reached sheet) _ _ holds.reached ∙ (cond-true (is_shown page t.room) _ _ holds.shown ∙ scaled) in (
+    let reasons : why_no_scale_on t page ≡ None = cond-true (is_paper_reached page && is_paper_reached sheet) _ _ holds.reached ∙ (cond-true (is_shown page t.room) _ _ holds.shown ∙ scaled) in (
       cond-false (is_whole t page) None _ not ∙ reasons,
       cells_made page sheet a e
-          ∙ ap (λ b. one_group (count_of a.cells) (λ k. if b then alone k else item_in page t.room t.grid t.order (scale_on t page) k)) (sym not),
+          ∙ ap (λ b. one_group (cells_per_sheet a.cells) (λ k. if b then page_alone k else item_in_cell page t.room t.grid t.order (scale_on t page) k)) (sym not),
     )
 
 -- one page on a sheet of its own paper is upright
@@ -313,7 +313,7 @@ alone_best page sheet d d' same wide high =
     ap (λ g. better page room g (best_of page room true 1 1)) (best_of_one page room false)
     ∙ (ap (λ g. better page room (cells 1 1 false) g) (best_of_one page room true) ∙ one_upright page sheet d d' same.wide same.high wide high)
 
-alone_grid : (page sheet : Paper) (d d' : ℕ) (t : Turned) (c : Cells) → count_of c ≡ 1 → SameSides page sheet → 0 < nat_abs page.width → 0 < nat_abs page.height
+alone_grid : (page sheet : Paper) (d d' : ℕ) (t : Turned) (c : Cells) → cells_per_sheet c ≡ 1 → SameSides page sheet → 0 < nat_abs page.width → 0 < nat_abs page.height
     → grid_of page (room_in sheet d d') t c ≡ cells 1 1 false
 alone_grid page sheet d d' t (AtLeast n) one same wide high =
     ap (λ m. best_grid page (room_in sheet d d') m) one ∙ alone_best page sheet d d' same wide high
@@ -327,12 +327,12 @@ some_sides_of trim v h = let less : 2_540_000 * trim < v = search (rules, h) in 
 
 alone_upright : (page sheet : Paper) (a : Arrangement) → is_shown page (room_of sheet a.free) ≡ true → is_itself page sheet a ≡ true → (setting_of page sheet a).grid.turned ≡ false
 alone_upright page sheet a shown e =
-    let alone = is_alone page sheet a e in
+    let page_alone = is_alone page sheet a e in
     let trim = rounded_down a.free.trim in
     let sides = both_true (nat_lt (2_540_000 * trim) (nat_abs page.width)) (nat_lt (2_540_000 * trim) (nat_abs page.height)) shown in
     ap (λ (g : Grid). g.turned)
-    (bare_edges (λ room. grid_of page room a.order.turned a.cells ≡ cells 1 1 false) (room_of sheet a.free) alone.bare
-    (alone_grid page sheet (rounded_up a.free.across) (rounded_up a.free.up) a.order.turned a.cells alone.one alone.same
+    (bare_edges (λ room. grid_of page room a.order.turned a.cells ≡ cells 1 1 false) (room_of sheet a.free) page_alone.bare
+    (alone_grid page sheet (rounded_up a.free.across) (rounded_up a.free.up) a.order.turned a.cells page_alone.one page_alone.same
     (some_sides_of trim (nat_abs page.width) sides.0) (some_sides_of trim (nat_abs page.height) sides.1)))
 
 pub arranged_is_fitted : ArrangedIsFitted
@@ -364,16 +364,16 @@ arranged_stands page sheet a is on h =
     let fit = made page room g s holds.shown (good_scale room s largest scaled) in
     let few = holds.few in (
       subst (IsWritable most_slots) (sym (cells_made page sheet a e))
-          (grid_writable most_slots page room g a.order s (count_of a.cells) holds.some (omega (arith, few)) few (enough page room a.order.turned a.cells holds.some) fit),
+          (grid_writable most_slots page room g a.order s (cells_per_sheet a.cells) holds.some (omega (arith, few)) few (enough page room a.order.turned a.cells holds.some) fit),
       cells_laid_out page sheet a is on holds.some e fit.place,
     ))
 
 -- it is each page in its cell
-pub arranged_made : (page sheet : Paper) (a : Arrangement) (t : Setting) (n : ℕ) (groups : List (List Item)) → why_not_arranged page sheet a ≡ None → t ≡ setting_of page sheet a → n ≡ count_of a.cells
+pub arranged_made : (page sheet : Paper) (a : Arrangement) (t : Setting) (n : ℕ) (groups : List (List Item)) → why_not_arranged page sheet a ≡ None → t ≡ setting_of page sheet a → n ≡ cells_per_sheet a.cells
     → groups ≡ map (fitted t page) (range_with_len 0 n) ∷ [] → record { modulo = n; groups = groups } ≡ arranged page sheet a
 arranged_made page sheet a t n groups h e f g =
     ap (λ gs. record { modulo = n; groups = gs }) g
-    ∙ (ap (λ m. one_group m (fitted t page)) f ∙ (ap (λ u. one_group (count_of a.cells) (fitted u page)) e ∙ sym (arranged_is_fitted page sheet a h).1))
+    ∙ (ap (λ m. one_group m (fitted t page)) f ∙ (ap (λ u. one_group (cells_per_sheet a.cells) (fitted u page)) e ∙ sym (arranged_is_fitted page sheet a h).1))
 
 pub one_paper_fits : (page sheet : Paper) (a : Arrangement) (t : Setting) → why_not_arranged page sheet a ≡ None → t ≡ setting_of page sheet a → why_not_fitted t page ≡ None
 one_paper_fits page sheet a t h e = subst (λ u. why_not_fitted u page ≡ None) (sym e) (arranged_is_fitted page sheet a h).0
@@ -400,11 +400,11 @@ leaves_fit : (page sheet : Paper) (b : Binding) → why_not_bound page sheet b �
 leaves_fit page sheet b h =
     let room = room_of sheet b.free in
     let largest = scale_in page room (beside true) in
-    let fifth = first_of (folds_short page room) why.FoldOnLongEdge (why_no_scale room largest largest) in
-    let fourth = first_of (is_even room) why.UnevenMargins fifth in
-    let third = first_of (is_shown page room) why.NothingLeftOfPage fourth in
-    let second = first_of (are_lengths b.free) why.LengthOutOfRange third in
-    let one = passed (are_reached page && are_reached sheet) why.SideTooLong second h in
+    let fifth = error_unless (folds_short page room) why.FoldOnLongEdge (why_no_scale room largest largest) in
+    let fourth = error_unless (is_even room) why.UnevenMargins fifth in
+    let third = error_unless (is_shown page room) why.NothingLeftOfPage fourth in
+    let second = error_unless (are_lengths b.free) why.LengthOutOfRange third in
+    let one = passed (is_paper_reached page && is_paper_reached sheet) why.SideTooLong second h in
     let two = passed (are_lengths b.free) why.LengthOutOfRange third one.1 in
     let three = passed (is_shown page room) why.NothingLeftOfPage fourth two.1 in
     let four = passed (is_even room) why.UnevenMargins fifth three.1 in
@@ -412,7 +412,7 @@ leaves_fit page sheet b h =
     record {
       even = four.0;
       folds = five.0;
-      scaled = cond-true (are_reached page && are_reached sheet) _ _ one.0 ∙ (cond-true (is_shown page room) _ _ three.0 ∙ five.1);
+      scaled = cond-true (is_paper_reached page && is_paper_reached sheet) _ _ one.0 ∙ (cond-true (is_shown page room) _ _ three.0 ∙ five.1);
     }
 
 -- and pages have a scale in them
@@ -424,7 +424,7 @@ leaves_scaled page sheet b h =
     let room = room_of sheet b.free in
     let scaled = (leaves_fit page sheet b h).scaled in
     let last = why_no_scale room (scale_in page room (beside true)) (scale_in page room (beside true)) in
-    let one = passed (are_reached page && are_reached sheet) why.SideTooLong _ scaled in
+    let one = passed (is_paper_reached page && is_paper_reached sheet) why.SideTooLong _ scaled in
     (passed (is_shown page room) why.NothingLeftOfPage last one.1).1
 
 -- as much is kept free along their opposite edges
@@ -434,7 +434,7 @@ leaves_even page sheet b h = even_room (room_of sheet b.free) (leaves_fit page s
 pub halves_fit : (page sheet : Paper) (b : Binding) → why_not_bound page sheet b ≡ None → why_no_scale_on (binding_setting_of sheet b) page ≡ None
 halves_fit page sheet b h = (leaves_fit page sheet b h).scaled
 
-sides_fitted : (page : Paper) (sheet : Paper) (b : Binding) (e : Bool) → sides_in page (room_of sheet b.free) (leaf_order b.right_to_left) e ≡ halves (binding_setting_of sheet b) page e
+sides_fitted : (page : Paper) (sheet : Paper) (b : Binding) (e : Bool) → leaf_sides page (room_of sheet b.free) (leaf_order b.right_to_left) e ≡ halves (binding_setting_of sheet b) page e
 sides_fitted page sheet b false = refl
 sides_fitted page sheet b true = refl
 

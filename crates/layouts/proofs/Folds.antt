@@ -6,7 +6,7 @@ use Rattle.std.proofs.lemmas.Int.{ints}
 use Rattle.rules.specs.Papers.{Paper}
 use Rattle.rules.specs.Specification.{Item, Left}
 use Rattle.layouts.specs.Placed.{Room, fine, stands, IsOfPage}
-use Rattle.layouts.specs.Cells.{Along, along_height, cell, kept, step, left_free, whole, item_in, to_right}
+use Rattle.layouts.specs.Cells.{Along, along_height, cell, kept_length, pitch, left_free, whole_parts, item_in_cell, to_right}
 use Rattle.layouts.specs.Grids.{beside, leaf_order}
 use Rattle.layouts.specs.Laws.{IsPaper, HasPlace, IsHalfTurnOf, LiesBefore, LiesBehind, LeafKeepsFold, RightToLeftIsMirror}
 use Rattle.layouts.proofs.AlongSide.{moved_back, in_cell, cells_fit}
@@ -16,9 +16,9 @@ use Rattle.layouts.proofs.InGrid.{across_of, fits, sides_are}
 
 -- twice as far up as the fold
 abbrev pub fold : Along → (side : ℕ) → ℕ
-fold a h = 2 * (kept a.trim a.before + step a h 2) - a.gap
+fold a h = 2 * (kept_length a.trim a.before + pitch a h 2) - a.gap
 
-pub kept_little : (l n : ℕ) → (n ≤ kept l n) × (kept l n ≤ n + 1)
+pub kept_little : (l n : ℕ) → (n ≤ kept_length l n) × (kept_length l n ≤ n + 1)
 kept_little l n = either (l == 0) n
   where
     either : (b : Bool) (n : ℕ) → (n ≤ (if b then n else n + 1)) × ((if b then n else n + 1) ≤ n + 1)
@@ -26,12 +26,12 @@ kept_little l n = either (l == 0) n
     either false n = (omega arith, omega arith)
 
 -- it is in the middle of the side, if as much is kept free at both ends
-pub in_middle : (a : Along) (h : ℕ) → a.before ≡ a.after → 0 < cell a h 2 → (fold a h ≤ whole h + 1) × (whole h ≤ fold a h + 1)
+pub in_middle : (a : Along) (h : ℕ) → a.before ≡ a.after → 0 < cell a h 2 → (fold a h ≤ whole_parts h + 1) × (whole_parts h ≤ fold a h + 1)
 in_middle a h even some =
-    let p = step a h 2 in
-    let D = kept a.trim a.gap in
-    let E = kept a.trim a.before in
-    let same : kept a.trim a.before ≡ kept a.trim a.after = ap (kept a.trim) even in
+    let p = pitch a h 2 in
+    let D = kept_length a.trim a.gap in
+    let E = kept_length a.trim a.before in
+    let same : kept_length a.trim a.before ≡ kept_length a.trim a.after = ap (kept_length a.trim) even in
     let little = kept_little a.trim a.gap in
     let most = cells_fit a h 2 0 some (omega arith) in
     let least : left_free a h + 1_270_000 * D < p * (1_270_000 * 2) + 1_270_000 * 2 = lt-div-mul-add {a = left_free a h + 1_270_000 * D} {b = 1_270_000 * 2} (omega arith) in
@@ -63,14 +63,14 @@ has_cell v u room s place = across_of v u room 1 2 true s place
 -- one page, whatever its paper
 
 front_before : (v u : ℕ) (room : Room) (b : Bool) (s : ℕ) → HasPlace (of_sides v u) room (beside true) s
-    → LiesBefore room (fold (along_height room) (nat_abs room.paper.height)) (of_sides v u) (item_in (of_sides v u) room (beside true) (leaf_order b) s (if b then 1 else 0))
+    → LiesBefore room (fold (along_height room) (nat_abs room.paper.height)) (of_sides v u) (item_in_cell (of_sides v u) room (beside true) (leaf_order b) s (if b then 1 else 0))
 front_before v u room false s place p of =
     before_at v u 0 s (along_height room) (nat_abs room.paper.height) (to_right (of_sides v u) room (beside true) s 0 0) (has_cell v u room s place) p.x p.y of
 front_before v u room true s place p of =
     before_at v u 1 s (along_height room) (nat_abs room.paper.height) (to_right (of_sides v u) room (beside true) s 0 0) (has_cell v u room s place) p.x p.y of
 
 front_behind : (v u : ℕ) (room : Room) (b : Bool) (s : ℕ) → HasPlace (of_sides v u) room (beside true) s
-    → LiesBehind room (fold (along_height room) (nat_abs room.paper.height)) (of_sides v u) (item_in (of_sides v u) room (beside true) (leaf_order b) s (if b then 0 else 1))
+    → LiesBehind room (fold (along_height room) (nat_abs room.paper.height)) (of_sides v u) (item_in_cell (of_sides v u) room (beside true) (leaf_order b) s (if b then 0 else 1))
 front_behind v u room false s place p of =
     behind_at v u 1 s (along_height room) (nat_abs room.paper.height) (to_right (of_sides v u) room (beside true) s 0 1) (has_cell v u room s place) p.x p.y of
 front_behind v u room true s place p of =
@@ -78,27 +78,27 @@ front_behind v u room true s place p of =
 
 abbrev BeforeIf : (room : Room) (b : Bool) (s : ℕ) → Paper → Type 0
 BeforeIf room b s o = HasPlace o room (beside true) s
-    → LiesBefore room (fold (along_height room) (nat_abs room.paper.height)) o (item_in o room (beside true) (leaf_order b) s (if b then 1 else 0))
+    → LiesBefore room (fold (along_height room) (nat_abs room.paper.height)) o (item_in_cell o room (beside true) (leaf_order b) s (if b then 1 else 0))
 
 pub lies_before : (page : Paper) (room : Room) (b : Bool) (s : ℕ) → IsPaper page → HasPlace page room (beside true) s
-    → LiesBefore room (fold (along_height room) (nat_abs room.paper.height)) page (item_in page room (beside true) (leaf_order b) s (if b then 1 else 0))
+    → LiesBefore room (fold (along_height room) (nat_abs room.paper.height)) page (item_in_cell page room (beside true) (leaf_order b) s (if b then 1 else 0))
 lies_before page room b s is place =
     subst (BeforeIf room b s) (sym (sides_are page is)) (λ here. front_before (nat_abs page.width) (nat_abs page.height) room b s here) place
 
 abbrev BehindIf : (room : Room) (b : Bool) (s : ℕ) → Paper → Type 0
 BehindIf room b s o = HasPlace o room (beside true) s
-    → LiesBehind room (fold (along_height room) (nat_abs room.paper.height)) o (item_in o room (beside true) (leaf_order b) s (if b then 0 else 1))
+    → LiesBehind room (fold (along_height room) (nat_abs room.paper.height)) o (item_in_cell o room (beside true) (leaf_order b) s (if b then 0 else 1))
 
 pub lies_behind : (page : Paper) (room : Room) (b : Bool) (s : ℕ) → IsPaper page → HasPlace page room (beside true) s
-    → LiesBehind room (fold (along_height room) (nat_abs room.paper.height)) page (item_in page room (beside true) (leaf_order b) s (if b then 0 else 1))
+    → LiesBehind room (fold (along_height room) (nat_abs room.paper.height)) page (item_in_cell page room (beside true) (leaf_order b) s (if b then 0 else 1))
 lies_behind page room b s is place =
     subst (BehindIf room b s) (sym (sides_are page is)) (λ here. front_behind (nat_abs page.width) (nat_abs page.height) room b s here) place
 
 -- the fold isn't as far up as twice the sheet
-pub fold_on_sheet : (a : Along) (h : ℕ) → a.before ≡ a.after → 0 < cell a h 2 → fold a h ≤ 2 * whole h
+pub fold_on_sheet : (a : Along) (h : ℕ) → a.before ≡ a.after → 0 < cell a h 2 → fold a h ≤ 2 * whole_parts h
 fold_on_sheet a h even some =
     let little = kept_little a.trim a.gap in
-    let same : kept a.trim a.before ≡ kept a.trim a.after = ap (kept a.trim) even in
+    let same : kept_length a.trim a.before ≡ kept_length a.trim a.after = ap (kept_length a.trim) even in
     omega (arith, some, same, cells_fit a h 2 0 some (omega arith), little.0, little.1)
 
 -- a page that is turned by half lies on the other side of a fold that is turned too
@@ -109,15 +109,15 @@ behind_turned T W g y y' most h e = omega (arith, ints, most, h, e)
 before_turned : (T W g : ℕ) (y y' : ℤ) → T ≤ 2 * W → (fine T +ℤ fine g) ≤ℤ (pos 2 *ℤ y) → y' ≡ (pos 1_270_000_000_000_000 *ℤ pos W) -ℤ y → ((pos 2 *ℤ y') +ℤ fine g) ≤ℤ fine (2 * W - T)
 before_turned T W g y y' most h e = omega (arith, ints, most, h, e)
 
-pub turned_behind : (room : Room) (T : ℕ) (page : Paper) (one other : Item) → T ≤ 2 * whole (nat_abs room.paper.height) → LiesBefore room T page one → IsHalfTurnOf page room.paper one other
-    → LiesBehind room (2 * whole (nat_abs room.paper.height) - T) page other
+pub turned_behind : (room : Room) (T : ℕ) (page : Paper) (one other : Item) → T ≤ 2 * whole_parts (nat_abs room.paper.height) → LiesBefore room T page one → IsHalfTurnOf page room.paper one other
+    → LiesBehind room (2 * whole_parts (nat_abs room.paper.height) - T) page other
 turned_behind room T page one other most h half p of =
-    behind_turned T (whole (nat_abs room.paper.height)) room.gap_up (stands page one p).y (stands page other p).y most (h p of) (half.up p)
+    behind_turned T (whole_parts (nat_abs room.paper.height)) room.gutter_up (stands page one p).y (stands page other p).y most (h p of) (half.up p)
 
-pub turned_before : (room : Room) (T : ℕ) (page : Paper) (one other : Item) → T ≤ 2 * whole (nat_abs room.paper.height) → LiesBehind room T page one → IsHalfTurnOf page room.paper one other
-    → LiesBefore room (2 * whole (nat_abs room.paper.height) - T) page other
+pub turned_before : (room : Room) (T : ℕ) (page : Paper) (one other : Item) → T ≤ 2 * whole_parts (nat_abs room.paper.height) → LiesBehind room T page one → IsHalfTurnOf page room.paper one other
+    → LiesBefore room (2 * whole_parts (nat_abs room.paper.height) - T) page other
 turned_before room T page one other most h half p of =
-    before_turned T (whole (nat_abs room.paper.height)) room.gap_up (stands page one p).y (stands page other p).y most (h p of) (half.up p)
+    before_turned T (whole_parts (nat_abs room.paper.height)) room.gutter_up (stands page one p).y (stands page other p).y most (h p of) (half.up p)
 
 pub leaf_keeps_fold : LeafKeepsFold
 leaf_keeps_fold page room b s is on even place =

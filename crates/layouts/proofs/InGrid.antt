@@ -8,7 +8,7 @@ use Rattle.rules.specs.Papers.{Paper, is_side}
 use Rattle.rules.specs.Placement.{Point}
 use Rattle.layouts.specs.declared.arrangement.Turned.TheVariants as sideways
 use Rattle.layouts.specs.Placed.{Room, fine, stands, IsOfPage, LiesWithin, IsLeftOf, IsAbove}
-use Rattle.layouts.specs.Cells.{Grid, along_height, along_width, held_across, held_down, held_height, held_width, wide, high, counted, fitting, whole, to_right, to_top, item_at}
+use Rattle.layouts.specs.Cells.{Grid, along_height, along_width, held_across, held_down, held_height, held_width, wide, high, trimmed_side, fitting, whole_parts, to_right, to_top, cell_item}
 use Rattle.layouts.specs.Laws.{IsPaper, HasPlace}
 use Rattle.layouts.proofs.AlongSide.{scaled_fits, some_cell}
 use Rattle.layouts.proofs.Sides.{of_sides, LiesIn, within_upright, within_left, left_by_upright, below_by_upright, left_by_left, above_by_left}
@@ -26,19 +26,19 @@ cells r c turned = record { rows = r; columns = c; turned = turned }
 -- with gaps alone
 abbrev pub room_in : Paper → (d d' : ℕ) → Room
 room_in q d d' =
-    record { paper = q; left = 0; right = 0; bottom = 0; top = 0; gap_across = d; gap_up = d'; trim = 0 }
+    record { paper = q; left = 0; right = 0; bottom = 0; top = 0; gutter_across = d; gutter_up = d'; trim = 0 }
 
 -- what the place of a page says in numbers
 pub record Fits (page : Paper) (room : Room) (g : Grid) (s : ℕ) : Type 0 where
   pub some_wide : 0 < wide room g
   pub some_high : 0 < high room g
-  pub is_wide : s * counted room page.width ≤ 1_270_000_000_000_000 * wide room g
-  pub is_high : s * counted room page.height ≤ 1_270_000_000_000_000 * high room g
+  pub is_wide : s * trimmed_side room page.width ≤ 1_270_000_000_000_000 * wide room g
+  pub is_high : s * trimmed_side room page.height ≤ 1_270_000_000_000_000 * high room g
 
 pub fits : (page : Paper) (room : Room) (g : Grid) (s : ℕ) → HasPlace page room g s → Fits page room g s
 fits page room g s place =
-    let v = counted room page.width in
-    let u = counted room page.height in
+    let v = trimmed_side room page.width in
+    let u = trimmed_side room page.height in
     let some = place.above_zero in
     let most = place.fits in
     let across : s ≤ fitting (wide room g) v = omega (arith, most, min-le_left (fitting (wide room g) v) (fitting (high room g) u)) in
@@ -74,7 +74,7 @@ down_of v u room r c true s place =
 -- each point lies on the whole 10^-5 of a point of the sheet
 abbrev pub InWhole : (page : Paper) (room : Room) (g : Grid) (s k row column : ℕ) → Type 0
 InWhole page room g s k row column = (p : Point) → IsOfPage room.trim page p
-    → LiesIn room (stands page (item_at page room g s k row column) p)
+    → LiesIn room (stands page (cell_item page room g s k row column) p)
 
 in_whole_at : (v u : ℕ) (room : Room) (r c : ℕ) (b : Bool) (s k row column : ℕ) → HasPlace (of_sides v u) room (cells r c b) s → row < r → column < c
     → InWhole (of_sides v u) room (cells r c b) s k row column
@@ -137,10 +137,10 @@ in_whole page room g s k row column is place in_rows in_columns =
     place
 
 -- and so on the sheet
-up_to : (z side : ℤ) (e : ℕ) → side ≡ pos (nat_abs side) → (z +ℤ fine e) ≤ℤ fine (whole (nat_abs side)) → (z +ℤ fine e) ≤ℤ (pos 1_000_000_000 *ℤ side)
+up_to : (z side : ℤ) (e : ℕ) → side ≡ pos (nat_abs side) → (z +ℤ fine e) ≤ℤ fine (whole_parts (nat_abs side)) → (z +ℤ fine e) ≤ℤ (pos 1_000_000_000 *ℤ side)
 up_to z side e is h = rw is (most (nat_abs side) h)
   where
-    most : (w : ℕ) → (z +ℤ fine e) ≤ℤ fine (whole w) → (z +ℤ fine e) ≤ℤ (pos 1_000_000_000 *ℤ pos w)
+    most : (w : ℕ) → (z +ℤ fine e) ≤ℤ fine (whole_parts w) → (z +ℤ fine e) ≤ℤ (pos 1_000_000_000 *ℤ pos w)
     most w h = omega (arith, ints, h, div-mul-le_self w 1_270_000)
 
 pub on_sheet : (room : Room) (p : Point) → IsPaper room.paper → LiesIn room p → LiesWithin room p
@@ -157,11 +157,11 @@ on_sheet room p on lies =
 
 abbrev pub LeftIn : (g : Grid) (room : Room) (s s' k k' row column row' column' : ℕ) → (o o' : Paper) → Type 0
 LeftIn g room s s' k k' row column row' column' o o' =
-    IsLeftOf room sideways.Upright o (item_at o room g s k row column) o' (item_at o' room g s' k' row' column')
+    IsLeftOf room sideways.Upright o (cell_item o room g s k row column) o' (cell_item o' room g s' k' row' column')
 
 abbrev pub AboveIn : (g : Grid) (room : Room) (s s' k k' row column row' column' : ℕ) → (o o' : Paper) → Type 0
 AboveIn g room s s' k k' row column row' column' o o' =
-    IsAbove room sideways.Upright o (item_at o room g s k row column) o' (item_at o' room g s' k' row' column')
+    IsAbove room sideways.Upright o (cell_item o room g s k row column) o' (cell_item o' room g s' k' row' column')
 
 left_at : (v u v' u' : ℕ) (room : Room) (r c : ℕ) (b : Bool) (s s' k k' row column row' column' : ℕ)
     → HasPlace (of_sides v u) room (cells r c b) s → HasPlace (of_sides v' u') room (cells r c b) s' → column < column'
@@ -170,13 +170,13 @@ left_at v u v' u' room r c false s s' k k' row column row' column' place place' 
     let g = cells r c false in
     let o = of_sides v u in
     let o' = of_sides v' u' in
-    left_by_upright v u v' u' room.gap_across room.trim k k' s s' (to_right o room g s row column) (to_top o room g s row column) (to_right o' room g s' row' column') (to_top o' room g s' row' column')
+    left_by_upright v u v' u' room.gutter_across room.trim k k' s s' (to_right o room g s row column) (to_top o room g s row column) (to_right o' room g s' row' column') (to_top o' room g s' row' column')
     (comes_before (along_width room) (nat_abs room.paper.width) c v s v' s' column column' (across_of v u room r c false s place) (across_of v' u' room r c false s' place') before) p.x p.y q.x q.y of of'
 left_at v u v' u' room r c true s s' k k' row column row' column' place place' before p q of of' =
     let g = cells r c true in
     let o = of_sides v u in
     let o' = of_sides v' u' in
-    left_by_left v u v' u' room.gap_up room.trim k k' s s' (to_right o room g s row column) (to_top o room g s row column) (to_right o' room g s' row' column') (to_top o' room g s' row' column')
+    left_by_left v u v' u' room.gutter_up room.trim k k' s s' (to_right o room g s row column) (to_top o room g s row column) (to_right o' room g s' row' column') (to_top o' room g s' row' column')
     (comes_before (along_height room) (nat_abs room.paper.height) c v s v' s' column column' (across_of v u room r c true s place) (across_of v' u' room r c true s' place') before) p.x p.y q.x q.y of of'
 
 above_at : (v u v' u' : ℕ) (room : Room) (r c : ℕ) (b : Bool) (s s' k k' row column row' column' : ℕ)
@@ -186,13 +186,13 @@ above_at v u v' u' room r c false s s' k k' row column row' column' place place'
     let g = cells r c false in
     let o = of_sides v u in
     let o' = of_sides v' u' in
-    below_by_upright v' u' v u room.gap_up room.trim k' k s' s (to_right o' room g s' row' column') (to_top o' room g s' row' column') (to_right o room g s row column) (to_top o room g s row column)
+    below_by_upright v' u' v u room.gutter_up room.trim k' k s' s (to_right o' room g s' row' column') (to_top o' room g s' row' column') (to_right o room g s row column) (to_top o room g s row column)
     (comes_before (along_height room) (nat_abs room.paper.height) r u' s' u s (r - (row' + 1)) (r - (row + 1)) (down_of v' u' room r c false s' place') (down_of v u room r c false s place) (omega (arith, before, last))) p.x p.y q.x q.y of of'
 above_at v u v' u' room r c true s s' k k' row column row' column' place place' before last p q of of' =
     let g = cells r c true in
     let o = of_sides v u in
     let o' = of_sides v' u' in
-    above_by_left v u v' u' room.gap_across room.trim k k' s s' (to_right o room g s row column) (to_top o room g s row column) (to_right o' room g s' row' column') (to_top o' room g s' row' column')
+    above_by_left v u v' u' room.gutter_across room.trim k k' s s' (to_right o room g s row column) (to_top o room g s row column) (to_right o' room g s' row' column') (to_top o' room g s' row' column')
     (comes_before_turned (along_width room) (nat_abs room.paper.width) r u s u' s' row row' (down_of v u room r c true s place) (down_of v' u' room r c true s' place') before) p.x p.y q.x q.y of of'
 
 abbrev LeftIf : (room : Room) (g : Grid) (s s' k k' row column row' column' : ℕ) → (o o' : Paper) → Type 0

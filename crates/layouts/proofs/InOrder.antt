@@ -5,12 +5,12 @@ use Rattle.std.proofs.Math.Nat.{mod-lt, div-lt_iff_lt-mul, mul_comm}
 use Rattle.std.proofs.lemmas.Int.{ints}
 use Rattle.rules.specs.Papers.{Paper}
 use Rattle.rules.specs.Specification.{Item}
-use Rattle.layouts.specs.declared.arrangement.Run.{Run}
-use Rattle.layouts.specs.declared.arrangement.Run.TheVariants.{Rows, Columns}
+use Rattle.layouts.specs.declared.arrangement.FillOrder.{FillOrder}
+use Rattle.layouts.specs.declared.arrangement.FillOrder.TheVariants.{Rows, Columns}
 use Rattle.layouts.specs.declared.arrangement.Turned.{Turned}
 use Rattle.layouts.specs.declared.arrangement.Turned.TheVariants as sideways
 use Rattle.layouts.specs.Placed.{Room, fine, IsLeftOf, IsAbove}
-use Rattle.layouts.specs.Cells.{Grid, size, item_at, read_columns, read_rows, run_in, read_row, nth_column, read_column, held_row, held_column, row_of, column_of}
+use Rattle.layouts.specs.Cells.{Grid, size, cell_item, read_columns, read_rows, run_in, read_row, nth_column, read_column, held_row, held_column, row_of, column_of}
 use Rattle.layouts.specs.Laws.{IsPaper, HasPlace, IsBeside, ComesInRun, ComesInRunBefore, GridIsInside, GridIsInOrder}
 use Rattle.layouts.proofs.Sides.{abs_neg}
 use Rattle.layouts.proofs.InGrid.{in_whole, on_sheet, is_left, is_above, some_each}
@@ -28,15 +28,15 @@ read_size sideways.Upright g k h = h
 read_size sideways.Left g k h = omega (arith, h, mul_comm g.rows g.columns)
 read_size sideways.Right g k h = omega (arith, h, mul_comm g.rows g.columns)
 
-pub row_fits : (run : Run) (t : Turned) (g : Grid) (k : ℕ) → k < size g → read_row run t g k < read_rows t g
+pub row_fits : (run : FillOrder) (t : Turned) (g : Grid) (k : ℕ) → k < size g → read_row run t g k < read_rows t g
 row_fits Rows t g k h = (along_rows (read_rows t g) (read_columns t g) k (read_size t g k h)).0
 row_fits Columns t g k h = (along_columns (read_rows t g) (read_columns t g) k (read_size t g k h)).0
 
-nth_fits : (run : Run) (t : Turned) (g : Grid) (k : ℕ) → k < size g → nth_column run t g k < read_columns t g
+nth_fits : (run : FillOrder) (t : Turned) (g : Grid) (k : ℕ) → k < size g → nth_column run t g k < read_columns t g
 nth_fits Rows t g k h = (along_rows (read_rows t g) (read_columns t g) k (read_size t g k h)).1
 nth_fits Columns t g k h = (along_columns (read_rows t g) (read_columns t g) k (read_size t g k h)).1
 
-pub column_fits : (run : Run) (b : Bool) (t : Turned) (g : Grid) (k : ℕ) → k < size g → read_column run b t g k < read_columns t g
+pub column_fits : (run : FillOrder) (b : Bool) (t : Turned) (g : Grid) (k : ℕ) → k < size g → read_column run b t g k < read_columns t g
 column_fits run false t g k h = nth_fits run t g k h
 column_fits run true t g k h = let less = nth_fits run t g k h in omega (arith, less)
 
@@ -45,7 +45,7 @@ held_fits sideways.Upright g row column in_rows in_columns = (in_rows, in_column
 held_fits sideways.Left g row column in_rows in_columns = (in_columns, omega (arith, in_rows))
 held_fits sideways.Right g row column in_rows in_columns = (omega (arith, in_columns), in_rows)
 
-pub place_fits : (run : Run) (b : Bool) (t : Turned) (g : Grid) (k : ℕ) → k < size g
+pub place_fits : (run : FillOrder) (b : Bool) (t : Turned) (g : Grid) (k : ℕ) → k < size g
     → (held_row t g (read_row run t g k) (read_column run b t g k) < g.rows) × (held_column t g (read_row run t g k) (read_column run b t g k) < g.columns)
 place_fits run b t g k h = held_fits t g (read_row run t g k) (read_column run b t g k) (row_fits run t g k h) (column_fits run b t g k h)
 
@@ -57,7 +57,7 @@ grid_inside page room g o s k is on place within p of =
 -- ---- as one reads the sheet
 
 abbrev read_item : (t : Turned) → (page : Paper) → Room → Grid → (s k row column : ℕ) → Item
-read_item t page room g s k row column = item_at page room g s k (held_row t g row column) (held_column t g row column)
+read_item t page room g s k row column = cell_item page room g s k (held_row t g row column) (held_column t g row column)
 
 other_way_round : (a b c : ℤ) → (b +ℤ fine (nat_abs c)) ≤ℤ a → (neg_ℤ a +ℤ fine (nat_abs (neg_ℤ c))) ≤ℤ neg_ℤ b
 other_way_round a b c h = rw (abs_neg c) (omega (arith, ints, h))
@@ -86,7 +86,7 @@ read_above sideways.Right page page' room g s s' k k' row column row' column' is
 
 -- ---- the order
 
-abbrev nth_item : (run : Run) (b : Bool) (t : Turned) → (page : Paper) → Room → Grid → (s k : ℕ) → Item
+abbrev nth_item : (run : FillOrder) (b : Bool) (t : Turned) → (page : Paper) → Room → Grid → (s k : ℕ) → Item
 nth_item run b t page room g s k = read_item t page room g s k (read_row run t g k) (read_column run b t g k)
 
 beside : (b : Bool) (t : Turned) (page page' : Paper) (room : Room) (g : Grid) (s s' k k' row row' n n' : ℕ) → IsPaper page → IsPaper page' → HasPlace page room g s → HasPlace page' room g s'
@@ -97,7 +97,7 @@ beside false t page page' room g s s' k k' row row' n n' is is' place place' bef
 beside true t page page' room g s s' k k' row row' n n' is is' place place' before last =
     read_left t page' page room g s' s k' k row' (read_columns t g - (n' + 1)) row (read_columns t g - (n + 1)) is' is place' place (omega (arith, before, last)) (omega (arith, before, last))
 
-along : (run : Run) (b : Bool) (t : Turned) (page page' : Paper) (room : Room) (g : Grid) (s s' k l : ℕ) → IsPaper page → IsPaper page' → HasPlace page room g s → HasPlace page' room g s'
+along : (run : FillOrder) (b : Bool) (t : Turned) (page page' : Paper) (room : Room) (g : Grid) (s s' k l : ℕ) → IsPaper page → IsPaper page' → HasPlace page room g s → HasPlace page' room g s'
     → k < size g → l < size g → k % run_in run t g < l % run_in run t g
     → ComesInRun run room t b page (nth_item run b t page room g s k) page' (nth_item run b t page' room g s' l)
 along Rows b t page page' room g s s' k l is is' place place' in_k in_l before =
@@ -105,7 +105,7 @@ along Rows b t page page' room g s s' k l is is' place place' in_k in_l before =
 along Columns b t page page' room g s s' k l is is' place place' in_k in_l before =
     read_above t page page' room g s s' k l (k % read_rows t g) (read_column Columns b t g k) (l % read_rows t g) (read_column Columns b t g l) is is' place place' before (row_fits Columns t g l in_l)
 
-in_runs : (run : Run) (b : Bool) (t : Turned) (page page' : Paper) (room : Room) (g : Grid) (s s' k l : ℕ) → IsPaper page → IsPaper page' → HasPlace page room g s → HasPlace page' room g s'
+in_runs : (run : FillOrder) (b : Bool) (t : Turned) (page page' : Paper) (room : Room) (g : Grid) (s s' k l : ℕ) → IsPaper page → IsPaper page' → HasPlace page room g s → HasPlace page' room g s'
     → k < size g → l < size g → k / run_in run t g < l / run_in run t g
     → ComesInRunBefore run room t b page (nth_item run b t page room g s k) page' (nth_item run b t page' room g s' l)
 in_runs Rows b t page page' room g s s' k l is is' place place' in_k in_l before =

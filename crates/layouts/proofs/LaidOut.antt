@@ -14,8 +14,8 @@ use Rattle.layouts.specs.declared.arrangement.Turned.{Turned}
 use Rattle.layouts.specs.declared.arrangement.Turned.TheVariants as sideways
 use Rattle.layouts.specs.declared.arrangement.Order.{Order}
 use Rattle.layouts.specs.Placed.{IsEven, Room, IsInside, AreApart, fine, stands}
-use Rattle.layouts.specs.Cells.{Grid, size, item_in, back_in, in_grid, scale_in, turn_in, run_in, read_columns, read_rows, row_of, column_of}
-use Rattle.layouts.specs.Grids.{formed, best_formed, grid_of, count_of, scale_for, beside, leaf_order, alone, is_same, sides_in}
+use Rattle.layouts.specs.Cells.{Grid, size, item_in_cell, back_in, in_grid, scale_in, turn_in, run_in, read_columns, read_rows, row_of, column_of}
+use Rattle.layouts.specs.Grids.{formed, best_formed, grid_of, cells_per_sheet, scale_for, beside, leaf_order, page_alone, is_same, leaf_sides}
 use Rattle.layouts.specs.Laws.{IsPaper, HasPlace, IsNotTiny, Allows, EachTwo, IsInOrder, IsLike, IsExact, IsLaidOut, ArePages, IsChosen, IsArrangedIn, AreInMiddle, IsInCell, IsInMiddle, cell_at, AreSidesIn, AreFolded}
 use Rattle.layouts.proofs.Sides.{of_sides}
 use Rattle.layouts.proofs.InGrid.{cells, room_in, both_true, some_each, with_sides}
@@ -37,14 +37,14 @@ two_made R f a zero h = tt
 two_made R f a (suc n) h =
     (each_made R f (f a) (a + 1) n (λ l from to. h a l (omega (arith, from)) (omega (arith, to))), two_made R f (a + 1) n (λ k l less to. h k l less (omega (arith, to))))
 
-pages_made : (page : Paper) (room : Room) (g : Grid) (o : Order) (s a n : ℕ) → ArePages a n (map (item_in page room g o s) (range_with_len a n))
+pages_made : (page : Paper) (room : Room) (g : Grid) (o : Order) (s a n : ℕ) → ArePages a n (map (item_in_cell page room g o s) (range_with_len a n))
 pages_made page room g o s a zero = refl
 pages_made page room g o s a (suc n) = ap (λ ks. a ∷ ks) (pages_made page room g o s (a + 1) n)
 
 grid_laid_out : (page : Paper) (room : Room) (g : Grid) (o : Order) (s n : ℕ) → IsPaper page → IsPaper room.paper → HasPlace page room g s → n ≤ size g
-    → IsLaidOut page room o (turn_in g) s (run_in o.run o.turned g) (map (item_in page room g o s) (range_with_len 0 n))
+    → IsLaidOut page room o (turn_in g) s (run_in o.run o.turned g) (map (item_in_cell page room g o s) (range_with_len 0 n))
 grid_laid_out page room g o s n is on place fit =
-    let f = item_in page room g o s in
+    let f = item_in_cell page room g o s in
     record {
       like = all_made (IsLike (turn_in g) s) f 0 n (λ k less. record { turn_is = refl; scale_is = refl; from_start = refl });
       inside = all_made (IsInside room page) f 0 n (λ k less. grid_inside page room g o s k is on place (omega (arith, less, fit)));
@@ -56,9 +56,9 @@ grid_laid_out page room g o s n is on place fit =
       exact = all_made (IsExact page) f 0 n (λ k less. (printed_as_it_is page room g o s 0 k).0);
     }
 
-middle_made : (page : Paper) (room : Room) (g : Grid) (o : Order) (s n : ℕ) → IsPaper page → HasPlace page room g s → AreInMiddle page room g o (map (item_in page room g o s) (range_with_len 0 n))
+middle_made : (page : Paper) (room : Room) (g : Grid) (o : Order) (s n : ℕ) → IsPaper page → HasPlace page room g s → AreInMiddle page room g o (map (item_in_cell page room g o s) (range_with_len 0 n))
 middle_made page room g o s n is place =
-    all_made (λ i. IsInMiddle page (cell_at room g (row_of o g i.page) (column_of o g i.page)) i) (item_in page room g o s) 0 n (λ k less. grid_in_middle page room g o s k is place)
+    all_made (λ i. IsInMiddle page (cell_at room g (row_of o g i.page) (column_of o g i.page)) i) (item_in_cell page room g o s) 0 n (λ k less. grid_in_middle page room g o s k is place)
 
 turn_is : (b : Bool) → ((if b then Left else Upright) ≡ Upright) ⊎ ((if b then Left else Upright) ≡ Left)
 turn_is true = inr refl
@@ -84,7 +84,7 @@ either_read t columns rows false = read_formed t false columns rows
 pub read_best : (page : Paper) (room : Room) (t : Turned) (columns rows : ℕ) → (read_columns t (best_formed page room t columns rows) ≡ columns) × (read_rows t (best_formed page room t columns rows) ≡ rows)
 read_best page room t columns rows = either_read t columns rows _
 
-pub is_chosen : (page : Paper) (room : Room) (t : Turned) (c : Cells) → 0 < count_of c → IsChosen page room t c (scale_in page room (grid_of page room t c)) (grid_of page room t c)
+pub is_chosen : (page : Paper) (room : Room) (t : Turned) (c : Cells) → 0 < cells_per_sheet c → IsChosen page room t c (scale_in page room (grid_of page room t c)) (grid_of page room t c)
 is_chosen page room t (AtLeast n) some = (
   best_has_cells page room n some,
   λ h s sides many allows. best_is_large page room n h s sides some many allows,
@@ -103,7 +103,7 @@ read_square sideways.Upright g = mul_comm g.columns g.rows
 read_square sideways.Left g = refl
 read_square sideways.Right g = refl
 
-pub enough : (page : Paper) (room : Room) (t : Turned) (c : Cells) → 0 < count_of c → count_of c ≤ size (grid_of page room t c)
+pub enough : (page : Paper) (room : Room) (t : Turned) (c : Cells) → 0 < cells_per_sheet c → cells_per_sheet c ≤ size (grid_of page room t c)
 enough page room t (AtLeast n) some = best_has_cells page room n some
 enough page room t (Exactly columns rows) some =
     let read = read_best page room t columns rows in
@@ -112,16 +112,16 @@ enough page room t (Exactly columns rows) some =
     let two : read_columns t g * rows ≡ read_columns t g * read_rows t g = ap (λ m. read_columns t g * m) (sym read.1) in
     omega (arith, one, two, read_square t g)
 
-pub cells_arranged : (page : Paper) (room : Room) (c : Cells) (o : Order) (asked : Option ℤ) → IsPaper page → IsPaper room.paper → 0 < count_of c
+pub cells_arranged : (page : Paper) (room : Room) (c : Cells) (o : Order) (asked : Option ℤ) → IsPaper page → IsPaper room.paper → 0 < cells_per_sheet c
     → HasPlace page room (grid_of page room o.turned c) (scale_for asked (scale_in page room (grid_of page room o.turned c)))
-    → IsArrangedIn page room c o asked (in_grid page room (grid_of page room o.turned c) o (scale_for asked (scale_in page room (grid_of page room o.turned c))) (count_of c))
+    → IsArrangedIn page room c o asked (in_grid page room (grid_of page room o.turned c) o (scale_for asked (scale_in page room (grid_of page room o.turned c))) (cells_per_sheet c))
 cells_arranged page room c o asked is on some place =
     let g = grid_of page room o.turned c in
     let s = scale_for asked (scale_in page room g) in
-    let n = count_of c in
+    let n = cells_per_sheet c in
     record {
       modulo = refl;
-      items = map (item_in page room g o s) (range_with_len 0 n);
+      items = map (item_in_cell page room g o s) (range_with_len 0 n);
       one_group = refl;
       pages = pages_made page room g o s 0 n;
       turn = turn_in g;
@@ -175,7 +175,7 @@ itself_large_at page sheet d d' r c true t same sides some_r some_c allows =
     wide high (inr (ap (λ n. n - 2_540_000 * 0) (sym same.high), ap (λ n. n - 2_540_000 * 0) (sym same.wide))) in
     omega (arith, most)
 
-itself_inside_at : (v u d d' : ℕ) → IsInside (room_in (of_sides v u) d d') (of_sides v u) (alone 0)
+itself_inside_at : (v u d d' : ℕ) → IsInside (room_in (of_sides v u) d d') (of_sides v u) (page_alone 0)
 itself_inside_at v u d d' p of = search (rules, of)
 
 -- the one cell of a sheet is the whole sheet, to 10^-5 of a point
@@ -186,7 +186,7 @@ one_cell w d =
     let least = lt-div-mul-add {a = w - 2_540_000 * 0 + 1_270_000 * d} {b = 1_270_000 * 1} (omega arith) in
     (omega (arith, most, least), omega (arith, most, least))
 
-itself_middle_at : (v u d d' : ℕ) (b : Bool) (row column : ℕ) → row < 1 → column < 1 → IsInMiddle (of_sides v u) (cell_at (room_in (of_sides v u) d d') (cells 1 1 b) row column) (alone 0)
+itself_middle_at : (v u d d' : ℕ) (b : Bool) (row column : ℕ) → row < 1 → column < 1 → IsInMiddle (of_sides v u) (cell_at (room_in (of_sides v u) d d') (cells 1 1 b) row column) (page_alone 0)
 itself_middle_at v u d d' false zero zero in_rows in_columns =
     let a = one_cell v d in
     let b = one_cell u d' in
@@ -211,10 +211,10 @@ at_start z l none h = omega (arith, ints, none, h)
 at_end : (z : ℤ) (l n w : ℕ) → 1_000_000_000 * w ≤ 1_270_000_000_000_000 * n + 1_270_000_000_000_000 → (z +ℤ fine 0) ≤ℤ (pos 1_000_000_000 *ℤ pos w) → z ≤ℤ fine (l + n + 1)
 at_end z l n w large h = omega (arith, ints, large, h)
 
-itself_cell_at : (v u d d' : ℕ) (b : Bool) (row column : ℕ) → row < 1 → column < 1 → IsInCell (room_in (of_sides v u) d d') (of_sides v u) (cell_at (room_in (of_sides v u) d d') (cells 1 1 b) row column) 1 (alone 0)
+itself_cell_at : (v u d d' : ℕ) (b : Bool) (row column : ℕ) → row < 1 → column < 1 → IsInCell (room_in (of_sides v u) d d') (of_sides v u) (cell_at (room_in (of_sides v u) d d') (cells 1 1 b) row column) 1 (page_alone 0)
 itself_cell_at v u d d' false zero zero in_rows in_columns p of =
     let cell = cell_at (room_in (of_sides v u) d d') (cells 1 1 false) 0 0 in
-    let at = stands (of_sides v u) (alone 0) p in
+    let at = stands (of_sides v u) (page_alone 0) p in
     let lies = itself_inside_at v u d d' p of in
     record {
       left = at_start at.x cell.left (omega arith) lies.left;
@@ -224,7 +224,7 @@ itself_cell_at v u d d' false zero zero in_rows in_columns p of =
     }
 itself_cell_at v u d d' true zero zero in_rows in_columns p of =
     let cell = cell_at (room_in (of_sides v u) d d') (cells 1 1 true) 0 0 in
-    let at = stands (of_sides v u) (alone 0) p in
+    let at = stands (of_sides v u) (page_alone 0) p in
     let lies = itself_inside_at v u d d' p of in
     record {
       left = at_start at.x cell.left (omega arith) lies.left;
@@ -236,8 +236,8 @@ itself_cell_at v u d d' b (suc row) column in_rows in_columns p of = absurd (ome
 itself_cell_at v u d d' b zero (suc column) in_rows in_columns p of = absurd (omega (arith, in_columns))
 
 abbrev ItselfIn : (d d' : ℕ) (b : Bool) (row column : ℕ) → (o q : Paper) → Type 0
-ItselfIn d d' b row column o q = SameSides o q → IsInside (room_in q d d') o (alone 0) × IsInMiddle o (cell_at (room_in q d d') (cells 1 1 b) row column) (alone 0)
-    × IsInCell (room_in q d d') o (cell_at (room_in q d d') (cells 1 1 b) row column) 1 (alone 0)
+ItselfIn d d' b row column o q = SameSides o q → IsInside (room_in q d d') o (page_alone 0) × IsInMiddle o (cell_at (room_in q d d') (cells 1 1 b) row column) (page_alone 0)
+    × IsInCell (room_in q d d') o (cell_at (room_in q d d') (cells 1 1 b) row column) 1 (page_alone 0)
 
 itself_at : (v u w h d d' : ℕ) (b : Bool) (row column : ℕ) → row < 1 → column < 1 → ItselfIn d d' b row column (of_sides v u) (of_sides w h)
 itself_at v u w h d d' b row column in_rows in_columns same =
@@ -248,19 +248,19 @@ itself_at v u w h d d' b row column in_rows in_columns same =
 
 -- one page on a sheet of its paper, whichever way its one cell is held
 pub itself_in : (page sheet : Paper) (d d' : ℕ) (b : Bool) (o : Order) → IsPaper page → IsPaper sheet → SameSides page sheet
-    → IsInside (room_in sheet d d') page (alone 0) × IsInMiddle page (cell_at (room_in sheet d d') (cells 1 1 b) (row_of o (cells 1 1 b) 0) (column_of o (cells 1 1 b) 0)) (alone 0)
-    × IsInCell (room_in sheet d d') page (cell_at (room_in sheet d d') (cells 1 1 b) (row_of o (cells 1 1 b) 0) (column_of o (cells 1 1 b) 0)) 1 (alone 0)
+    → IsInside (room_in sheet d d') page (page_alone 0) × IsInMiddle page (cell_at (room_in sheet d d') (cells 1 1 b) (row_of o (cells 1 1 b) 0) (column_of o (cells 1 1 b) 0)) (page_alone 0)
+    × IsInCell (room_in sheet d d') page (cell_at (room_in sheet d d') (cells 1 1 b) (row_of o (cells 1 1 b) 0) (column_of o (cells 1 1 b) 0)) 1 (page_alone 0)
 itself_in page sheet d d' b o is on same =
     let g = cells 1 1 b in
     let fit = place_fits o.run o.right_to_left o.turned g 0 (omega arith) in
     with_sides (ItselfIn d d' b (row_of o g 0) (column_of o g 0)) page sheet is on
     (itself_at (nat_abs page.width) (nat_abs page.height) (nat_abs sheet.width) (nat_abs sheet.height) d d' b (row_of o g 0) (column_of o g 0) fit.0 fit.1) same
 
-pub itself_exact : (page : Paper) → IsExact page (alone 0)
+pub itself_exact : (page : Paper) → IsExact page (page_alone 0)
 itself_exact page = placed_exact page Upright 0 1_000_000_000 (pos 0) (pos 0)
 
 abbrev pub itself : Spec
-itself = record { modulo = 1; groups = (alone 0 ∷ []) ∷ [] }
+itself = record { modulo = 1; groups = (page_alone 0 ∷ []) ∷ [] }
 
 pub one_each : (c r : ℕ) → c * r ≡ 1 → (c ≡ 1) × (r ≡ 1)
 one_each zero r e = absurd (omega (arith, e))
@@ -269,7 +269,7 @@ one_each (suc (suc c)) zero e = absurd (omega (arith, e))
 one_each (suc (suc c)) (suc zero) e = absurd (omega (arith, e))
 one_each (suc (suc c)) (suc (suc r)) e = absurd (omega (arith, e))
 
-itself_chosen : (page sheet : Paper) (d d' : ℕ) (t : Turned) (c : Cells) → count_of c ≡ 1 → SameSides page sheet → IsChosen page (room_in sheet d d') t c 1_000_000_000 (cells 1 1 false)
+itself_chosen : (page sheet : Paper) (d d' : ℕ) (t : Turned) (c : Cells) → cells_per_sheet c ≡ 1 → SameSides page sheet → IsChosen page (room_in sheet d d') t c 1_000_000_000 (cells 1 1 false)
 itself_chosen page sheet d d' t (AtLeast n) one same = (
   omega (arith, one),
   λ h s sides many allows. let some = some_each h.rows h.columns (omega (arith, many, one)) in itself_large_at page sheet d d' h.rows h.columns h.turned s same sides some.0 some.1 allows,
@@ -285,15 +285,15 @@ itself_chosen page sheet d d' t (Exactly columns rows) one same =
     here sideways.Left = (refl, refl, λ b s sides allows. itself_large_at page sheet d d' 1 1 b s same sides (omega arith) (omega arith) allows)
     here sideways.Right = (refl, refl, λ b s sides allows. itself_large_at page sheet d d' 1 1 b s same sides (omega arith) (omega arith) allows)
 
-pub itself_arranged : (page sheet : Paper) (d d' : ℕ) (c : Cells) (o : Order) → IsPaper page → IsPaper sheet → count_of c ≡ 1 → SameSides page sheet → IsArrangedIn page (room_in sheet d d') c o None itself
+pub itself_arranged : (page sheet : Paper) (d d' : ℕ) (c : Cells) (o : Order) → IsPaper page → IsPaper sheet → cells_per_sheet c ≡ 1 → SameSides page sheet → IsArrangedIn page (room_in sheet d d') c o None itself
 itself_arranged page sheet d d' c o is on one same =
     let g = cells 1 1 false in
     let at = itself_in page sheet d d' false o is on same in
     record {
       modulo = sym one;
-      items = alone 0 ∷ [];
+      items = page_alone 0 ∷ [];
       one_group = refl;
-      pages = subst (λ n. ArePages 0 n (alone 0 ∷ [])) (sym one) refl;
+      pages = subst (λ n. ArePages 0 n (page_alone 0 ∷ [])) (sym one) refl;
       turn = Upright;
       upright_or_left = inl refl;
       grid = g;
@@ -341,14 +341,14 @@ backs_laid_out page room b s is on even place =
     }
 
 pub sides_laid_out : (page : Paper) (room : Room) (b long_edge : Bool) → IsPaper page → IsPaper room.paper → IsEven room → HasPlace page room (beside true) (scale_in page room (beside true))
-    → AreSidesIn page room (leaf_order b) long_edge (scale_in page room (beside true)) (sides_in page room (leaf_order b) long_edge)
+    → AreSidesIn page room (leaf_order b) long_edge (scale_in page room (beside true)) (leaf_sides page room (leaf_order b) long_edge)
 sides_laid_out page room b false is on even place =
     let s = scale_in page room (beside true) in
-    (map (item_in page room (beside true) (leaf_order b) s) (range_with_len 0 2), refl, refl, refl, grid_laid_out page room (beside true) (leaf_order b) s 2 is on place (omega arith))
+    (map (item_in_cell page room (beside true) (leaf_order b) s) (range_with_len 0 2), refl, refl, refl, grid_laid_out page room (beside true) (leaf_order b) s 2 is on place (omega arith))
 sides_laid_out page room b true is on even place =
     let s = scale_in page room (beside true) in
     let o = leaf_order b in (
-      map (item_in page room (beside true) o s) (range_with_len 0 2),
+      map (item_in_cell page room (beside true) o s) (range_with_len 0 2),
       map (back_in page room (beside true) o s 2) (range_with_len 0 2),
       refl,
       refl,
@@ -360,17 +360,17 @@ sides_laid_out page room b true is on even place =
     )
 
 folded : (page : Paper) (room : Room) (b : Bool) (s : ℕ) → IsPaper page → IsPaper room.paper → IsEven room → HasPlace page room (beside true) s
-    → AreFolded page room b (map (item_in page room (beside true) (leaf_order b) s) (range_with_len 0 2))
+    → AreFolded page room b (map (item_in_cell page room (beside true) (leaf_order b) s) (range_with_len 0 2))
 folded page room false s is on even place =
-    (item_in page room (beside true) (leaf_order false) s 0, item_in page room (beside true) (leaf_order false) s 1, refl, leaf_keeps_fold page room false s is on even place)
+    (item_in_cell page room (beside true) (leaf_order false) s 0, item_in_cell page room (beside true) (leaf_order false) s 1, refl, leaf_keeps_fold page room false s is on even place)
 folded page room true s is on even place =
-    (item_in page room (beside true) (leaf_order true) s 0, item_in page room (beside true) (leaf_order true) s 1, refl, leaf_keeps_fold page room true s is on even place)
+    (item_in_cell page room (beside true) (leaf_order true) s 0, item_in_cell page room (beside true) (leaf_order true) s 1, refl, leaf_keeps_fold page room true s is on even place)
 
 same_head : (front front' : List Item) (more more' : List (List Item)) → front ∷ more ≡ front' ∷ more' → front ≡ front'
 same_head front front' more more' e = cc
 
 pub sides_folded : (page : Paper) (room : Room) (b long_edge : Bool) → IsPaper page → IsPaper room.paper → IsEven room → HasPlace page room (beside true) (scale_in page room (beside true))
-    → (front : List Item) (more : List (List Item)) → (sides_in page room (leaf_order b) long_edge).groups ≡ front ∷ more → AreFolded page room b front
+    → (front : List Item) (more : List (List Item)) → (leaf_sides page room (leaf_order b) long_edge).groups ≡ front ∷ more → AreFolded page room b front
 sides_folded page room b false is on even place front more e =
     subst (AreFolded page room b) (same_head _ front _ more e) (folded page room b (scale_in page room (beside true)) is on even place)
 sides_folded page room b true is on even place front more e =

@@ -5,7 +5,7 @@ use Rattle.std.proofs.Math.Nat.{lt-div-mul-add, mul_left_comm, mul-add}
 use Rattle.std.proofs.lemmas.Int.{ints}
 use Rattle.rules.specs.Papers.{Paper}
 use Rattle.layouts.specs.Placed.{Room}
-use Rattle.layouts.specs.Cells.{Along, Grid, along_height, along_width, cell, kept, step, item_at, row_of, column_of}
+use Rattle.layouts.specs.Cells.{Along, Grid, along_height, along_width, cell, kept_length, pitch, cell_item, row_of, column_of}
 use Rattle.layouts.specs.Laws.{HasPlace, IsMean, IsInMiddle, GridIsInMiddle, cell_at}
 use Rattle.layouts.proofs.AlongSide.{in_cell, in_middle, moved_back, counted_and}
 use Rattle.layouts.proofs.Sides.{of_sides, far, start}
@@ -30,7 +30,7 @@ whole_side a w c v s h =
     twice l = omega arith
 
 from_start_middle : (a : Along) (w c v s j : ℕ) → HasCell a w c v s
-    → IsMean (2 * (kept a.trim a.before + j * step a w c) + cell a w c) (far (pos (from_start a w c v s j) -ℤ pos (trimmed a s))) (far (pos (from_start a w c v s j) -ℤ pos (trimmed a s)) +ℤ pos (s * v))
+    → IsMean (2 * (kept_length a.trim a.before + j * pitch a w c) + cell a w c) (far (pos (from_start a w c v s j) -ℤ pos (trimmed a s))) (far (pos (from_start a w c v s j) -ℤ pos (trimmed a s)) +ℤ pos (s * v))
 from_start_middle a w c v s j h =
     let most = in_cell (cell a w c) (shown a v) s h.fits in
     let least = in_middle (cell a w c) (shown a v) s h.fits in
@@ -40,7 +40,7 @@ from_start_middle a w c v s j h =
     (omega (arith, ints, most, least, all, back, back'), omega (arith, ints, most, least, all, back, back'))
 
 from_end_middle : (a : Along) (w c v s j : ℕ) → HasCell a w c v s
-    → IsMean (2 * (kept a.trim a.before + j * step a w c) + cell a w c) (far (pos (from_end a w c v s j) +ℤ pos (trimmed a s))) (far (pos (from_end a w c v s j) +ℤ pos (trimmed a s)) -ℤ pos (s * v))
+    → IsMean (2 * (kept_length a.trim a.before + j * pitch a w c) + cell a w c) (far (pos (from_end a w c v s j) +ℤ pos (trimmed a s))) (far (pos (from_end a w c v s j) +ℤ pos (trimmed a s)) -ℤ pos (s * v))
 from_end_middle a w c v s j h =
     let most = in_cell (cell a w c) (shown a v) s h.fits in
     let least = in_middle (cell a w c) (shown a v) s h.fits in
@@ -50,7 +50,7 @@ from_end_middle a w c v s j h =
     (omega (arith, ints, most, least, all, back, back'), omega (arith, ints, most, least, all, back, back'))
 
 middle_at : (v u : ℕ) (room : Room) (r c : ℕ) (b : Bool) (s k row column : ℕ) → HasPlace (of_sides v u) room (cells r c b) s
-    → IsInMiddle (of_sides v u) (cell_at room (cells r c b) row column) (item_at (of_sides v u) room (cells r c b) s k row column)
+    → IsInMiddle (of_sides v u) (cell_at room (cells r c b) row column) (cell_item (of_sides v u) room (cells r c b) s k row column)
 middle_at v u room r c false s k row column place =
     let w = nat_abs room.paper.width in
     let h = nat_abs room.paper.height in
@@ -71,7 +71,7 @@ middle_at v u room r c true s k row column place =
     }
 
 abbrev MiddleIf : (room : Room) (g : Grid) (s k row column : ℕ) → Paper → Type 0
-MiddleIf room g s k row column o = HasPlace o room g s → IsInMiddle o (cell_at room g row column) (item_at o room g s k row column)
+MiddleIf room g s k row column o = HasPlace o room g s → IsInMiddle o (cell_at room g row column) (cell_item o room g s k row column)
 
 pub grid_in_middle : GridIsInMiddle
 grid_in_middle page room g o s k is place =

@@ -6,8 +6,8 @@ use Rattle.std.proofs.lemmas.Bool.Decides.{nat_tests}
 use Rattle.std.proofs.lemmas.Nat.{div_below, mul-le}
 use Rattle.rules.specs.Papers.{Paper, is_paper, is_side, longest_side}
 use Rattle.layouts.specs.Placed.{Room}
-use Rattle.layouts.specs.Cells.{Along, Grid, along_height, along_width, cell, counted, fitting, kept, left_free, scale_in}
-use Rattle.layouts.specs.Grids.{beside, count_of, grid_of, has_bare_edges, is_itself, is_same, room_of, scale_for}
+use Rattle.layouts.specs.Cells.{Along, Grid, along_height, along_width, cell, trimmed_side, fitting, kept_length, left_free, scale_in}
+use Rattle.layouts.specs.Grids.{beside, cells_per_sheet, grid_of, has_bare_edges, is_itself, is_same, room_of, scale_for}
 use Rattle.layouts.specs.Refusals.{NothingIsLeftOfSheet, are_lengths, leaves_room, why_no_scale, why_not_arranged, why_not_bound}
 use Rattle.layouts.specs.declared.arrangement.Arrangement.{Arrangement}
 use Rattle.layouts.specs.declared.arrangement.Binding.{Binding}
@@ -37,8 +37,8 @@ no_longer g (suc p) =
 
 no_cell : (a : Along) (side parts : ℕ) → left_free a side ≡ 0 → cell a side parts ≡ 0
 no_cell a side parts none =
-    let part = no_longer (kept a.trim a.gap) parts in
-    ap (λ (n : ℕ). (n + 1_270_000 * kept a.trim a.gap) / (1_270_000 * parts) - kept a.trim a.gap) none ∙ omega (arith, part)
+    let part = no_longer (kept_length a.trim a.gap) parts in
+    ap (λ (n : ℕ). (n + 1_270_000 * kept_length a.trim a.gap) / (1_270_000 * parts) - kept_length a.trim a.gap) none ∙ omega (arith, part)
 
 no_fitting : (length side : ℕ) → length ≡ 0 → fitting length side ≡ 0
 no_fitting length side none = ap (λ (n : ℕ). 1_270_000_000_000_000 * n / side) none ∙ none_of side
@@ -55,13 +55,13 @@ IsNarrow room = (left_free (along_width room) (nat_abs room.paper.width) ≡ 0) 
 -- so pages have no scale, in whatever grid
 no_scale : (page : Paper) (room : Room) (rows columns : ℕ) (turned : Bool) → IsNarrow room → scale_in page room (record { rows = rows; columns = columns; turned = turned }) ≡ 0
 no_scale page room rows columns false (inl none) =
-    min_first _ _ (no_fitting (cell (along_width room) (nat_abs room.paper.width) columns) (counted room page.width) (no_cell (along_width room) (nat_abs room.paper.width) columns none))
+    min_first _ _ (no_fitting (cell (along_width room) (nat_abs room.paper.width) columns) (trimmed_side room page.width) (no_cell (along_width room) (nat_abs room.paper.width) columns none))
 no_scale page room rows columns false (inr none) =
-    min_second _ _ (no_fitting (cell (along_height room) (nat_abs room.paper.height) rows) (counted room page.height) (no_cell (along_height room) (nat_abs room.paper.height) rows none))
+    min_second _ _ (no_fitting (cell (along_height room) (nat_abs room.paper.height) rows) (trimmed_side room page.height) (no_cell (along_height room) (nat_abs room.paper.height) rows none))
 no_scale page room rows columns true (inl none) =
-    min_second _ _ (no_fitting (cell (along_width room) (nat_abs room.paper.width) rows) (counted room page.height) (no_cell (along_width room) (nat_abs room.paper.width) rows none))
+    min_second _ _ (no_fitting (cell (along_width room) (nat_abs room.paper.width) rows) (trimmed_side room page.height) (no_cell (along_width room) (nat_abs room.paper.width) rows none))
 no_scale page room rows columns true (inr none) =
-    min_first _ _ (no_fitting (cell (along_height room) (nat_abs room.paper.height) columns) (counted room page.width) (no_cell (along_height room) (nat_abs room.paper.height) columns none))
+    min_first _ _ (no_fitting (cell (along_height room) (nat_abs room.paper.height) columns) (trimmed_side room page.width) (no_cell (along_height room) (nat_abs room.paper.height) columns none))
 
 refused : (room : Room) (s largest : ℕ) → largest ≡ 0 → why_no_scale room s largest ≡ None → ⊥
 refused room s largest none h = let some = leb-true 1 largest (passed (nat_le 1 largest) (why.NoRoom room) _ h).0 in absurd (omega (arith, some, none))
@@ -86,7 +86,7 @@ narrow sheet f h =
 -- a sheet without margins has all of its sides
 bare_is_whole : (side : ℕ) (a : Along) → a.trim ≡ 0 → a.before ≡ 0 → a.after ≡ 0 → left_free a side ≡ side
 bare_is_whole side a trim before after =
-    ap (λ (t : ℕ). side - 1_270_000 * (kept t a.before + kept t a.after)) trim ∙ omega (arith, before, after)
+    ap (λ (t : ℕ). side - 1_270_000 * (kept_length t a.before + kept_length t a.after)) trim ∙ omega (arith, before, after)
 
 some_side : (z : ℤ) → is_side z ≡ true → 0 < nat_abs z
 some_side (pos n) is = let some = both_true (int_le (pos 1) (pos n)) (int_le (pos n) (pos longest_side)) is in leb-true 1 n some.0
@@ -117,8 +117,8 @@ bare room h =
 not_itself : (page sheet : Paper) (a : Arrangement) → is_paper sheet.width sheet.height ≡ true → IsNarrow (room_of sheet a.free) → is_itself page sheet a ≡ true → ⊥
 not_itself page sheet a is narrow h =
     let room = room_of sheet a.free in
-    let three = both_true ((count_of a.cells == 1) && is_same page sheet && has_bare_edges room) (is_none a.scale) h in
-    let two = both_true ((count_of a.cells == 1) && is_same page sheet) (has_bare_edges room) three.0 in
+    let three = both_true ((cells_per_sheet a.cells == 1) && is_same page sheet && has_bare_edges room) (is_none a.scale) h in
+    let two = both_true ((cells_per_sheet a.cells == 1) && is_same page sheet) (has_bare_edges room) three.0 in
     let b = bare room two.1 in
     let sides = both_true (is_side sheet.width) (is_side sheet.height) is in
     let w = some_side sheet.width sides.0 in

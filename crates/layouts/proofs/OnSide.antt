@@ -5,7 +5,7 @@ use Rattle.std.proofs.Common.{arith, ◌≡◌, ℕ, ◌+◌, ◌-◌, ◌*◌, 
 use Rattle.std.specs.Prelude.{pos, ◌≤ℤ◌, ◌+ℤ◌, ◌-ℤ◌}
 use Rattle.std.proofs.lemmas.Int.{ints}
 use Rattle.layouts.specs.Placed.{fine}
-use Rattle.layouts.specs.Cells.{Along, cell, kept, step, slack, whole}
+use Rattle.layouts.specs.Cells.{Along, cell, kept_length, pitch, slack, whole_parts}
 use Rattle.layouts.proofs.AlongSide.{moved_back, kept_at, counted_and, in_side, in_side_back, behind_edge, parted, parted_back}
 use Rattle.layouts.proofs.Sides.{far, start, end}
 
@@ -17,10 +17,10 @@ abbrev pub trimmed : (a : Along) (s : ℕ) → ℕ
 trimmed a s = s * a.trim / 1_000_000_000
 
 abbrev pub from_start : (a : Along) (w c v s j : ℕ) → ℕ
-from_start a w c v s j = kept a.trim a.before + j * step a w c + slack (cell a w c) (shown a v) s
+from_start a w c v s j = kept_length a.trim a.before + j * pitch a w c + slack (cell a w c) (shown a v) s
 
 abbrev pub from_end : (a : Along) (w c v s j : ℕ) → ℕ
-from_end a w c v s j = kept a.trim a.before + j * step a w c + (cell a w c - slack (cell a w c) (shown a v) s)
+from_end a w c v s j = kept_length a.trim a.before + j * pitch a w c + (cell a w c - slack (cell a w c) (shown a v) s)
 
 -- the page has a cell, and something is left of it
 pub record HasCell (a : Along) (w c v s : ℕ) : Type 0 where
@@ -30,7 +30,7 @@ pub record HasCell (a : Along) (w c v s : ℕ) : Type 0 where
 
 pub record Ends (a : Along) (v s n : ℕ) : Type 0 where
   pub back : 1_270_000_000_000_000 * trimmed a s ≤ start a.trim s
-  pub kept : start a.trim s + 1_270_000_000_000_000 * n ≤ 1_270_000_000_000_000 * trimmed a s + 1_270_000_000_000_000 * kept a.trim n
+  pub kept : start a.trim s + 1_270_000_000_000_000 * n ≤ 1_270_000_000_000_000 * trimmed a s + 1_270_000_000_000_000 * kept_length a.trim n
   pub end : end a.trim v s ≡ s * shown a v + start a.trim s
 
 end_at : (l v s : ℕ) → 2_540_000 * l < v → end l v s ≡ s * (v - 2_540_000 * l) + start l s
@@ -56,7 +56,7 @@ begins a w c v s j h =
     omega (arith, ints, back, more)
 
 pub finishes : (a : Along) (w c v s j : ℕ) → HasCell a w c v s → j < c
-    → ((far (pos (from_start a w c v s j) -ℤ pos (trimmed a s)) +ℤ pos (end a.trim v s)) +ℤ fine a.after) ≤ℤ fine (whole w)
+    → ((far (pos (from_start a w c v s j) -ℤ pos (trimmed a s)) +ℤ pos (end a.trim v s)) +ℤ fine a.after) ≤ℤ fine (whole_parts w)
 finishes a w c v s j h before =
     let f = ends a v s a.after h.left in
     let more = f.kept in let is = f.end in
@@ -69,7 +69,7 @@ comes_before a w c v s v' s' j k h h' before =
     let f = ends a v s a.gap h.left in
     let f' = ends a v' s' a.gap h'.left in
     let more = f.kept in let is = f.end in let back = f'.back in
-    omega (arith, ints, more, is, back, parted (step a w c) (kept a.trim a.gap) (kept a.trim a.before) (shown a v) s (shown a v') s' j k h.some h.fits before)
+    omega (arith, ints, more, is, back, parted (pitch a w c) (kept_length a.trim a.gap) (kept_length a.trim a.before) (shown a v) s (shown a v') s' j k h.some h.fits before)
 
 -- what is counted from the other end of a cell
 
@@ -78,10 +78,10 @@ pub begins_turned : (a : Along) (w c v s j : ℕ) → HasCell a w c v s
 begins_turned a w c v s j h =
     let f = ends a v s a.before h.left in
     let more = f.kept in let is = f.end in
-    omega (arith, ints, more, is, behind_edge (step a w c) (kept a.trim a.gap) (kept a.trim a.before) (shown a v) s j h.fits)
+    omega (arith, ints, more, is, behind_edge (pitch a w c) (kept_length a.trim a.gap) (kept_length a.trim a.before) (shown a v) s j h.fits)
 
 pub finishes_turned : (a : Along) (w c v s j : ℕ) → HasCell a w c v s → j < c
-    → (far (pos (from_end a w c v s j) +ℤ pos (trimmed a s)) +ℤ fine a.after) ≤ℤ (fine (whole w) +ℤ pos (start a.trim s))
+    → (far (pos (from_end a w c v s j) +ℤ pos (trimmed a s)) +ℤ fine a.after) ≤ℤ (fine (whole_parts w) +ℤ pos (start a.trim s))
 finishes_turned a w c v s j h before =
     let f = ends a v s a.after h.left in
     let back = f.back in let more = f.kept in
@@ -94,4 +94,4 @@ comes_before_turned a w c v s v' s' j k h h' before =
     let f = ends a v s a.gap h.left in
     let f' = ends a v' s' a.gap h'.left in
     let back = f.back in let more = f'.kept in let is = f'.end in
-    omega (arith, ints, back, more, is, parted_back (step a w c) (kept a.trim a.gap) (kept a.trim a.before) (shown a v) s (shown a v') s' j k h'.some h'.fits before)
+    omega (arith, ints, back, more, is, parted_back (pitch a w c) (kept_length a.trim a.gap) (kept_length a.trim a.before) (shown a v) s (shown a v') s' j k h'.some h'.fits before)

@@ -11,8 +11,8 @@ use Rattle.layouts.specs.declared.error.ArrangementError.{ArrangementError}
 use Rattle.layouts.specs.declared.error.ArrangementError.TheVariants as why
 use Rattle.layouts.specs.Placed.{IsEven, Room}
 use Rattle.layouts.specs.Cells.{Grid, scale_in}
-use Rattle.layouts.specs.Grids.{beside, has_bare_edges, is_same, is_itself, room_of, grid_of, scale_for, count_of, rounded_up, arranged, in_cells, bound}
-use Rattle.layouts.specs.Refusals.{first_of, is_count, is_even, are_lengths, are_reached, is_shown, is_near, is_scale, why_no_scale, why_no_sheet, why_not_arranged, why_not_bound, folds_short}
+use Rattle.layouts.specs.Grids.{beside, has_bare_edges, is_same, is_itself, room_of, grid_of, scale_for, cells_per_sheet, rounded_up, arranged, in_cells, bound}
+use Rattle.layouts.specs.Refusals.{error_unless, is_count, is_even, are_lengths, is_paper_reached, is_shown, within_reach, is_scale_in_range, why_no_scale, why_no_sheet, why_not_arranged, why_not_bound, folds_short}
 use Rattle.layouts.specs.Laws.{IsPaper, HasPlace, IsArranged, IsArrangedIn, IsBound}
 use Rattle.layouts.proofs.InGrid.{both_true, room_in}
 use Rattle.layouts.proofs.Writable.{IsMade, scale_range}
@@ -21,13 +21,13 @@ use Rattle.layouts.proofs.LaidOut.{SameSides, same_sides, itself, itself_arrange
 -- ---- chains of reasons
 
 -- if there is none, the test holds and there is none behind it
-pub passed : (b : Bool) (e : ArrangementError) (next : Option ArrangementError) → first_of b e next ≡ None → (b ≡ true) × (next ≡ None)
+pub passed : (b : Bool) (e : ArrangementError) (next : Option ArrangementError) → error_unless b e next ≡ None → (b ≡ true) × (next ≡ None)
 passed true e next h = (refl, h)
 passed false e next h = absurd (cc (h))
 
 -- another end of a chain without a reason
 abbrev Chain3 : Bool → Bool → Bool → Option ArrangementError → Option ArrangementError
-Chain3 a b c next = first_of a why.SideTooLong (first_of b why.LengthOutOfRange (first_of c why.NothingLeftOfPage next))
+Chain3 a b c next = error_unless a why.SideTooLong (error_unless b why.LengthOutOfRange (error_unless c why.NothingLeftOfPage next))
 
 chain_on : (a b c : Bool) (next : Option ArrangementError) → Chain3 a b c None ≡ None → Chain3 a b c next ≡ next
 chain_on true true true next h = refl
@@ -43,24 +43,24 @@ chain_stops false b c next e h = h
 
 pub sheet_on : (page sheet : Paper) (f : Free) (next : Option ArrangementError) → why_no_sheet page sheet f None ≡ None → why_no_sheet page sheet f next ≡ next
 sheet_on page sheet f next h =
-    chain_on (are_reached page && are_reached sheet) (are_lengths f) (is_shown page (room_of sheet f)) next h
+    chain_on (is_paper_reached page && is_paper_reached sheet) (are_lengths f) (is_shown page (room_of sheet f)) next h
 
 pub sheet_stops : (page sheet : Paper) (f : Free) (next : Option ArrangementError) (e : ArrangementError) → why_no_sheet page sheet f None ≡ Some e → why_no_sheet page sheet f next ≡ Some e
 sheet_stops page sheet f next e h =
-    chain_stops (are_reached page && are_reached sheet) (are_lengths f) (is_shown page (room_of sheet f)) next e h
+    chain_stops (is_paper_reached page && is_paper_reached sheet) (are_lengths f) (is_shown page (room_of sheet f)) next e h
 
 -- what holds of a scale that nothing refuses
 pub record IsGoodScale (room : Room) (s largest : ℕ) : Type 0 where
-  pub scale : IsTrue (is_scale s)
+  pub scale : IsTrue (is_scale_in_range s)
   pub fits : s ≤ largest
-  pub near : IsTrue (is_near room s)
+  pub near : IsTrue (within_reach room s)
 
 pub good_scale : (room : Room) (s largest : ℕ) → why_no_scale room s largest ≡ None → IsGoodScale room s largest
 good_scale room s largest h =
-    let one = passed (nat_le 1 largest) (why.NoRoom room) (first_of (is_scale s) why.ScaleOutOfRange (first_of (nat_le s largest) why.ScaleTooLarge (first_of (is_near room s) why.ScaleOutOfRange None))) h in
-    let two = passed (is_scale s) why.ScaleOutOfRange (first_of (nat_le s largest) why.ScaleTooLarge (first_of (is_near room s) why.ScaleOutOfRange None)) one.1 in
-    let three = passed (nat_le s largest) why.ScaleTooLarge (first_of (is_near room s) why.ScaleOutOfRange None) two.1 in
-    let four = passed (is_near room s) why.ScaleOutOfRange None three.1 in
+    let one = passed (nat_le 1 largest) (why.NoRoom room) (error_unless (is_scale_in_range s) why.ScaleOutOfRange (error_unless (nat_le s largest) why.ScaleTooLarge (error_unless (within_reach room s) why.ScaleOutOfRange None))) h in
+    let two = passed (is_scale_in_range s) why.ScaleOutOfRange (error_unless (nat_le s largest) why.ScaleTooLarge (error_unless (within_reach room s) why.ScaleOutOfRange None)) one.1 in
+    let three = passed (nat_le s largest) why.ScaleTooLarge (error_unless (within_reach room s) why.ScaleOutOfRange None) two.1 in
+    let four = passed (within_reach room s) why.ScaleOutOfRange None three.1 in
     record { scale = two.0; fits = leb-true s largest three.0; near = four.0 }
 
 -- so each page has its place
@@ -89,27 +89,27 @@ arranged_reasons page sheet a =
     let largest = scale_in page room (grid_of page room a.order.turned a.cells) in
     if is_itself page sheet a then None else why_no_scale room (scale_for a.scale largest) largest
 
-counted : (page sheet : Paper) (a : Arrangement) (next : Option ArrangementError) → 1 ≤ count_of a.cells → count_of a.cells ≤ 1_024 → first_of (is_count (count_of a.cells)) why.CellsOutOfRange next ≡ next
-counted page sheet a next some most = cond-true (is_count (count_of a.cells)) next (Some why.CellsOutOfRange) (count_passed (count_of a.cells) some most)
+counted : (page sheet : Paper) (a : Arrangement) (next : Option ArrangementError) → 1 ≤ cells_per_sheet a.cells → cells_per_sheet a.cells ≤ 1_024 → error_unless (is_count (cells_per_sheet a.cells)) why.CellsOutOfRange next ≡ next
+counted page sheet a next some most = cond-true (is_count (cells_per_sheet a.cells)) next (Some why.CellsOutOfRange) (count_passed (cells_per_sheet a.cells) some most)
 
-pub sheet_refused : (page sheet : Paper) (a : Arrangement) (e : ArrangementError) → 1 ≤ count_of a.cells → count_of a.cells ≤ 1_024 → why_no_sheet page sheet a.free None ≡ Some e
+pub sheet_refused : (page sheet : Paper) (a : Arrangement) (e : ArrangementError) → 1 ≤ cells_per_sheet a.cells → cells_per_sheet a.cells ≤ 1_024 → why_no_sheet page sheet a.free None ≡ Some e
     → why_not_arranged page sheet a ≡ Some e
 sheet_refused page sheet a e some most h =
     counted page sheet a _ some most ∙ sheet_stops page sheet a.free (arranged_reasons page sheet a) e h
 
-arranged_by : (page sheet : Paper) (a : Arrangement) → 1 ≤ count_of a.cells → count_of a.cells ≤ 1_024 → why_no_sheet page sheet a.free None ≡ None
+arranged_by : (page sheet : Paper) (a : Arrangement) → 1 ≤ cells_per_sheet a.cells → cells_per_sheet a.cells ≤ 1_024 → why_no_sheet page sheet a.free None ≡ None
     → why_not_arranged page sheet a ≡ arranged_reasons page sheet a
 arranged_by page sheet a some most h =
     counted page sheet a _ some most ∙ sheet_on page sheet a.free (arranged_reasons page sheet a) h
 
-pub cells_reasons : (page sheet : Paper) (a : Arrangement) → 1 ≤ count_of a.cells → count_of a.cells ≤ 1_024 → why_no_sheet page sheet a.free None ≡ None → is_itself page sheet a ≡ false
+pub cells_reasons : (page sheet : Paper) (a : Arrangement) → 1 ≤ cells_per_sheet a.cells → cells_per_sheet a.cells ≤ 1_024 → why_no_sheet page sheet a.free None ≡ None → is_itself page sheet a ≡ false
     → (let room = room_of sheet a.free in
     let largest = scale_in page room (grid_of page room a.order.turned a.cells) in
     why_not_arranged page sheet a ≡ why_no_scale room (scale_for a.scale largest) largest)
 cells_reasons page sheet a some most h is = arranged_by page sheet a some most h ∙ cond-false (is_itself page sheet a) None _ is
 
 -- why there is no scale is why nothing is arranged
-pub scale_refused : (page sheet : Paper) (a : Arrangement) (room : Room) (grid : Grid) (largest : ℕ) (error : ArrangementError) → 1 ≤ count_of a.cells → count_of a.cells ≤ 1_024
+pub scale_refused : (page sheet : Paper) (a : Arrangement) (room : Room) (grid : Grid) (largest : ℕ) (error : ArrangementError) → 1 ≤ cells_per_sheet a.cells → cells_per_sheet a.cells ≤ 1_024
     → why_no_sheet page sheet a.free None ≡ None → is_itself page sheet a ≡ false
     → room ≡ room_of sheet a.free → grid ≡ grid_of page room a.order.turned a.cells → largest ≡ scale_in page room grid
     → why_no_scale room (scale_for a.scale largest) largest ≡ Some error → why_not_arranged page sheet a ≡ Some error
@@ -121,14 +121,14 @@ scale_refused page sheet a room grid largest error some few good not e f g h =
 
 -- what it is to be the page itself
 pub record IsAlone (page sheet : Paper) (a : Arrangement) : Type 0 where
-  pub one : count_of a.cells ≡ 1
+  pub one : cells_per_sheet a.cells ≡ 1
   pub same : SameSides page sheet
   pub bare : has_bare_edges (room_of sheet a.free) ≡ true
   pub scale : a.scale ≡ None
 
 -- what holds of a sheet with gaps alone holds of one with bare edges
 bare_at : (P : Room → Type 0) (q : Paper) (l r b t d d' m : ℕ) → l + r + (b + t) ≡ 0 → m ≡ 0 → P (room_in q d d')
-    → P (record { paper = q; left = l; right = r; bottom = b; top = t; gap_across = d; gap_up = d'; trim = m })
+    → P (record { paper = q; left = l; right = r; bottom = b; top = t; gutter_across = d; gutter_up = d'; trim = m })
 bare_at P q zero zero zero zero d d' zero e f h = h
 bare_at P q zero zero zero zero d d' (suc m) e f h = absurd (omega (arith, f))
 bare_at P q (suc l) r b t d d' m e f h = absurd (omega (arith, e))
@@ -136,10 +136,10 @@ bare_at P q zero (suc r) b t d d' m e f h = absurd (omega (arith, e))
 bare_at P q zero zero (suc b) t d d' m e f h = absurd (omega (arith, e))
 bare_at P q zero zero zero (suc t) d d' m e f h = absurd (omega (arith, e))
 
-pub bare_edges : (P : Room → Type 0) (room : Room) → has_bare_edges room ≡ true → P (room_in room.paper room.gap_across room.gap_up) → P room
+pub bare_edges : (P : Room → Type 0) (room : Room) → has_bare_edges room ≡ true → P (room_in room.paper room.gutter_across room.gutter_up) → P room
 bare_edges P room h holds =
     let both = both_true (room.left + room.right + (room.bottom + room.top) == 0) (room.trim == 0) h in
-    bare_at P room.paper room.left room.right room.bottom room.top room.gap_across room.gap_up room.trim (same_byte (room.left + room.right + (room.bottom + room.top)) 0 both.0) (same_byte room.trim 0 both.1) holds
+    bare_at P room.paper room.left room.right room.bottom room.top room.gutter_across room.gutter_up room.trim (same_byte (room.left + room.right + (room.bottom + room.top)) 0 both.0) (same_byte room.trim 0 both.1) holds
 
 pub no_scale : (asked : Option ℤ) → is_none asked ≡ true → asked ≡ None
 no_scale None e = refl
@@ -147,11 +147,11 @@ no_scale (Some s) e = absurd (cc (e))
 
 pub is_alone : (page sheet : Paper) (a : Arrangement) → is_itself page sheet a ≡ true → IsAlone page sheet a
 is_alone page sheet a h =
-    let three = both_true ((count_of a.cells == 1) && is_same page sheet && has_bare_edges (room_of sheet a.free)) (is_none a.scale) h in
-    let two = both_true ((count_of a.cells == 1) && is_same page sheet) (has_bare_edges (room_of sheet a.free)) three.0 in
-    let one = both_true (count_of a.cells == 1) (is_same page sheet) two.0 in
+    let three = both_true ((cells_per_sheet a.cells == 1) && is_same page sheet && has_bare_edges (room_of sheet a.free)) (is_none a.scale) h in
+    let two = both_true ((cells_per_sheet a.cells == 1) && is_same page sheet) (has_bare_edges (room_of sheet a.free)) three.0 in
+    let one = both_true (cells_per_sheet a.cells == 1) (is_same page sheet) two.0 in
     record {
-      one = same_byte (count_of a.cells) 1 one.0;
+      one = same_byte (cells_per_sheet a.cells) 1 one.0;
       same = same_sides page sheet one.1;
       bare = two.1;
       scale = no_scale a.scale three.1;
@@ -172,7 +172,7 @@ pub cells_made : (page sheet : Paper) (a : Arrangement) → is_itself page sheet
     → (let room = room_of sheet a.free in arranged page sheet a ≡ in_cells page room (grid_of page room a.order.turned a.cells) a)
 cells_made page sheet a is = cond-false (is_itself page sheet a) itself _ is
 
-pub cells_laid_out : (page sheet : Paper) (a : Arrangement) → IsPaper page → IsPaper sheet → 1 ≤ count_of a.cells → is_itself page sheet a ≡ false
+pub cells_laid_out : (page sheet : Paper) (a : Arrangement) → IsPaper page → IsPaper sheet → 1 ≤ cells_per_sheet a.cells → is_itself page sheet a ≡ false
     → (let room = room_of sheet a.free in
     let g = grid_of page room a.order.turned a.cells in
     HasPlace page room g (scale_for a.scale (scale_in page room g)))
@@ -189,7 +189,7 @@ leaves_refused page sheet b e h = sheet_stops page sheet b.free _ e h
 pub leaves_reasons : (page sheet : Paper) (b : Binding) → why_no_sheet page sheet b.free None ≡ None
     → (let room = room_of sheet b.free in
     let largest = scale_in page room (beside true) in
-    why_not_bound page sheet b ≡ first_of (is_even room) why.UnevenMargins (first_of (folds_short page room) why.FoldOnLongEdge (why_no_scale room largest largest)))
+    why_not_bound page sheet b ≡ error_unless (is_even room) why.UnevenMargins (error_unless (folds_short page room) why.FoldOnLongEdge (why_no_scale room largest largest)))
 leaves_reasons page sheet b h = sheet_on page sheet b.free _ h
 
 pub leaves_possible : (page sheet : Paper) (b : Binding) → why_no_sheet page sheet b.free None ≡ None → is_even (room_of sheet b.free) ≡ true → folds_short page (room_of sheet b.free) ≡ true

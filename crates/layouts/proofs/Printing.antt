@@ -7,7 +7,7 @@ use Rattle.rules.specs.Papers.{Paper}
 use Rattle.rules.specs.Specification.{Turn, Upright, Left, Half, Right}
 use Rattle.rules.specs.Placement.{Matrix}
 use Rattle.placement.specs.Printed.{nearest}
-use Rattle.layouts.specs.Cells.{turn_in, half_turned, to_right, to_top, whole, row_of, column_of}
+use Rattle.layouts.specs.Cells.{turn_in, half_turned, to_right, to_top, whole_parts, row_of, column_of}
 use Rattle.layouts.specs.Laws.{IsExact, PrintedAsItIs}
 use Rattle.layouts.proofs.Sides.{placed}
 
@@ -40,5 +40,5 @@ printed_as_it_is page room g o s n k =
     let x = to_right page room g s (row_of o g k) (column_of o g k) in
     let y = to_top page room g s (row_of o g k) (column_of o g k) in (
       placed_exact page (turn_in g) k s x y,
-      placed_exact page (half_turned (turn_in g)) (n + k) s (pos (whole (nat_abs room.paper.width)) -ℤ x) (pos (whole (nat_abs room.paper.height)) -ℤ y),
+      placed_exact page (half_turned (turn_in g)) (n + k) s (pos (whole_parts (nat_abs room.paper.width)) -ℤ x) (pos (whole_parts (nat_abs room.paper.height)) -ℤ y),
     )

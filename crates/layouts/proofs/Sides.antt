@@ -8,7 +8,7 @@ use Rattle.rules.specs.Papers.{Paper}
 use Rattle.rules.specs.Specification.{Item, Turn, Upright, Left}
 use Rattle.rules.specs.Placement.{Point}
 use Rattle.layouts.specs.Placed.{Room, stands, fine, IsOfPage}
-use Rattle.layouts.specs.Cells.{in_points, whole}
+use Rattle.layouts.specs.Cells.{in_points, whole_parts}
 
 abbrev pub of_sides : (w h : ℕ) → Paper
 of_sides w h = record { width = pos w; height = pos h }
@@ -26,9 +26,9 @@ far z = pos 1_270_000_000_000_000 *ℤ z
 -- on the whole 10^-5 of a point of a sheet, so far from its edges
 pub record LiesIn (room : Room) (p : Point) : Type 0 where
   pub left : fine room.left ≤ℤ p.x
-  pub right : (p.x +ℤ fine room.right) ≤ℤ fine (whole (nat_abs room.paper.width))
+  pub right : (p.x +ℤ fine room.right) ≤ℤ fine (whole_parts (nat_abs room.paper.width))
   pub bottom : fine room.bottom ≤ℤ p.y
-  pub top : (p.y +ℤ fine room.top) ≤ℤ fine (whole (nat_abs room.paper.height))
+  pub top : (p.y +ℤ fine room.top) ≤ℤ fine (whole_parts (nat_abs room.paper.height))
 
 -- where the page begins and ends
 abbrev pub start : (l s : ℕ) → ℕ
@@ -95,32 +95,32 @@ with_rest a b c h = omega (arith, ints, h)
 
 -- as far from the edges as is kept free
 within_edges : (room : Room) (p : Point)
-    → InBox (fine room.left) (fine (whole (nat_abs room.paper.width)) -ℤ fine room.right) (fine room.bottom) (fine (whole (nat_abs room.paper.height)) -ℤ fine room.top) p → LiesIn room p
+    → InBox (fine room.left) (fine (whole_parts (nat_abs room.paper.width)) -ℤ fine room.right) (fine room.bottom) (fine (whole_parts (nat_abs room.paper.height)) -ℤ fine room.top) p → LiesIn room p
 within_edges room p b = record {
   left = b.left_is;
-  right = with_rest p.x (fine room.right) (fine (whole (nat_abs room.paper.width))) b.right_is;
+  right = with_rest p.x (fine room.right) (fine (whole_parts (nat_abs room.paper.width))) b.right_is;
   bottom = b.bottom_is;
-  top = with_rest p.y (fine room.top) (fine (whole (nat_abs room.paper.height))) b.top_is;
+  top = with_rest p.y (fine room.top) (fine (whole_parts (nat_abs room.paper.height))) b.top_is;
 }
 
 pub within_upright : (v u : ℕ) (room : Room) (k s : ℕ) (x y : ℤ) → fine room.left ≤ℤ (far x +ℤ pos (start room.trim s))
-    → ((far x +ℤ pos (end room.trim v s)) +ℤ fine room.right) ≤ℤ fine (whole (nat_abs room.paper.width))
-    → fine room.bottom ≤ℤ (far y +ℤ pos (start room.trim s)) → ((far y +ℤ pos (end room.trim u s)) +ℤ fine room.top) ≤ℤ fine (whole (nat_abs room.paper.height))
+    → ((far x +ℤ pos (end room.trim v s)) +ℤ fine room.right) ≤ℤ fine (whole_parts (nat_abs room.paper.width))
+    → fine room.bottom ≤ℤ (far y +ℤ pos (start room.trim s)) → ((far y +ℤ pos (end room.trim u s)) +ℤ fine room.top) ≤ℤ fine (whole_parts (nat_abs room.paper.height))
     → (p : Point) → IsOfPage room.trim (of_sides v u) p → LiesIn room (stands (of_sides v u) (placed Upright k s x y) p)
 within_upright v u room k s x y left right bottom top p of =
-    let w = fine (whole (nat_abs room.paper.width)) in
-    let h = fine (whole (nat_abs room.paper.height)) in
+    let w = fine (whole_parts (nat_abs room.paper.width)) in
+    let h = fine (whole_parts (nat_abs room.paper.height)) in
     within_edges room (stands (of_sides v u) (placed Upright k s x y) p)
     (upright_box v u room.trim k s x y (fine room.left) (w -ℤ fine room.right) (fine room.bottom) (h -ℤ fine room.top)
     left (rest_of (far x +ℤ pos (end room.trim v s)) (fine room.right) w right) bottom (rest_of (far y +ℤ pos (end room.trim u s)) (fine room.top) h top) p.x p.y of)
 
 pub within_left : (v u : ℕ) (room : Room) (k s : ℕ) (x y : ℤ) → (fine room.left +ℤ pos (end room.trim u s)) ≤ℤ far x
-    → (far x +ℤ fine room.right) ≤ℤ (fine (whole (nat_abs room.paper.width)) +ℤ pos (start room.trim s))
-    → fine room.bottom ≤ℤ (far y +ℤ pos (start room.trim s)) → ((far y +ℤ pos (end room.trim v s)) +ℤ fine room.top) ≤ℤ fine (whole (nat_abs room.paper.height))
+    → (far x +ℤ fine room.right) ≤ℤ (fine (whole_parts (nat_abs room.paper.width)) +ℤ pos (start room.trim s))
+    → fine room.bottom ≤ℤ (far y +ℤ pos (start room.trim s)) → ((far y +ℤ pos (end room.trim v s)) +ℤ fine room.top) ≤ℤ fine (whole_parts (nat_abs room.paper.height))
     → (p : Point) → IsOfPage room.trim (of_sides v u) p → LiesIn room (stands (of_sides v u) (placed Left k s x y) p)
 within_left v u room k s x y left right bottom top p of =
-    let w = fine (whole (nat_abs room.paper.width)) in
-    let h = fine (whole (nat_abs room.paper.height)) in
+    let w = fine (whole_parts (nat_abs room.paper.width)) in
+    let h = fine (whole_parts (nat_abs room.paper.height)) in
     within_edges room (stands (of_sides v u) (placed Left k s x y) p)
     (left_box v u room.trim k s x y (fine room.left) (w -ℤ fine room.right) (fine room.bottom) (h -ℤ fine room.top)
     left (rest_and (far x) (fine room.right) w (pos (start room.trim s)) right) bottom (rest_of (far y +ℤ pos (end room.trim v s)) (fine room.top) h top) p.x p.y of)

@@ -17,9 +17,9 @@ use Rattle.pagespec.proofs.NumberLengths.{positive_few}
 use Rattle.pagespec.proofs.Short.{scale_short, offset_short, measure_few, turn_few}
 use Rattle.layouts.specs.Placed.{Room}
 use Rattle.layouts.specs.declared.arrangement.Order.{Order}
-use Rattle.layouts.specs.Cells.{Grid, size, item_in, back_in, in_grid, to_right, to_top, turn_in, half_turned, whole, in_points, scale_in, row_of, column_of}
-use Rattle.layouts.specs.Grids.{alone, sides_in, beside}
-use Rattle.layouts.specs.Refusals.{is_near, is_scale}
+use Rattle.layouts.specs.Cells.{Grid, size, item_in_cell, back_in, in_grid, to_right, to_top, turn_in, half_turned, whole_parts, in_points, scale_in, row_of, column_of}
+use Rattle.layouts.specs.Grids.{page_alone, leaf_sides, beside}
+use Rattle.layouts.specs.Refusals.{within_reach, is_scale_in_range}
 use Rattle.layouts.specs.Laws.{HasPlace}
 use Rattle.layouts.proofs.Sides.{placed}
 use Rattle.layouts.proofs.InGrid.{both_true}
@@ -78,10 +78,10 @@ placed_fits m t k s x y few less some most right top =
 -- the places of pages, and what is near enough
 pub record IsMade (page : Paper) (room : Room) (g : Grid) (s : ℕ) : Type 0 where
   pub place : HasPlace page room g s
-  pub near : IsTrue (is_near room s)
+  pub near : IsTrue (within_reach room s)
   pub most : s ≤ 99_999_000_000_000
 
-item_fits : (page : Paper) (room : Room) (g : Grid) (o : Order) (s m k : ℕ) → m ≤ 9_999 → k < m → k < size g → IsMade page room g s → IsFit m (item_in page room g o s k)
+item_fits : (page : Paper) (room : Room) (g : Grid) (o : Order) (s m k : ℕ) → m ≤ 9_999 → k < m → k < size g → IsMade page room g s → IsFit m (item_in_cell page room g o s k)
 item_fits page room g o s m k few less within made =
     let fit = shift_fits page room g o s k made.place made.near within in
     placed_fits m (turn_in g) k s (to_right page room g s (row_of o g k) (column_of o g k)) (to_top page room g s (row_of o g k) (column_of o g k)) few less made.place.above_zero made.most fit.across fit.up
@@ -89,8 +89,8 @@ item_fits page room g o s m k few less within made =
 back_fits : (page : Paper) (room : Room) (g : Grid) (o : Order) (s n m k : ℕ) → m ≤ 9_999 → n + k < m → k < size g → IsMade page room g s → IsFit m (back_in page room g o s n k)
 back_fits page room g o s n m k few less within made =
     let fit = shift_fits page room g o s k made.place made.near within in
-    placed_fits m (half_turned (turn_in g)) (n + k) s (pos (whole (nat_abs room.paper.width)) -ℤ to_right page room g s (row_of o g k) (column_of o g k))
-    (pos (whole (nat_abs room.paper.height)) -ℤ to_top page room g s (row_of o g k) (column_of o g k)) few less made.place.above_zero made.most fit.back_across fit.back_up
+    placed_fits m (half_turned (turn_in g)) (n + k) s (pos (whole_parts (nat_abs room.paper.width)) -ℤ to_right page room g s (row_of o g k) (column_of o g k))
+    (pos (whole_parts (nat_abs room.paper.height)) -ℤ to_top page room g s (row_of o g k) (column_of o g k)) few less made.place.above_zero made.most fit.back_across fit.back_up
 
 -- a group of such pages, and its text
 record IsGroupFit (slots m : ℕ) (g : List Item) : Type 0 where
@@ -115,9 +115,9 @@ group_fits slots m n f some few all =
 pub grid_writable : (slots : ℕ) (page : Paper) (room : Room) (g : Grid) (o : Order) (s n : ℕ) → 0 < n → n ≤ slots → n ≤ 1_024 → n ≤ size g → IsMade page room g s
     → IsWritable slots (in_grid page room g o s n)
 grid_writable slots page room g o s n some few most_n within made =
-    let items = map (item_in page room g o s) (range_with_len 0 n) in
-    let long : length items ≡ n = length-map-range_with_len (item_in page room g o s) 0 n in
-    let fit : IsGroupFit slots n items = group_fits slots n n (item_in page room g o s) some few
+    let items = map (item_in_cell page room g o s) (range_with_len 0 n) in
+    let long : length items ≡ n = length-map-range_with_len (item_in_cell page room g o s) 0 n in
+    let fit : IsGroupFit slots n items = group_fits slots n n (item_in_cell page room g o s) some few
     (λ k less. item_fits page room g o s n k (omega (arith, most_n)) less (omega (arith, less, within)) made) in
     let text = fit.text in
     let small : length (group_text items) ≤ 62_464 = omega (arith, text, long, most_n) in
@@ -130,9 +130,9 @@ grid_writable slots page room g o s n some few most_n within made =
     }
 
 two_sides_writable : (slots : ℕ) (page : Paper) (room : Room) (g : Grid) (o : Order) (s : ℕ) → 2 ≤ slots → 2 ≤ size g → IsMade page room g s
-    → IsWritable slots (record { modulo = 4; groups = map (item_in page room g o s) (range_with_len 0 2) ∷ map (back_in page room g o s 2) (range_with_len 0 2) ∷ [] })
+    → IsWritable slots (record { modulo = 4; groups = map (item_in_cell page room g o s) (range_with_len 0 2) ∷ map (back_in page room g o s 2) (range_with_len 0 2) ∷ [] })
 two_sides_writable slots page room g o s few within made =
-    let front : IsGroupFit slots 4 (map (item_in page room g o s) (range_with_len 0 2)) = group_fits slots 4 2 (item_in page room g o s) (omega arith) few
+    let front : IsGroupFit slots 4 (map (item_in_cell page room g o s) (range_with_len 0 2)) = group_fits slots 4 2 (item_in_cell page room g o s) (omega arith) few
     (λ k less. item_fits page room g o s 4 k (omega arith) (omega (arith, less)) (omega (arith, less, within)) made) in
     let other : IsGroupFit slots 4 (map (back_in page room g o s 2) (range_with_len 0 2)) = group_fits slots 4 2 (back_in page room g o s 2) (omega arith) few
     (λ k less. back_fits page room g o s 2 4 k (omega arith) (omega (arith, less)) (omega (arith, less, within)) made) in
@@ -141,32 +141,32 @@ two_sides_writable slots page room g o s few within made =
       some = omega arith;
       few = omega arith;
       groups = (front.group, (other.group, tt));
-      short = groups_short 122 (record { modulo = 4; groups = map (item_in page room g o s) (range_with_len 0 2) ∷ map (back_in page room g o s 2) (range_with_len 0 2) ∷ [] })
+      short = groups_short 122 (record { modulo = 4; groups = map (item_in_cell page room g o s) (range_with_len 0 2) ∷ map (back_in page room g o s 2) (range_with_len 0 2) ∷ [] })
           (omega arith) (front.text, (other.text, tt)) (omega arith);
     }
 
 -- what a scale may be
-pub scale_range : (s : ℕ) → IsTrue (is_scale s) → (0 < s) × (s ≤ 99_999_000_000_000)
+pub scale_range : (s : ℕ) → IsTrue (is_scale_in_range s) → (0 < s) × (s ≤ 99_999_000_000_000)
 scale_range s h =
     let (some, most) = both_true (nat_le 1 s) (nat_le s 99_999_000_000_000) h in
     (leb-true 1 s some, leb-true s 99_999_000_000_000 most)
 
-pub itself_writable : (slots : ℕ) → 1 ≤ slots → IsWritable slots (record { modulo = 1; groups = (alone 0 ∷ []) ∷ [] })
+pub itself_writable : (slots : ℕ) → 1 ≤ slots → IsWritable slots (record { modulo = 1; groups = (page_alone 0 ∷ []) ∷ [] })
 itself_writable slots some =
-    let fit : IsGroupFit slots 1 (alone 0 ∷ []) = group_fits slots 1 1 alone (omega arith) some (λ k less. alone_fits k less) in
+    let fit : IsGroupFit slots 1 (page_alone 0 ∷ []) = group_fits slots 1 1 page_alone (omega arith) some (λ k less. alone_fits k less) in
     record {
       modulo = (omega arith, omega arith);
       some = omega arith;
       few = omega arith;
       groups = (fit.group, tt);
-      short = groups_short 61 (record { modulo = 1; groups = (alone 0 ∷ []) ∷ [] }) (omega arith) (fit.text, tt) (omega arith);
+      short = groups_short 61 (record { modulo = 1; groups = (page_alone 0 ∷ []) ∷ [] }) (omega arith) (fit.text, tt) (omega arith);
     }
   where
-    alone_fits : (k : ℕ) → k < 1 → IsFit 1 (alone k)
+    alone_fits : (k : ℕ) → k < 1 → IsFit 1 (page_alone k)
     alone_fits k less = placed_fits 1 _ k 1_000_000_000 (pos 0) (pos 0) (omega arith) less (omega arith) (omega arith) (omega arith) (omega arith)
 
 pub leaves_writable : (slots : ℕ) (page : Paper) (room : Room) (o : Order) (long_edge : Bool) → 2 ≤ slots → IsMade page room (beside true) (scale_in page room (beside true))
-    → IsWritable slots (sides_in page room o long_edge)
+    → IsWritable slots (leaf_sides page room o long_edge)
 leaves_writable slots page room o false few made = grid_writable slots page room (beside true) o (scale_in page room (beside true)) 2 (omega arith) few (omega arith) (omega arith) made
 leaves_writable slots page room o true few made = two_sides_writable slots page room (beside true) o (scale_in page room (beside true)) few (omega arith) made
 

@@ -10,8 +10,8 @@ use Rattle.std.specs.List.{range_with_len}
 use Rattle.rules.specs.Papers.{Paper, Pt}
 use Rattle.rules.specs.Specification.{Item, Spec, Measure, Turn, Upright, Left, Half, Right}
 use Rattle.layouts.specs.Placed.{Room}
-use Rattle.layouts.specs.declared.arrangement.Run.{Run}
-use Rattle.layouts.specs.declared.arrangement.Run.TheVariants.{Rows, Columns}
+use Rattle.layouts.specs.declared.arrangement.FillOrder.{FillOrder}
+use Rattle.layouts.specs.declared.arrangement.FillOrder.TheVariants.{Rows, Columns}
 use Rattle.layouts.specs.declared.arrangement.Turned.{Turned}
 use Rattle.layouts.specs.declared.arrangement.Turned.TheVariants as sideways
 use Rattle.layouts.specs.declared.arrangement.Order.{Order}
@@ -44,10 +44,10 @@ pub record Along : Type 0 where
 
 -- along the width of the sheet, and along its height
 abbrev pub along_width : Room → Along
-along_width room = record { before = room.left; after = room.right; gap = room.gap_across; trim = room.trim }
+along_width room = record { before = room.left; after = room.right; gap = room.gutter_across; trim = room.trim }
 
 abbrev pub along_height : Room → Along
-along_height room = record { before = room.bottom; after = room.top; gap = room.gap_up; trim = room.trim }
+along_height room = record { before = room.bottom; after = room.top; gap = room.gutter_up; trim = room.trim }
 
 -- the margins and the gap across a sheet, with the sheet held as it is read
 abbrev pub held_across : Bool → Room → Along
@@ -62,30 +62,30 @@ held_down true room = along_width room
 
 -- what is kept of a length: if pages are trimmed, 10^-5 of a point more, since how far they are moved back is rounded
 -- (RULES, 13.1)
-abbrev pub kept : (trim length : ℕ) → ℕ
-kept trim length = if trim == 0 then length else length + 1
+abbrev pub kept_length : (trim length : ℕ) → ℕ
+kept_length trim length = if trim == 0 then length else length + 1
 
 -- what the margins leave of a side, in grains (RULES, 13.2)
 abbrev pub left_free : Along → (side : ℕ) → ℕ
-left_free a side = side - 1_270_000 * (kept a.trim a.before + kept a.trim a.after)
+left_free a side = side - 1_270_000 * (kept_length a.trim a.before + kept_length a.trim a.after)
 
 -- one of so many equal parts of a side of so many grains, in 10^-5 of a point
 abbrev pub part : (side parts : ℕ) → ℕ
 part side parts = side / (1_270_000 * parts)
 
 -- from where a cell begins to where the next one begins
-abbrev pub step : Along → (side parts : ℕ) → ℕ
-step a side parts = part (left_free a side + 1_270_000 * kept a.trim a.gap) parts
+abbrev pub pitch : Along → (side parts : ℕ) → ℕ
+pitch a side parts = part (left_free a side + 1_270_000 * kept_length a.trim a.gap) parts
 
 abbrev pub step_across : Room → Grid → ℕ
-step_across room g = step (held_across g.turned room) (held_width g.turned room.paper) g.columns
+step_across room g = pitch (held_across g.turned room) (held_width g.turned room.paper) g.columns
 
 abbrev pub step_down : Room → Grid → ℕ
-step_down room g = step (held_down g.turned room) (held_height g.turned room.paper) g.rows
+step_down room g = pitch (held_down g.turned room) (held_height g.turned room.paper) g.rows
 
 -- how much of a side a cell has; it has no room if a gap takes it all
 abbrev pub cell : Along → (side parts : ℕ) → ℕ
-cell a side parts = step a side parts - kept a.trim a.gap
+cell a side parts = pitch a side parts - kept_length a.trim a.gap
 
 -- how wide and how high a cell is
 abbrev pub wide : Room → Grid → ℕ
@@ -103,7 +103,7 @@ grains_in n = 1_270_000 * n
 -- how far the middle of the gap before part k of a side lies, in grains; after the last part it is as if one more came
 -- (RULES, 15)
 abbrev pub gap_at : Along → (side parts k : ℕ) → ℕ
-gap_at a side parts k = grains_in (kept a.trim a.before + k * step a side parts) - 635_000 * kept a.trim a.gap
+gap_at a side parts k = grains_in (kept_length a.trim a.before + k * pitch a side parts) - 635_000 * kept_length a.trim a.gap
 
 -- how many cells are side by side as the sheet lies, and how many one above another: a grid lies on its side if its
 -- pages do
@@ -116,8 +116,8 @@ cells_up g = if g.turned then g.columns else g.rows
 -- ---- pages in cells
 
 -- what counts of a page's side, in grains (RULES, 13.3)
-abbrev pub counted : Room → (side : ℤ) → ℕ
-counted room side = nat_abs side - 2_540_000 * room.trim
+abbrev pub trimmed_side : Room → (side : ℤ) → ℕ
+trimmed_side room side = nat_abs side - 2_540_000 * room.trim
 
 -- the largest scale, in 10^-9, that brings a side of so many grains into a cell of so many 10^-5 of a point
 abbrev pub fitting : (cell side : ℕ) → ℕ
@@ -126,7 +126,7 @@ fitting cell side = 1_270_000_000_000_000 * cell / side
 -- the largest scale that brings a page into a cell; 0 if nothing is left for cells
 abbrev pub scale_in : (page : Paper) → Room → Grid → ℕ
 scale_in page room g =
-    min (fitting (wide room g) (counted room page.width)) (fitting (high room g) (counted room page.height))
+    min (fitting (wide room g) (trimmed_side room page.width)) (fitting (high room g) (trimmed_side room page.height))
 
 -- ---- how large pages can be in exact parts, by which grids are compared
 
@@ -134,13 +134,13 @@ scale_in page room g =
 -- (RULES, 13.5)
 abbrev pub exact_along : Along → (side parts page : ℕ) → ℕ
 exact_along a side parts page =
-    (1_000_000_000 * left_free a side + 1_270_000_000_000_000 * kept a.trim a.gap
-    - 1_270_000_000_000_000 * (kept a.trim a.gap * parts)) / (page * parts)
+    (1_000_000_000 * left_free a side + 1_270_000_000_000_000 * kept_length a.trim a.gap
+    - 1_270_000_000_000_000 * (kept_length a.trim a.gap * parts)) / (page * parts)
 
 abbrev pub exact_scale : (page : Paper) → Room → Grid → ℕ
 exact_scale page room g =
-    min (exact_along (held_across g.turned room) (held_width g.turned room.paper) g.columns (counted room page.width))
-    (exact_along (held_down g.turned room) (held_height g.turned room.paper) g.rows (counted room page.height))
+    min (exact_along (held_across g.turned room) (held_width g.turned room.paper) g.columns (trimmed_side room page.width))
+    (exact_along (held_down g.turned room) (held_height g.turned room.paper) g.rows (trimmed_side room page.height))
 
 -- ---- where they stand
 
@@ -149,10 +149,10 @@ abbrev pub slack : (cell side scale : ℕ) → ℕ
 slack cell side scale = (1_270_000_000_000_000 * cell - scale * side) / 2_540_000_000_000_000
 
 abbrev pub slack_x : (page : Paper) → Room → Grid → (scale : ℕ) → ℕ
-slack_x page room g s = slack (wide room g) (counted room page.width) s
+slack_x page room g s = slack (wide room g) (trimmed_side room page.width) s
 
 abbrev pub slack_y : (page : Paper) → Room → Grid → (scale : ℕ) → ℕ
-slack_y page room g s = slack (high room g) (counted room page.height) s
+slack_y page room g s = slack (high room g) (trimmed_side room page.height) s
 
 -- how long what is trimmed along a side is on the sheet, in 10^-5 of a point, rounded down
 abbrev pub trimmed : Room → (scale : ℕ) → ℕ
@@ -161,13 +161,13 @@ trimmed room s = s * room.trim / 1_000_000_000
 -- where the corner of what counts of the page comes to stand, about which it is turned, if it is in this row and column
 abbrev pub corner_x : (page : Paper) → Room → Grid → (scale row column : ℕ) → ℕ
 corner_x page room g s row column =
-    if g.turned then kept room.trim room.left + row * step_down room g + (high room g - slack_y page room g s)
-    else kept room.trim room.left + column * step_across room g + slack_x page room g s
+    if g.turned then kept_length room.trim room.left + row * step_down room g + (high room g - slack_y page room g s)
+    else kept_length room.trim room.left + column * step_across room g + slack_x page room g s
 
 abbrev pub corner_y : (page : Paper) → Room → Grid → (scale row column : ℕ) → ℕ
 corner_y page room g s row column =
-    if g.turned then kept room.trim room.bottom + column * step_across room g + slack_x page room g s
-    else kept room.trim room.bottom + (g.rows - (row + 1)) * step_down room g + slack_y page room g s
+    if g.turned then kept_length room.trim room.bottom + column * step_across room g + slack_x page room g s
+    else kept_length room.trim room.bottom + (g.rows - (row + 1)) * step_down room g + slack_y page room g s
 
 -- how far to the right, and how far up, the page is moved, in 10^-5 of a point
 abbrev pub to_right : (page : Paper) → Room → Grid → (scale row column : ℕ) → ℤ
@@ -186,8 +186,8 @@ abbrev pub turn_in : Grid → Turn
 turn_in g = if g.turned then Left else Upright
 
 -- page k in this row and column, at this scale
-abbrev pub item_at : (page : Paper) → Room → Grid → (scale k row column : ℕ) → Item
-item_at page room g s k row column = record {
+abbrev pub cell_item : (page : Paper) → Room → Grid → (scale k row column : ℕ) → Item
+cell_item page room g s k row column = record {
   page = k;
   from_end = false;
   turn = turn_in g;
@@ -210,20 +210,20 @@ read_rows sideways.Left g = g.columns
 read_rows sideways.Right g = g.columns
 
 -- how many cells are passed before the next row, or the next column, begins (RULES, 13.6)
-abbrev pub run_in : Run → Turned → Grid → ℕ
+abbrev pub run_in : FillOrder → Turned → Grid → ℕ
 run_in Rows t g = read_columns t g
 run_in Columns t g = read_rows t g
 
 -- the row and the column of page k as one reads the sheet
-abbrev pub read_row : Run → Turned → Grid → ℕ → ℕ
+abbrev pub read_row : FillOrder → Turned → Grid → ℕ → ℕ
 read_row Rows t g k = k / read_columns t g
 read_row Columns t g k = k % read_rows t g
 
-abbrev pub nth_column : Run → Turned → Grid → ℕ → ℕ
+abbrev pub nth_column : FillOrder → Turned → Grid → ℕ → ℕ
 nth_column Rows t g k = k % read_columns t g
 nth_column Columns t g k = k / read_rows t g
 
-abbrev pub read_column : Run → (right_to_left : Bool) → Turned → Grid → ℕ → ℕ
+abbrev pub read_column : FillOrder → (right_to_left : Bool) → Turned → Grid → ℕ → ℕ
 read_column run right_to_left t g k =
     if right_to_left then read_columns t g - (nth_column run t g k + 1) else nth_column run t g k
 
@@ -246,18 +246,18 @@ abbrev pub column_of : Order → Grid → ℕ → ℕ
 column_of o g k = held_column o.turned g (read_row o.run o.turned g k) (read_column o.run o.right_to_left o.turned g k)
 
 -- page k in its cell
-abbrev pub item_in : (page : Paper) → Room → Grid → Order → (scale : ℕ) → ℕ → Item
-item_in page room g o s k = item_at page room g s k (row_of o g k) (column_of o g k)
+abbrev pub item_in_cell : (page : Paper) → Room → Grid → Order → (scale : ℕ) → ℕ → Item
+item_in_cell page room g o s k = cell_item page room g s k (row_of o g k) (column_of o g k)
 
 -- n pages on each sheet, in this grid: the cells that stay empty come last
 abbrev pub in_grid : (page : Paper) → Room → Grid → Order → (scale n : ℕ) → Spec
-in_grid page room g o s n = record { modulo = n; groups = map (item_in page room g o s) (range_with_len 0 n) ∷ [] }
+in_grid page room g o s n = record { modulo = n; groups = map (item_in_cell page room g o s) (range_with_len 0 n) ∷ [] }
 
 -- ---- sheets that are turned by half
 
 -- a side in whole 10^-5 of a point
-abbrev pub whole : ℕ → ℕ
-whole side = side / 1_270_000
+abbrev pub whole_parts : ℕ → ℕ
+whole_parts side = side / 1_270_000
 
 abbrev pub half_turned : Turn → Turn
 half_turned Upright = Half
@@ -272,6 +272,6 @@ back_in page room g o s n k = record {
   from_end = false;
   turn = half_turned (turn_in g);
   scale = pos s;
-  x = in_points (pos (whole (nat_abs room.paper.width)) -ℤ to_right page room g s (row_of o g k) (column_of o g k));
-  y = in_points (pos (whole (nat_abs room.paper.height)) -ℤ to_top page room g s (row_of o g k) (column_of o g k));
+  x = in_points (pos (whole_parts (nat_abs room.paper.width)) -ℤ to_right page room g s (row_of o g k) (column_of o g k));
+  y = in_points (pos (whole_parts (nat_abs room.paper.height)) -ℤ to_top page room g s (row_of o g k) (column_of o g k));
 }

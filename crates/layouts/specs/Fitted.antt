@@ -11,9 +11,9 @@ use Rattle.layouts.specs.declared.error.ArrangementError.{ArrangementError}
 use Rattle.layouts.specs.declared.error.ArrangementError.TheVariants as why
 use Rattle.layouts.specs.declared.setting.Setting.{Setting}
 use Rattle.layouts.specs.Placed.{IsInside, AreApart}
-use Rattle.layouts.specs.Cells.{size, kept, scale_in, item_in, back_in, run_in, row_of, column_of, whole}
-use Rattle.layouts.specs.Grids.{alone, has_bare_edges, is_same, room_of, grid_of, scale_for, count_of, arranged, bound, beside, leaf_order}
-use Rattle.layouts.specs.Refusals.{first_of, are_reached, is_shown, why_no_scale, why_not_arranged, why_not_bound}
+use Rattle.layouts.specs.Cells.{size, kept_length, scale_in, item_in_cell, back_in, run_in, row_of, column_of, whole_parts}
+use Rattle.layouts.specs.Grids.{page_alone, has_bare_edges, is_same, room_of, grid_of, scale_for, cells_per_sheet, arranged, bound, beside, leaf_order}
+use Rattle.layouts.specs.Refusals.{error_unless, is_paper_reached, is_shown, why_no_scale, why_not_arranged, why_not_bound}
 use Rattle.layouts.specs.Laws.{IsPaper, IsExact, IsInCell, IsInMiddle, cell_at, ComesInRun, ComesInRunBefore, IsNotTiny, Allows, LiesBefore, LiesBehind}
 
 -- one page on a sheet of its own paper, where pages are upright, with nothing kept free, nothing trimmed, and no scale asked
@@ -28,7 +28,7 @@ scale_on t page = scale_for t.scale (scale_in page t.room t.grid)
 
 -- a page of this paper in cell k; on a sheet of its own paper it is left as it is (RULES, 13.4)
 abbrev pub fitted : Setting → (page : Paper) → (k : ℕ) → Item
-fitted t page k = if is_whole t page then alone k else item_in page t.room t.grid t.order (scale_on t page) k
+fitted t page k = if is_whole t page then page_alone k else item_in_cell page t.room t.grid t.order (scale_on t page) k
 
 -- a page of this paper in cell k, as it stands if the whole sheet is turned by half; it is fitted into its cell on a sheet
 -- of its own paper too
@@ -56,8 +56,8 @@ binding_setting_of sheet b = record {
 -- the first reason why pages of this paper can't have their scale in these cells (RULES, 16, step 12)
 abbrev pub why_no_scale_on : Setting → (page : Paper) → Option ArrangementError
 why_no_scale_on t page =
-    first_of (are_reached page && are_reached t.room.paper) why.SideTooLong
-    (first_of (is_shown page t.room) why.NothingLeftOfPage
+    error_unless (is_paper_reached page && is_paper_reached t.room.paper) why.SideTooLong
+    (error_unless (is_shown page t.room) why.NothingLeftOfPage
     (why_no_scale t.room (scale_on t page) (scale_in page t.room t.grid)))
 
 -- why pages of this paper can't be in the cells of a setting
@@ -67,7 +67,7 @@ why_not_fitted t page = if is_whole t page then None else why_no_scale_on t page
 -- how far a page may reach past its cell: not at all; but by 10^-5 of a point if pages are trimmed, and on a sheet of its
 -- own paper, whose sides needn't have a whole number of these
 abbrev pub past_cell : Setting → (page : Paper) → ℕ
-past_cell t page = if is_whole t page then 1 else kept t.room.trim 0
+past_cell t page = if is_whole t page then 1 else kept_length t.room.trim 0
 
 -- a page of this paper in cell k: on what the margins leave of the sheet, in its cell and in the middle of that, printed
 -- exactly, and if no scale is asked for as large as the cell allows, to 10^-6
@@ -109,8 +109,8 @@ abbrev pub ArrangedIsFitted : Type 0
 ArrangedIsFitted = (page sheet : Paper) (a : Arrangement) → why_not_arranged page sheet a ≡ None
     → (why_not_fitted (setting_of page sheet a) page ≡ None)
     × (arranged page sheet a ≡ record {
-      modulo = count_of a.cells;
-      groups = map (fitted (setting_of page sheet a) page) (range_with_len 0 (count_of a.cells)) ∷ [];
+      modulo = cells_per_sheet a.cells;
+      groups = map (fitted (setting_of page sheet a) page) (range_with_len 0 (cells_per_sheet a.cells)) ∷ [];
     })
 
 -- ---- leaves
@@ -120,17 +120,17 @@ ArrangedIsFitted = (page sheet : Paper) (a : Arrangement) → why_not_arranged p
 -- of a point. If the sheet is turned by half, so is the fold
 pub record HaveOneFold (t : Setting) (right_to_left : Bool) : Type 0 where
   pub twice : ℕ
-  pub no_farther : twice ≤ whole (nat_abs t.room.paper.height) + 1
-  pub no_nearer : whole (nat_abs t.room.paper.height) ≤ twice + 1
+  pub no_farther : twice ≤ whole_parts (nat_abs t.room.paper.height) + 1
+  pub no_nearer : whole_parts (nat_abs t.room.paper.height) ≤ twice + 1
   pub before : (page : Paper) → IsPaper page → why_not_fitted t page ≡ None
       → LiesBefore t.room twice page (fitted t page (if right_to_left then 1 else 0))
   pub behind : (page : Paper) → IsPaper page → why_not_fitted t page ≡ None
       → LiesBehind t.room twice page (fitted t page (if right_to_left then 0 else 1))
   pub turned_behind : (page : Paper) → IsPaper page → why_not_fitted t page ≡ None
-      → LiesBehind t.room (2 * whole (nat_abs t.room.paper.height) - twice) page
+      → LiesBehind t.room (2 * whole_parts (nat_abs t.room.paper.height) - twice) page
       (fitted_back t page (if right_to_left then 1 else 0))
   pub turned_before : (page : Paper) → IsPaper page → why_not_fitted t page ≡ None
-      → LiesBefore t.room (2 * whole (nat_abs t.room.paper.height) - twice) page
+      → LiesBefore t.room (2 * whole_parts (nat_abs t.room.paper.height) - twice) page
       (fitted_back t page (if right_to_left then 0 else 1))
 
 -- page 2 + k, where page k stands if the sheet is turned by half

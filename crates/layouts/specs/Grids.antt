@@ -5,13 +5,13 @@ use Rattle.std.specs.List.{range_with_len}
 use Rattle.rules.specs.Papers.{Paper}
 use Rattle.rules.specs.Specification.{Item, Spec, Upright, zero_points}
 use Rattle.layouts.specs.Placed.{Room}
-use Rattle.layouts.specs.Cells.{Grid, size, exact_scale, scale_in, item_in, back_in, in_grid}
+use Rattle.layouts.specs.Cells.{Grid, size, exact_scale, scale_in, item_in_cell, back_in, in_grid}
 use Rattle.layouts.specs.declared.arrangement.Arrangement.{Arrangement}
 use Rattle.layouts.specs.declared.arrangement.Binding.{Binding}
 use Rattle.layouts.specs.declared.arrangement.Cells.{Cells}
 use Rattle.layouts.specs.declared.arrangement.Free.{Free}
 use Rattle.layouts.specs.declared.arrangement.Cells.TheVariants.{AtLeast, Exactly}
-use Rattle.layouts.specs.declared.arrangement.Run.TheVariants.{Rows}
+use Rattle.layouts.specs.declared.arrangement.FillOrder.TheVariants.{Rows}
 use Rattle.layouts.specs.declared.arrangement.Turned.{Turned}
 use Rattle.layouts.specs.declared.arrangement.Turned.TheVariants as sideways
 use Rattle.layouts.specs.declared.arrangement.Order.{Order}
@@ -53,8 +53,8 @@ best_formed page room t columns rows = better page room (formed t false columns 
 -- ---- a page as it is
 
 -- a page alone, as it is; it is counted from 0 (RULES, 13.4)
-abbrev pub alone : ℕ → Item
-alone k = record {
+abbrev pub page_alone : ℕ → Item
+page_alone k = record {
   page = k;
   from_end = false;
   turn = Upright;
@@ -84,8 +84,8 @@ room_of sheet f = record {
   right = rounded_up f.right;
   bottom = rounded_up f.bottom;
   top = rounded_up f.top;
-  gap_across = rounded_up f.across;
-  gap_up = rounded_up f.up;
+  gutter_across = rounded_up f.across;
+  gutter_up = rounded_up f.up;
   trim = rounded_down f.trim;
 }
 
@@ -94,9 +94,9 @@ abbrev pub has_bare_edges : Room → Bool
 has_bare_edges room = (room.left + room.right + (room.bottom + room.top) == 0) && (room.trim == 0)
 
 -- how many pages a sheet has
-abbrev pub count_of : Cells → ℕ
-count_of (AtLeast n) = n
-count_of (Exactly columns rows) = columns * rows
+abbrev pub cells_per_sheet : Cells → ℕ
+cells_per_sheet (AtLeast n) = n
+cells_per_sheet (Exactly columns rows) = columns * rows
 
 abbrev pub grid_of : (page : Paper) → Room → Turned → Cells → Grid
 grid_of page room t (AtLeast n) = best_grid page room n
@@ -114,16 +114,16 @@ scale_for (Some s) largest = above_zero s
 -- one page of the sheet's own paper, of which nothing else is asked (RULES, 13.4)
 abbrev pub is_itself : (page sheet : Paper) → Arrangement → Bool
 is_itself page sheet a =
-    (count_of a.cells == 1) && is_same page sheet && has_bare_edges (room_of sheet a.free) && is_none a.scale
+    (cells_per_sheet a.cells == 1) && is_same page sheet && has_bare_edges (room_of sheet a.free) && is_none a.scale
 
 abbrev pub in_cells : (page : Paper) → Room → Grid → Arrangement → Spec
-in_cells page room g a = in_grid page room g a.order (scale_for a.scale (scale_in page room g)) (count_of a.cells)
+in_cells page room g a = in_grid page room g a.order (scale_for a.scale (scale_in page room g)) (cells_per_sheet a.cells)
 
 -- the specification of an arrangement; on a sheet of its own paper one page is left as it is
 abbrev pub arranged : (page sheet : Paper) → Arrangement → Spec
 arranged page sheet a =
     let room = room_of sheet a.free in
-    if is_itself page sheet a then record { modulo = 1; groups = (alone 0 ∷ []) ∷ [] }
+    if is_itself page sheet a then record { modulo = 1; groups = (page_alone 0 ∷ []) ∷ [] }
     else in_cells page room (grid_of page room a.order.turned a.cells) a
 
 -- along rows, from the left, and nothing lies on its side
@@ -158,17 +158,17 @@ leaf_order right_to_left = record { run = Rows; right_to_left = right_to_left; t
 
 -- the sides of leaves in this room; for printers that flip a sheet about its longer edge each second side is turned by
 -- half
-abbrev pub sides_in : (page : Paper) → Room → Order → (long_edge : Bool) → Spec
-sides_in page room o false = in_grid page room (beside true) o (scale_in page room (beside true)) 2
-sides_in page room o true = record {
+abbrev pub leaf_sides : (page : Paper) → Room → Order → (long_edge : Bool) → Spec
+leaf_sides page room o false = in_grid page room (beside true) o (scale_in page room (beside true)) 2
+leaf_sides page room o true = record {
   modulo = 4;
-  groups = map (item_in page room (beside true) o (scale_in page room (beside true))) (range_with_len 0 2)
+  groups = map (item_in_cell page room (beside true) o (scale_in page room (beside true))) (range_with_len 0 2)
       ∷ map (back_in page room (beside true) o (scale_in page room (beside true)) 2) (range_with_len 0 2) ∷ [];
 }
 
 -- the sides of a booklet's leaves, which fold parallel to the shorter edge
 abbrev pub bound : (page sheet : Paper) → Binding → Spec
-bound page sheet b = sides_in page (room_of sheet b.free) (leaf_order b.right_to_left) b.long_edge
+bound page sheet b = leaf_sides page (room_of sheet b.free) (leaf_order b.right_to_left) b.long_edge
 
 -- nothing is asked for but how the printer flips a sheet
 abbrev pub plain_binding : (long_edge : Bool) → Binding

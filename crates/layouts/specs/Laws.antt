@@ -10,15 +10,15 @@ use Rattle.layouts.specs.declared.arrangement.Arrangement.{Arrangement}
 use Rattle.layouts.specs.declared.arrangement.Binding.{Binding}
 use Rattle.layouts.specs.declared.arrangement.Cells.{Cells}
 use Rattle.layouts.specs.declared.arrangement.Cells.TheVariants.{AtLeast, Exactly}
-use Rattle.layouts.specs.declared.arrangement.Run.{Run}
-use Rattle.layouts.specs.declared.arrangement.Run.TheVariants.{Rows, Columns}
+use Rattle.layouts.specs.declared.arrangement.FillOrder.{FillOrder}
+use Rattle.layouts.specs.declared.arrangement.FillOrder.TheVariants.{Rows, Columns}
 use Rattle.layouts.specs.declared.arrangement.Turned.{Turned}
 use Rattle.layouts.specs.declared.arrangement.Order.{Order}
 use Rattle.layouts.specs.Placed.{IsEven, Room, stands, fine, IsOfPage, IsInside, AreApart, IsLeftOf, IsAbove}
-use Rattle.layouts.specs.Cells.{Along, Grid, size, held_width, held_height, held_across, held_down, left_free, step_across, step_down, wide, high, kept, counted}
-use Rattle.layouts.specs.Cells.{exact_scale, scale_in, item_in, back_in, run_in, read_columns, read_rows, row_of, column_of}
-use Rattle.layouts.specs.Cells.{whole}
-use Rattle.layouts.specs.Grids.{best_grid, formed, count_of, room_of, scale_for}
+use Rattle.layouts.specs.Cells.{Along, Grid, size, held_width, held_height, held_across, held_down, left_free, step_across, step_down, wide, high, kept_length, trimmed_side}
+use Rattle.layouts.specs.Cells.{exact_scale, scale_in, item_in_cell, back_in, run_in, read_columns, read_rows, row_of, column_of}
+use Rattle.layouts.specs.Cells.{whole_parts}
+use Rattle.layouts.specs.Grids.{best_grid, formed, cells_per_sheet, room_of, scale_for}
 use Rattle.layouts.specs.Grids.{leaf_order, beside}
 
 abbrev pub IsPaper : Paper → Type 0
@@ -35,14 +35,14 @@ pub record HasPlace (page : Paper) (room : Room) (g : Grid) (scale : ℕ) : Type
 abbrev pub GridIsInside : Type 0
 GridIsInside = (page : Paper) (room : Room) (g : Grid) (o : Order) (s k : ℕ) → IsPaper page → IsPaper room.paper
     → HasPlace page room g s → k < size g
-    → IsInside room page (item_in page room g o s k)
+    → IsInside room page (item_in_cell page room g o s k)
 
 -- two pages in cells, also of two papers and two scales, are as far apart as the gap, at least
 abbrev pub GridIsApart : Type 0
 GridIsApart =
     (page page' : Paper) (room : Room) (g : Grid) (o : Order) (s s' k l : ℕ) → IsPaper page → IsPaper page'
     → IsPaper room.paper → HasPlace page room g s → HasPlace page' room g s' → k < size g → l < size g → k ≢ l
-    → AreApart room page (item_in page room g o s k) page' (item_in page' room g o s' l)
+    → AreApart room page (item_in_cell page room g o s k) page' (item_in_cell page' room g o s' l)
 
 -- beside one another, the one first: left of it, or right of it
 abbrev pub IsBeside : Room → Turned → (right_to_left : Bool) → (page : Paper) → (one : Item) → (page' : Paper) → (other : Item) → Type 0
@@ -50,11 +50,11 @@ IsBeside room t false page one page' other = IsLeftOf room t page one page' othe
 IsBeside room t true page one page' other = IsLeftOf room t page' other page one
 
 -- in a run of the order the one comes first; and in another run, one that comes first
-abbrev pub ComesInRun : Run → Room → Turned → (right_to_left : Bool) → (page : Paper) → (one : Item) → (page' : Paper) → (other : Item) → Type 0
+abbrev pub ComesInRun : FillOrder → Room → Turned → (right_to_left : Bool) → (page : Paper) → (one : Item) → (page' : Paper) → (other : Item) → Type 0
 ComesInRun Rows room t right_to_left page one page' other = IsBeside room t right_to_left page one page' other
 ComesInRun Columns room t right_to_left page one page' other = IsAbove room t page one page' other
 
-abbrev pub ComesInRunBefore : Run → Room → Turned → (right_to_left : Bool) → (page : Paper) → (one : Item) → (page' : Paper) → (other : Item) → Type 0
+abbrev pub ComesInRunBefore : FillOrder → Room → Turned → (right_to_left : Bool) → (page : Paper) → (one : Item) → (page' : Paper) → (other : Item) → Type 0
 ComesInRunBefore Rows room t right_to_left page one page' other = IsAbove room t page one page' other
 ComesInRunBefore Columns room t right_to_left page one page' other = IsBeside room t right_to_left page one page' other
 
@@ -64,23 +64,23 @@ GridIsInOrder =
     (page page' : Paper) (room : Room) (g : Grid) (o : Order) (s s' k l : ℕ) → IsPaper page → IsPaper page'
     → IsPaper room.paper → HasPlace page room g s → HasPlace page' room g s' → k < size g → l < size g
     → (k % run_in o.run o.turned g < l % run_in o.run o.turned g
-    → ComesInRun o.run room o.turned o.right_to_left page (item_in page room g o s k) page' (item_in page' room g o s' l))
+    → ComesInRun o.run room o.turned o.right_to_left page (item_in_cell page room g o s k) page' (item_in_cell page' room g o s' l))
     × (k / run_in o.run o.turned g < l / run_in o.run o.turned g
-    → ComesInRunBefore o.run room o.turned o.right_to_left page (item_in page room g o s k) page' (item_in page' room g o s' l))
+    → ComesInRunBefore o.run room o.turned o.right_to_left page (item_in_cell page room g o s k) page' (item_in_cell page' room g o s' l))
 
 -- exact parts of what the margins and the gaps leave of a side have room for pages of this scale, in 10^-9, of which so much
 -- counts
 abbrev pub AllowsAlong : Along → (side parts page scale : ℕ) → Type 0
-AllowsAlong a side parts page scale = scale * page * parts + 1_270_000_000_000_000 * (kept a.trim a.gap * parts)
-    ≤ 1_000_000_000 * left_free a side + 1_270_000_000_000_000 * kept a.trim a.gap
+AllowsAlong a side parts page scale = scale * page * parts + 1_270_000_000_000_000 * (kept_length a.trim a.gap * parts)
+    ≤ 1_000_000_000 * left_free a side + 1_270_000_000_000_000 * kept_length a.trim a.gap
 
 pub record Allows (page : Paper) (room : Room) (g : Grid) (scale : ℕ) : Type 0 where
-  pub wide : AllowsAlong (held_across g.turned room) (held_width g.turned room.paper) g.columns (counted room page.width) scale
-  pub high : AllowsAlong (held_down g.turned room) (held_height g.turned room.paper) g.rows (counted room page.height) scale
+  pub wide : AllowsAlong (held_across g.turned room) (held_width g.turned room.paper) g.columns (trimmed_side room page.width) scale
+  pub high : AllowsAlong (held_down g.turned room) (held_height g.turned room.paper) g.rows (trimmed_side room page.height) scale
 
 -- the sides that count are 11 points or more
 abbrev pub IsNotTiny : (page : Paper) → Room → Type 0
-IsNotTiny page room = (1_397_000_000_000 ≤ counted room page.width) × (1_397_000_000_000 ≤ counted room page.height)
+IsNotTiny page room = (1_397_000_000_000 ≤ trimmed_side room page.width) × (1_397_000_000_000 ≤ trimmed_side room page.height)
 
 -- no grid of n cells or more, upright or turned, allows a scale that is larger by 10^-6 or more
 abbrev pub BestIsLarge : Type 0
@@ -118,14 +118,14 @@ BackIsInside = (page : Paper) (room : Room) (g : Grid) (o : Order) (s n k : ℕ)
 pub record IsHalfTurnOf (page sheet : Paper) (one other : Item) : Type 0 where
   pub across : (p : Point)
       → (stands page other p).x
-      ≡ (pos 1_270_000_000_000_000 *ℤ pos (whole (nat_abs sheet.width))) -ℤ (stands page one p).x
+      ≡ (pos 1_270_000_000_000_000 *ℤ pos (whole_parts (nat_abs sheet.width))) -ℤ (stands page one p).x
   pub up : (p : Point)
       → (stands page other p).y
-      ≡ (pos 1_270_000_000_000_000 *ℤ pos (whole (nat_abs sheet.height))) -ℤ (stands page one p).y
+      ≡ (pos 1_270_000_000_000_000 *ℤ pos (whole_parts (nat_abs sheet.height))) -ℤ (stands page one p).y
 
 abbrev pub BackIsHalfTurn : Type 0
 BackIsHalfTurn = (page : Paper) (room : Room) (g : Grid) (o : Order) (s n k : ℕ)
-    → IsHalfTurnOf page room.paper (item_in page room g o s k) (back_in page room g o s n k)
+    → IsHalfTurnOf page room.paper (item_in_cell page room g o s k) (back_in page room g o s n k)
 
 -- the shift of the page is printed as it is: the matrix that is written is the item's own
 abbrev pub IsExact : (page : Paper) → Item → Type 0
@@ -133,7 +133,7 @@ IsExact page item = printed_matrix (matrix_of page item) ≡ matrix_of page item
 
 abbrev pub PrintedAsItIs : Type 0
 PrintedAsItIs = (page : Paper) (room : Room) (g : Grid) (o : Order) (s n k : ℕ)
-    → IsExact page (item_in page room g o s k) × IsExact page (back_in page room g o s n k)
+    → IsExact page (item_in_cell page room g o s k) × IsExact page (back_in page room g o s n k)
 
 -- a cell on the sheet, in 10^-5 of a point
 pub record Cell : Type 0 where
@@ -146,14 +146,14 @@ pub record Cell : Type 0 where
 abbrev pub cell_at : Room → Grid → (row column : ℕ) → Cell
 cell_at room g row column = if g.turned
     then record {
-      left = kept room.trim room.left + row * step_down room g;
-      bottom = kept room.trim room.bottom + column * step_across room g;
+      left = kept_length room.trim room.left + row * step_down room g;
+      bottom = kept_length room.trim room.bottom + column * step_across room g;
       width = high room g;
       height = wide room g;
     }
     else record {
-      left = kept room.trim room.left + column * step_across room g;
-      bottom = kept room.trim room.bottom + (g.rows - (row + 1)) * step_down room g;
+      left = kept_length room.trim room.left + column * step_across room g;
+      bottom = kept_length room.trim room.bottom + (g.rows - (row + 1)) * step_down room g;
       width = wide room g;
       height = high room g;
     }
@@ -175,7 +175,7 @@ pub record IsInMiddle (page : Paper) (cell : Cell) (item : Item) : Type 0 where
 abbrev pub GridIsInMiddle : Type 0
 GridIsInMiddle = (page : Paper) (room : Room) (g : Grid) (o : Order) (s k : ℕ) → IsPaper page
     → HasPlace page room g s
-    → IsInMiddle page (cell_at room g (row_of o g k) (column_of o g k)) (item_in page room g o s k)
+    → IsInMiddle page (cell_at room g (row_of o g k) (column_of o g k)) (item_in_cell page room g o s k)
 
 -- the sheet has this point in the cell, or past it by so many 10^-5 of a point at most
 pub record LiesInCell (cell : Cell) (past : ℕ) (p : Point) : Type 0 where
@@ -192,7 +192,7 @@ IsInCell room page cell past item = (p : Point) → IsOfPage room.trim page p �
 abbrev pub GridIsInCell : Type 0
 GridIsInCell = (page : Paper) (room : Room) (g : Grid) (o : Order) (s k : ℕ) → IsPaper page
     → HasPlace page room g s
-    → IsInCell room page (cell_at room g (row_of o g k) (column_of o g k)) (kept room.trim 0) (item_in page room g o s k)
+    → IsInCell room page (cell_at room g (row_of o g k) (column_of o g k)) (kept_length room.trim 0) (item_in_cell page room g o s k)
 
 -- ---- what holds of a specification
 
@@ -248,10 +248,10 @@ AreInMiddle page room g o items =
 
 -- pages in these cells of a room, in this order, and with this scale if one is asked for
 pub record IsArrangedIn (page : Paper) (room : Room) (cells : Cells) (o : Order) (asked : Option ℤ) (spec : Spec) : Type 0 where
-  pub modulo : spec.modulo ≡ count_of cells
+  pub modulo : spec.modulo ≡ cells_per_sheet cells
   pub items : List Item
   pub one_group : spec.groups ≡ items ∷ []
-  pub pages : ArePages 0 (count_of cells) items
+  pub pages : ArePages 0 (cells_per_sheet cells) items
   pub turn : Turn
   pub upright_or_left : (turn ≡ Upright) ⊎ (turn ≡ Left)
   pub grid : Grid
@@ -281,18 +281,18 @@ AreSidesIn page room o true scale spec =
 -- the page lies before a line across the sheet, or behind it, by half of the gap; the line is twice as far up as said
 abbrev pub LiesBefore : Room → (twice : ℕ) → (page : Paper) → Item → Type 0
 LiesBefore room twice page item = (p : Point) → IsOfPage room.trim page p
-    → ((pos 2 *ℤ (stands page item p).y) +ℤ fine room.gap_up) ≤ℤ fine twice
+    → ((pos 2 *ℤ (stands page item p).y) +ℤ fine room.gutter_up) ≤ℤ fine twice
 
 abbrev pub LiesBehind : Room → (twice : ℕ) → (page : Paper) → Item → Type 0
 LiesBehind room twice page item = (p : Point) → IsOfPage room.trim page p
-    → (fine twice +ℤ fine room.gap_up) ≤ℤ (pos 2 *ℤ (stands page item p).y)
+    → (fine twice +ℤ fine room.gutter_up) ≤ℤ (pos 2 *ℤ (stands page item p).y)
 
 -- a line across the sheet, in its middle to 10^-5 of a point, with the one page before it and the other behind it, each by
 -- half of the gap: nothing crosses the fold
 pub record KeepsFold (page : Paper) (room : Room) (one other : Item) : Type 0 where
   pub twice : ℕ
-  pub no_farther : twice ≤ whole (nat_abs room.paper.height) + 1
-  pub no_nearer : whole (nat_abs room.paper.height) ≤ twice + 1
+  pub no_farther : twice ≤ whole_parts (nat_abs room.paper.height) + 1
+  pub no_nearer : whole_parts (nat_abs room.paper.height) ≤ twice + 1
   pub before : LiesBefore room twice page one
   pub behind : LiesBehind room twice page other
 
@@ -306,15 +306,15 @@ AreFolded page room true items = (one other : Item) × (items ≡ one ∷ other 
 abbrev pub LeafKeepsFold : Type 0
 LeafKeepsFold = (page : Paper) (room : Room) (right_to_left : Bool) (s : ℕ) → IsPaper page → IsPaper room.paper
     → IsEven room → HasPlace page room (beside true) s
-    → KeepsFold page room (item_in page room (beside true) (leaf_order right_to_left) s (if right_to_left then 1 else 0))
-    (item_in page room (beside true) (leaf_order right_to_left) s (if right_to_left then 0 else 1))
+    → KeepsFold page room (item_in_cell page room (beside true) (leaf_order right_to_left) s (if right_to_left then 1 else 0))
+    (item_in_cell page room (beside true) (leaf_order right_to_left) s (if right_to_left then 0 else 1))
 
 -- bound at the right a page stands where the other one stands in a booklet that is bound at the left, and differs in
 -- nothing else
 abbrev pub RightToLeftIsMirror : Type 0
 RightToLeftIsMirror = (page : Paper) (room : Room) (s k : ℕ) → k < 2
-    → item_in page room (beside true) (leaf_order true) s k
-    ≡ record (item_in page room (beside true) (leaf_order false) s (1 - k)) { page = k }
+    → item_in_cell page room (beside true) (leaf_order true) s k
+    ≡ record (item_in_cell page room (beside true) (leaf_order false) s (1 - k)) { page = k }
 
 -- two pages side by side on each side of a leaf, as large as any two side by side; the fold is parallel to the shorter
 -- edge, as they are turned to the left on a sheet that is no wider than high

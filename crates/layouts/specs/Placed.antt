@@ -8,12 +8,12 @@ use Rattle.rules.specs.Placement.{Point, offset, turned, moved, put}
 use Rattle.layouts.specs.declared.arrangement.Turned.{Turned}
 use Rattle.layouts.specs.declared.arrangement.Turned.TheVariants as sideways
 
-abbrev pub times : ℤ → Point → Point
-times n p = record { x = n *ℤ p.x; y = n *ℤ p.y }
+abbrev pub multiplied : ℤ → Point → Point
+multiplied n p = record { x = n *ℤ p.x; y = n *ℤ p.y }
 
 -- a point in grains, in 10^-9 of a grain
 abbrev pub finer : Point → Point
-finer p = times (pos 1_000_000_000) p
+finer p = multiplied (pos 1_000_000_000) p
 
 -- a length in 10^-5 of a point, in 10^-9 of a grain
 abbrev pub fine : ℕ → ℤ
@@ -21,12 +21,12 @@ fine n = pos (1_270_000_000_000_000 * n)
 
 -- where a point of the page, in grains, stands on the sheet: it is scaled, then turned, then moved
 abbrev pub stands : (page : Paper) → Item → Point → Point
-stands page item p = moved (finer (offset page item)) (turned item.turn (times item.scale p))
+stands page item p = moved (finer (offset page item)) (turned item.turn (multiplied item.scale p))
 
 -- a whole point of the page stands where the item puts it: a law
 abbrev pub StandsWherePut : Type 0
 StandsWherePut = (page : Paper) (item : Item) (p : Point)
-    → stands page item (times (pos 127_000_000_000) p) ≡ finer (put page item p)
+    → stands page item (multiplied (pos 127_000_000_000) p) ≡ finer (put page item p)
 
 -- the page has this point, in grains, and if so many 10^-5 of a point are trimmed along each of its sides, it still does
 pub record IsOfPage (trim : ℕ) (page : Paper) (p : Point) : Type 0 where
@@ -44,14 +44,14 @@ pub record Room : Type 0 where
   pub right : ℕ
   pub bottom : ℕ
   pub top : ℕ
-  pub gap_across : ℕ
-  pub gap_up : ℕ
+  pub gutter_across : ℕ
+  pub gutter_up : ℕ
   pub trim : ℕ
 
 -- nothing is kept free
 abbrev pub bare : (sheet : Paper) → Room
 bare sheet =
-    record { paper = sheet; left = 0; right = 0; bottom = 0; top = 0; gap_across = 0; gap_up = 0; trim = 0 }
+    record { paper = sheet; left = 0; right = 0; bottom = 0; top = 0; gutter_across = 0; gutter_up = 0; trim = 0 }
 
 -- as much is kept free along opposite edges
 pub record IsEven (room : Room) : Type 0 where
@@ -72,7 +72,7 @@ IsInside room page item = (p : Point) → IsOfPage room.trim page p
 
 -- how far one of two neighbours is from the other, in the directions in which points are measured
 abbrev pub gaps : Room → Point
-gaps room = record { x = pos room.gap_across; y = pos room.gap_up }
+gaps room = record { x = pos room.gutter_across; y = pos room.gutter_up }
 
 -- measured so, each point of the one page comes before each of the other, and that by the gap in that direction
 abbrev pub ComesFirst : (Point → ℤ) → Room → (page : Paper) → (one : Item) → (page' : Paper) → (other : Item) → Type 0
@@ -83,14 +83,14 @@ ComesFirst by room page one page' other =
 abbrev pub across : Point → ℤ
 across p = p.x
 
-abbrev pub up : Point → ℤ
-up p = p.y
+abbrev pub upward : Point → ℤ
+upward p = p.y
 
 -- a strip along a side of the sheet, as wide as the gap there, parts them: so they have no inner point in common
 abbrev pub AreApart : Room → (page : Paper) → (one : Item) → (page' : Paper) → (other : Item) → Type 0
 AreApart room page one page' other =
     (ComesFirst across room page one page' other ⊎ ComesFirst across room page' other page one)
-    ⊎ (ComesFirst up room page one page' other ⊎ ComesFirst up room page' other page one)
+    ⊎ (ComesFirst upward room page one page' other ⊎ ComesFirst upward room page' other page one)
 
 -- a point of the sheet as one holds it for pages of this turn to be upright
 abbrev pub held : Turn → Point → Point
@@ -101,14 +101,14 @@ held Right p = record { x = neg_ℤ p.y; y = p.x }
 
 -- a point as one turns the sheet further, if the text of the pages lies on its side: to the left if one turns a page to
 -- the left to read it
-abbrev pub read : Turned → Point → Point
-read sideways.Upright p = p
-read sideways.Left p = held Right p
-read sideways.Right p = held Left p
+abbrev pub read_turned : Turned → Point → Point
+read_turned sideways.Upright p = p
+read_turned sideways.Left p = held Right p
+read_turned sideways.Right p = held Left p
 
 -- as one reads the sheet, the one page stands left of the other, or above it, by the gap
 abbrev pub IsLeftOf : Room → Turned → (page : Paper) → (one : Item) → (page' : Paper) → (other : Item) → Type 0
-IsLeftOf room r page one page' other = ComesFirst (λ p. across (read r (held one.turn p))) room page one page' other
+IsLeftOf room r page one page' other = ComesFirst (λ p. across (read_turned r (held one.turn p))) room page one page' other
 
 abbrev pub IsAbove : Room → Turned → (page : Paper) → (one : Item) → (page' : Paper) → (other : Item) → Type 0
-IsAbove room r page one page' other = ComesFirst (λ p. up (read r (held one.turn p))) room page' other page one
+IsAbove room r page one page' other = ComesFirst (λ p. upward (read_turned r (held one.turn p))) room page' other page one

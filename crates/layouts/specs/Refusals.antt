@@ -8,8 +8,8 @@ use Rattle.layouts.specs.declared.arrangement.Binding.{Binding}
 use Rattle.layouts.specs.declared.arrangement.Free.{Free}
 use Rattle.layouts.specs.declared.error.ArrangementError.{ArrangementError}
 use Rattle.layouts.specs.declared.error.ArrangementError.TheVariants as why
-use Rattle.layouts.specs.Cells.{along_height, along_width, left_free, scale_in, trimmed, whole}
-use Rattle.layouts.specs.Grids.{beside, is_itself, room_of, grid_of, scale_for, count_of}
+use Rattle.layouts.specs.Cells.{along_height, along_width, left_free, scale_in, trimmed, whole_parts}
+use Rattle.layouts.specs.Grids.{beside, is_itself, room_of, grid_of, scale_for, cells_per_sheet}
 
 -- how many pages a sheet takes at most (RULES, 13.5)
 abbrev pub most_on_sheet : ℕ
@@ -26,16 +26,16 @@ out_of_reach = 12_700_000_000_000_000
 abbrev pub is_reached : (side : ℕ) → Bool
 is_reached side = nat_lt side out_of_reach
 
-abbrev pub are_reached : Paper → Bool
-are_reached paper = is_reached (nat_abs paper.width) && is_reached (nat_abs paper.height)
+abbrev pub is_paper_reached : Paper → Bool
+is_paper_reached paper = is_reached (nat_abs paper.width) && is_reached (nat_abs paper.height)
 
 -- the greatest scale of a layout, 99,999, in 10^-9 (RULES, 16, step 9)
 abbrev pub greatest_scale : ℕ
 greatest_scale = 99_999_000_000_000
 
 -- from 10^-9 on
-abbrev pub is_scale : ℕ → Bool
-is_scale scale = nat_le 1 scale && nat_le scale greatest_scale
+abbrev pub is_scale_in_range : ℕ → Bool
+is_scale_in_range scale = nat_le 1 scale && nat_le scale greatest_scale
 
 -- the sheet is no wider than high, and upright pages side by side would not be larger than turned ones (RULES, 14.1)
 abbrev pub folds_short : (page : Paper) → Room → Bool
@@ -64,34 +64,34 @@ is_shown page room =
     nat_lt (2_540_000 * room.trim) (nat_abs page.width) && nat_lt (2_540_000 * room.trim) (nat_abs page.height)
 
 -- the corner of a page that counts as smaller is within reach too
-abbrev pub is_near : Room → (scale : ℕ) → Bool
-is_near room s = nat_lt (whole (nat_abs room.paper.width) + trimmed room s) 10_000_000_000
-    && nat_lt (whole (nat_abs room.paper.height) + trimmed room s) 10_000_000_000
+abbrev pub within_reach : Room → (scale : ℕ) → Bool
+within_reach room s = nat_lt (whole_parts (nat_abs room.paper.width) + trimmed room s) 10_000_000_000
+    && nat_lt (whole_parts (nat_abs room.paper.height) + trimmed room s) 10_000_000_000
 
-abbrev pub first_of : Bool → ArrangementError → Option ArrangementError → Option ArrangementError
-first_of holds e next = if holds then next else Some e
+abbrev pub error_unless : Bool → ArrangementError → Option ArrangementError → Option ArrangementError
+error_unless holds e next = if holds then next else Some e
 
 -- why pages can't have this scale in cells that take so large ones at most (RULES, 16, step 9)
 abbrev pub why_no_scale : Room → (scale largest : ℕ) → Option ArrangementError
 why_no_scale room s largest =
-    first_of (nat_le 1 largest) (why.NoRoom room)
-    (first_of (is_scale s) why.ScaleOutOfRange
-    (first_of (nat_le s largest) why.ScaleTooLarge
-    (first_of (is_near room s) why.ScaleOutOfRange None)))
+    error_unless (nat_le 1 largest) (why.NoRoom room)
+    (error_unless (is_scale_in_range s) why.ScaleOutOfRange
+    (error_unless (nat_le s largest) why.ScaleTooLarge
+    (error_unless (within_reach room s) why.ScaleOutOfRange None)))
 
 -- why lengths or papers can't be kept to
 abbrev pub why_no_sheet : (page sheet : Paper) → Free → Option ArrangementError → Option ArrangementError
 why_no_sheet page sheet f next =
-    first_of (are_reached page && are_reached sheet) why.SideTooLong
-    (first_of (are_lengths f) why.LengthOutOfRange
-    (first_of (is_shown page (room_of sheet f)) why.NothingLeftOfPage next))
+    error_unless (is_paper_reached page && is_paper_reached sheet) why.SideTooLong
+    (error_unless (are_lengths f) why.LengthOutOfRange
+    (error_unless (is_shown page (room_of sheet f)) why.NothingLeftOfPage next))
 
 -- the first reason why pages can't be arranged so, if there is one
 abbrev pub why_not_arranged : (page sheet : Paper) → Arrangement → Option ArrangementError
 why_not_arranged page sheet a =
     let room = room_of sheet a.free in
     let largest = scale_in page room (grid_of page room a.order.turned a.cells) in
-    first_of (is_count (count_of a.cells)) why.CellsOutOfRange
+    error_unless (is_count (cells_per_sheet a.cells)) why.CellsOutOfRange
     (why_no_sheet page sheet a.free
     (if is_itself page sheet a then None else why_no_scale room (scale_for a.scale largest) largest))
 
@@ -101,8 +101,8 @@ why_not_bound page sheet b =
     let room = room_of sheet b.free in
     let largest = scale_in page room (beside true) in
     why_no_sheet page sheet b.free
-    (first_of (is_even room) why.UnevenMargins
-    (first_of (folds_short page room) why.FoldOnLongEdge (why_no_scale room largest largest)))
+    (error_unless (is_even room) why.UnevenMargins
+    (error_unless (folds_short page room) why.FoldOnLongEdge (why_no_scale room largest largest)))
 
 -- margins leave something of a sheet, whatever the pages are; what is no length is another fault (RULES, 16, step 5)
 abbrev pub leaves_room : (sheet : Paper) → Free → Bool
@@ -111,7 +111,7 @@ leaves_room sheet f = let room = room_of sheet f in not (are_lengths f)
 
 -- why pages can't have room there
 abbrev pub why_no_room : (sheet : Paper) → Free → Option ArrangementError
-why_no_room sheet f = first_of (leaves_room sheet f) (why.NoRoom (room_of sheet f)) None
+why_no_room sheet f = error_unless (leaves_room sheet f) (why.NoRoom (room_of sheet f)) None
 
 -- where they leave nothing, pages of any paper are refused: a law
 pub record NothingIsLeft (page sheet : Paper) (f : Free) : Type 0 where
@@ -123,5 +123,5 @@ NothingIsLeftOfSheet = (page sheet : Paper) (f : Free) → is_paper sheet.width 
     → NothingIsLeft page sheet f
 
 -- what an error says: it is the first fault, or memory ran out and there is none
-abbrev pub IsFault : Option ArrangementError → ArrangementError → Type 0
-IsFault found e = ((e ≡ why.NoMemory) × (found ≡ None)) ⊎ (found ≡ Some e)
+abbrev pub IsArrangementFault : Option ArrangementError → ArrangementError → Type 0
+IsArrangementFault found e = ((e ≡ why.NoMemory) × (found ≡ None)) ⊎ (found ≡ Some e)

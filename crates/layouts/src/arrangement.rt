@@ -1,6 +1,6 @@
 //! What a sheet looks like: cells, margins, gaps, order, scale.
 ghost use Rattle.std.specs.Prelude.{◌≡◌};
-ghost use Rattle.layouts.specs.Grids.{count_of, nothing_free, plain as plain_of, plain_binding};
+ghost use Rattle.layouts.specs.Grids.{cells_per_sheet, nothing_free, plain as plain_of, plain_binding};
 
 use super::arranging::leaf_order;
 use lengths::{Grains, Number, Paper};
@@ -26,7 +26,7 @@ pub enum Cells {
 impl Cells {
     /// The number of pages of a sheet.
     pub fn count(self) -> u64
-        ensures { result ≡ count_of self }
+        ensures { result ≡ cells_per_sheet self }
     {
         match self {
             Cells::AtLeast(n) => u64::from(n),
@@ -37,7 +37,7 @@ impl Cells {
 
 /// Along what the pages run, until the next row or the next column begins.
 #[derive(Clone, Copy, Debug, PartialEq, Eq)]
-pub enum Run {
+pub enum FillOrder {
     Rows,
     Columns,
 }
@@ -54,7 +54,7 @@ pub enum Turned {
 /// the other way.
 #[derive(Clone, Copy, Debug, PartialEq, Eq)]
 pub struct Order {
-    pub run: Run,
+    pub run: FillOrder,
     pub right_to_left: bool,
     pub turned: Turned,
 }

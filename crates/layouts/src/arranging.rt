@@ -9,15 +9,15 @@ ghost use Rattle.layouts.specs.Laws.{IsPaper, IsArranged, IsBound};
 ghost use Rattle.layouts.specs.Grids.{arranged, bound, is_same, is_itself as is_page_itself};
 ghost use Rattle.layouts.specs.Grids.{room_of};
 ghost use Rattle.layouts.specs.Grids.{scale_for, above_zero, leaf_order as leaf_order_of};
-ghost use Rattle.layouts.specs.Refusals.{why_not_arranged, why_not_bound, IsFault};
-ghost use Rattle.layouts.specs.Refusals.{are_reached, folds_short, why_no_room, why_no_sheet, why_no_scale, is_shown as are_shown};
+ghost use Rattle.layouts.specs.Refusals.{why_not_arranged, why_not_bound, IsArrangementFault};
+ghost use Rattle.layouts.specs.Refusals.{is_paper_reached, folds_short, why_no_room, why_no_sheet, why_no_scale, is_shown as are_shown};
 
-use super::arrangement::{Arrangement, Binding, Free, Order, Papers, Run, Turned};
+use super::arrangement::{Arrangement, Binding, FillOrder, Free, Order, Papers, Turned};
 use super::error::ArrangementError;
 use super::grid::Grid;
-use super::item::is_near;
+use super::item::within_reach;
 use super::room::{Room, are_lengths};
-use super::scale::{OUT_OF_REACH, is_scale, left_free, scale_in, side};
+use super::scale::{OUT_OF_REACH, extent, is_scale, left_free, scale_in};
 use super::setting::Setting;
 use lengths::{Number, Paper};
 use pagespec::{Item, Spec};
@@ -40,7 +40,7 @@ pub fn arrange(
     ensures made { IfOk result (λ spec. spec ≡ arranged papers.now.page papers.now.sheet arrangement.now) }
     ensures laid_out { IfOk result (IsArranged papers.now.page papers.now.sheet arrangement.now) }
     ensures possible { OnOk result (why_not_arranged papers.now.page papers.now.sheet arrangement.now ≡ None) }
-    ensures refused { IfErr result (IsFault (why_not_arranged papers.now.page papers.now.sheet arrangement.now)) }
+    ensures refused { IfErr result (IsArrangementFault (why_not_arranged papers.now.page papers.now.sheet arrangement.now)) }
 {
     let setting = match Setting::of(papers, arrangement) {
         Ok(setting) => setting,
@@ -62,7 +62,7 @@ pub fn bind(alloc: Global, papers: &Papers, binding: &Binding) -> Result<Spec, A
     ensures made { IfOk result (λ spec. spec ≡ bound papers.now.page papers.now.sheet binding.now) }
     ensures laid_out { IfOk result (IsBound papers.now.page papers.now.sheet binding.now) }
     ensures possible { OnOk result (why_not_bound papers.now.page papers.now.sheet binding.now ≡ None) }
-    ensures refused { IfErr result (IsFault (why_not_bound papers.now.page papers.now.sheet binding.now)) }
+    ensures refused { IfErr result (IsArrangementFault (why_not_bound papers.now.page papers.now.sheet binding.now)) }
 {
     let setting = match Setting::of_binding(papers, binding) {
         Ok(setting) => setting,
@@ -163,7 +163,7 @@ pub fn leaf_order(right_to_left: bool) -> Order
     ensures { result ≡ leaf_order_of right_to_left }
 {
     Order {
-        run: Run::Rows,
+        run: FillOrder::Rows,
         right_to_left,
         turned: Turned::Upright,
     }
@@ -179,8 +179,8 @@ pub fn sheet_in(papers: &Papers, free: &Free) -> Result<Room, ArrangementError>
     ensures refused { IfErr result (λ error.
         why_no_sheet papers.now.page papers.now.sheet free.now None ≡ Some error) }
 {
-    let page = is_reached_across(&papers.page);
-    let sheet = is_reached_across(&papers.sheet);
+    let page = fits_offsets(&papers.page);
+    let sheet = fits_offsets(&papers.sheet);
     if !(page && sheet) {
         return Err(ArrangementError::SideTooLong);
     }
@@ -188,7 +188,7 @@ pub fn sheet_in(papers: &Papers, free: &Free) -> Result<Room, ArrangementError>
         return Err(ArrangementError::LengthOutOfRange);
     }
     let room = Room::of(papers.sheet, free);
-    if !is_shown(&papers.page, &room) {
+    if !leaves_page_visible(&papers.page, &room) {
         return Err(ArrangementError::NothingLeftOfPage);
     }
     Ok(room)
@@ -203,8 +203,8 @@ pub fn check_room(sheet: &Paper, free: &Free) -> Result<(), ArrangementError>
         return Ok(());
     }
     let room = Room::of(*sheet, free);
-    let width = left_free(&room.along_width(), side(sheet.width()));
-    let height = left_free(&room.along_height(), side(sheet.height()));
+    let width = left_free(&room.along_width(), extent(sheet.width()));
+    let height = left_free(&room.along_height(), extent(sheet.height()));
     if 0 < width && 0 < height {
         Ok(())
     } else {
@@ -232,7 +232,7 @@ pub fn scale_found(
     if largest < scale {
         return Err(ArrangementError::ScaleTooLarge);
     }
-    if !is_near(room, scale) {
+    if !within_reach(room, scale) {
         return Err(ArrangementError::ScaleOutOfRange);
     }
     Ok(scale as u64)
@@ -256,15 +256,15 @@ fn positive(n: i64) -> u128
 }
 
 /// Whether trimming leaves something of the page.
-pub fn is_shown(page: &Paper, room: &Room) -> bool
+pub fn leaves_page_visible(page: &Paper, room: &Room) -> bool
     ensures { result ≡ are_shown page.now room.now }
 {
     let trimmed = 2_540_000 * room.trim;
-    trimmed < side(page.width()) && trimmed < side(page.height())
+    trimmed < extent(page.width()) && trimmed < extent(page.height())
 }
 
 /// Whether one page of the sheet's own paper is asked for, and nothing else.
-pub fn is_itself(papers: &Papers, room: &Room, arrangement: &Arrangement) -> bool
+pub fn is_identity(papers: &Papers, room: &Room, arrangement: &Arrangement) -> bool
     requires { room.now ≡ room_of papers.now.sheet arrangement.now.free }
     ensures { result ≡ is_page_itself papers.now.page papers.now.sheet arrangement.now }
 {
@@ -275,11 +275,11 @@ pub fn is_itself(papers: &Papers, room: &Room, arrangement: &Arrangement) -> boo
 }
 
 /// Whether offsets in points reach across the paper.
-pub fn is_reached_across(paper: &Paper) -> bool
-    ensures value { result ≡ are_reached paper.now }
+pub fn fits_offsets(paper: &Paper) -> bool
+    ensures value { result ≡ is_paper_reached paper.now }
     ensures in_range { IsTrue (is_paper paper.now.width paper.now.height) }
 {
-    let (width, height) = (side(paper.width()), side(paper.height()));
+    let (width, height) = (extent(paper.width()), extent(paper.height()));
     width < OUT_OF_REACH && height < OUT_OF_REACH
 }
 
@@ -289,8 +289,8 @@ pub fn is_of_size(page: &Paper, sheet: &Paper) -> bool
     ensures page { IsPaper page.now }
     ensures sheet { IsPaper sheet.now }
 {
-    let (width, height) = (side(page.width()), side(page.height()));
-    let (sheet_width, sheet_height) = (side(sheet.width()), side(sheet.height()));
+    let (width, height) = (extent(page.width()), extent(page.height()));
+    let (sheet_width, sheet_height) = (extent(sheet.width()), extent(sheet.height()));
     width == sheet_width && height == sheet_height
 }
 
@@ -299,7 +299,7 @@ pub fn is_fold_short(page: &Paper, room: &Room) -> bool
     requires { IsTrue (are_shown page.now room.now) }
     ensures { result ≡ folds_short page.now room.now }
 {
-    let (width, height) = (side(room.paper.width()), side(room.paper.height()));
+    let (width, height) = (extent(room.paper.width()), extent(room.paper.height()));
     let upright = scale_in(page, room, Grid::beside(false));
     let turned = scale_in(page, room, Grid::beside(true));
     width <= height && upright <= turned

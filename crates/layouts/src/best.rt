@@ -2,7 +2,7 @@
 ghost use Rattle.std.specs.Prelude.{◌≡◌, ◌<◌, ◌≤◌, IsTrue};
 ghost use Rattle.layouts.specs.Refusals.{is_shown, is_count, most_on_sheet};
 ghost use Rattle.layouts.specs.Grids.{best_of as best_of_turn, better as better_of, best_grid as best_grid_of};
-ghost use Rattle.layouts.specs.Grids.{grid_of as grid_for, count_of};
+ghost use Rattle.layouts.specs.Grids.{grid_of as grid_for, cells_per_sheet};
 
 use super::arrangement::{Cells, Turned};
 use super::grid::Grid;
@@ -13,7 +13,7 @@ use lengths::Paper;
 /// The grid that is asked for, or the best one.
 pub fn grid_of(page: &Paper, room: &Room, reading: Turned, cells: Cells) -> Grid
     requires shown { IsTrue (is_shown page.now room.now) }
-    requires cells { IsTrue (is_count (count_of cells)) }
+    requires cells { IsTrue (is_count (cells_per_sheet cells)) }
     ensures { result ≡ grid_for page.now room.now reading cells }
 {
     match cells {

@@ -7,7 +7,7 @@ ghost use Rattle.layouts.specs.Laws.{cell_at};
 use super::grid::Grid;
 use super::item::grains;
 use super::room::{Along, Room};
-use super::scale::{HUNDRED_THOUSANDTH, cells, kept, side, step, steps};
+use super::scale::{HUNDRED_THOUSANDTH, cell_size, extent, kept_length, pitch, pitches};
 use lengths::Grains;
 use std::marker::Model;
 
@@ -43,19 +43,20 @@ impl Room {
         requires in_columns { column < grid.columns }
         ensures { result ≡ cell_at self.now grid row column }
     {
-        let (across, down) = steps(self, grid);
-        let (width, height) = cells(self, grid);
+        let (across, down) = pitches(self, grid);
+        let (width, height) = cell_size(self, grid);
         if grid.turned {
             Cell {
-                left: kept(self.trim, self.left) + u64::from(row) * down,
-                bottom: kept(self.trim, self.bottom) + u64::from(column) * across,
+                left: kept_length(self.trim, self.left) + u64::from(row) * down,
+                bottom: kept_length(self.trim, self.bottom) + u64::from(column) * across,
                 width: height,
                 height: width,
             }
         } else {
             Cell {
-                left: kept(self.trim, self.left) + u64::from(column) * across,
-                bottom: kept(self.trim, self.bottom) + u64::from(grid.rows - (row + 1)) * down,
+                left: kept_length(self.trim, self.left) + u64::from(column) * across,
+                bottom: kept_length(self.trim, self.bottom)
+                    + u64::from(grid.rows - (row + 1)) * down,
                 width,
                 height,
             }
@@ -88,8 +89,9 @@ pub fn gap_at(along: &Along, length: Grains, parts: u32, k: u32) -> Grains
     requires part { k ≤ parts }
     ensures { result ≡ pos (gap_of along.now (nat_abs length) parts k) }
 {
-    let before = kept(along.trim, along.before) + u64::from(k) * step(along, side(length), parts);
-    let gap = HUNDRED_THOUSANDTH / 2 * kept(along.trim, along.gap);
+    let before = kept_length(along.trim, along.before)
+        + u64::from(k) * pitch(along, extent(length), parts);
+    let gap = HUNDRED_THOUSANDTH / 2 * kept_length(along.trim, along.gap);
     grains(i128::from((HUNDRED_THOUSANDTH * before).saturating_sub(gap)))
 }
 

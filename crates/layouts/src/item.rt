@@ -4,19 +4,19 @@ ghost use Rattle.lengths.specs.Ranges.{FitsGrains};
 ghost use Rattle.rules.specs.Numbers.{greatest_number};
 ghost use Rattle.rules.specs.Papers.{is_side};
 ghost use Rattle.pagespec.specs.Items.{item_of, measure_of};
-ghost use Rattle.layouts.specs.Grids.{alone as alone_of};
+ghost use Rattle.layouts.specs.Grids.{page_alone as alone_of};
 ghost use Rattle.layouts.specs.Cells.{size, in_points, slack as slack_of, slack_x, slack_y};
-ghost use Rattle.layouts.specs.Cells.{trimmed as trimmed_of, whole as whole_of};
+ghost use Rattle.layouts.specs.Cells.{trimmed as trimmed_of, whole_parts as whole_of};
 ghost use Rattle.layouts.specs.Cells.{corner_x, corner_y, to_right as to_right_of, to_top as to_top_of};
 ghost use Rattle.layouts.specs.Cells.{read_columns as read_columns_of, read_rows as read_rows_of, read_row, read_column};
-ghost use Rattle.layouts.specs.Cells.{row_of, column_of, item_in as item_of_grid, back_in as back_of_grid};
-ghost use Rattle.layouts.specs.Refusals.{is_near as are_near, greatest_scale};
+ghost use Rattle.layouts.specs.Cells.{row_of, column_of, item_in_cell as item_of_grid, back_in as back_of_grid};
+ghost use Rattle.layouts.specs.Refusals.{within_reach as are_near, greatest_scale};
 ghost use Rattle.layouts.specs.Laws.{HasPlace};
 
-use super::arrangement::{Order, Run, Turned};
+use super::arrangement::{FillOrder, Order, Turned};
 use super::grid::Grid;
 use super::room::Room;
-use super::scale::{HUNDRED_THOUSANDTH, cells, counted, side};
+use super::scale::{HUNDRED_THOUSANDTH, cell_size, extent, trimmed_side};
 use lengths::{Grains, Number, Paper, Unit};
 use pagespec::{Item, Measure, Turn};
 
@@ -31,7 +31,7 @@ pub struct GridLayout {
 }
 
 /// A whole number of 10^-5 of a point.
-pub fn points(n: i64) -> Measure
+pub fn points_e5(n: i64) -> Measure
     requires { nat_abs n ≤ 9_999_999_999 }
     ensures { measure_of result ≡ in_points n }
 {
@@ -49,7 +49,7 @@ pub fn distance(from: i64, to: i64) -> Measure
     requires { nat_abs (to -ℤ from) ≤ 9_999_999_999 }
     ensures { measure_of result ≡ in_points (to -ℤ from) }
 {
-    points(to - from)
+    points_e5(to - from)
 }
 
 /// Half of what a scaled side leaves of its cell, in 10^-5 of a point.
@@ -75,7 +75,7 @@ pub fn read_sides(turned: Turned, grid: Grid) -> (u32, u32)
 }
 
 /// The row and the column of page k as one reads the sheet.
-fn read_place(order: &Order, grid: Grid, k: u32) -> (u32, u32)
+fn place_as_read(order: &Order, grid: Grid, k: u32) -> (u32, u32)
     requires { k < size grid }
     ensures row { result.0 ≡ read_row order.now.run order.now.turned grid k }
     ensures column { result.1 ≡ read_column order.now.run order.now.right_to_left order.now.turned grid k }
@@ -84,8 +84,8 @@ fn read_place(order: &Order, grid: Grid, k: u32) -> (u32, u32)
 {
     let (columns, rows) = read_sides(order.turned, grid);
     let (row, nth) = match order.run {
-        Run::Rows => (k / columns, k % columns),
-        Run::Columns => (k % rows, k / rows),
+        FillOrder::Rows => (k / columns, k % columns),
+        FillOrder::Columns => (k % rows, k / rows),
     };
     let column = if order.right_to_left {
         columns - (nth + 1)
@@ -96,14 +96,14 @@ fn read_place(order: &Order, grid: Grid, k: u32) -> (u32, u32)
 }
 
 /// The row and the column of page k as one holds the sheet for its pages to be upright.
-fn place_of(order: &Order, grid: Grid, k: u32) -> (u32, u32)
+fn place_as_held(order: &Order, grid: Grid, k: u32) -> (u32, u32)
     requires { k < size grid }
     ensures row { result.0 ≡ row_of order.now grid k }
     ensures column { result.1 ≡ column_of order.now grid k }
     ensures in_rows { result.0 < grid.rows }
     ensures in_columns { result.1 < grid.columns }
 {
-    let (row, column) = read_place(order, grid, k);
+    let (row, column) = place_as_read(order, grid, k);
     match order.turned {
         Turned::Upright => (row, column),
         Turned::Left => (column, grid.columns - (row + 1)),
@@ -140,10 +140,18 @@ impl GridLayout {
         ensures down { result.1 ≡ slack_y self.now.page self.now.room self.now.grid self.now.scale }
         ensures in_range { (result.0 ≤ 10 ^ 12) × (result.1 ≤ 10 ^ 12) }
     {
-        let (width, height) = cells(&self.room, self.grid);
+        let (width, height) = cell_size(&self.room, self.grid);
         (
-            slack(width, counted(&self.room, self.page.width()), self.scale) as u64,
-            slack(height, counted(&self.room, self.page.height()), self.scale) as u64,
+            slack(
+                width,
+                trimmed_side(&self.room, self.page.width()),
+                self.scale,
+            ) as u64,
+            slack(
+                height,
+                trimmed_side(&self.room, self.page.height()),
+                self.scale,
+            ) as u64,
         )
     }
 
@@ -161,7 +169,7 @@ impl GridLayout {
         ensures back_across { nat_abs (pos (whole_of (nat_abs self.now.room.paper.width)) -ℤ result.0) ≤ 9_999_999_999 }
         ensures back_up { nat_abs (pos (whole_of (nat_abs self.now.room.paper.height)) -ℤ result.1) ≤ 9_999_999_999 }
     {
-        let (row, column) = place_of(&self.order, self.grid, k);
+        let (row, column) = place_as_held(&self.order, self.grid, k);
         let (x, y) = self.corner(row, column);
         let back = trimmed(&self.room, self.scale);
         moved_by(self.grid.turned, x, y, back)
@@ -185,8 +193,8 @@ impl GridLayout {
             } else {
                 Turn::None
             },
-            scale: number(self.scale),
-            offset: (points(x), points(y)),
+            scale: scale_e9(self.scale),
+            offset: (points_e5(x), points_e5(y)),
         }
     }
 
@@ -201,8 +209,8 @@ impl GridLayout {
             ≡ back_of_grid self.now.page self.now.room self.now.grid self.now.order self.now.scale n k }
     {
         let (x, y) = self.shift(k);
-        let width = whole(self.room.paper.width());
-        let height = whole(self.room.paper.height());
+        let width = whole_parts(self.room.paper.width());
+        let height = whole_parts(self.room.paper.height());
         Item {
             page: n + k,
             from_end: false,
@@ -211,7 +219,7 @@ impl GridLayout {
             } else {
                 Turn::Half
             },
-            scale: number(self.scale),
+            scale: scale_e9(self.scale),
             offset: (distance(x, width), distance(y, height)),
         }
     }
@@ -240,26 +248,26 @@ fn trimmed(room: &Room, scale: u64) -> u64
 }
 
 /// A side in whole 10^-5 of a point.
-fn whole(length: Grains) -> i64
+fn whole_parts(length: Grains) -> i64
     requires { IsTrue (is_side length) }
     ensures { result ≡ pos (whole_of (nat_abs length)) }
 {
-    (side(length) / HUNDRED_THOUSANDTH) as i64
+    (extent(length) / HUNDRED_THOUSANDTH) as i64
 }
 
 /// Whether the corners of pages with this trim are within reach.
-pub fn is_near(room: &Room, scale: u128) -> bool
+pub fn within_reach(room: &Room, scale: u128) -> bool
     requires { scale ≤ greatest_scale }
     ensures { result ≡ are_near room.now scale }
 {
     let back = scale * u128::from(room.trim) / 1_000_000_000;
-    let width = u128::from(side(room.paper.width()) / HUNDRED_THOUSANDTH);
-    let height = u128::from(side(room.paper.height()) / HUNDRED_THOUSANDTH);
+    let width = u128::from(extent(room.paper.width()) / HUNDRED_THOUSANDTH);
+    let height = u128::from(extent(room.paper.height()) / HUNDRED_THOUSANDTH);
     width + back < 10_000_000_000 && height + back < 10_000_000_000
 }
 
 /// A number of 10^-9.
-pub fn number(billionths: u64) -> Number
+pub fn scale_e9(billionths: u64) -> Number
     requires { billionths ≤ greatest_number }
     ensures { result ≡ pos billionths }
 {

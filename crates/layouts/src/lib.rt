@@ -13,12 +13,12 @@ mod room;
 mod scale;
 pub mod setting;
 
-pub use arrangement::{Arrangement, Binding, Cells, Free, Order, Papers, Run, Turned};
-pub use arranging::{MOST_ON_SHEET, arrange, bind, check_room, is_of_size, is_reached_across};
+pub use arrangement::{Arrangement, Binding, Cells, FillOrder, Free, Order, Papers, Turned};
+pub use arranging::{MOST_ON_SHEET, arrange, bind, check_room, fits_offsets, is_of_size};
 pub use cell::{Cell, from_far, gap_at, in_grains};
 pub use error::ArrangementError;
 pub use grid::Grid;
-pub use item::{distance, grains, number, points, read_sides, slack};
+pub use item::{distance, grains, points_e5, read_sides, scale_e9, slack};
 pub use room::{Along, Room, is_length, rounded_down, rounded_up};
-pub use scale::{HUNDRED_THOUSANDTH, cells, is_scale, largest_scale, side};
+pub use scale::{HUNDRED_THOUSANDTH, cell_size, extent, is_scale, largest_scale};
 pub use setting::Setting;

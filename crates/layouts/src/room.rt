@@ -19,8 +19,8 @@ pub struct Room {
     pub right: u64,
     pub bottom: u64,
     pub top: u64,
-    pub gap_across: u64,
-    pub gap_up: u64,
+    pub gutter_across: u64,
+    pub gutter_up: u64,
     pub trim: u64,
 }
 
@@ -36,14 +36,14 @@ impl Model for Room {
       right = r.right;
       bottom = r.bottom;
       top = r.top;
-      gap_across = r.gap_across;
-      gap_up = r.gap_up;
+      gutter_across = r.gutter_across;
+      gutter_up = r.gutter_up;
       trim = r.trim;
     } };
 
     ghost invariant = { λ r.
         (r.left ≤ 10_000_000_000) × (r.right ≤ 10_000_000_000) × (r.bottom ≤ 10_000_000_000)
-        × (r.top ≤ 10_000_000_000) × (r.gap_across ≤ 10_000_000_000) × (r.gap_up ≤ 10_000_000_000)
+        × (r.top ≤ 10_000_000_000) × (r.gutter_across ≤ 10_000_000_000) × (r.gutter_up ≤ 10_000_000_000)
         × (r.trim ≤ 10_000_000_000) };
 
     ghost inverse = { λ r. record {
@@ -52,8 +52,8 @@ impl Model for Room {
       right = r.right;
       bottom = r.bottom;
       top = r.top;
-      gap_across = r.gap_across;
-      gap_up = r.gap_up;
+      gutter_across = r.gutter_across;
+      gutter_up = r.gutter_up;
       trim = r.trim;
     } };
 }
@@ -94,8 +94,8 @@ impl Room {
             right: rounded_up(free.right),
             bottom: rounded_up(free.bottom),
             top: rounded_up(free.top),
-            gap_across: rounded_up(free.across),
-            gap_up: rounded_up(free.up),
+            gutter_across: rounded_up(free.across),
+            gutter_up: rounded_up(free.up),
             trim: rounded_down(free.trim),
         }
     }
@@ -107,7 +107,7 @@ impl Room {
         Along {
             before: self.left,
             after: self.right,
-            gap: self.gap_across,
+            gap: self.gutter_across,
             trim: self.trim,
         }
     }
@@ -119,13 +119,13 @@ impl Room {
         Along {
             before: self.bottom,
             after: self.top,
-            gap: self.gap_up,
+            gap: self.gutter_up,
             trim: self.trim,
         }
     }
 
     /// The margins and gaps across and down, with the sheet held so that its pages are upright.
-    pub fn held(&self, turned: bool) -> (Along, Along)
+    pub fn as_read(&self, turned: bool) -> (Along, Along)
         ensures across { result.0 ≡ across_of turned self.now }
         ensures down { result.1 ≡ down_of turned self.now }
     {

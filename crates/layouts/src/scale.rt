@@ -1,10 +1,10 @@
 //! How large pages in a grid are.
 ghost use Rattle.std.specs.Prelude.{◌≡◌, ◌-◌, ◌*◌, ◌^◌, ◌<◌, ◌≤◌, nat_abs, IsTrue};
 ghost use Rattle.rules.specs.Papers.{is_side, longest_side};
-ghost use Rattle.layouts.specs.Refusals.{is_scale as may_be_scale, is_shown};
-ghost use Rattle.layouts.specs.Cells.{kept as kept_of, left_free as left_free_of, step as step_of};
+ghost use Rattle.layouts.specs.Refusals.{is_scale_in_range as may_be_scale, is_shown};
+ghost use Rattle.layouts.specs.Cells.{kept_length as kept_of, left_free as left_free_of, pitch as step_of};
 ghost use Rattle.layouts.specs.Cells.{step_across, step_down, wide, high};
-ghost use Rattle.layouts.specs.Cells.{counted as counted_of, fitting as fits, scale_in as scale_of};
+ghost use Rattle.layouts.specs.Cells.{trimmed_side as counted_of, fitting as fits, scale_in as scale_of};
 ghost use Rattle.layouts.specs.Cells.{exact_along as along_exactly, exact_scale as exact_scale_of};
 
 use super::grid::Grid;
@@ -18,7 +18,7 @@ pub const HUNDRED_THOUSANDTH: u64 = 1_270_000;
 pub const OUT_OF_REACH: u64 = 12_700_000_000_000_000;
 
 /// A side of a paper, in grains.
-pub fn side(side: Grains) -> u64
+pub fn extent(side: Grains) -> u64
     requires { IsTrue (is_side side) }
     ensures value { result ≡ nat_abs side }
     ensures some { 0 < result }
@@ -29,7 +29,7 @@ pub fn side(side: Grains) -> u64
 
 /// A margin or gap in 10^-5 of a point: one more if pages are trimmed, since how far they are moved back is
 /// rounded.
-pub fn kept(trim: u64, length: u64) -> u64
+pub fn kept_length(trim: u64, length: u64) -> u64
     requires { length ≤ 10_000_000_000 }
     ensures value { result ≡ kept_of trim length }
     ensures in_range { result ≤ 10_000_000_001 }
@@ -44,66 +44,67 @@ pub fn left_free(along: &Along, side: u64) -> u64
     ensures in_range { result ≤ longest_side }
 {
     side.saturating_sub(
-        HUNDRED_THOUSANDTH * (kept(along.trim, along.before) + kept(along.trim, along.after)),
+        HUNDRED_THOUSANDTH
+            * (kept_length(along.trim, along.before) + kept_length(along.trim, along.after)),
     )
 }
 
 /// The distance from one cell's beginning to the next one's, if a side is cut into this number of cells.
-pub fn step(along: &Along, side: u64, parts: u32) -> u64
+pub fn pitch(along: &Along, side: u64, parts: u32) -> u64
     requires some { 0 < parts }
     requires in_range { side ≤ longest_side }
     ensures value { result ≡ step_of along.now side parts }
     ensures within { parts * result ≤ 10 ^ 12 }
 {
-    let free = left_free(along, side) + HUNDRED_THOUSANDTH * kept(along.trim, along.gap);
+    let free = left_free(along, side) + HUNDRED_THOUSANDTH * kept_length(along.trim, along.gap);
     free / (HUNDRED_THOUSANDTH * u64::from(parts))
 }
 
 /// From where a cell begins to where the next one begins, across and down, as one holds the sheet for its pages to be
 /// upright, in 10^-5 of a point.
-pub fn steps(room: &Room, grid: Grid) -> (u64, u64)
+pub fn pitches(room: &Room, grid: Grid) -> (u64, u64)
     ensures across { result.0 ≡ step_across room.now grid }
     ensures down { result.1 ≡ step_down room.now grid }
     ensures some { (0 < grid.rows) × (0 < grid.columns) }
     ensures columns { grid.columns * result.0 ≤ 10 ^ 12 }
     ensures rows { grid.rows * result.1 ≤ 10 ^ 12 }
 {
-    let (width, height) = (side(room.paper.width()), side(room.paper.height()));
-    let (across, down) = room.held(grid.turned);
+    let (width, height) = (extent(room.paper.width()), extent(room.paper.height()));
+    let (across, down) = room.as_read(grid.turned);
     if grid.turned {
         (
-            step(&across, height, grid.columns),
-            step(&down, width, grid.rows),
+            pitch(&across, height, grid.columns),
+            pitch(&down, width, grid.rows),
         )
     } else {
         (
-            step(&across, width, grid.columns),
-            step(&down, height, grid.rows),
+            pitch(&across, width, grid.columns),
+            pitch(&down, height, grid.rows),
         )
     }
 }
 
 /// The width and the height of a cell, in 10^-5 of a point; 0 if a gap takes it.
-pub fn cells(room: &Room, grid: Grid) -> (u64, u64)
+pub fn cell_size(room: &Room, grid: Grid) -> (u64, u64)
     ensures width { result.0 ≡ wide room.now grid }
     ensures height { result.1 ≡ high room.now grid }
     ensures in_range { (result.0 ≤ 10 ^ 12) × (result.1 ≤ 10 ^ 12) }
 {
-    let (across, down) = steps(room, grid);
-    let (beside, above) = room.held(grid.turned);
+    let (across, down) = pitches(room, grid);
+    let (beside, above) = room.as_read(grid.turned);
     (
-        across.saturating_sub(kept(beside.trim, beside.gap)),
-        down.saturating_sub(kept(above.trim, above.gap)),
+        across.saturating_sub(kept_length(beside.trim, beside.gap)),
+        down.saturating_sub(kept_length(above.trim, above.gap)),
     )
 }
 
 /// The part of a page's side that counts, without the trim, in grains.
-pub fn counted(room: &Room, length: Grains) -> u64
+pub fn trimmed_side(room: &Room, length: Grains) -> u64
     requires { IsTrue (is_side length) }
     ensures value { result ≡ counted_of room.now length }
     ensures in_range { result ≤ longest_side }
 {
-    side(length).saturating_sub(2_540_000 * room.trim)
+    extent(length).saturating_sub(2_540_000 * room.trim)
 }
 
 /// The largest scale, in 10^-9, that brings a side into a cell.
@@ -119,10 +120,10 @@ pub fn scale_in(page: &Paper, room: &Room, grid: Grid) -> u128
     requires { IsTrue (is_shown page.now room.now) }
     ensures { result ≡ scale_of page.now room.now grid }
 {
-    let (width, height) = cells(room, grid);
-    largest_scale(width, counted(room, page.width())).min(largest_scale(
+    let (width, height) = cell_size(room, grid);
+    largest_scale(width, trimmed_side(room, page.width())).min(largest_scale(
         height,
-        counted(room, page.height()),
+        trimmed_side(room, page.height()),
     ))
 }
 
@@ -133,7 +134,7 @@ fn exact_along(along: &Along, side: u64, parts: u32, page: u64) -> u128
     requires in_range { side ≤ longest_side }
     ensures { result ≡ along_exactly along.now side parts page }
 {
-    let gap = u128::from(kept(along.trim, along.gap));
+    let gap = u128::from(kept_length(along.trim, along.gap));
     let all = 1_000_000_000 * u128::from(left_free(along, side)) + 1_270_000_000_000_000 * gap;
     all.saturating_sub(1_270_000_000_000_000 * (gap * u128::from(parts)))
         / (u128::from(page) * u128::from(parts))
@@ -144,15 +145,20 @@ pub fn exact_scale(page: &Paper, room: &Room, grid: Grid) -> u128
     requires { IsTrue (is_shown page.now room.now) }
     ensures { result ≡ exact_scale_of page.now room.now grid }
 {
-    let (width, height) = (side(room.paper.width()), side(room.paper.height()));
+    let (width, height) = (extent(room.paper.width()), extent(room.paper.height()));
     let (across, down) = if grid.turned {
         (height, width)
     } else {
         (width, height)
     };
-    let (beside, above) = room.held(grid.turned);
-    let wide = exact_along(&beside, across, grid.columns, counted(room, page.width()));
-    wide.min(exact_along(&above, down, grid.rows, counted(room, page.height())))
+    let (beside, above) = room.as_read(grid.turned);
+    let wide = exact_along(
+        &beside,
+        across,
+        grid.columns,
+        trimmed_side(room, page.width()),
+    );
+    wide.min(exact_along(&above, down, grid.rows, trimmed_side(room, page.height())))
 }
 
 /// Whether pages can be written with this scale, in 10^-9.

@@ -2,7 +2,7 @@
 ghost use Rattle.std.specs.Prelude.{◌≡◌, ◌<◌, ◌≤◌, pos, IfOk, IfErr, OnOk, Some, None, false};
 ghost use Rattle.pagespec.specs.Items.{item_of};
 ghost use Rattle.layouts.specs.Cells.{size, scale_in as scale_of, slack_x};
-ghost use Rattle.layouts.specs.Grids.{count_of};
+ghost use Rattle.layouts.specs.Grids.{cells_per_sheet};
 ghost use Rattle.layouts.specs.Refusals.{most_on_sheet, why_not_arranged, why_not_bound};
 ghost use Rattle.layouts.specs.Fitted.{is_whole as is_whole_on, scale_on, fitted, fitted_back, setting_of, binding_setting_of};
 ghost use Rattle.layouts.specs.Fitted.{why_no_scale_on, why_not_fitted, IsFitted, HaveOneFold};
@@ -11,15 +11,15 @@ ghost use Rattle.layouts.specs.Laws.{IsPaper, IsChosen, IsExact, IsHalfTurnOf};
 
 use super::arrangement::{Arrangement, Binding, Order, Papers};
 use super::arranging::{
-    MOST_ON_SHEET, is_fold_short, is_itself, is_of_size, is_reached_across, is_shown, leaf_order,
-    scale_found, sheet_in,
+    MOST_ON_SHEET, fits_offsets, is_fold_short, is_identity, is_of_size, leaf_order,
+    leaves_page_visible, scale_found, sheet_in,
 };
 use super::best::grid_of;
 use super::error::ArrangementError;
 use super::grid::Grid;
-use super::item::{GridLayout, number, slack, whole_page};
+use super::item::{GridLayout, scale_e9, slack, whole_page};
 use super::room::Room;
-use super::scale::{cells, counted, scale_in};
+use super::scale::{cell_size, scale_in, trimmed_side};
 use lengths::{Number, Paper};
 use pagespec::Item;
 
@@ -39,8 +39,8 @@ impl Setting {
         ensures page { IsPaper papers.now.page }
         ensures sheet { IsPaper papers.now.sheet }
         ensures made { IfOk result (λ t. t ≡ setting_of papers.now.page papers.now.sheet arrangement.now) }
-        ensures cells { IfOk result (λ t. count_of arrangement.now.cells ≤ size t.grid) }
-        ensures few { OnOk result (count_of arrangement.now.cells ≤ most_on_sheet) }
+        ensures cells { IfOk result (λ t. cells_per_sheet arrangement.now.cells ≤ size t.grid) }
+        ensures few { OnOk result (cells_per_sheet arrangement.now.cells ≤ most_on_sheet) }
         ensures chosen { IfOk result (λ t. IsChosen papers.now.page t.room arrangement.now.order.turned
             arrangement.now.cells (scale_of papers.now.page t.room t.grid) t.grid) }
         ensures possible { OnOk result (why_not_arranged papers.now.page papers.now.sheet arrangement.now ≡ None) }
@@ -65,7 +65,7 @@ impl Setting {
             order: arrangement.order,
             scale: arrangement.scale,
         };
-        if is_itself(papers, &room, arrangement) {
+        if is_identity(papers, &room, arrangement) {
             return Ok(setting);
         }
         let largest = scale_in(&papers.page, &room, grid);
@@ -111,7 +111,7 @@ impl Setting {
         ensures refused { IfErr result (λ error. why_no_scale_on self.now page_paper.now ≡ Some error) }
     {
         let found = self.scale_found(page_paper)?;
-        Ok(number(found))
+        Ok(scale_e9(found))
     }
 
     /// The room that a page of this paper leaves at each end of its cell's width, in 10^-5 of a point.
@@ -122,8 +122,8 @@ impl Setting {
         ensures refused { IfErr result (λ error. why_no_scale_on self.now page_paper.now ≡ Some error) }
     {
         let scale = self.scale_found(page_paper)?;
-        let (width, _) = cells(&self.room, self.grid);
-        let counted = counted(&self.room, page_paper.width());
+        let (width, _) = cell_size(&self.room, self.grid);
+        let counted = trimmed_side(&self.room, page_paper.width());
         Ok(slack(width, counted, scale))
     }
 
@@ -199,12 +199,12 @@ impl Setting {
         ensures possible { OnOk result (why_no_scale_on self.now page_paper.now ≡ None) }
         ensures refused { IfErr result (λ error. why_no_scale_on self.now page_paper.now ≡ Some error) }
     {
-        let page = is_reached_across(page_paper);
-        let sheet = is_reached_across(&self.room.paper);
+        let page = fits_offsets(page_paper);
+        let sheet = fits_offsets(&self.room.paper);
         if !(page && sheet) {
             return Err(ArrangementError::SideTooLong);
         }
-        if !is_shown(page_paper, &self.room) {
+        if !leaves_page_visible(page_paper, &self.room) {
             return Err(ArrangementError::NothingLeftOfPage);
         }
         let largest = scale_in(page_paper, &self.room, self.grid);

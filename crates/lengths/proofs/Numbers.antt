@@ -8,7 +8,7 @@ use Rattle.std.proofs.lemmas.Grind.{common_steps}
 use Rattle.std.proofs.lemmas.List.{append-nil, length-append}
 use Rattle.std.proofs.lemmas.List.Elements.{All-nil, All-head}
 use Rattle.rules.specs.Numbers.{IsNumber, IsSign, IsFraction, IsLongestNumber}
-use Rattle.lengths.specs.Reading.{digits, past_digits, is_minus, unsigned, decimals_at, past_decimals, value_of, is_empty, number_from, number_at, Ends}
+use Rattle.lengths.specs.Reading.{digits, past_digits, is_minus, unsigned, decimals_at, past_decimals, decimal_value, is_empty, number_from, number_at, EndsNumber}
 use Rattle.lengths.proofs.Digits.{IsDigit, by_test, digits_whole, digits_pass, digits-append, past_digits-append}
 
 abbrev pub sign_of : List ℕ → List ℕ
@@ -65,7 +65,7 @@ pub number_found : (t rest : List ℕ) (v : ℤ) → number_at t ≡ Some (v, re
 unfolding number_at
 number_found t rest v e =
     let u = unsigned t in
-    let h = chosen_some (is_empty (digits u ++ decimals_at (past_digits u))) (value_of (is_minus t) (digits u) (decimals_at (past_digits u)), past_decimals (past_digits u)) (v, rest) e in
+    let h = chosen_some (is_empty (digits u ++ decimals_at (past_digits u))) (decimal_value (is_minus t) (digits u) (decimals_at (past_digits u)), past_decimals (past_digits u)) (v, rest) e in
     let behind : past_decimals (past_digits u) ≡ rest = ap (λ x. x.1) h.1 in
     let whole : t ≡ (sign_of t ++ digits u ++ point_of (past_digits u)) ++ rest =
     sym (sign_whole t) ∙ (ap (λ r. sign_of t ++ r) (sym (digits_whole u)) ∙ (ap (λ r. sign_of t ++ (digits u ++ r)) (sym (point_whole (past_digits u)))
@@ -107,19 +107,19 @@ taken [] x n = absurd (n refl)
 taken (y ∷ xs) x n = refl
 
 pub from_parts : (negative : Bool) (u whole decimals rest : List ℕ) → digits u ≡ whole → decimals_at (past_digits u) ≡ decimals → past_decimals (past_digits u) ≡ rest
-    → whole ++ decimals ≢ [] → number_from negative u ≡ Some (value_of negative whole decimals, rest)
+    → whole ++ decimals ≢ [] → number_from negative u ≡ Some (decimal_value negative whole decimals, rest)
 from_parts negative u whole decimals rest w d r n =
     taken (digits u ++ decimals_at (past_digits u)) _ (λ e. n (sym (ap (λ x. x ++ decimals_at (past_digits u)) w ∙ ap (λ x. whole ++ x) d) ∙ e))
-    ∙ (ap (λ x. Some (value_of negative x (decimals_at (past_digits u)), past_decimals (past_digits u))) w
-    ∙ (ap (λ x. Some (value_of negative whole x, past_decimals (past_digits u))) d ∙ ap (λ x. Some (value_of negative whole decimals, x)) r))
+    ∙ (ap (λ x. Some (decimal_value negative x (decimals_at (past_digits u)), past_decimals (past_digits u))) w
+    ∙ (ap (λ x. Some (decimal_value negative whole x, past_decimals (past_digits u))) d ∙ ap (λ x. Some (decimal_value negative whole decimals, x)) r))
 
-pub ends_digits : (t : List ℕ) → Ends t → (digits t ≡ []) × (past_digits t ≡ t) × (decimals_at t ≡ []) × (past_decimals t ≡ t)
+pub ends_digits : (t : List ℕ) → EndsNumber t → (digits t ≡ []) × (past_digits t ≡ t) × (decimals_at t ≡ []) × (past_decimals t ≡ t)
 ends_digits [] h = (refl, refl, refl, refl)
 ends_digits (b ∷ t) h = (rw h.0 refl, rw h.0 refl, rw h.1 refl, rw h.1 refl)
 
 -- the body of a number, where it ends
-body_read : (negative : Bool) (whole point decimals rest : List ℕ) → AllPass is_ascii_digit whole → IsFraction point decimals → AllPass is_ascii_digit decimals → whole ++ decimals ≢ [] → Ends rest
-    → number_from negative (whole ++ (point ++ rest)) ≡ Some (value_of negative whole decimals, rest)
+body_read : (negative : Bool) (whole point decimals rest : List ℕ) → AllPass is_ascii_digit whole → IsFraction point decimals → AllPass is_ascii_digit decimals → whole ++ decimals ≢ [] → EndsNumber rest
+    → number_from negative (whole ++ (point ++ rest)) ≡ Some (decimal_value negative whole decimals, rest)
 body_read negative whole [] decimals rest w f d n ends =
     let e = ends_digits rest ends in
     let past : past_digits (whole ++ rest) ≡ rest = past_digits-append whole rest w ∙ e.1 in
@@ -133,7 +133,7 @@ body_read negative whole (b ∷ p) decimals rest w f d n ends =
     (ap decimals_at past ∙ (digits-append decimals rest d ∙ (ap (λ x. decimals ++ x) e.0 ∙ append-nil decimals))) (ap past_decimals past ∙ (past_digits-append decimals rest d ∙ e.1)) n
 
 -- a number text is read whole if what follows doesn't continue it
-pub number_read : (text rest : List ℕ) (v : ℤ) → IsNumber text v → Ends rest → number_at (text ++ rest) ≡ Some (v, rest)
+pub number_read : (text rest : List ℕ) (v : ℤ) → IsNumber text v → EndsNumber rest → number_at (text ++ rest) ≡ Some (v, rest)
 unfolding number_at
 number_read text rest v (negative, sign, whole, point, decimals, e, s, w, f, d, n, value) ends =
     let body : starts (whole ++ (point ++ rest)) ≡ true = body_starts whole point decimals rest w f n in

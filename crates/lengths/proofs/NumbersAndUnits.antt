@@ -5,7 +5,7 @@ use Rattle.std.specs.Str.{bytes_eq}
 use Rattle.std.proofs.lemmas.Slice.Eq.{bytes_eq-Decides}
 use Rattle.rules.specs.Numbers.{is_large}
 use Rattle.rules.specs.Papers.{LengthUnit, Pt, Cm, Mm, In, Paper, grains}
-use Rattle.lengths.specs.Reading.{Ends, number_at}
+use Rattle.lengths.specs.Reading.{EndsNumber, number_at}
 use Rattle.lengths.proofs.Numbers.{number_found, number_read}
 use Rattle.lengths.specs.Lengths.{IsLength, length_named, length_of, unit_named}
 
@@ -38,16 +38,16 @@ chosen : (b : Bool) (x : LengthUnit) (o : Option LengthUnit) (u : LengthUnit) (P
 chosen true x o u P first rest e = first refl
 chosen false x o u P first rest e = rest e
 
-named_by : (text name : List ℕ) → Ends name → bytes_eq text name ≡ true → Ends text
-named_by text name ends e = subst Ends (sym ((bytes_eq-Decides text name).0 e)) ends
+named_by : (text name : List ℕ) → EndsNumber name → bytes_eq text name ≡ true → EndsNumber text
+named_by text name ends e = subst EndsNumber (sym ((bytes_eq-Decides text name).0 e)) ends
 
-unit_ends : (unit : List ℕ) (u : LengthUnit) → unit_named unit ≡ Some u → Ends unit
+unit_ends : (unit : List ℕ) (u : LengthUnit) → unit_named unit ≡ Some u → EndsNumber unit
 unit_ends unit u =
-    chosen (bytes_eq unit []) Pt _ u (Ends unit) (named_by unit [] tt)
-    (chosen (bytes_eq unit (codes "pt")) Pt _ u (Ends unit) (named_by unit (codes "pt") (refl, refl))
-    (chosen (bytes_eq unit (codes "cm")) Cm _ u (Ends unit) (named_by unit (codes "cm") (refl, refl))
-    (chosen (bytes_eq unit (codes "mm")) Mm _ u (Ends unit) (named_by unit (codes "mm") (refl, refl))
-    (chosen (bytes_eq unit (codes "in")) In _ u (Ends unit) (named_by unit (codes "in") (refl, refl)) (λ none. cc)))))
+    chosen (bytes_eq unit []) Pt _ u (EndsNumber unit) (named_by unit [] tt)
+    (chosen (bytes_eq unit (codes "pt")) Pt _ u (EndsNumber unit) (named_by unit (codes "pt") (refl, refl))
+    (chosen (bytes_eq unit (codes "cm")) Cm _ u (EndsNumber unit) (named_by unit (codes "cm") (refl, refl))
+    (chosen (bytes_eq unit (codes "mm")) Mm _ u (EndsNumber unit) (named_by unit (codes "mm") (refl, refl))
+    (chosen (bytes_eq unit (codes "in")) In _ u (EndsNumber unit) (named_by unit (codes "in") (refl, refl)) (λ none. cc)))))
 
 -- ---- so the parts are read
 

@@ -6,7 +6,7 @@ use Rattle.std.specs.Char.{is_ascii_digit}
 use Rattle.std.proofs.lemmas.List.{length-append, length-drop, drop_at}
 use Rattle.rules.specs.Numbers.{signed, number_of, decimals_value, IsLongestNumber, IsNumberRead}
 use Rattle.rules.specs.Numbers.{is_large}
-use Rattle.lengths.specs.Reading.{digits, past_digits, is_minus, unsigned, decimals_at, past_decimals, value_of, is_empty, number_from, number_at}
+use Rattle.lengths.specs.Reading.{digits, past_digits, is_minus, unsigned, decimals_at, past_decimals, decimal_value, is_empty, number_from, number_at}
 use Rattle.lengths.proofs.Digits.{digits_pass}
 use Rattle.lengths.proofs.Numbers.{from_parts, number_found, number_longest, no_number, decimals_pass}
 use Rattle.lengths.specs.Refusals.{IsRefused, outcome_of}
@@ -37,9 +37,9 @@ scan_none {whole = whole} {point = point} {decimals = decimals} t c h =
     let p : point ≡ past_digits (unsigned t) = c.point_is ∙ ap past_digits c.body_is in
     let d : decimals ≡ decimals_at (past_digits (unsigned t)) = c.decimals_is ∙ ap decimals_at p in
     let e : is_empty (digits (unsigned t) ++ decimals_at (past_digits (unsigned t))) ≡ true = ap (λ x. is_empty (x ++ decimals_at (past_digits (unsigned t)))) (sym w) ∙ (ap (λ x. is_empty (whole ++ x)) (sym d) ∙ nil_of whole decimals h) in
-    ap (λ b. if b then None else Some (value_of (is_minus t) (digits (unsigned t)) (decimals_at (past_digits (unsigned t))), past_decimals (past_digits (unsigned t)))) e
+    ap (λ b. if b then None else Some (decimal_value (is_minus t) (digits (unsigned t)) (decimals_at (past_digits (unsigned t))), past_decimals (past_digits (unsigned t)))) e
 
-pub scan_parts : {negative : Bool} {body whole point decimals rest : List ℕ} (t : List ℕ) → IsCut t negative body whole point decimals rest → length whole + length decimals ≢ 0 → number_at t ≡ Some (value_of negative whole decimals, rest)
+pub scan_parts : {negative : Bool} {body whole point decimals rest : List ℕ} (t : List ℕ) → IsCut t negative body whole point decimals rest → length whole + length decimals ≢ 0 → number_at t ≡ Some (decimal_value negative whole decimals, rest)
 unfolding number_at
 scan_parts {negative = negative} {whole = whole} {point = point} {decimals = decimals} {rest = rest} t c h =
     let w : digits (unsigned t) ≡ whole = sym (c.whole_is ∙ ap digits c.body_is) in
@@ -56,11 +56,11 @@ behind t rest v e =
     (omega (arith, long), ap (drop (length t - length rest)) whole ∙ drop_at front rest _ (omega (arith, long)))
 
 pub scan_some : {negative : Bool} {body whole point decimals rest : List ℕ} (t : List ℕ) → IsCut t negative body whole point decimals rest → length whole + length decimals ≢ 0
-    → (length rest ≤ length t) × (number_at t ≡ Some (value_of negative whole decimals, drop (length t - length rest) t))
+    → (length rest ≤ length t) × (number_at t ≡ Some (decimal_value negative whole decimals, drop (length t - length rest) t))
 scan_some {negative = negative} {whole = whole} {decimals = decimals} {rest = rest} t c h =
     let e = scan_parts t c h in
-    let b = behind t rest (value_of negative whole decimals) e in
-    (b.0, e ∙ ap (λ x. Some (value_of negative whole decimals, x)) (sym b.1))
+    let b = behind t rest (decimal_value negative whole decimals) e in
+    (b.0, e ∙ ap (λ x. Some (decimal_value negative whole decimals, x)) (sym b.1))
 
 pub whole_pass : {negative : Bool} {body whole point decimals rest : List ℕ} (t : List ℕ) → IsCut t negative body whole point decimals rest → AllPass is_ascii_digit whole
 whole_pass {body = body} t c = subst (AllPass is_ascii_digit) (sym c.whole_is) (digits_pass body)
@@ -76,7 +76,7 @@ abs_signed false n = refl
 less : (a b : ℕ) → a < b → nat_lt a b ≡ true
 less a b h = search rules
 
-pub large_value : (negative : Bool) (whole decimals : List ℕ) → 100_000 ≤ number_of whole → is_large (value_of negative whole decimals) ≡ true
+pub large_value : (negative : Bool) (whole decimals : List ℕ) → 100_000 ≤ number_of whole → is_large (decimal_value negative whole decimals) ≡ true
 large_value negative whole decimals h =
     ap (nat_lt 99_999_999_999_999) (abs_signed negative (number_of whole * 10 ^ 9 + decimals_value 9 decimals)) ∙ less _ _ (omega arith)
 
@@ -96,7 +96,7 @@ reads t (Err NotANumber) found within small none = no_number t none
 reads t (Err (TooLarge n)) found within small (h, v, large, e) = (v, longest t n v h e, large)
 
 -- the value, as it was put together
-pub put_together : (t r whole decimals : List ℕ) (negative : Bool) (p d : ℕ) (v : ℤ) → number_at t ≡ Some (value_of negative whole decimals, r) → p ≡ number_of whole → d ≡ decimals_value 9 decimals → v ≡ signed negative (p * 10 ^ 9 + d)
+pub put_together : (t r whole decimals : List ℕ) (negative : Bool) (p d : ℕ) (v : ℤ) → number_at t ≡ Some (decimal_value negative whole decimals, r) → p ≡ number_of whole → d ≡ decimals_value 9 decimals → v ≡ signed negative (p * 10 ^ 9 + d)
     → number_at t ≡ Some (v, r)
 put_together t r whole decimals negative p d v e ep ed ev =
     e ∙ ap (λ x. Some (x, r)) (ap (λ x. signed negative (x * 10 ^ 9 + decimals_value 9 decimals)) (sym ep) ∙ (ap (λ x. signed negative (p * 10 ^ 9 + x)) (sym ed) ∙ sym ev))

@@ -39,8 +39,8 @@ abbrev pub past_decimals : List ℕ → List ℕ
 past_decimals [] = []
 past_decimals (b ∷ text) = if b == dot then past_digits text else b ∷ text
 
-abbrev pub value_of : Bool → List ℕ → List ℕ → ℤ
-value_of negative whole decimals = signed negative (number_of whole * 10 ^ 9 + decimals_value 9 decimals)
+abbrev pub decimal_value : Bool → List ℕ → List ℕ → ℤ
+decimal_value negative whole decimals = signed negative (number_of whole * 10 ^ 9 + decimals_value 9 decimals)
 
 abbrev pub is_empty : List ℕ → Bool
 is_empty [] = true
@@ -51,13 +51,13 @@ abbrev pub number_from : Bool → List ℕ → Option (ℤ × List ℕ)
 number_from negative text =
     let point = past_digits text in
     if is_empty (digits text ++ decimals_at point) then None
-    else Some (value_of negative (digits text) (decimals_at point), past_decimals point)
+    else Some (decimal_value negative (digits text) (decimals_at point), past_decimals point)
 
 -- the value of the longest number at the front, and what follows it
 unfoldable pub number_at : List ℕ → Option (ℤ × List ℕ)
 number_at text = number_from (is_minus text) (unsigned text)
 
 -- a text that continues no number: it begins with neither a digit nor a dot
-abbrev pub Ends : List ℕ → Type 0
-Ends [] = Unit {0}
-Ends (b ∷ text) = (is_ascii_digit b ≡ false) × ((b == dot) ≡ false)
+abbrev pub EndsNumber : List ℕ → Type 0
+EndsNumber [] = Unit {0}
+EndsNumber (b ∷ text) = (is_ascii_digit b ≡ false) × ((b == dot) ≡ false)

@@ -20,13 +20,13 @@ pub fn to_grains(number: Number, unit: Unit, paper: &Paper) -> Grains
         Unit::Cm => Grains::of(billionths * 3_600),
         Unit::Mm => Grains::of(billionths * 360),
         Unit::In => Grains::of(billionths * 9_144),
-        Unit::W => share(number, paper.width()),
-        Unit::H => share(number, paper.height()),
+        Unit::W => share_of_side(number, paper.width()),
+        Unit::H => share_of_side(number, paper.height()),
     }
 }
 
 /// The number times a side of a paper.
-fn share(number: Number, side: Grains) -> Grains
+fn share_of_side(number: Number, side: Grains) -> Grains
     requires { IsTrue (is_side side) }
     ensures { result ≡ nearest (number *ℤ side) (10 ^ 9) }
 {

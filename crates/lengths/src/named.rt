@@ -1,7 +1,7 @@
 //! Papers by their names.
 ghost use Rattle.std.specs.Prelude.{◌≡◌, ◌<◌, ◌≤◌, map, IsTrue, ◌↔◌};
 ghost use Rattle.std.specs.Str.{bytes_eq};
-ghost use Rattle.rules.specs.Papers.{paper_named, points, small};
+ghost use Rattle.rules.specs.Papers.{paper_with_name, points, small};
 ghost use Rattle.lengths.specs.Lengths.{a4};
 
 use super::paper::Paper;
@@ -20,7 +20,7 @@ const PAPERS: [(&str, u32, u32); 8] = [
 
 /// The paper of this name. ASCII letters may be in either case.
 pub fn paper_by_name(name: &str) -> Option<Paper>
-    ensures { result ≡ paper_named name.now }
+    ensures { result ≡ paper_with_name name.now }
 {
     for (known, width, height) in PAPERS {
         if name.eq_ignore_ascii_case(known) {

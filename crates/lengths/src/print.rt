@@ -61,7 +61,7 @@ pub fn print_number(number: Number, out: &mut Vec<u8>) -> Result<(), AllocError>
             .format(1_000_000_000 + size % 1_000_000_000)
             .as_bytes(),
     );
-    append(
+    append_decimals(
         number < Number::ZERO,
         unless_dot_follows(whole, whole_digits.format(whole).as_bytes(), decimals),
         decimals,
@@ -81,7 +81,7 @@ fn append_decimal(value: i64, places: u32, out: &mut Vec<u8>) -> Result<(), Allo
     let size = value.unsigned_abs();
     let mut whole_digits = Buffer::new();
     let mut part_digits = Buffer::new();
-    append(
+    append_decimals(
         value < 0,
         whole_digits.format(size / one).as_bytes(),
         decimals_of_part(&mut part_digits, places, size % one),
@@ -140,7 +140,7 @@ fn strip_zeros(digits: &[u8]) -> &[u8]
 }
 
 /// Appends a minus if the number is negative, its whole part, and, if there are decimals, a dot and the decimals.
-fn append(
+fn append_decimals(
     negative: bool,
     whole: &[u8],
     decimals: &[u8],

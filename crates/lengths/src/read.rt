@@ -39,7 +39,7 @@ pub fn read_number(bytes: &[u8]) -> Result<(Number, usize), NumberError>
         (x.1 ≤ length bytes.now) × (number_at bytes.now ≡ Some (x.0, drop x.1 bytes.now))) }
     ensures none { IfErr result (IsRefused bytes.now) }
 {
-    scan(bytes)
+    scan_number(bytes)
 }
 
 /// The digits at the front as a value, 100,000 if it is larger, and what follows them.
@@ -55,7 +55,7 @@ pub fn read_digits(bytes: &[u8]) -> Option<(u32, &[u8])>
 }
 
 /// The number at the start and its length, by the function that reads a number off the front.
-fn scan(bytes: &[u8]) -> Result<(Number, usize), NumberError>
+fn scan_number(bytes: &[u8]) -> Result<(Number, usize), NumberError>
     ensures found { IfOk result (λ x. number_at bytes.now ≡ Some (x.0, drop x.1 bytes.now)) }
     ensures within { IfOk result (λ x. x.1 ≤ length bytes.now) }
     ensures in_range { IfOk result (λ x. FitsNumber x.0) }

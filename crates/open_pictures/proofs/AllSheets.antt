@@ -8,7 +8,7 @@ use Rattle.guard.proofs.TheGuard.{guard_stays}
 use Rattle.dressing.specs.declared.strokes.Stroke.{Stroke}
 use Rattle.pictures.specs.Objects.{Token}
 use Rattle.pictures.specs.Machine.{State, Painting, Runs}
-use Rattle.pictures.specs.Documents.{started, frame_of}
+use Rattle.pictures.specs.Documents.{started, page_frame}
 use Rattle.pictures.proofs.Runs.{AreRuns, free_are_runs, runs_none}
 use Rattle.pictures.proofs.Sheets.{still, fresh}
 use Rattle.pictures.proofs.Output.{free_runs_on}
@@ -17,7 +17,7 @@ use Rattle.pictures.proofs.GuardedPlaced.{takes_pages}
 use Rattle.pictures.proofs.GuardedSheets.{page_places, guarded_prints}
 use Rattle.pictures.proofs.Documents.{body_places, page_again}
 use Rattle.open_pictures.specs.Machine.{OpenRuns}
-use Rattle.open_pictures.specs.Documents.{begun}
+use Rattle.open_pictures.specs.Documents.{begun_machine}
 use Rattle.open_pictures.proofs.Runs.{open_are_runs}
 use Rattle.open_pictures.proofs.Output.{open_runs_on, still_body}
 use Rattle.open_pictures.specs.Pages.{OpenGuardedPagePaints}
@@ -62,9 +62,9 @@ dressed_document_is_shown sheet border strokes all text us picture s d few apart
     let document = guard_stays sheet text us d few in
     document_is_dressed (Runs false) free_are_runs started border told strokes all (guarded sheet text) again picture s (Takes told strokes) lines (g, takes) document.0 apart
     (free_runs_on (bytes_of (preamble again)) s complete run left) painted
-    (on_begun told (Takes told strokes) (λ at own p. GuardedPagePaints (frame_of border own) us at p (picture p)) (BodyBegun (Runs false) border again picture) lines.stays
-    (λ at own p i x. body_places (Runs false) (still at) (frame_of border own) again 0 p (picture p) (λ y j. page_places [] at y (takes_pages at i.0) j)
-    (page_again (frame_of border own) us again at p (picture p) document.1.same_pages x)) all s (g, takes) h)
+    (on_begun told (Takes told strokes) (λ at own p. GuardedPagePaints (page_frame border own) us at p (picture p)) (BodyBegun (Runs false) border again picture) lines.stays
+    (λ at own p i x. body_places (Runs false) (still at) (page_frame border own) again 0 p (picture p) (λ y j. page_places [] at y (takes_pages at i.0) j)
+    (page_again (page_frame border own) us again at p (picture p) document.1.same_pages x)) all s (g, takes) h)
 
 pub open_dressed_document_is_shown : OpenDressedDocumentIsShown
 open_dressed_document_is_shown x z w sheet border strokes all text us picture s blind runs d few apart (complete, run, left, painted, printed, g) takes h =
@@ -72,8 +72,8 @@ open_dressed_document_is_shown x z w sheet border strokes all text us picture s 
     let told : List Paper = told_by all in
     let lines : RunsLines (OpenRuns z false) told strokes (Takes told strokes) = runs_lines (OpenRuns z false) (open_are_runs z) told strokes in
     let document = guard_stays sheet text us d few in
-    document_is_dressed (OpenRuns z false) (open_are_runs z) (begun w) border told strokes all (guarded sheet text) again picture s (Takes told strokes) lines (g, takes) document.0 apart
+    document_is_dressed (OpenRuns z false) (open_are_runs z) (begun_machine w) border told strokes all (guarded sheet text) again picture s (Takes told strokes) lines (g, takes) document.0 apart
     (open_runs_on z w (bytes_of (preamble again)) s runs.sees_nothing_after complete run left) painted
-    (on_begun told (Takes told strokes) (λ at own p. OpenGuardedPagePaints x (frame_of border own) us at p (picture p)) (BodyBegun (OpenRuns z false) border again picture) lines.stays
-    (λ at own p i y. still_body x z (frame_of border own) again at 0 p (picture p) runs.extends
-    (open_body_places x (frame_of border own) again at 0 p (picture p) blind i.0 (open_page_again x (frame_of border own) us again at p (picture p) document.1.same_pages y))) all s (g, takes) h)
+    (on_begun told (Takes told strokes) (λ at own p. OpenGuardedPagePaints x (page_frame border own) us at p (picture p)) (BodyBegun (OpenRuns z false) border again picture) lines.stays
+    (λ at own p i y. still_body x z (page_frame border own) again at 0 p (picture p) runs.extends
+    (open_body_places x (page_frame border own) again at 0 p (picture p) blind i.0 (open_page_again x (page_frame border own) us again at p (picture p) document.1.same_pages y))) all s (g, takes) h)

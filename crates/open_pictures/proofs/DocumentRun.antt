@@ -5,12 +5,12 @@ use Rattle.pictures.specs.Objects.{Token}
 use Rattle.pictures.specs.Machine.{State, Painting}
 use Rattle.pictures.specs.Scanner.{tokens}
 use Rattle.pictures.specs.Sheets.{run_of}
-use Rattle.pictures.specs.Documents.{page_of}
+use Rattle.pictures.specs.Documents.{document_page}
 use Rattle.pictures.specs.DocumentRun.{PrintsSheetBy}
 use Rattle.pictures.proofs.DocumentRun.{document_prints, on_all_sheets}
 use Rattle.open_pictures.specs.Machine.{Further, OpenRuns}
 use Rattle.open_pictures.specs.Blindness.{Extends}
-use Rattle.open_pictures.specs.Documents.{begun, OpenPagePrints}
+use Rattle.open_pictures.specs.Documents.{begun_machine, OpenPagePrints}
 use Rattle.open_pictures.specs.DocumentRun.{OpenSheetsShowTheDocument}
 use Rattle.open_pictures.proofs.Runs.{open_are_runs}
 use Rattle.open_pictures.proofs.More.{open_runs_with_more, extended_runs}
@@ -24,9 +24,9 @@ more_print x z s ts picture q (t, (run, left), painted, sheets) = (t, (extended_
 
 pub open_sheets_show_the_document : OpenSheetsShowTheDocument
 open_sheets_show_the_document x z w frame sides spec text us picture s blind runs e apart (complete, run, left, painted, printed, ground) plain h same = (
-  document_prints (OpenRuns z false) (open_are_runs z) (λ more u t r. open_runs_with_more z more u t runs.sees_nothing_after r) (begun w) text us picture s e
+  document_prints (OpenRuns z false) (open_are_runs z) (λ more u t r. open_runs_with_more z more u t runs.sees_nothing_after r) (begun_machine w) text us picture s e
       (open_runs_on z w (bytes_of (preamble us)) s runs.sees_nothing_after complete run left) painted printed
-      (λ p l. ((h p l).0, more_print x z s (tokens (page_of us p)) (picture p) runs.extends (open_own_picture x s (tokens (page_of us p)) (picture p) blind plain (h p l).2).0)) same,
+      (λ p l. ((h p l).0, more_print x z s (tokens (document_page us p)) (picture p) runs.extends (open_own_picture x s (tokens (document_page us p)) (picture p) blind plain (h p l).2).0)) same,
   open_sheets_show_the_pages x z w frame sides spec text us picture s blind runs e apart (complete, run, left, painted, printed, ground) plain
       (on_all_sheets (λ p. OpenPagePrints x us s p (picture p)) frame sides spec us h),
 )

@@ -7,7 +7,7 @@ use Rattle.pictures.specs.Machine.{State, Painting, steps}
 use Rattle.pictures.specs.Scanner.{tokens}
 use Rattle.pictures.proofs.Examples.Applied.{units}
 use Rattle.open_pictures.specs.Machine.{open_step, open_unaware_step}
-use Rattle.open_pictures.specs.Documents.{begun, plain_work, OpenPagePrints}
+use Rattle.open_pictures.specs.Documents.{begun_machine, plain_work, OpenPagePrints}
 use Rattle.open_pictures.specs.Values.{values}
 use Rattle.open_pictures.specs.Groff.{groff, GroffIsShown}
 use Rattle.open_pictures.proofs.PageRuns.{painted_by, page_run, prints}
@@ -18,7 +18,7 @@ abbrev us : List NestedUnit
 us = units groff
 
 abbrev preamble_run : Option State
-preamble_run = steps (open_step values false) 589 (begun plain_work (tokens (bytes_of (preamble us))))
+preamble_run = steps (open_step values false) 589 (begun_machine plain_work (tokens (bytes_of (preamble us))))
 
 -- in so many steps each page comes to its showpage
 abbrev count : ℕ → ℕ

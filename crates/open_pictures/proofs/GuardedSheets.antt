@@ -4,10 +4,10 @@ use Rattle.std.proofs.Common.{◌≡◌, ℕ, suc, ap, sym, subst, true, false, 
 use Rattle.rules.specs.Parts.{NestedUnit, pages}
 use Rattle.rules.specs.Output.{Frame}
 use Rattle.pictures.specs.Machine.{State, Painting}
-use Rattle.pictures.specs.Scanner.{tokens, IsComplete}
+use Rattle.pictures.specs.Scanner.{tokens, EndsBetweenTokens}
 use Rattle.pictures.specs.Kept.{page_comments_apart}
 use Rattle.pictures.specs.Sheets.{Shown}
-use Rattle.pictures.specs.Documents.{numbers_of, page_of, body_of_page}
+use Rattle.pictures.specs.Documents.{numbers_of, document_page, body_of_page}
 use Rattle.pictures.proofs.Sheets.{Places, Stays, still, still_leaves}
 use Rattle.pictures.proofs.Output.{BodyPlaces}
 use Rattle.pictures.proofs.Kept.{kept_runs_alike}
@@ -30,7 +30,7 @@ pub kept_places : (x : Further) (R : State → State → Type 0) (at : ℕ → S
     → ((y : Shown) → OpenPaintsSheltered x [] (at (suc k)) (outline_tokens y.placed.numbers) y.placed.body y.picture → Places R at (at 0).graphics k y)
     → OpenGuardedPagePaints x frame us (at (suc k)) p picture → BodyPlaces R at frame us k p picture
 kept_places x R at frame us k p picture places (complete, apart, h) =
-    let alike = kept_runs_alike (page_of us p) apart complete in (
+    let alike = kept_runs_alike (document_page us p) apart complete in (
       alike.1,
       λ item. places (record { placed = record { numbers = numbers_of frame item; body = tokens (body_of_page us p) }; picture = picture })
           (subst (λ ts. OpenPaintsSheltered x [] (at (suc k)) (outline_of frame) ts picture) (sym alike.0) h),
@@ -44,4 +44,4 @@ body_places x frame us s k p picture blind g h =
 -- the pages of a document are those without the guard
 pub page_again : (x : Further) (frame : Frame) (us again : List NestedUnit) (s : State) (p : ℕ) (picture : List Painting) → pages again ≡ pages us → OpenGuardedPagePaints x frame us s p picture → OpenGuardedPagePaints x frame again s p picture
 page_again x frame us again s p picture same h =
-    subst (λ page. IsComplete page × (page_comments_apart page ≡ true) × OpenPaintsSheltered x [] s (outline_of frame) (tokens page) picture) (ap (λ ps. slice_index_or ps p []) (sym same)) h
+    subst (λ page. EndsBetweenTokens page × (page_comments_apart page ≡ true) × OpenPaintsSheltered x [] s (outline_of frame) (tokens page) picture) (ap (λ ps. slice_index_or ps p []) (sym same)) h

@@ -5,8 +5,8 @@ use Rattle.rules.specs.Bytes.{line, line_feed}
 use Rattle.rules.specs.Numbers.{points_text}
 use Rattle.rules.specs.Papers.{Paper}
 use Rattle.rules.specs.Dress.{lines_text}
-use Rattle.papers.specs.Own.{covering}
-use Rattle.papers.specs.Told.{telling_of, size_text, size_name, medium_text, medium_line, box_line, box_lines, exact_box_line, exact_box_lines, is_whole, whole_paper, page_size_lines, sheet_lines, setting_line}
+use Rattle.papers.specs.Own.{smallest_cover}
+use Rattle.papers.specs.Told.{telling_of, size_text, size_name, medium_text, medium_line, box_line, box_lines, exact_box_line, exact_box_lines, is_in_whole_points, whole_paper, page_size_lines, sheet_lines, setting_line}
 use Rattle.dressing.specs.Drawn.{stroke_line, mark_lines}
 use Rattle.dressing.specs.declared.strokes.Stroke.{Stroke}
 use Rattle.pictures.specs.Objects.{Token, Number, Name, Literal, Opens, Closes}
@@ -203,10 +203,10 @@ header_after : (box : Paper) (name : List ℕ) (p : Paper) (ls : List (List ℕ)
     → are_comments (box_lines box ++ medium_line (codes "%%DocumentMedia: ") name p ∷ ls) ≡ true
 header_after box name p ls e f =
     both_true (is_comment_line (box_line (whole_paper box))) (are_comments (exact_box_lines box ++ medium_line (codes "%%DocumentMedia: ") name p ∷ ls)) (size_stays (whole_paper box))
-    (exact_quiet (is_whole box) box (medium_line (codes "%%DocumentMedia: ") name p ∷ ls)
+    (exact_quiet (is_in_whole_points box) box (medium_line (codes "%%DocumentMedia: ") name p ∷ ls)
     (both_true (is_comment_line (medium_line (codes "%%DocumentMedia: ") name p)) (are_comments ls) (medium_stays name p e) f))
 
 pub header_quiet : (told : List Paper) → are_comments (telling_of told).header ≡ true
 header_quiet [] = refl
 header_quiet (p ∷ []) = header_after p (codes "Plain") p [] refl refl
-header_quiet (p ∷ q ∷ ps) = header_after (fold covering p (q ∷ ps)) (size_name p) p (map (λ r. medium_line (codes "%%+ ") (size_name r) r) (q ∷ ps)) (name_stays p) (others_quiet (q ∷ ps))
+header_quiet (p ∷ q ∷ ps) = header_after (fold smallest_cover p (q ∷ ps)) (size_name p) p (map (λ r. medium_line (codes "%%+ ") (size_name r) r) (q ∷ ps)) (name_stays p) (others_quiet (q ∷ ps))

@@ -5,19 +5,19 @@ use Rattle.rules.specs.Parts.{NestedUnit}
 use Rattle.rules.specs.Output.{Frame}
 use Rattle.pictures.specs.Operators.{Work}
 use Rattle.pictures.specs.Machine.{State, Painting}
-use Rattle.pictures.specs.Scanner.{tokens, IsComplete}
+use Rattle.pictures.specs.Scanner.{tokens, EndsBetweenTokens}
 use Rattle.pictures.specs.Sheets.{Shown, placed_tokens, page_picture}
 use Rattle.pictures.specs.Documents.{numbers_of, body_of_page}
 use Rattle.pictures.proofs.Sheets.{fresh, still}
 use Rattle.pictures.proofs.Output.{BodyPlaces, RunsOn, runs_on}
 use Rattle.open_pictures.specs.Machine.{Further, OpenRuns}
 use Rattle.open_pictures.specs.Blindness.{Extends, SeesNothingAfter}
-use Rattle.open_pictures.specs.Documents.{begun}
+use Rattle.open_pictures.specs.Documents.{begun_machine}
 use Rattle.open_pictures.proofs.More.{open_runs_with_more, extended_runs}
 
-pub open_runs_on : (x : Further) (w : Work) (text : List ℕ) (s : State) → SeesNothingAfter x → IsComplete text → OpenRuns x false (begun w (tokens text)) s → s.left ≡ []
-    → RunsOn (OpenRuns x false) (begun w) text s
-open_runs_on x w text s p complete run left = runs_on (OpenRuns x false) (begun w) text s (λ ts more r. open_runs_with_more x more (begun w ts) s p r) complete run left
+pub open_runs_on : (x : Further) (w : Work) (text : List ℕ) (s : State) → SeesNothingAfter x → EndsBetweenTokens text → OpenRuns x false (begun_machine w (tokens text)) s → s.left ≡ []
+    → RunsOn (OpenRuns x false) (begun_machine w) text s
+open_runs_on x w text s p complete run left = runs_on (OpenRuns x false) (begun_machine w) text s (λ ts more r. open_runs_with_more x more (begun_machine w ts) s p r) complete run left
 
 pub still_body : (x z : Further) (frame : Frame) (us : List NestedUnit) (s : State) (k p : ℕ) (picture : List Painting) → Extends x z → BodyPlaces (OpenRuns x false) (still s) frame us k p picture
     → BodyPlaces (OpenRuns z false) (still s) frame us k p picture

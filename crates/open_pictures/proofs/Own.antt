@@ -6,7 +6,7 @@ use Rattle.pictures.specs.Objects.{Token}
 use Rattle.pictures.specs.Machine.{State, Painting}
 use Rattle.pictures.specs.Scanner.{tokens}
 use Rattle.pictures.specs.Unaware.{IsPlainGround}
-use Rattle.pictures.specs.Documents.{numbers_of, page_of, body_of_page}
+use Rattle.pictures.specs.Documents.{numbers_of, document_page, body_of_page}
 use Rattle.pictures.proofs.Kept.{kept_runs_alike}
 use Rattle.pictures.proofs.Output.{BodyPlaces}
 use Rattle.pictures.proofs.Sheets.{still}
@@ -33,7 +33,7 @@ open_own_picture x s body picture blind p q = (
 pub own_body_places : (x : Further) (frame : Frame) (us : List NestedUnit) (s : State) (k p : ℕ) (picture : List Painting) → IsBlind x → IsPlainGround s → OpenPagePrints x us s p picture
     → BodyPlaces (OpenRuns x false) (still s) frame us k p picture
 own_body_places x frame us s k p picture blind g (complete, apart, q) =
-    let alike = kept_runs_alike (page_of us p) apart complete in
+    let alike = kept_runs_alike (document_page us p) apart complete in
     let paints : OpenPaintsAlone x s (tokens (body_of_page us p)) picture =
-    subst (λ ts. OpenPaintsAlone x s ts picture) (sym alike.0) (open_paints x s (tokens (page_of us p)) picture blind g q) in
+    subst (λ ts. OpenPaintsAlone x s ts picture) (sym alike.0) (open_paints x s (tokens (document_page us p)) picture blind g q) in
     (alike.1, λ item. page_places x s (record { placed = record { numbers = numbers_of frame item; body = tokens (body_of_page us p) }; picture = picture }) blind.placeless g.ground paints)

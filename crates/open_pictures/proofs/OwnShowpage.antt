@@ -24,13 +24,13 @@ use Rattle.pictures.proofs.Sheets.{Places, fresh, still_leaves}
 use Rattle.pictures.proofs.Output.{undressed_is_quiet}
 use Rattle.pictures.specs.Shelter.{outline_tokens, sheltered}
 use Rattle.pictures.specs.Lines.{with_asking}
-use Rattle.pictures.specs.Pages.{around, shown_at}
+use Rattle.pictures.specs.Pages.{around, state_after_sheets}
 use Rattle.pictures.specs.OwnShowpage.{HasItsOwn, asking}
 use Rattle.pictures.proofs.GuardedImposed.{telling_is_quiet}
 use Rattle.pictures.proofs.OwnShowpage.{own_on_paper, own_page_runs, own_anyway, own_after, same_graphics, own_prints}
 use Rattle.open_pictures.specs.Machine.{Further, OpenRuns}
 use Rattle.open_pictures.specs.Blindness.{Extends, RunsPreambles}
-use Rattle.open_pictures.specs.Documents.{begun, OpenPreambleRuns}
+use Rattle.open_pictures.specs.Documents.{begun_machine, OpenPreambleRuns}
 use Rattle.open_pictures.proofs.Runs.{open_are_runs}
 use Rattle.open_pictures.proofs.More.{extended_runs}
 use Rattle.open_pictures.specs.Shelter.{IsPlacelessThere, OpenPaintsSheltered}
@@ -59,7 +59,7 @@ own_places x z d s k y blind q h p =
 own_is_shown : (x z : Further) (w : Work) (sheet : Option Paper) (border : Option Border) (dress : Dress) (all : List MadeSheet) (text : List ℕ) (us : List NestedUnit) (picture : ℕ → List Painting) (d : ℕ) (s : State)
     → IsPlacelessThere x → RunsPreambles x z → IsQuiet dress → document_of text ≡ Ok us → length (guarded sheet text) ≤ most_input_bytes → comments_apart_with dress.header (units_of (guarded sheet text)) ≡ true
     → OpenPreambleRuns z w (HasItsOwn d) (bytes_of (preamble (units_of (guarded sheet text)))) s → FirstHas 1 all → OnSheetsFrom (OpenPaintsFrom x border us picture (asking d s)) 0 all
-    → OpenRuns z false (begun w (tokens (made_output border dress all (units_of (guarded sheet text))))) (shown_at (asking d s) border (units_of (guarded sheet text)) picture all)
+    → OpenRuns z false (begun_machine w (tokens (made_output border dress all (units_of (guarded sheet text))))) (state_after_sheets (asking d s) border (units_of (guarded sheet text)) picture all)
 own_is_shown x z w sheet border dress all text us picture d s blind runs quiet doc few apart (complete, run, left, painted, printed, own) has h =
     states_are_shown x z w (asking d s) 1 sheet border dress all text us picture (λ k y j. own_places x z d s k y blind runs.extends own j) (own_prints (OpenRuns z false) (open_are_runs z) d s own)
     runs quiet doc few apart complete run left painted has h

@@ -5,10 +5,10 @@ use Rattle.std.proofs.Common.{◌≡◌, ℕ, refl, ap, ◌∙◌, sym, Bool, tr
 use Rattle.rules.specs.Parts.{NestedUnit}
 use Rattle.pictures.specs.Objects.{Token, Name, Object}
 use Rattle.pictures.specs.Machine.{State, Painting, steps}
-use Rattle.pictures.specs.Scanner.{tokens, IsComplete}
+use Rattle.pictures.specs.Scanner.{tokens, EndsBetweenTokens}
 use Rattle.pictures.specs.Kept.{page_comments_apart}
 use Rattle.pictures.specs.Sheets.{run_of}
-use Rattle.pictures.specs.Documents.{page_of}
+use Rattle.pictures.specs.Documents.{document_page}
 use Rattle.pictures.specs.Unaware.{PagePrintsBy, absent, none_before, is_in}
 use Rattle.pictures.proofs.Tests.{first, second}
 use Rattle.pictures.proofs.Own.{nothing_behind, absent_means}
@@ -47,10 +47,10 @@ empty_is (o ∷ os) e = absurd (true≢false (sym e))
 
 -- the page's run, as far as its showpage
 abbrev pub page_run : (unaware : State → Option State) → List NestedUnit → State → (p count : ℕ) → Option State
-page_run unaware us s p count = steps unaware count (run_of (tokens (page_of us p)) s)
+page_run unaware us s p count = steps unaware count (run_of (tokens (document_page us p)) s)
 
 prints_on : (free unaware : State → Option State) (us : List NestedUnit) (s : State) (p count : ℕ) (r : Option State)
-    → s.work.operands ≡ [] → is_in 0 s.work.dictionaries ≡ true → IsComplete (page_of us p) → page_comments_apart (page_of us p) ≡ true
+    → s.work.operands ≡ [] → is_in 0 s.work.dictionaries ≡ true → EndsBetweenTokens (document_page us p) → page_comments_apart (document_page us p) ≡ true
     → page_run unaware us s p count ≡ r → ends_well s r ≡ true → PagePrintsBy free unaware us s p (painted_by r)
 prints_on free unaware us s p count None empty has_userdict complete apart q e = absurd (true≢false (sym e))
 prints_on free unaware us s p count (Some at) empty has_userdict complete apart q e =
@@ -79,7 +79,7 @@ prints_on free unaware us s p count (Some at) empty has_userdict complete apart 
     )
 
 pub prints : (free unaware : State → Option State) (us : List NestedUnit) (s : State) (p count : ℕ) → s.work.operands ≡ [] → is_in 0 s.work.dictionaries ≡ true
-    → IsComplete (page_of us p) → page_comments_apart (page_of us p) ≡ true → ends_well s (page_run unaware us s p count) ≡ true
+    → EndsBetweenTokens (document_page us p) → page_comments_apart (document_page us p) ≡ true → ends_well s (page_run unaware us s p count) ≡ true
     → PagePrintsBy free unaware us s p (painted_by (page_run unaware us s p count))
 prints free unaware us s p count empty has_userdict complete apart e =
     prints_on free unaware us s p count (page_run unaware us s p count) empty has_userdict complete apart refl e

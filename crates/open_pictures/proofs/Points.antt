@@ -5,7 +5,7 @@ use Rattle.std.proofs.lemmas.Grind.{flat_map-append}
 use Rattle.std.proofs.lemmas.List.{append_cancel_right}
 use Rattle.std.proofs.lemmas.Slice.Eq.{bytes_eq-Decides}
 use Rattle.pictures.specs.Objects.{Call}
-use Rattle.open_pictures.specs.Points.{written_call, is_same_transformation, end_of, PointIsPlaceless}
+use Rattle.open_pictures.specs.Points.{written_call, is_same_transformation, element_end, PointIsPlaceless}
 
 same_tests : (a b : Bool) → (a ≡ true → b ≡ true) → (b ≡ true → a ≡ true) → a ≡ b
 same_tests true b f g = sym (f refl)
@@ -26,5 +26,5 @@ same_there a b p =
 pub point_is_placeless : PointIsPlaceless
 point_is_placeless p chain [] = refl
 point_is_placeless p chain (x ∷ xs) =
-    ap₂ (λ same start. if same then end_of x.call x.settings start else None) (same_there x.chain chain p.chain)
+    ap₂ (λ same start. if same then element_end x.call x.settings start else None) (same_there x.chain chain p.chain)
     (point_is_placeless p chain xs)

@@ -3,7 +3,7 @@
 use Rattle.std.specs.Prelude.{Option, Some, None, codes}
 use Rattle.std.proofs.Common.{◌≡◌, refl, ap, ◌∙◌, sym, Bool, true, false, not, ◌&&◌, List, [], ◌∷◌, true≢false}
 use Rattle.pictures.specs.Objects.{Object, Call}
-use Rattle.pictures.specs.Dictionaries.{entry_of, has}
+use Rattle.pictures.specs.Dictionaries.{dictionary_entry, has}
 use Rattle.pictures.specs.Operators.{all_are_old, all_old}
 use Rattle.pictures.specs.Machine.{State, Graphics, Segment, Clip, initial, fonts}
 use Rattle.pictures.specs.Sheets.{IsGround, sheet_names}
@@ -52,7 +52,7 @@ ran s = is_nil s.left && (is_nil s.painted && (is_nil s.sheets && (is_nil s.stac
 abbrev names_apart : State → Bool
 names_apart s =
     all_absent sheet_names s.work.dictionaries s.work.entries
-    && (not (has (entry_of 0 (codes "showpage") s.work.entries)) && not (has (entry_of 0 (codes "ImposeSave") s.work.entries)))
+    && (not (has (dictionary_entry 0 (codes "showpage") s.work.entries)) && not (has (dictionary_entry 0 (codes "ImposeSave") s.work.entries)))
 
 abbrev is_plain : State → Bool
 is_plain s = no_saved_in s.work.entries && (is_in 0 s.work.dictionaries && all_old s.work.made s.work.dictionaries)
@@ -112,9 +112,9 @@ ready (Some s) e =
         operands = ap no_saved operands;
         entries = first (no_saved_in s.work.entries) _ last;
         has_userdict = first (is_in 0 s.work.dictionaries) _ old;
-        no_showpage = none_if (entry_of 0 (codes "showpage") s.work.entries)
-            (not_true (has (entry_of 0 (codes "showpage") s.work.entries)) (first (not (has (entry_of 0 (codes "showpage") s.work.entries))) _ puts));
-        no_save = none_if (entry_of 0 (codes "ImposeSave") s.work.entries)
-            (not_true (has (entry_of 0 (codes "ImposeSave") s.work.entries)) (second (not (has (entry_of 0 (codes "showpage") s.work.entries))) _ puts));
+        no_showpage = none_if (dictionary_entry 0 (codes "showpage") s.work.entries)
+            (not_true (has (dictionary_entry 0 (codes "showpage") s.work.entries)) (first (not (has (dictionary_entry 0 (codes "showpage") s.work.entries))) _ puts));
+        no_save = none_if (dictionary_entry 0 (codes "ImposeSave") s.work.entries)
+            (not_true (has (dictionary_entry 0 (codes "ImposeSave") s.work.entries)) (second (not (has (dictionary_entry 0 (codes "showpage") s.work.entries))) _ puts));
       };
     }

@@ -4,7 +4,7 @@ use Rattle.std.proofs.Common.{◌≡◌, ℕ, ◌<◌, ◌∙◌, subst, List, [
 use Rattle.rules.specs.Parts.{NestedUnit, pages, preamble, bytes_of}
 use Rattle.rules.specs.Run.{document_of}
 use Rattle.pictures.specs.Machine.{State, Painting, steps}
-use Rattle.pictures.specs.Scanner.{tokens, IsComplete}
+use Rattle.pictures.specs.Scanner.{tokens, EndsBetweenTokens}
 use Rattle.pictures.specs.Sheets.{IsGround}
 use Rattle.pictures.specs.Kept.{comments_apart_with, preamble_comments_apart}
 use Rattle.pictures.proofs.Output.{on_sheets}
@@ -12,12 +12,12 @@ use Rattle.pictures.proofs.DocumentRun.{on_all_sheets}
 use Rattle.pictures.specs.DocumentRun.{OnPages}
 use Rattle.open_pictures.specs.Machine.{open_step}
 use Rattle.open_pictures.specs.Blindness.{IsBlind}
-use Rattle.open_pictures.specs.Documents.{begun, plain_work, OpenPreambleRuns, OpenPagePrints}
+use Rattle.open_pictures.specs.Documents.{begun_machine, plain_work, OpenPreambleRuns, OpenPagePrints}
 use Rattle.open_pictures.specs.Values.{values, no_others}
 use Rattle.open_pictures.proofs.Nowhere.{placeless_runs_preambles}
 use Rattle.open_pictures.proofs.Imposed.{open_made_sheets_show_the_pages, open_sheets_show_the_pages}
 use Rattle.open_pictures.proofs.Values.{no_others_ask, values_are_blind}
-use Rattle.open_pictures.specs.RealDocuments.{IsShown}
+use Rattle.open_pictures.specs.RealDocuments.{IsDocumentShown}
 use Rattle.open_pictures.proofs.Preambles.{reached, is_ready, ready}
 
 pub blind : IsBlind values
@@ -30,9 +30,9 @@ apart_with (l ∷ lines) us none some = some
 
 -- it is accepted, and its preamble, in so many steps, leaves what the law asks
 pub shown : (text : List ℕ) (us : List NestedUnit) (r : Option State) (steps_of count : ℕ) (picture : ℕ → List Painting) → document_of text ≡ Ok us
-    → preamble_comments_apart us ≡ true → comments_apart_with ([] ∷ []) us ≡ true → length (pages us) ≡ count → IsComplete (bytes_of (preamble us))
-    → steps (open_step values false) steps_of (begun plain_work (tokens (bytes_of (preamble us)))) ≡ r → is_ready r ≡ true
-    → ((p : ℕ) → p < count → OpenPagePrints values us (reached r) p (picture p)) → IsShown text count
+    → preamble_comments_apart us ≡ true → comments_apart_with ([] ∷ []) us ≡ true → length (pages us) ≡ count → EndsBetweenTokens (bytes_of (preamble us))
+    → steps (open_step values false) steps_of (begun_machine plain_work (tokens (bytes_of (preamble us)))) ≡ r → is_ready r ≡ true
+    → ((p : ℕ) → p < count → OpenPagePrints values us (reached r) p (picture p)) → IsDocumentShown text count
 shown text us r steps_of count picture document apart beside pages complete run e prints =
     let z = ready r e in
     let s : State = reached r in

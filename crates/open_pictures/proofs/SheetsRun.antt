@@ -12,15 +12,15 @@ use Rattle.rules.specs.Made.{MadeSlot, Blank, Placed, MadeSheet}
 use Rattle.rules.specs.Dress.{Dress, lines_text}
 use Rattle.rules.specs.MadeOutput.{made_slot_text, made_sheet_text, dressed_preamble, made_output}
 use Rattle.papers.specs.Told.{telling_of}
-use Rattle.dressing.specs.Drawn.{marked}
+use Rattle.dressing.specs.Drawn.{strokes_added}
 use Rattle.dressing.specs.declared.strokes.Stroke.{Stroke}
 use Rattle.pictures.specs.Objects.{Token, Name}
 use Rattle.pictures.specs.Machine.{State, Graphics, Painting}
-use Rattle.pictures.specs.Scanner.{Reading, Between, tokens, IsComplete}
+use Rattle.pictures.specs.Scanner.{Reading, Between, tokens, EndsBetweenTokens}
 use Rattle.pictures.specs.Scanner as Scanner
 use Rattle.pictures.specs.Kept.{comments_apart_with}
 use Rattle.pictures.specs.Sheets.{Shown, AllOf, sheet_picture}
-use Rattle.pictures.specs.Documents.{body_of_page, frame_of, shown_slot, shown_sheet, OnSlotsFrom}
+use Rattle.pictures.specs.Documents.{body_of_page, page_frame, shown_slot, shown_sheet, OnSlotsFrom}
 use Rattle.pictures.proofs.Runs.{AreRuns}
 use Rattle.pictures.proofs.Sheets.{Prints, Stays, all_stay, pages_of, pages_run, fresh, still}
 use Rattle.pictures.proofs.Scanned.{tokens_join}
@@ -41,7 +41,7 @@ sheet_tokens border told strokes us picture sheet =
     start_tokens told sheet.paper ++ (pages_of (shown_sheet border us picture sheet) ++ (mark_tokens strokes ++ (Name (codes "showpage") ∷ [])))
 
 abbrev dress_of : (told : List Paper) → List Stroke → Dress
-dress_of told strokes = marked strokes (telling_of told)
+dress_of told strokes = strokes_added strokes (telling_of told)
 
 sheet_read : (border : Option Border) (told : List Paper) (strokes : List Stroke) (us : List NestedUnit) (picture : ℕ → List Painting) (number : ℕ) (sheet : MadeSheet) → OnSlotsFrom (AreComplete us) 0 sheet.slots
     → Reads Between (made_sheet_text border (dress_of told strokes) (pages us) number sheet) (sheet_tokens border told strokes us picture sheet) Between
@@ -66,7 +66,7 @@ sheet_read border told strokes us picture number sheet h =
 
 -- this holds of each page on these sheets
 abbrev pub WholeBegun : List NestedUnit → State → Paper → ℕ → Type 0
-WholeBegun us at own p = IsComplete (body_of_page us p)
+WholeBegun us at own p = EndsBetweenTokens (body_of_page us p)
 
 sheets_read : (border : Option Border) (told : List Paper) (strokes : List Stroke) (us : List NestedUnit) (picture : ℕ → List Painting) (number : ℕ) (s : State) (all : List MadeSheet) → OnSheetsBegun told (WholeBegun us) s all
     → Reads Between (flat_map (λ (n, sheet). made_sheet_text border (dress_of told strokes) (pages us) n sheet) (enumerate_from number all)) (flat_map (sheet_tokens border told strokes us picture) all) Between
@@ -79,7 +79,7 @@ sheets_read border told strokes us picture number s (sheet ∷ all) h =
     (sheets_read border told strokes us picture (number + 1) (begun_on told sheet.paper s) all h.1)
 
 output_cut : (border : Option Border) (told : List Paper) (strokes : List Stroke) (us : List NestedUnit) (picture : ℕ → List Painting) (s : State) (all : List MadeSheet)
-    → IsComplete (dressed_preamble (length all) (telling_of told).header us) → OnSheetsBegun told (WholeBegun us) s all
+    → EndsBetweenTokens (dressed_preamble (length all) (telling_of told).header us) → OnSheetsBegun told (WholeBegun us) s all
     → tokens (made_output border (dress_of told strokes) all us)
     ≡ tokens (dressed_preamble (length all) (telling_of told).header us) ++ (flat_map (sheet_tokens border told strokes us picture) all ++ tokens (trailer_text us))
 output_cut border told strokes us picture s all complete h =
@@ -90,7 +90,7 @@ output_cut border told strokes us picture s all complete h =
     let both : Reads Between (begun ++ middle) (tokens begun ++ shown) Between =
     reads_join Between Between Between begun middle (tokens begun) shown (complete_read begun complete) (sheets_read border told strokes us picture 0 s all h) in
     tokens_join (begun ++ middle) (trailer_text us) (ap (λ x. x.1) both)
-    ∙ ap (λ ts. ts ++ last) (ap (λ x. x.0 ++ Scanner.ended x.1) both ∙ append-nil (tokens begun ++ shown))
+    ∙ ap (λ ts. ts ++ last) (ap (λ x. x.0 ++ Scanner.ended_token x.1) both ∙ append-nil (tokens begun ++ shown))
     ∙ append_assoc (tokens begun) shown last
 
 -- What the lines do in a machine, in states of which something holds.
@@ -105,7 +105,7 @@ pub record RunsLines (R : State → State → Type 0) (told : List Paper) (strok
 
 -- what is kept of a page is placed, and paints this
 abbrev pub BodyBegun : (State → State → Type 0) → Option Border → List NestedUnit → (ℕ → List Painting) → State → Paper → ℕ → Type 0
-BodyBegun R border us picture at own p = BodyPlaces R (still at) (frame_of border own) us 0 p (picture p)
+BodyBegun R border us picture at own p = BodyPlaces R (still at) (page_frame border own) us 0 p (picture p)
 
 slots_stay : (R : State → State → Type 0) (border : Option Border) (us : List NestedUnit) (picture : ℕ → List Painting) (s : State) (k : ℕ) (slots : List MadeSlot)
     → OnSlotsFrom (λ n. BodyBegun R border us picture s) k slots → AllOf (Stays R s) (flat_map (shown_slot border us picture) slots)

@@ -5,13 +5,13 @@ use Rattle.pictures.specs.Machine.{State, step, steps, and_then}
 use Rattle.pictures.specs.Sheets.{Numbers}
 use Rattle.pictures.proofs.Runs.{follow}
 use Rattle.pictures.specs.Shelter.{Outer, shelter_step, outline_tokens}
-use Rattle.pictures.specs.Pages.{Around, placed_at, IsOnPaper}
+use Rattle.pictures.specs.Pages.{AroundGuarded, placed_at, IsOnPaper}
 use Rattle.pictures.proofs.Sheltering.{shelter_commutes}
 use Rattle.open_pictures.specs.Machine.{Further, or_further, open_step, OpenRuns}
 use Rattle.open_pictures.proofs.Runs.{open_none, open_one, open_runs}
 use Rattle.open_pictures.specs.Shelter.{open_shelter_step, IsPlacelessThere, OpenShelterCommutes}
 
-there : (x : Further) (n : Numbers) (outers : List Outer) (a : Around) (s t : State) (r : Option State) → step false s ≡ r → IsPlacelessThere x → IsOnPaper n outers a
+there : (x : Further) (n : Numbers) (outers : List Outer) (a : AroundGuarded) (s t : State) (r : Option State) → step false s ≡ r → IsPlacelessThere x → IsOnPaper n outers a
     → or_further r (shelter_step outers (outline_tokens n) s) (x s) ≡ Some t → OpenRuns x false (placed_at a s) (placed_at a t)
 there x n outers a s t None e p q k =
     let z = p a s t e k in

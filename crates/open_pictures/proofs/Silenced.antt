@@ -23,14 +23,14 @@ use Rattle.pictures.specs.Imposed.{IsQuiet}
 use Rattle.pictures.proofs.Sheets.{Places, fresh, still_leaves}
 use Rattle.pictures.proofs.Output.{undressed_is_quiet}
 use Rattle.pictures.specs.Shelter.{outline_tokens, sheltered}
-use Rattle.pictures.specs.Silenced.{IsSilenced, with_showpage, showing}
-use Rattle.pictures.specs.Pages.{around, shown_at}
+use Rattle.pictures.specs.Silenced.{IsSilenced, with_showpage, after_pages}
+use Rattle.pictures.specs.Pages.{around, state_after_sheets}
 use Rattle.pictures.proofs.GuardedImposed.{telling_is_quiet}
 use Rattle.pictures.proofs.GuardedPlaced.{on_paper, takes_pages}
 use Rattle.pictures.proofs.Silenced.{silenced_page_runs, silenced_anyway, silenced_prints}
 use Rattle.open_pictures.specs.Machine.{Further, OpenRuns}
 use Rattle.open_pictures.specs.Blindness.{Extends, RunsPreambles}
-use Rattle.open_pictures.specs.Documents.{begun, OpenPreambleRuns}
+use Rattle.open_pictures.specs.Documents.{begun_machine, OpenPreambleRuns}
 use Rattle.open_pictures.proofs.Runs.{open_are_runs}
 use Rattle.open_pictures.proofs.More.{extended_runs}
 use Rattle.open_pictures.specs.Shelter.{IsPlacelessThere, OpenPaintsSheltered}
@@ -50,7 +50,7 @@ open_silenced_page_is_placed x s y rest blind h p =
 
 -- with more operators too, whatever is painted and printed before: the first page puts the showpage there, and others find it
 silenced_places : (x z : Further) (s : State) (k : ℕ) (y : Shown) → IsPlacelessThere x → Extends x z → IsSilenced s
-    → OpenPaintsSheltered x [] (showing s (suc k)) (outline_tokens y.placed.numbers) y.placed.body y.picture → Places (OpenRuns z false) (showing s) s.graphics k y
+    → OpenPaintsSheltered x [] (after_pages s (suc k)) (outline_tokens y.placed.numbers) y.placed.body y.picture → Places (OpenRuns z false) (after_pages s) s.graphics k y
 silenced_places x z s zero y blind q h p ps sheets rest =
     extended_runs x z (fresh s (placed_tokens y.placed ++ rest) ps sheets) (fresh (with_showpage s) rest (page_picture s.graphics y ++ ps) sheets) q
     (open_silenced_page_is_placed x (record s { painted = ps; sheets = sheets }) y rest blind (silenced_anyway s ps sheets h)
@@ -62,10 +62,10 @@ silenced_places x z s (suc k) y blind q h p ps sheets rest =
 
 silenced_is_shown : (x z : Further) (w : Work) (sheet : Option Paper) (border : Option Border) (dress : Dress) (all : List MadeSheet) (text : List ℕ) (us : List NestedUnit) (picture : ℕ → List Painting) (s : State)
     → IsPlacelessThere x → RunsPreambles x z → IsQuiet dress → document_of text ≡ Ok us → length (guarded sheet text) ≤ most_input_bytes → comments_apart_with dress.header (units_of (guarded sheet text)) ≡ true
-    → OpenPreambleRuns z w IsSilenced (bytes_of (preamble (units_of (guarded sheet text)))) s → FirstHas 1 all → OnSheetsFrom (OpenPaintsFrom x border us picture (showing s)) 0 all
-    → OpenRuns z false (begun w (tokens (made_output border dress all (units_of (guarded sheet text))))) (shown_at (showing s) border (units_of (guarded sheet text)) picture all)
+    → OpenPreambleRuns z w IsSilenced (bytes_of (preamble (units_of (guarded sheet text)))) s → FirstHas 1 all → OnSheetsFrom (OpenPaintsFrom x border us picture (after_pages s)) 0 all
+    → OpenRuns z false (begun_machine w (tokens (made_output border dress all (units_of (guarded sheet text))))) (state_after_sheets (after_pages s) border (units_of (guarded sheet text)) picture all)
 silenced_is_shown x z w sheet border dress all text us picture s blind runs quiet doc few apart (complete, run, left, painted, printed, silenced) has h =
-    states_are_shown x z w (showing s) 1 sheet border dress all text us picture (λ k y j. silenced_places x z s k y blind runs.extends silenced j) (silenced_prints (OpenRuns z false) (open_are_runs z) s silenced)
+    states_are_shown x z w (after_pages s) 1 sheet border dress all text us picture (λ k y j. silenced_places x z s k y blind runs.extends silenced j) (silenced_prints (OpenRuns z false) (open_are_runs z) s silenced)
     runs quiet doc few apart complete run left painted has h
 
 pub open_silenced_made_document_is_shown : OpenSilencedMadeDocumentIsShown
@@ -74,5 +74,5 @@ open_silenced_made_document_is_shown x z w sheet border all text us picture s bl
 
 pub open_silenced_document_is_shown : OpenSilencedDocumentIsShown
 open_silenced_document_is_shown x z w sheet frame sides spec text us picture s blind runs doc few apart run has h =
-    by_specification_shown z w (showing s) frame sides spec us (units_of (guarded sheet text)) picture (guard_stays sheet text us doc few).1.same_pages
+    by_specification_shown z w (after_pages s) frame sides spec us (units_of (guarded sheet text)) picture (guard_stays sheet text us doc few).1.same_pages
     (silenced_is_shown x z w sheet frame.border undressed (all_sheets frame sides spec us) text us picture s blind runs undressed_is_quiet doc few apart run has h)

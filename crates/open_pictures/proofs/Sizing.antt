@@ -7,10 +7,10 @@ use Rattle.rules.specs.Dress.{lines_text}
 use Rattle.papers.specs.Told.{page_size_lines}
 use Rattle.dressing.specs.declared.strokes.Stroke.{Stroke}
 use Rattle.pictures.specs.Objects.{Token, Number, Name, Literal, Bound, Opens, Closes, Object, Plain, Truth, Mark, Array, Procedure, Dictionary, SystemDictionary, Operator, Looks, SetsDevice}
-use Rattle.pictures.specs.Dictionaries.{Entry, meaning, system, entry_of, has, or, is_lacked}
+use Rattle.pictures.specs.Dictionaries.{DictionaryEntry, meaning, system, dictionary_entry, has, or, is_lacked}
 use Rattle.pictures.specs.Operators.{holder, located, with_operands}
 use Rattle.pictures.specs.Machine.{State, Graphics, Painting, push, initial, worked, meant, Runs}
-use Rattle.pictures.specs.Scanner.{ended, tokens}
+use Rattle.pictures.specs.Scanner.{ended_token, tokens}
 use Rattle.pictures.specs.Sheets.{run_of, among}
 use Rattle.pictures.proofs.Runs.{runs_one, runs_none, runs_join}
 use Rattle.pictures.proofs.Sheets.{fresh}
@@ -25,7 +25,7 @@ use Rattle.pictures.proofs.PutThere.{not_has}
 use Rattle.pictures.proofs.Ground.{stays_guarded}
 use Rattle.pictures.proofs.SheetsOfSheets.{operands_old, dictionaries_old}
 use Rattle.open_pictures.specs.Marks.{marking_names}
-use Rattle.open_pictures.specs.Sizes.{sizing_names, size_by, sized_by, sized, SizeIsSet}
+use Rattle.open_pictures.specs.Sizes.{sizing_names, size_by, sized_by, sized, DeviceSizeIsSet}
 use Rattle.open_pictures.specs.DressedDocuments.{TakesLines}
 use Rattle.open_pictures.proofs.LinesRead.{flag_tokens, other_tokens, asking_tokens, setting_tokens, known_tokens, size_tokens, size_read}
 
@@ -33,10 +33,10 @@ abbrev pub flag : List ℕ
 flag = codes "PStoPSenablepage"
 
 -- a name that no dictionary on the stack has is systemdict's
-none_means : (ds : List ℕ) (es : List Entry) (name : List ℕ) → holder ds es name ≡ None → meaning ds es name ≡ system name
+none_means : (ds : List ℕ) (es : List DictionaryEntry) (name : List ℕ) → holder ds es name ≡ None → meaning ds es name ≡ system name
 none_means [] es name e = refl
 none_means (d ∷ ds) es name e =
-    let here : Option Object = entry_of d name es in
+    let here : Option Object = dictionary_entry d name es in
     by_test (has here)
     (λ t. absurd (true≢false (ap is_none (sym e ∙ ap (λ b. if b then Some d else holder ds es name) t))))
     (λ f. ap (λ x. or x (meaning ds es name)) (not_has here f)
@@ -133,10 +133,10 @@ asked_and_called s paper l k asks =
     runs_join false (run_of (asking_tokens ++ knowing) s) (run_of knowing (push (Truth true) s)) (run_of (Bound device ∷ l) (push (Dictionary (s.work.made + 1)) (sized paper s)))
     (asks knowing) (called s w h l k)
 
-pub size_is_set : SizeIsSet
+pub size_is_set : DeviceSizeIsSet
 size_is_set s paper rest k f =
     let e = size_read paper in
-    let same : tokens (lines_text (page_size_lines paper)) ≡ size_tokens paper = ap (λ x. x.0 ++ ended x.1) e ∙ append-nil (size_tokens paper) in
+    let same : tokens (lines_text (page_size_lines paper)) ≡ size_tokens paper = ap (λ x. x.0 ++ ended_token x.1) e ∙ append-nil (size_tokens paper) in
     subst (λ ts. Runs false (run_of (ts ++ rest) s) (run_of (Bound device ∷ rest) (push (Dictionary (s.work.made + 1)) (sized paper s)))) (sym same)
     (asked_and_called s paper rest k (λ m. asked s m k (held s f) f))
 
@@ -185,7 +185,7 @@ same_level s = omega arith
 pub guarded_still : (s : State) (paper : Paper) → IsGuarded s → IsGuarded (sized paper s)
 guarded_still s paper g =
     let made : ℕ = s.work.made in
-    let e : Entry = size_by (points_text paper.width) (points_text paper.height) (made + 1) in
+    let e : DictionaryEntry = size_by (points_text paper.width) (points_text paper.height) (made + 1) in
     let there : IsGuarded (defined e s) = stays_guarded s e g refl in
     let h : HasGuard (defined e s).work s.level = there.guard in
     let guard : HasGuard (sized paper s).work s.level = record {

@@ -4,14 +4,14 @@ use Rattle.std.proofs.Common.{◌≡◌, ℕ, refl, ap, ap₂, ◌∙◌, sym, s
 use Rattle.std.proofs.Math.Path.{fun_ext}
 use Rattle.std.proofs.lemmas.List.{map-append}
 use Rattle.pictures.specs.Objects.{Object, Procedure, Saved, Kind}
-use Rattle.pictures.specs.Dictionaries.{Entry, entry_of, or}
-use Rattle.pictures.specs.Machine.{Kept}
+use Rattle.pictures.specs.Dictionaries.{DictionaryEntry, dictionary_entry, or}
+use Rattle.pictures.specs.Machine.{KeptMatrix}
 use Rattle.pictures.specs.Unaware.{is_saved, no_saved, no_saved_in}
-use Rattle.pictures.specs.Shifted.{up, ups, Agree, up_work}
+use Rattle.pictures.specs.Shifted.{one_save_more, ups, AgreeShifted, up_work}
 use Rattle.pictures.proofs.Tests.{first, second}
 use Rattle.pictures.proofs.Shifted.{ups_same}
 use Rattle.pictures.proofs.Names.{agrees_put}
-use Rattle.open_pictures.specs.Operators.{Sight, Outcome, Blind, Stop, AtName, AtOperands, entry, TakesOthers, AsksForNone, IsOutside}
+use Rattle.open_pictures.specs.Operators.{Visible, Outcome, Blind, Stop, AtName, AtOperands, table_entry, TakesOthers, AsksForNone, FailsOnOperands}
 use Rattle.open_pictures.specs.Shelter.{SeesNoMatrices}
 use Rattle.open_pictures.specs.Stores.{Store, Given, Change, Valued, above_save, from_save, is_put, unlevelled, seen, given_of, changed_work, change_made, by_store, or_else, by_stores, FormsTakeOthers}
 use Rattle.open_pictures.specs.Stores.{StoresAskForNone, StoresSeeNoMatrices, StoresAreBlind, StoresArePlacelessThere}
@@ -20,7 +20,7 @@ use Rattle.open_pictures.proofs.GuardedOperators.{tables_are_placeless_there}
 
 -- What is seen is the same.
 
-unlevelled_up : (o : Object) → unlevelled (up o) ≡ unlevelled o
+unlevelled_up : (o : Object) → unlevelled (one_save_more o) ≡ unlevelled o
 unlevelled_up (Saved level) = refl
 unlevelled_up o = refl
 
@@ -30,18 +30,18 @@ not_two n d true b e = absurd (true≢false e)
 not_two n d false true e = absurd (true≢false e)
 not_two n d false false e = refl
 
-seen_up : (x y : Option Object) → x ≡ or (option_map up y) None → option_map unlevelled x ≡ option_map unlevelled y
+seen_up : (x y : Option Object) → x ≡ or (option_map one_save_more y) None → option_map unlevelled x ≡ option_map unlevelled y
 seen_up x None e = ap (option_map unlevelled) e
 seen_up x (Some o) e = ap (option_map unlevelled) e ∙ ap Some (unlevelled_up o)
 
-seen_if : (n d : ℕ) (k : List ℕ) (es fs : List Entry) (b : Bool) → is_put k ≡ b → Agree n es fs
-    → (if b then None else option_map unlevelled (entry_of d k es)) ≡ (if b then None else option_map unlevelled (entry_of d k fs))
+seen_if : (n d : ℕ) (k : List ℕ) (es fs : List DictionaryEntry) (b : Bool) → is_put k ≡ b → AgreeShifted n es fs
+    → (if b then None else option_map unlevelled (dictionary_entry d k es)) ≡ (if b then None else option_map unlevelled (dictionary_entry d k fs))
 seen_if n d k es fs true e a = refl
 seen_if n d k es fs false e a =
-    seen_up (entry_of d k es) (entry_of d k fs)
-    (a d k ∙ ap (or (option_map up (entry_of d k fs))) (not_two n d (bytes_eq (codes "showpage") k) (bytes_eq (codes "ImposeSave") k) e))
+    seen_up (dictionary_entry d k es) (dictionary_entry d k fs)
+    (a d k ∙ ap (or (option_map one_save_more (dictionary_entry d k fs))) (not_two n d (bytes_eq (codes "showpage") k) (bytes_eq (codes "ImposeSave") k) e))
 
-seen_same : (n : ℕ) (es fs : List Entry) → Agree n es fs → seen es ≡ seen fs
+seen_same : (n : ℕ) (es fs : List DictionaryEntry) → AgreeShifted n es fs → seen es ≡ seen fs
 seen_same n es fs a = fun_ext (λ d. fun_ext (λ k. seen_if n d k es fs (is_put k) refl a))
 
 above_up : (os : List Object) → above_save (ups os) ≡ above_save os
@@ -54,10 +54,10 @@ from_up [] = refl
 from_up (Saved level ∷ os) = refl
 from_up (o ∷ os) = from_up os
 
-abbrev upped : List Entry → Sight → Sight
+abbrev upped : List DictionaryEntry → Visible → Visible
 upped es sight = record sight { work = up_work es sight.work }
 
-abbrev given_with : Sight → List Object → Store → Given
+abbrev given_with : Visible → List Object → Store → Given
 given_with sight os store = record {
   operands = os;
   store = store;
@@ -67,34 +67,34 @@ given_with sight os store = record {
   point = sight.point;
 }
 
-given_same : (n : ℕ) (sight : Sight) (es : List Entry) → Agree n es sight.work.entries → given_of (upped es sight) ≡ given_of sight
+given_same : (n : ℕ) (sight : Visible) (es : List DictionaryEntry) → AgreeShifted n es sight.work.entries → given_of (upped es sight) ≡ given_of sight
 given_same n sight es a =
     ap₂ (given_with sight) (above_up sight.work.operands) (seen_same n es sight.work.entries a)
 
 -- What comes of it is the same.
 
-no_save_same : (o : Object) → not (is_saved o) ≡ true → up o ≡ o
+no_save_same : (o : Object) → not (is_saved o) ≡ true → one_save_more o ≡ o
 no_save_same (Saved level) e = absurd (true≢false (sym e))
 no_save_same o e = refl
 
-puts_agree : (n : ℕ) (puts es fs : List Entry) → no_saved_in puts ≡ true → Agree n es fs → Agree n (puts ++ es) (puts ++ fs)
+puts_agree : (n : ℕ) (puts es fs : List DictionaryEntry) → no_saved_in puts ≡ true → AgreeShifted n es fs → AgreeShifted n (puts ++ es) (puts ++ fs)
 puts_agree n [] es fs e a = a
 puts_agree n (x ∷ puts) es fs e a =
-    subst (λ o. Agree n (record { dictionary = x.dictionary; key = x.key; value = o } ∷ (puts ++ es)) (x ∷ (puts ++ fs)))
+    subst (λ o. AgreeShifted n (record { dictionary = x.dictionary; key = x.key; value = o } ∷ (puts ++ es)) (x ∷ (puts ++ fs)))
     (no_save_same x.value (first _ (no_saved_in puts) e))
     (agrees_put n (puts ++ es) (puts ++ fs) x.dictionary x.key x.value (puts_agree n puts es fs (second _ (no_saved_in puts) e) a))
 
-abbrev Asks : ℕ → Blind → Sight → Outcome → List Entry → Type 0
-Asks m f sight o es = (fs : List Entry) × (f (upped es sight) ≡ Some (record o { work = up_work fs o.work })) × Agree m fs o.work.entries
+abbrev Asks : ℕ → Blind → Visible → Outcome → List DictionaryEntry → Type 0
+Asks m f sight o es = (fs : List DictionaryEntry) × (f (upped es sight) ≡ Some (record o { work = up_work fs o.work })) × AgreeShifted m fs o.work.entries
 
-abbrev made_by : Change → Sight → Outcome
+abbrev made_by : Change → Visible → Outcome
 made_by c sight = record { next = c.next; past = c.past; work = changed_work c sight.work; kept = sight.kept; strokes = c.strokes }
 
 operands_up : (os ps : List Object) → no_saved os ≡ true → os ++ from_save (ups ps) ≡ ups (os ++ from_save ps)
 operands_up os ps e =
-    ap₂ (λ xs ys. xs ++ ys) (sym (ups_same os e)) (from_up ps) ∙ sym (map-append up os (from_save ps))
+    ap₂ (λ xs ys. xs ++ ys) (sym (ups_same os e)) (from_up ps) ∙ sym (map-append one_save_more os (from_save ps))
 
-abbrev with_them : Change → Sight → List Entry → List Object → Outcome
+abbrev with_them : Change → Visible → List DictionaryEntry → List Object → Outcome
 with_them c sight es os = record {
   next = c.next;
   past = c.past;
@@ -103,8 +103,8 @@ with_them c sight es os = record {
   strokes = c.strokes;
 }
 
-on_clean : (g : Valued) (m : ℕ) (sight : Sight) (o : Outcome) (es : List Entry) (c : Change) (b : Bool) → g (given_of sight) ≡ Some c
-    → (no_saved c.operands && no_saved_in c.puts) ≡ b → Agree m es sight.work.entries → (if b then Some (made_by c sight) else None) ≡ Some o
+on_clean : (g : Valued) (m : ℕ) (sight : Visible) (o : Outcome) (es : List DictionaryEntry) (c : Change) (b : Bool) → g (given_of sight) ≡ Some c
+    → (no_saved c.operands && no_saved_in c.puts) ≡ b → AgreeShifted m es sight.work.entries → (if b then Some (made_by c sight) else None) ≡ Some o
     → Asks m (by_store g) sight o es
 on_clean g m sight o es c false t v a k = absurd (never o k)
 on_clean g m sight o es c true t v a k =
@@ -117,8 +117,8 @@ on_clean g m sight o es c true t v a k =
       puts_agree m c.puts es sight.work.entries (second (no_saved c.operands) (no_saved_in c.puts) v) a,
     )
 
-on_change : (g : Valued) (m : ℕ) (sight : Sight) (o : Outcome) (es : List Entry) (r : Option Change) → g (given_of sight) ≡ r
-    → Agree m es sight.work.entries → change_made r sight ≡ Some o → Asks m (by_store g) sight o es
+on_change : (g : Valued) (m : ℕ) (sight : Visible) (o : Outcome) (es : List DictionaryEntry) (r : Option Change) → g (given_of sight) ≡ r
+    → AgreeShifted m es sight.work.entries → change_made r sight ≡ Some o → Asks m (by_store g) sight o es
 on_change g m sight o es None t a k = absurd (never o k)
 on_change g m sight o es (Some c) t a k = on_clean g m sight o es c (no_saved c.operands && no_saved_in c.puts) t refl a k
 
@@ -127,19 +127,19 @@ stores_ask_for_none g m sight o es k a = on_change g m sight o es (g (given_of s
 
 -- Matrices.
 
-abbrev holding : List Kept → Sight → Sight
+abbrev holding : List KeptMatrix → Visible → Visible
 holding ks sight = record sight { kept = ks }
 
-abbrev Holds : List Kept → Sight → Outcome → Option Outcome → Type 0
+abbrev Holds : List KeptMatrix → Visible → Outcome → Option Outcome → Type 0
 Holds ks sight o r = (o.kept ≡ sight.kept) × (r ≡ Some (record o { kept = ks }))
 
-if_clean : (ks : List Kept) (sight : Sight) (o : Outcome) (c : Change) (b : Bool) → (if b then Some (made_by c sight) else None) ≡ Some o
+if_clean : (ks : List KeptMatrix) (sight : Visible) (o : Outcome) (c : Change) (b : Bool) → (if b then Some (made_by c sight) else None) ≡ Some o
     → Holds ks sight o (if b then Some (made_by c (holding ks sight)) else None)
 if_clean ks sight o c false e = absurd (never o e)
 if_clean ks sight o c true e =
     subst (λ z. Holds ks sight z (Some (made_by c (holding ks sight)))) (some_same (made_by c sight) o e) (refl, refl)
 
-if_changed : (ks : List Kept) (sight : Sight) (o : Outcome) (r : Option Change) → change_made r sight ≡ Some o
+if_changed : (ks : List KeptMatrix) (sight : Visible) (o : Outcome) (r : Option Change) → change_made r sight ≡ Some o
     → Holds ks sight o (change_made r (holding ks sight))
 if_changed ks sight o None e = absurd (never o e)
 if_changed ks sight o (Some c) e = if_clean ks sight o c (no_saved c.operands && no_saved_in c.puts) e
@@ -154,8 +154,8 @@ split_at_save [] = refl
 split_at_save (Saved level ∷ os) = refl
 split_at_save (o ∷ os) = ap (λ ps. o ∷ ps) (split_at_save os)
 
-form_outside : (formed : List ℕ → Kind → Valued) (name : List ℕ) (kind : Kind) (sight : Sight) (o : Outcome) (r : Option Change) → formed name kind (given_of sight) ≡ r
-    → FormsTakeOthers formed → change_made r sight ≡ Some o → IsOutside kind sight.work
+form_outside : (formed : List ℕ → Kind → Valued) (name : List ℕ) (kind : Kind) (sight : Visible) (o : Outcome) (r : Option Change) → formed name kind (given_of sight) ≡ r
+    → FormsTakeOthers formed → change_made r sight ≡ Some o → FailsOnOperands kind sight.work
 form_outside formed name kind sight o None t q e = absurd (never o e)
 form_outside formed name kind sight o (Some c) t q e = q name kind sight c t
 
@@ -168,7 +168,7 @@ stores_take_others named formed others q name kind f sight o e k =
 -- what is so of each operator on values, and of the others, is so of all of the table
 all_so : (P : Blind → Type 0) (named : List ℕ → Option Valued) (formed : List ℕ → Kind → Valued) (others : List ℕ → Option Blind)
     → ((g : Valued) → P (by_store g)) → ((name : List ℕ) (f : Blind) → others name ≡ Some f → P f)
-    → (stop : Stop) (f : Blind) → entry (by_stores named formed others) stop ≡ Some f → P f
+    → (stop : Stop) (f : Blind) → table_entry (by_stores named formed others) stop ≡ Some f → P f
 all_so P named formed others p q (AtName name) f e = by_name (named name) e
   where
     by_name : (r : Option Valued) → or_else (option_map by_store r) (others name) ≡ Some f → P f

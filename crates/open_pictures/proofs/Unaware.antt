@@ -2,11 +2,11 @@
 -- same with them, one save further in, and what a free machine does without them; and it prints nothing.
 use Rattle.std.specs.Prelude.{Option, Some, None}
 use Rattle.std.proofs.Common.{◌≡◌, ℕ, refl, ap, ◌∙◌, true, false, List, []}
-use Rattle.pictures.specs.Dictionaries.{Entry}
+use Rattle.pictures.specs.Dictionaries.{DictionaryEntry}
 use Rattle.pictures.specs.Machine.{State, step}
 use Rattle.pictures.specs.Placing.{state_at}
 use Rattle.pictures.specs.Unaware.{unaware_step}
-use Rattle.pictures.specs.Shifted.{Agree, AllAgree, up_state}
+use Rattle.pictures.specs.Shifted.{AgreeShifted, AllAgree, up_state}
 use Rattle.pictures.proofs.Unaware.{unaware_free, GoesOn, AlwaysGoesOn, always_goes}
 use Rattle.pictures.proofs.Own.{unaware_keeps}
 use Rattle.open_pictures.specs.Machine.{Further, or_further, open_step, open_unaware_step}
@@ -34,8 +34,8 @@ open_keeps x p s t e = prints_nothing x s t (step false s) refl p e
 
 -- With the names, and without.
 
-goes_there : (x : Further) (n : ℕ) (s t : State) (es : List Entry) (ess : List (List Entry)) (r : Option State) → step false s ≡ r → IsUnaware x
-    → Agree n es s.work.entries → AllAgree n ess s.saves → or_further r (unaware_step s) (x s) ≡ Some t → GoesOn (open_step x true) n (up_state es ess s) t
+goes_there : (x : Further) (n : ℕ) (s t : State) (es : List DictionaryEntry) (ess : List (List DictionaryEntry)) (r : Option State) → step false s ≡ r → IsUnaware x
+    → AgreeShifted n es s.work.entries → AllAgree n ess s.saves → or_further r (unaware_step s) (x s) ≡ Some t → GoesOn (open_step x true) n (up_state es ess s) t
 goes_there x n s t es ess None e u a h k =
     let z = u n s t es ess e k a h in
     let there : State = up_state es ess s in

@@ -7,12 +7,12 @@ use Rattle.rules.specs.Papers.{Paper}
 use Rattle.rules.specs.Parts.{preamble, bytes_of}
 use Rattle.dressing.specs.declared.strokes.Stroke.{Stroke}
 use Rattle.pictures.specs.Objects.{Token, Number, Name, Literal, Opens, Closes, Object, Plain, Truth, Procedure, Dictionary}
-use Rattle.pictures.specs.Dictionaries.{Entry, system, entry_of, has, is_lacked}
+use Rattle.pictures.specs.Dictionaries.{DictionaryEntry, system, dictionary_entry, has, is_lacked}
 use Rattle.pictures.specs.Operators.{holder, located, with_operands}
 use Rattle.pictures.specs.Machine.{State, Painting, push, worked, Runs}
 use Rattle.pictures.specs.Sheets.{run_of, IsGround, sheet_names}
 use Rattle.pictures.specs.Unaware.{IsPlainGround, PagePrints, absent}
-use Rattle.pictures.specs.Documents.{started, frame_of}
+use Rattle.pictures.specs.Documents.{started, page_frame}
 use Rattle.pictures.proofs.Runs.{AreRuns, free_are_runs, runs_none}
 use Rattle.pictures.proofs.Names.{not_true}
 use Rattle.pictures.proofs.Opening.{is_apart}
@@ -27,7 +27,7 @@ use Rattle.pictures.proofs.Redrawn.{with}
 use Rattle.pictures.proofs.Ground.{entry_other}
 use Rattle.pictures.proofs.SheetsOfSheets.{operands_old, dictionaries_old}
 use Rattle.open_pictures.specs.Machine.{OpenRuns}
-use Rattle.open_pictures.specs.Documents.{begun, OpenPagePrints}
+use Rattle.open_pictures.specs.Documents.{begun_machine, OpenPagePrints}
 use Rattle.open_pictures.proofs.Runs.{open_are_runs}
 use Rattle.open_pictures.proofs.Output.{open_runs_on, still_body}
 use Rattle.open_pictures.proofs.Own.{own_body_places}
@@ -42,10 +42,10 @@ use Rattle.open_pictures.proofs.SheetsRun.{RunsLines, BodyBegun, on_begun, docum
 
 -- psutils' flag isn't there, and userdict has no showpage: so the size is set.
 
-none_holds : (ds : List ℕ) (es : List Entry) (name : List ℕ) → absent ds es name ≡ true → holder ds es name ≡ None
+none_holds : (ds : List ℕ) (es : List DictionaryEntry) (name : List ℕ) → absent ds es name ≡ true → holder ds es name ≡ None
 none_holds [] es name e = refl
 none_holds (d ∷ ds) es name e =
-    let here : Option Object = entry_of d name es in
+    let here : Option Object = dictionary_entry d name es in
     ap (λ b. if b then Some d else holder ds es name) (not_true (has here) (first (not (has here)) (absent ds es name) e))
     ∙ none_holds ds es name (second (not (has here)) (absent ds es name) e)
 
@@ -53,7 +53,7 @@ two_there : (a b : Object) (os : List Object) → nat_le 2 (length (a ∷ b ∷ 
 two_there a b os = le-leb 2 (length (a ∷ b ∷ os)) (omega arith)
 
 asked_plainly : (s : State) (l : List Token) → Known sizing_names s.work → Known asking_names s.work → absent s.work.dictionaries s.work.entries flag ≡ true
-    → entry_of 0 (codes "showpage") s.work.entries ≡ None → Runs false (run_of (asking_tokens ++ l) s) (run_of l (push (Truth true) s))
+    → dictionary_entry 0 (codes "showpage") s.work.entries ≡ None → Runs false (run_of (asking_tokens ++ l) s) (run_of l (push (Truth true) s))
 asked_plainly s l k q away none =
     let os : List Object = s.work.operands in
     let key : Object = Plain (Literal (codes "showpage")) in
@@ -118,10 +118,10 @@ ground_still s paper p =
       no_save = p.no_save;
     }
 
-absent_still : (ds : List ℕ) (es : List Entry) (name : List ℕ) (e : Entry) → bytes_eq e.key name ≡ false → absent ds es name ≡ true → absent ds (e ∷ es) name ≡ true
+absent_still : (ds : List ℕ) (es : List DictionaryEntry) (name : List ℕ) (e : DictionaryEntry) → bytes_eq e.key name ≡ false → absent ds es name ≡ true → absent ds (e ∷ es) name ≡ true
 absent_still [] es name e other h = refl
 absent_still (d ∷ ds) es name e other h =
-    let here : Option Object = entry_of d name es in
+    let here : Option Object = dictionary_entry d name es in
     ap (λ x. not (has x) && absent ds (e ∷ es) name) (entry_other d e es name other)
     ∙ both_true (not (has here)) (absent ds (e ∷ es) name) (first (not (has here)) (absent ds es name) h)
     (absent_still ds es name e other (second (not (has here)) (absent ds es name) h))
@@ -166,14 +166,14 @@ dressed_sheets_show_the_pages border strokes all text us picture s d apart (comp
     document_is_dressed (Runs false) free_are_runs started border told strokes all text us picture s (TakesPlain told strokes) lines (g, takes) d apart
     (free_runs_on (bytes_of (preamble us)) s complete run left) painted
     (on_begun told (TakesPlain told strokes) (λ at own p. PagePrints us at p (picture p)) (BodyBegun (Runs false) border us picture) lines.stays
-    (λ at own p i x. body_places (frame_of border own) us at p 0 (picture p) i.0.ground (page_paints us at p (picture p) i.0 x)) all s (g, takes) h)
+    (λ at own p i x. body_places (page_frame border own) us at p 0 (picture p) i.0.ground (page_paints us at p (picture p) i.0 x)) all s (g, takes) h)
 
 pub open_dressed_sheets_show_the_pages : OpenDressedSheetsShowThePages
 open_dressed_sheets_show_the_pages x z w border strokes all text us picture s blind runs d apart (complete, run, left, painted, printed, g) takes h =
     let told : List Paper = told_by all in
     let lines : RunsLines (OpenRuns z false) told strokes (TakesPlain told strokes) = runs_lines (OpenRuns z false) (open_are_runs z) told strokes in
-    document_is_dressed (OpenRuns z false) (open_are_runs z) (begun w) border told strokes all text us picture s (TakesPlain told strokes) lines (g, takes) d apart
+    document_is_dressed (OpenRuns z false) (open_are_runs z) (begun_machine w) border told strokes all text us picture s (TakesPlain told strokes) lines (g, takes) d apart
     (open_runs_on z w (bytes_of (preamble us)) s runs.sees_nothing_after complete run left) painted
     (on_begun told (TakesPlain told strokes) (λ at own p. OpenPagePrints x us at p (picture p)) (BodyBegun (OpenRuns z false) border us picture) lines.stays
-    (λ at own p i y. still_body x z (frame_of border own) us at 0 p (picture p) runs.extends
-    (own_body_places x (frame_of border own) us at 0 p (picture p) blind i.0 y)) all s (g, takes) h)
+    (λ at own p i y. still_body x z (page_frame border own) us at 0 p (picture p) runs.extends
+    (own_body_places x (page_frame border own) us at 0 p (picture p) blind i.0 y)) all s (g, takes) h)

@@ -6,15 +6,15 @@ use Rattle.std.specs.Char.{is_ascii_digit}
 use Rattle.std.proofs.Common.{◌≡◌, ℕ, refl, ap, ap₂, ◌∙◌, sym, Bool, true, false, not, ◌&&◌, ◌||◌, List, [], ◌∷◌, ◌++◌, true≢false, is_none}
 use Rattle.pictures.specs.Objects.{Token, Number, Literal, Bound, Object, Plain, Mark, Matrix, Procedure, SystemDictionary, Font, Computation, Computes, Controls, Draws}
 use Rattle.pictures.specs.Objects.{CloseArray, Get, Put, Length, LoadArray, Compare, ForAll, Where, Load, Known, MakeDictionary, MakeExecutable, Want, ANumber, AText, AMatrix, Comparison, Shows, Transforms}
-use Rattle.pictures.specs.Dictionaries.{Entry, has, system, is_lacked, or, meaning, entry_of}
+use Rattle.pictures.specs.Dictionaries.{DictionaryEntry, has, system, is_lacked, or, meaning, dictionary_entry}
 use Rattle.pictures.specs.Operators.{Work, with_operands, taken, collected, gathered, judged, loaded, located, holder, known_there, objects_compared, computed_on, controlled_on}
 use Rattle.pictures.proofs.Tests.{first, second}
 use Rattle.pictures.proofs.Names.{not_true}
-use Rattle.open_pictures.specs.Operators.{Sight, Blind, AsksForNone}
+use Rattle.open_pictures.specs.Operators.{Visible, Blind, AsksForNone}
 use Rattle.open_pictures.specs.Stores.{Given, Change, FormsTakeOthers, above_save, from_save, is_put, unlevelled, seen, given_of}
 use Rattle.open_pictures.specs.Composites.{array_tag, making}
 use Rattle.open_pictures.specs.Matrices.{fill_matrix, transform_more}
-use Rattle.open_pictures.specs.Values.{down_to_mark, are_tokens, closed_array, pushing, system_value, is_in_interpreters, has_any, where_more, load_more, known_more, make_dictionary, get_from, put_into, length_of, load_from, for_all, judging, compared_more, compare_more, show_more, make_executable, formed, named, no_others, ValuesAreBlind, ValuesArePlacelessThere}
+use Rattle.open_pictures.specs.Values.{down_to_mark, are_tokens, closed_array, pushing, system_value, is_in_interpreters, has_any, where_more, load_more, known_more, make_dictionary, get_from, put_into, length_operator, load_from, for_all, judging, compared_more, compare_more, show_more, make_executable, formed_value, operator_named, no_others, ValuesAreBlind, ValuesArePlacelessThere}
 use Rattle.open_pictures.proofs.Stores.{split_at_save, stores_are_blind, stores_are_placeless_there}
 
 never : {A : Type 0} (x : A) → None ≡ Some x → ⊥
@@ -62,24 +62,24 @@ or_right : (a b : Bool) → (a || b) ≡ false → b ≡ false
 or_right true b e = absurd (true≢false e)
 or_right false b e = e
 
-has_seen : (es : List Entry) (d : ℕ) (name : List ℕ) → is_put name ≡ false → has (seen es d name) ≡ has (entry_of d name es)
-has_seen es d name e = ap (λ b. has (if b then None else option_map unlevelled (entry_of d name es))) e ∙ has_map (entry_of d name es)
+has_seen : (es : List DictionaryEntry) (d : ℕ) (name : List ℕ) → is_put name ≡ false → has (seen es d name) ≡ has (dictionary_entry d name es)
+has_seen es d name e = ap (λ b. has (if b then None else option_map unlevelled (dictionary_entry d name es))) e ∙ has_map (dictionary_entry d name es)
   where
     has_map : (x : Option Object) → has (option_map unlevelled x) ≡ has x
     has_map None = refl
     has_map (Some o) = refl
 
-holder_none : (ds : List ℕ) (es : List Entry) (name : List ℕ) → is_put name ≡ false → has_any (seen es) ds name ≡ false → holder ds es name ≡ None
+holder_none : (ds : List ℕ) (es : List DictionaryEntry) (name : List ℕ) → is_put name ≡ false → has_any (seen es) ds name ≡ false → holder ds es name ≡ None
 holder_none [] es name p e = refl
 holder_none (d ∷ ds) es name p e =
     ap (λ b. if b then Some d else holder ds es name) (sym (has_seen es d name p) ∙ or_left (has (seen es d name)) (has_any (seen es) ds name) e)
     ∙ holder_none ds es name p (or_right (has (seen es d name)) (has_any (seen es) ds name) e)
 
-meaning_none : (ds : List ℕ) (es : List Entry) (name : List ℕ) → is_put name ≡ false → has_any (seen es) ds name ≡ false → system name ≡ None
+meaning_none : (ds : List ℕ) (es : List DictionaryEntry) (name : List ℕ) → is_put name ≡ false → has_any (seen es) ds name ≡ false → system name ≡ None
     → meaning ds es name ≡ None
 meaning_none [] es name p e s = s
 meaning_none (d ∷ ds) es name p e s =
-    ap₂ or (none_if (entry_of d name es) (sym (has_seen es d name p) ∙ or_left (has (seen es d name)) (has_any (seen es) ds name) e))
+    ap₂ or (none_if (dictionary_entry d name es) (sym (has_seen es d name p) ∙ or_left (has (seen es d name)) (has_any (seen es) ds name) e))
     (meaning_none ds es name p (or_right (has (seen es d name)) (has_any (seen es) ds name) e) s)
 
 lacked_there : (name : List ℕ) → is_in_interpreters name ≡ true → is_lacked name ≡ true
@@ -99,7 +99,7 @@ located_none x a b w e f g = ap (λ x. located x a b w) e ∙ ap (λ a. located 
 known_none : (a b : Bool) (w : Work) → a ≡ false → b ≡ true → judged (known_there a b) w ≡ None
 known_none a b w f g = ap (λ a. judged (known_there a b) w) f ∙ ap (λ b. judged (known_there false b) w) g
 
-where_outside : (sight : Sight) (os rest : List Object) (c : Change) → where_more os (given_of sight) ≡ Some c → computed_on Where (os ++ rest) sight.work ≡ None
+where_outside : (sight : Visible) (os rest : List Object) (c : Change) → where_more os (given_of sight) ≡ Some c → computed_on Where (os ++ rest) sight.work ≡ None
 where_outside sight (Plain (Literal name) ∷ os) rest c e =
     let w : Work = sight.work in
     let any : Bool = has_any (seen w.entries) w.dictionaries name in
@@ -110,7 +110,7 @@ where_outside sight (Plain (Literal name) ∷ os) rest c e =
     (not_system name there) (lacked_there name there)
 where_outside sight os rest c e = absurd (never c e)
 
-load_outside_more : (sight : Sight) (os rest : List Object) (c : Change) → load_more os (given_of sight) ≡ Some c → computed_on Load (os ++ rest) sight.work ≡ None
+load_outside_more : (sight : Visible) (os rest : List Object) (c : Change) → load_more os (given_of sight) ≡ Some c → computed_on Load (os ++ rest) sight.work ≡ None
 load_outside_more sight (Plain (Literal name) ∷ os) rest c e =
     let w : Work = sight.work in
     let any : Bool = has_any (seen w.entries) w.dictionaries name in
@@ -145,7 +145,7 @@ put_outside : (os rest : List Object) (given : Given) (c : Change) (w : Work) �
 put_outside (o ∷ Plain (Number text) ∷ Plain (Bound name) ∷ os) rest given c w e = refl
 put_outside os rest given c w e = absurd (never c e)
 
-length_outside : (os rest : List Object) (given : Given) (c : Change) (w : Work) → length_of os given ≡ Some c → computed_on Length (os ++ rest) w ≡ None
+length_outside : (os rest : List Object) (given : Given) (c : Change) (w : Work) → length_operator os given ≡ Some c → computed_on Length (os ++ rest) w ≡ None
 length_outside (Plain t ∷ os) rest given c w e = refl
 length_outside (Font ts ∷ os) rest given c w e = refl
 length_outside os rest given c w e = absurd (never c e)
@@ -196,17 +196,17 @@ transform_outside : (name : List ℕ) (wants : List Want) (os rest : List Object
 transform_outside name wants (Plain (Bound ref) ∷ os) rest given c e = refl
 transform_outside name wants os rest given c e = absurd (never c e)
 
-abbrev above : Sight → List Object
+abbrev above : Visible → List Object
 above sight = above_save sight.work.operands
 
-abbrev below : Sight → List Object
+abbrev below : Visible → List Object
 below sight = from_save sight.work.operands
 
-computes_so : (sight : Sight) (k : Computation) → computed_on k (above sight ++ below sight) sight.work ≡ None
+computes_so : (sight : Visible) (k : Computation) → computed_on k (above sight ++ below sight) sight.work ≡ None
     → computed_on k sight.work.operands sight.work ≡ None
 computes_so sight k e = ap (λ os. computed_on k os sight.work) (split_at_save sight.work.operands) ∙ e
 
-forms_take_others : FormsTakeOthers formed
+forms_take_others : FormsTakeOthers formed_value
 forms_take_others name (Computes Where) sight c e = computes_so sight Where (where_outside sight (above sight) (below sight) c e)
 forms_take_others name (Computes Load) sight c e = computes_so sight Load (load_outside_more sight (above sight) (below sight) c e)
 forms_take_others name (Computes Known) sight c e = computes_so sight Known (known_outside (above sight) (below sight) (given_of sight) c sight.work e)
@@ -240,7 +240,7 @@ pub no_others_ask : (name : List ℕ) (f : Blind) → no_others name ≡ Some f 
 no_others_ask name f e = absurd (never f e)
 
 pub values_are_blind : ValuesAreBlind
-values_are_blind others q = stores_are_blind named formed others forms_take_others q
+values_are_blind others q = stores_are_blind operator_named formed_value others forms_take_others q
 
 pub values_are_placeless_there : ValuesArePlacelessThere
-values_are_placeless_there others q = stores_are_placeless_there named formed others forms_take_others q
+values_are_placeless_there others q = stores_are_placeless_there operator_named formed_value others forms_take_others q

@@ -1,7 +1,7 @@
 -- barcode.ps of cases/documents.
 use Rattle.std.specs.Prelude.{ℕ, List, [], ◌∷◌, flat_map, codes}
 use Rattle.rules.specs.Bytes.{line}
-use Rattle.open_pictures.specs.RealDocuments.{IsShown}
+use Rattle.open_pictures.specs.RealDocuments.{IsDocumentShown}
 
 abbrev pub barcode : List ℕ
 barcode = flat_map line (
@@ -144,4 +144,4 @@ barcode = flat_map line (
 
 -- a law
 abbrev pub BarcodeIsShown : Type 0
-BarcodeIsShown = IsShown barcode 3
+BarcodeIsShown = IsDocumentShown barcode 3

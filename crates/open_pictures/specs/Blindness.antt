@@ -2,11 +2,11 @@
 -- text puts. A preamble may have more.
 use Rattle.std.specs.Prelude.{◌≡◌, ℕ, List, Some, None, false}
 use Rattle.pictures.specs.Objects.{Token}
-use Rattle.pictures.specs.Dictionaries.{Entry}
+use Rattle.pictures.specs.Dictionaries.{DictionaryEntry}
 use Rattle.pictures.specs.Machine.{State, step}
 use Rattle.pictures.specs.Placing.{Around, state_at}
 use Rattle.pictures.specs.Sheets.{with_more}
-use Rattle.pictures.specs.Shifted.{Agree, AllAgree, up_state}
+use Rattle.pictures.specs.Shifted.{AgreeShifted, AllAgree, up_state}
 use Rattle.open_pictures.specs.Machine.{Further}
 
 -- what they do in a state they do in the state placed, placed; and where it is for them to go on, it is so there
@@ -18,11 +18,11 @@ IsPlaceless x =
 -- with the names that the sheet's text puts, and one save further in, they do the same
 abbrev pub IsUnaware : Further → Type 0
 IsUnaware x =
-    (n : ℕ) (s t : State) (es : List Entry) (ess : List (List Entry)) → step false s ≡ None → x s ≡ Some t
-    → Agree n es s.work.entries → AllAgree n ess s.saves
+    (n : ℕ) (s t : State) (es : List DictionaryEntry) (ess : List (List DictionaryEntry)) → step false s ≡ None → x s ≡ Some t
+    → AgreeShifted n es s.work.entries → AllAgree n ess s.saves
     → (step false (up_state es ess s) ≡ None)
-    × ((fs : List Entry) × (fss : List (List Entry)) × (x (up_state es ess s) ≡ Some (up_state fs fss t))
-    × Agree n fs t.work.entries × AllAgree n fss t.saves)
+    × ((fs : List DictionaryEntry) × (fss : List (List DictionaryEntry)) × (x (up_state es ess s) ≡ Some (up_state fs fss t))
+    × AgreeShifted n fs t.work.entries × AllAgree n fss t.saves)
 
 pub record IsBlind (x : Further) : Type 0 where
   pub placeless : IsPlaceless x

@@ -6,9 +6,9 @@ use Rattle.std.specs.List.{range_with_len}
 use Rattle.std.specs.Prelude.{ℕ, ◌+◌, List, [], ◌∷◌, map, ◌||◌, ◌==◌, if◌then◌else◌, Option, Some, None, codes, decimal, option_map}
 use Rattle.rules.specs.Numbers.{number_of}
 use Rattle.pictures.specs.Objects.{Token, Number, Literal, Name, Text, Hexadecimal, Bound, Object, Plain, Array}
-use Rattle.pictures.specs.Dictionaries.{Entry}
+use Rattle.pictures.specs.Dictionaries.{DictionaryEntry}
 use Rattle.open_pictures.specs.Stores.{Store, Given, Change}
-use Rattle.open_pictures.specs.Points.{Point}
+use Rattle.open_pictures.specs.Points.{PathPoint}
 use Rattle.open_pictures.specs.Strings.{characters, hexadecimal_bytes}
 
 abbrev pub array_tag : ℕ
@@ -41,8 +41,8 @@ referred (tag ∷ number ∷ first ∷ count ∷ []) =
 referred name = None
 
 -- the null object (3.3.13)
-abbrev pub null : Object
-null = Plain (Bound (null_tag ∷ []))
+abbrev pub null_object : Object
+null_object = Plain (Bound (null_tag ∷ []))
 
 -- it says of a composite that it can't be changed any more
 abbrev pub frozen_key : List ℕ
@@ -50,7 +50,7 @@ frozen_key = 262 ∷ []
 
 -- what a new array has at each place, and a new string
 abbrev pub unset : (tag : ℕ) → Object
-unset tag = if tag == string_tag then Plain (Number (codes "0")) else null
+unset tag = if tag == string_tag then Plain (Number (codes "0")) else null_object
 
 abbrev pub or_unset : (tag : ℕ) → Option Object → Object
 or_unset tag None = unset tag
@@ -66,11 +66,11 @@ element_at store tag number i = or_unset tag (store number (element_key i))
 abbrev pub element_token : (tag number i : ℕ) → Token
 element_token tag number i = Bound (element_tag ∷ tag ∷ number ∷ i ∷ [])
 
-abbrev pub element_entry : (number i : ℕ) → Object → Entry
+abbrev pub element_entry : (number i : ℕ) → Object → DictionaryEntry
 element_entry number i o = record { dictionary = number; key = element_key i; value = o }
 
 -- these elements, from the i-th place on
-abbrev pub element_entries : (number i : ℕ) → List Object → List Entry
+abbrev pub element_entries : (number i : ℕ) → List Object → List DictionaryEntry
 element_entries number i [] = []
 element_entries number i (o ∷ os) = element_entry number i o ∷ element_entries number (i + 1) os
 
@@ -125,13 +125,13 @@ items_of store o = or_items (array_of store o) (items_for string_tag store o)
 abbrev pub leaving : List Object → Given → Option Change
 leaving os given = Some (record { next = []; past = None; operands = os; puts = []; made = given.made; strokes = [] })
 
-abbrev pub putting : List Entry → List Object → Given → Option Change
+abbrev pub putting : List DictionaryEntry → List Object → Given → Option Change
 putting puts os given = Some (record { next = []; past = None; operands = os; puts = puts; made = given.made; strokes = [] })
 
 abbrev pub run_next : List Token → List Object → Given → Option Change
 run_next ts os given = Some (record { next = ts; past = None; operands = os; puts = []; made = given.made; strokes = [] })
 
-abbrev pub point_left : Option Point → List Object → Given → Option Change
+abbrev pub point_left : Option PathPoint → List Object → Given → Option Change
 point_left None os given = None
 point_left (Some p) os given = leaving (Plain (Number p.y) ∷ Plain (Number p.x) ∷ os) given
 

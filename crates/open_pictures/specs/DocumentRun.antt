@@ -12,7 +12,7 @@ use Rattle.pictures.specs.Unaware.{IsPlainGround}
 use Rattle.pictures.specs.DocumentRun.{OnPages, AreIndependentBy, DocumentPrintsBy}
 use Rattle.open_pictures.specs.Machine.{Further, OpenRuns}
 use Rattle.open_pictures.specs.Blindness.{IsBlind, RunsPreambles}
-use Rattle.open_pictures.specs.Documents.{begun, OpenPreambleRuns, OpenPagePrints, OpenIsPrinted}
+use Rattle.open_pictures.specs.Documents.{begun_machine, OpenPreambleRuns, OpenPagePrints, OpenIsPrinted}
 
 -- Of an accepted document whose pages are independent in a machine with the operators z, and print a picture of themselves
 -- with x alone, which are blind: the document prints these pictures, and its output shows them, sheet by sheet, placed: a
@@ -24,4 +24,4 @@ OpenSheetsShowTheDocument =
     → IsBlind x → RunsPreambles x z → document_of text ≡ Ok us
     → preamble_comments_apart us ≡ true → OpenPreambleRuns z w IsGround (bytes_of (preamble us)) s → IsPlainGround s
     → OnPages (λ p. OpenPagePrints x us s p (picture p)) us → AreIndependentBy (OpenRuns z false) us s
-    → DocumentPrintsBy (OpenRuns z false) (begun w) text us picture × OpenIsPrinted z w frame sides spec us picture s
+    → DocumentPrintsBy (OpenRuns z false) (begun_machine w) text us picture × OpenIsPrinted z w frame sides spec us picture s

@@ -13,7 +13,7 @@ use Rattle.pictures.specs.Objects.{Token}
 use Rattle.pictures.specs.Dictionaries.{userdict}
 use Rattle.pictures.specs.Operators.{Work}
 use Rattle.pictures.specs.Machine.{State, Painting}
-use Rattle.pictures.specs.Scanner.{tokens, IsComplete}
+use Rattle.pictures.specs.Scanner.{tokens, EndsBetweenTokens}
 use Rattle.pictures.specs.Sheets.{IsGround}
 use Rattle.pictures.specs.Documents.{started, OnSheets, all_sheets, sheet_pictures}
 use Rattle.pictures.specs.DocumentRun.{PrintsSheetBy}
@@ -25,8 +25,8 @@ use Rattle.open_pictures.specs.Sheets.{OpenPaintsAlone}
 
 -- A machine in which nothing has run yet. What its dictionaries and stacks have then is a parameter, since further
 -- operators may have names and values there (statusdict, ISOLatin1Encoding)
-abbrev pub begun : Work → List Token → State
-begun w ts = record (started ts) { work = w }
+abbrev pub begun_machine : Work → List Token → State
+begun_machine w ts = record (started ts) { work = w }
 
 -- as `started` of crates/pictures: userdict, and nothing in it
 abbrev pub plain_work : Work
@@ -35,7 +35,7 @@ plain_work = record { operands = []; dictionaries = userdict ∷ []; entries = [
 -- the preamble ends between tokens, and the machine is then in a state of which this is so, with nothing painted or printed
 abbrev pub OpenPreambleRuns : Further → Work → (State → Type 0) → List ℕ → State → Type 0
 OpenPreambleRuns x w P text s =
-    IsComplete text × OpenRuns x false (begun w (tokens text)) s × (s.left ≡ []) × (s.painted ≡ []) × (s.sheets ≡ [])
+    EndsBetweenTokens text × OpenRuns x false (begun_machine w (tokens text)) s × (s.left ≡ []) × (s.painted ≡ []) × (s.sheets ≡ [])
     × P s
 
 -- after the preamble the page prints this of itself
@@ -60,7 +60,7 @@ OpenOwnPicture =
 abbrev pub OpenIsPrinted :
     Further → Work → Frame → Option ℕ → Spec → List NestedUnit → (ℕ → List Painting) → State → Type 0
 OpenIsPrinted x w frame sides spec us picture s =
-    OpenRuns x false (begun w (tokens (output frame sides spec us)))
+    OpenRuns x false (begun_machine w (tokens (output frame sides spec us)))
     (record s {
       left = tokens (trailer_text us);
       sheets = sheet_pictures frame.border us picture s (all_sheets frame sides spec us);
@@ -82,7 +82,7 @@ OpenSheetsShowThePages =
 abbrev pub OpenMadeIsPrinted :
     Further → Work → Option Border → Dress → List MadeSheet → List NestedUnit → (ℕ → List Painting) → State → Type 0
 OpenMadeIsPrinted x w border dress all us picture s =
-    OpenRuns x false (begun w (tokens (made_output border dress all us)))
+    OpenRuns x false (begun_machine w (tokens (made_output border dress all us)))
     (record s { left = tokens (trailer_text us); sheets = sheet_pictures border us picture s all })
 
 -- the same of any made sheets, each page on a paper of its own, if no lines are added but comments: a law

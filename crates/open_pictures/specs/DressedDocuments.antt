@@ -11,18 +11,18 @@ use Rattle.rules.specs.MadeOutput.{made_output}
 use Rattle.dsc.specs.Units.{units_of}
 use Rattle.guard.specs.Guard.{guarded}
 use Rattle.papers.specs.Told.{papers_told, telling}
-use Rattle.dressing.specs.Drawn.{marked}
+use Rattle.dressing.specs.Drawn.{strokes_added}
 use Rattle.dressing.specs.declared.strokes.Stroke.{Stroke}
 use Rattle.pictures.specs.Operators.{Work}
 use Rattle.pictures.specs.Machine.{State, Graphics, Painting, Runs}
 use Rattle.pictures.specs.Scanner.{tokens}
 use Rattle.pictures.specs.Kept.{comments_apart_with}
 use Rattle.pictures.specs.Sheets.{sheet_picture}
-use Rattle.pictures.specs.Documents.{started, frame_of, shown_sheet, PreambleRuns, OnSlots}
+use Rattle.pictures.specs.Documents.{started, page_frame, shown_sheet, PreambleRuns, OnSlots}
 use Rattle.pictures.specs.Pages.{IsGuarded, GuardedPagePaints}
 use Rattle.open_pictures.specs.Machine.{Further, OpenRuns}
 use Rattle.open_pictures.specs.Blindness.{RunsPreambles}
-use Rattle.open_pictures.specs.Documents.{begun, OpenPreambleRuns}
+use Rattle.open_pictures.specs.Documents.{begun_machine, OpenPreambleRuns}
 use Rattle.open_pictures.specs.Shelter.{IsPlacelessThere}
 use Rattle.open_pictures.specs.Pages.{OpenGuardedPagePaints}
 use Rattle.open_pictures.specs.Marks.{marking_names, with_strokes}
@@ -76,8 +76,8 @@ DressedDocumentIsShown =
     → comments_apart_with (telling all).header (units_of (guarded sheet text)) ≡ true
     → PreambleRuns IsGuarded (bytes_of (preamble (units_of (guarded sheet text)))) s
     → TakesLines (told_by all) strokes s
-    → OnSheetsBegun (told_by all) (λ at own p. GuardedPagePaints (frame_of border own) us at p (picture p)) s all
-    → Runs false (started (tokens (made_output border (marked strokes (telling all)) all (units_of (guarded sheet text)))))
+    → OnSheetsBegun (told_by all) (λ at own p. GuardedPagePaints (page_frame border own) us at p (picture p)) s all
+    → Runs false (started (tokens (made_output border (strokes_added strokes (telling all)) all (units_of (guarded sheet text)))))
     (dressed_at border strokes (units_of (guarded sheet text)) picture s all)
 
 -- the same with any further operators that are placeless there, and any for the preamble: a law
@@ -89,6 +89,6 @@ OpenDressedDocumentIsShown =
     → comments_apart_with (telling all).header (units_of (guarded sheet text)) ≡ true
     → OpenPreambleRuns z w IsGuarded (bytes_of (preamble (units_of (guarded sheet text)))) s
     → TakesLines (told_by all) strokes s
-    → OnSheetsBegun (told_by all) (λ at own p. OpenGuardedPagePaints x (frame_of border own) us at p (picture p)) s all
-    → OpenRuns z false (begun w (tokens (made_output border (marked strokes (telling all)) all (units_of (guarded sheet text)))))
+    → OnSheetsBegun (told_by all) (λ at own p. OpenGuardedPagePaints x (page_frame border own) us at p (picture p)) s all
+    → OpenRuns z false (begun_machine w (tokens (made_output border (strokes_added strokes (telling all)) all (units_of (guarded sheet text)))))
     (dressed_at border strokes (units_of (guarded sheet text)) picture s all)

@@ -1,7 +1,7 @@
 -- groff.ps of cases/documents.
 use Rattle.std.specs.Prelude.{ℕ, List, [], ◌∷◌, flat_map, codes}
 use Rattle.rules.specs.Bytes.{line}
-use Rattle.open_pictures.specs.RealDocuments.{IsShown}
+use Rattle.open_pictures.specs.RealDocuments.{IsDocumentShown}
 
 abbrev pub groff : List ℕ
 groff = flat_map line (
@@ -366,4 +366,4 @@ groff = flat_map line (
 
 -- a law
 abbrev pub GroffIsShown : Type 0
-GroffIsShown = IsShown groff 2
+GroffIsShown = IsDocumentShown groff 2

@@ -11,7 +11,7 @@ use Rattle.papers.specs.Told.{telling}
 use Rattle.pictures.specs.Operators.{Work}
 use Rattle.pictures.specs.Machine.{State, Painting}
 use Rattle.pictures.specs.Kept.{comments_apart_with}
-use Rattle.pictures.specs.Documents.{frame_of, OnSheets}
+use Rattle.pictures.specs.Documents.{page_frame, OnSheets}
 use Rattle.pictures.specs.Pages.{IsGuarded}
 use Rattle.pictures.specs.GuardedImposed.{AreToldAsOne}
 use Rattle.open_pictures.specs.Machine.{Further}
@@ -29,5 +29,5 @@ OpenMadeDocumentIsShown =
     → IsPlacelessThere x → RunsPreambles x z → AreToldAsOne all → document_of text ≡ Ok us → length (guarded sheet text) ≤ most_input_bytes
     → comments_apart_with (telling all).header (units_of (guarded sheet text)) ≡ true
     → OpenPreambleRuns z w IsGuarded (bytes_of (preamble (units_of (guarded sheet text)))) s
-    → OnSheets (λ own p. OpenGuardedPagePaints x (frame_of border own) us s p (picture p)) all
+    → OnSheets (λ own p. OpenGuardedPagePaints x (page_frame border own) us s p (picture p)) all
     → OpenMadeIsPrinted z w border (telling all) all (units_of (guarded sheet text)) picture s

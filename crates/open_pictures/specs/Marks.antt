@@ -4,7 +4,7 @@ use Rattle.rules.specs.Numbers.{points_text}
 use Rattle.dressing.specs.declared.strokes.Stroke.{Stroke}
 use Rattle.pictures.specs.Objects.{Number, Plain, Array, Call}
 use Rattle.pictures.specs.Machine.{Graphics, Painting}
-use Rattle.pictures.specs.Sheets.{point}
+use Rattle.pictures.specs.Sheets.{path_point}
 
 -- the operators that draw them
 abbrev pub marking_names : List (List ℕ)
@@ -25,7 +25,7 @@ line_painted g a b c d = record {
   call = record { name = codes "stroke"; operands = [] };
   graphics = record {
     chain = g.chain;
-    path = point (codes "lineto") c d g.chain ∷ point (codes "moveto") a b g.chain ∷ [];
+    path = path_point (codes "lineto") c d g.chain ∷ path_point (codes "moveto") a b g.chain ∷ [];
     clip = g.clip;
     settings = inked g.settings;
   };

@@ -2,26 +2,26 @@
 -- placeless whatever it does.
 use Rattle.std.specs.Prelude.{◌≡◌, ℕ, zero, suc, List, [], ◌∷◌, ◌++◌, if◌then◌else◌, Option, Some, None, bytes_eq}
 use Rattle.pictures.specs.Objects.{Token, Name, Bound, Object, Saved, Operator, Kind, Computes, Controls, Draws, Looks, CopiesPage, Effect, Call}
-use Rattle.pictures.specs.Dictionaries.{Entry, meaning, system}
+use Rattle.pictures.specs.Dictionaries.{DictionaryEntry, meaning, system}
 use Rattle.pictures.specs.Operators.{Work, with_operands, also, computed, controlled, taken}
-use Rattle.pictures.specs.Machine.{State, Kept, changed, painting}
+use Rattle.pictures.specs.Machine.{State, KeptMatrix, changed, painting}
 use Rattle.pictures.specs.Sheets.{among}
 use Rattle.pictures.specs.Unaware.{put_names, no_saved}
-use Rattle.pictures.specs.Shifted.{Agree, up_work}
+use Rattle.pictures.specs.Shifted.{AgreeShifted, up_work}
 use Rattle.open_pictures.specs.Machine.{Further}
 use Rattle.open_pictures.specs.Blindness.{IsPlaceless, IsBlind}
-use Rattle.open_pictures.specs.Points.{Point, point_of}
+use Rattle.open_pictures.specs.Points.{PathPoint, point_of}
 
 -- What an operator may see: the operands and the dictionaries, what matrices hold, the settings of the graphics state
 -- (fonts, colours, lines), the current point in user space. Not the transformation, the path, the clip, what is saved and
 -- what is painted
-pub record Sight : Type 0 where
+pub record Visible : Type 0 where
   pub work : Work
-  pub kept : List Kept
+  pub kept : List KeptMatrix
   pub settings : List Call
-  pub point : Option Point
+  pub point : Option PathPoint
 
-abbrev pub sight_of : State → Sight
+abbrev pub sight_of : State → Visible
 sight_of s = record {
   work = s.work;
   kept = s.kept;
@@ -41,11 +41,11 @@ pub record Outcome : Type 0 where
   pub next : List Token
   pub past : Option (List ℕ)
   pub work : Work
-  pub kept : List Kept
+  pub kept : List KeptMatrix
   pub strokes : List Stroke
 
 abbrev pub Blind : Type 0
-Blind = Sight → Option Outcome
+Blind = Visible → Option Outcome
 
 abbrev pub struck : Stroke → State → State
 struck x s = record s {
@@ -105,9 +105,9 @@ pub record Table : Type 0 where
   pub names : List ℕ → Option Blind
   pub forms : List ℕ → Kind → Option Blind
 
-abbrev pub entry : Table → Stop → Option Blind
-entry table (AtName name) = table.names name
-entry table (AtOperands name kind) = table.forms name kind
+abbrev pub table_entry : Table → Stop → Option Blind
+table_entry table (AtName name) = table.names name
+table_entry table (AtOperands name kind) = table.forms name kind
 
 abbrev pub only_names : (List ℕ → Option Blind) → Table
 only_names names = record { names = names; forms = λ name kind. None }
@@ -122,35 +122,35 @@ called (Some f) s = blindly f s
 
 abbrev pub looked_up : Table → Option Stop → State → Option State
 looked_up table None s = None
-looked_up table (Some stop) s = called (entry table stop) s
+looked_up table (Some stop) s = called (table_entry table stop) s
 
 -- the further operators of a table
 abbrev pub by_table : Table → Further
 by_table table s = looked_up table (next_stop s.left s) (record s { left = after_first s.left })
 
 -- an operator of the machine doesn't take the operands that are there
-abbrev pub IsOutside : Kind → Work → Type 0
-IsOutside (Computes c) w = computed c w ≡ None
-IsOutside (Controls c) w = controlled c w ≡ None
-IsOutside (Draws wants e) w = taken wants w.operands ≡ None
-IsOutside kind w = ⊥
+abbrev pub FailsOnOperands : Kind → Work → Type 0
+FailsOnOperands (Computes c) w = computed c w ≡ None
+FailsOnOperands (Controls c) w = controlled c w ≡ None
+FailsOnOperands (Draws wants e) w = taken wants w.operands ≡ None
+FailsOnOperands kind w = ⊥
 
 -- a freer form takes only what the operator itself doesn't take
 abbrev pub TakesOthers : Table → Type 0
 TakesOthers table =
-    (name : List ℕ) (kind : Kind) (f : Blind) (sight : Sight) (o : Outcome) → table.forms name kind ≡ Some f → f sight ≡ Some o
-    → IsOutside kind sight.work
+    (name : List ℕ) (kind : Kind) (f : Blind) (sight : Visible) (o : Outcome) → table.forms name kind ≡ Some f → f sight ≡ Some o
+    → FailsOnOperands kind sight.work
 
 -- It asks for none of the names that the sheet's text puts, and not for the level of a save: with those names, and the
 -- saves one level further in, the same comes of it
 abbrev pub AsksForNone : Blind → Type 0
 AsksForNone f =
-    (n : ℕ) (sight : Sight) (o : Outcome) (es : List Entry) → f sight ≡ Some o → Agree n es sight.work.entries
-    → (fs : List Entry) × (f (record sight { work = up_work es sight.work }) ≡ Some (record o { work = up_work fs o.work }))
-    × Agree n fs o.work.entries
+    (n : ℕ) (sight : Visible) (o : Outcome) (es : List DictionaryEntry) → f sight ≡ Some o → AgreeShifted n es sight.work.entries
+    → (fs : List DictionaryEntry) × (f (record sight { work = up_work es sight.work }) ≡ Some (record o { work = up_work fs o.work }))
+    × AgreeShifted n fs o.work.entries
 
 abbrev pub AllAskForNone : Table → Type 0
-AllAskForNone table = (stop : Stop) (f : Blind) → entry table stop ≡ Some f → AsksForNone f
+AllAskForNone table = (stop : Stop) (f : Blind) → table_entry table stop ≡ Some f → AsksForNone f
 
 -- Operators that take so many operands, none of them a save, and answer with others, by these and the settings alone.
 -- They draw one thing or none.
@@ -168,7 +168,7 @@ abbrev pub strokes_of : Option Effect → List ℕ → List Object → List Stro
 strokes_of None name os = []
 strokes_of (Some e) name os = record { effect = e; call = record { name = name; operands = os } } ∷ []
 
-abbrev pub answered : Option (List Object) → List Stroke → List Object → Sight → Option Outcome
+abbrev pub answered : Option (List Object) → List Stroke → List Object → Visible → Option Outcome
 answered None strokes rest sight = None
 answered (Some rs) strokes rest sight =
     if no_saved rs then Some (record {
@@ -180,7 +180,7 @@ answered (Some rs) strokes rest sight =
     })
     else None
 
-abbrev pub answers_on : List ℕ → Option Effect → Answer → Option (List Object × List Object) → Sight → Option Outcome
+abbrev pub answers_on : List ℕ → Option Effect → Answer → Option (List Object × List Object) → Visible → Option Outcome
 answers_on name e answer None sight = None
 answers_on name e answer (Some (os, rest)) sight = answered (answer os sight.settings) (strokes_of e name os) rest sight
 

@@ -16,15 +16,15 @@ use Rattle.pictures.specs.Machine.{State, Painting}
 use Rattle.pictures.specs.Scanner.{tokens}
 use Rattle.pictures.specs.Kept.{comments_apart_with, preamble_comments_apart}
 use Rattle.pictures.specs.Sheets.{Shown, run_of, placed_tokens, page_picture}
-use Rattle.pictures.specs.Documents.{frame_of, FirstHas, OnSheetsFrom, all_sheets}
+use Rattle.pictures.specs.Documents.{page_frame, FirstHas, OnSheetsFrom, all_sheets}
 use Rattle.pictures.specs.Shelter.{outline_tokens}
 use Rattle.pictures.specs.Lines.{with_asking}
-use Rattle.pictures.specs.Pages.{shown_at}
+use Rattle.pictures.specs.Pages.{state_after_sheets}
 use Rattle.pictures.specs.GuardedImposed.{AreToldAsOne}
 use Rattle.pictures.specs.OwnShowpage.{HasItsOwn, asking}
 use Rattle.open_pictures.specs.Machine.{Further, OpenRuns}
 use Rattle.open_pictures.specs.Blindness.{RunsPreambles}
-use Rattle.open_pictures.specs.Documents.{begun, OpenPreambleRuns}
+use Rattle.open_pictures.specs.Documents.{begun_machine, OpenPreambleRuns}
 use Rattle.open_pictures.specs.Shelter.{IsPlacelessThere, OpenPaintsSheltered}
 use Rattle.open_pictures.specs.Pages.{OpenGuardedPagePaints}
 
@@ -41,7 +41,7 @@ OpenOwnPageIsPlaced =
 abbrev pub OpenPaintsFrom :
     Further → Option Border → List NestedUnit → (ℕ → List Painting) → (ℕ → State) → ℕ → Paper → ℕ → Type 0
 OpenPaintsFrom x border us picture at k own p =
-    OpenGuardedPagePaints x (frame_of border own) us (at (suc k)) p (picture p)
+    OpenGuardedPagePaints x (page_frame border own) us (at (suc k)) p (picture p)
 
 -- Of what impose makes of such a document by a specification, with the guard put in: a machine prints, sheet by sheet, the
 -- pictures of the document's pages, placed, if the first sheet has a page: a law
@@ -54,8 +54,8 @@ OpenOwnShowpageIsShown =
     → OpenPreambleRuns z w (HasItsOwn d) (bytes_of (preamble (units_of (guarded sheet text)))) s
     → FirstHas 1 (all_sheets frame sides spec us)
     → OnSheetsFrom (OpenPaintsFrom x frame.border us picture (asking d s)) 0 (all_sheets frame sides spec us)
-    → OpenRuns z false (begun w (tokens (output frame sides spec (units_of (guarded sheet text)))))
-    (shown_at (asking d s) frame.border (units_of (guarded sheet text)) picture (all_sheets frame sides spec us))
+    → OpenRuns z false (begun_machine w (tokens (output frame sides spec (units_of (guarded sheet text)))))
+    (state_after_sheets (asking d s) frame.border (units_of (guarded sheet text)) picture (all_sheets frame sides spec us))
 
 -- and of all else that impose makes of it on sheets that are reported as one paper: a law
 abbrev pub OpenOwnMadeDocumentIsShown : Type 0
@@ -66,5 +66,5 @@ OpenOwnMadeDocumentIsShown =
     → length (guarded sheet text) ≤ most_input_bytes → comments_apart_with (telling all).header (units_of (guarded sheet text)) ≡ true
     → OpenPreambleRuns z w (HasItsOwn d) (bytes_of (preamble (units_of (guarded sheet text)))) s
     → FirstHas 1 all → OnSheetsFrom (OpenPaintsFrom x border us picture (asking d s)) 0 all
-    → OpenRuns z false (begun w (tokens (made_output border (telling all) all (units_of (guarded sheet text)))))
-    (shown_at (asking d s) border (units_of (guarded sheet text)) picture all)
+    → OpenRuns z false (begun_machine w (tokens (made_output border (telling all) all (units_of (guarded sheet text)))))
+    (state_after_sheets (asking d s) border (units_of (guarded sheet text)) picture all)

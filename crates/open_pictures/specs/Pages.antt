@@ -10,10 +10,10 @@ use Rattle.guard.specs.Guard.{guarded}
 use Rattle.pictures.specs.Objects.{Token}
 use Rattle.pictures.specs.Operators.{Work}
 use Rattle.pictures.specs.Machine.{State, Painting}
-use Rattle.pictures.specs.Scanner.{tokens, IsComplete}
+use Rattle.pictures.specs.Scanner.{tokens, EndsBetweenTokens}
 use Rattle.pictures.specs.Kept.{page_comments_apart, preamble_comments_apart}
 use Rattle.pictures.specs.Sheets.{Shown, run_of, page_picture, placed_tokens}
-use Rattle.pictures.specs.Documents.{frame_of, page_of, OnSheets, all_sheets}
+use Rattle.pictures.specs.Documents.{page_frame, document_page, OnSheets, all_sheets}
 use Rattle.pictures.specs.Shelter.{Outer, outline_tokens}
 use Rattle.pictures.specs.Pages.{IsGuarded, TakesPages, outline_of}
 use Rattle.open_pictures.specs.Machine.{Further, OpenRuns}
@@ -34,8 +34,8 @@ OpenGuardedPageIsPlaced =
 -- of its lines that is dropped
 abbrev pub OpenGuardedPagePaints : Further → Frame → List NestedUnit → State → ℕ → List Painting → Type 0
 OpenGuardedPagePaints x frame us s p picture =
-    IsComplete (page_of us p) × (page_comments_apart (page_of us p) ≡ true)
-    × OpenPaintsSheltered x [] s (outline_of frame) (tokens (page_of us p)) picture
+    EndsBetweenTokens (document_page us p) × (page_comments_apart (document_page us p) ≡ true)
+    × OpenPaintsSheltered x [] s (outline_of frame) (tokens (document_page us p)) picture
 
 -- Of an accepted document in whose preamble the guard has run, with any further operators x that are placeless there, and
 -- any z for the preamble: if each page paints a picture by itself, then the machine prints of the output, sheet by sheet,
@@ -46,7 +46,7 @@ OpenGuardedSheetsShowThePages =
     (picture : ℕ → List Painting) (s : State)
     → IsPlacelessThere x → RunsPreambles x z → document_of text ≡ Ok us → preamble_comments_apart us ≡ true
     → OpenPreambleRuns z w IsGuarded (bytes_of (preamble us)) s
-    → OnSheets (λ own p. OpenGuardedPagePaints x (frame_of frame.border own) us s p (picture p)) (all_sheets frame sides spec us)
+    → OnSheets (λ own p. OpenGuardedPagePaints x (page_frame frame.border own) us s p (picture p)) (all_sheets frame sides spec us)
     → OpenIsPrinted z w frame sides spec us picture s
 
 -- What impose makes of an accepted document, with the guard put in, with any such operators: its own pages are shown: a
@@ -58,5 +58,5 @@ OpenGuardedDocumentIsShown =
     → IsPlacelessThere x → RunsPreambles x z → document_of text ≡ Ok us → length (guarded sheet text) ≤ most_input_bytes
     → preamble_comments_apart (units_of (guarded sheet text)) ≡ true
     → OpenPreambleRuns z w IsGuarded (bytes_of (preamble (units_of (guarded sheet text)))) s
-    → OnSheets (λ own p. OpenGuardedPagePaints x (frame_of frame.border own) us s p (picture p)) (all_sheets frame sides spec us)
+    → OnSheets (λ own p. OpenGuardedPagePaints x (page_frame frame.border own) us s p (picture p)) (all_sheets frame sides spec us)
     → OpenIsPrinted z w frame sides spec (units_of (guarded sheet text)) picture s

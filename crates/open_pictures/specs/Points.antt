@@ -12,16 +12,16 @@ use Rattle.open_pictures.specs.Strings.{characters, hexadecimal_bytes, as_hexade
 -- Whether two transformations are the same: each is written down so that no other one is written so. Texts and lists are preceded
 -- by their lengths.
 
-abbrev pub counted : List ℕ → List ℕ
-counted bs = length bs ∷ bs
+abbrev pub with_length : List ℕ → List ℕ
+with_length bs = length bs ∷ bs
 
 abbrev pub written_token : Token → List ℕ
-written_token (Number text) = 0 ∷ counted text
-written_token (Name name) = 1 ∷ counted name
-written_token (Literal name) = 2 ∷ counted name
-written_token (Text bytes) = 3 ∷ counted bytes
-written_token (Hexadecimal digits) = 4 ∷ counted digits
-written_token (Bound name) = 5 ∷ counted name
+written_token (Number text) = 0 ∷ with_length text
+written_token (Name name) = 1 ∷ with_length name
+written_token (Literal name) = 2 ∷ with_length name
+written_token (Text bytes) = 3 ∷ with_length bytes
+written_token (Hexadecimal digits) = 4 ∷ with_length digits
+written_token (Bound name) = 5 ∷ with_length name
 written_token Opens = 6 ∷ []
 written_token Closes = 7 ∷ []
 written_token Unknown = 8 ∷ []
@@ -41,25 +41,25 @@ written_object SystemDictionary = 7 ∷ []
 written_object (Matrix n) = 8 ∷ n ∷ []
 written_object (Saved level) = 9 ∷ level ∷ []
 written_object (Font ts) = 10 ∷ written_tokens ts
-written_object (Operator name kind) = 11 ∷ counted name
+written_object (Operator name kind) = 11 ∷ with_length name
 
 abbrev pub written_call : Call → List ℕ
-written_call c = counted c.name ++ (length c.operands ∷ flat_map written_object c.operands)
+written_call c = with_length c.name ++ (length c.operands ∷ flat_map written_object c.operands)
 
 abbrev pub is_same_transformation : (a b : List Call) → Bool
 is_same_transformation a b = bytes_eq (flat_map written_call a) (flat_map written_call b)
 
 -- the texts of two numbers
-pub record Point : Type 0 where
+pub record PathPoint : Type 0 where
   pub x : List ℕ
   pub y : List ℕ
 
 -- the topmost two operands
-abbrev pub two_numbers : List Object → Option Point
+abbrev pub two_numbers : List Object → Option PathPoint
 two_numbers (Plain (Number y) ∷ Plain (Number x) ∷ os) = Some (record { x = x; y = y })
 two_numbers os = None
 
-abbrev pub moved_by : Option Point → Option Point → Option Point
+abbrev pub moved_by : Option PathPoint → Option PathPoint → Option PathPoint
 moved_by (Some p) (Some q) = Some (record { x = calculated Add p.x q.x; y = calculated Add p.y q.y })
 moved_by p q = None
 
@@ -72,9 +72,9 @@ token_text (Name name) = name
 token_text t = []
 
 -- what the font was made of, the first of it first
-abbrev pub font_text : List Token → List ℕ
-font_text [] = []
-font_text (t ∷ ts) = font_text ts ++ token_text t ++ codes " "
+abbrev pub font_name_text : List Token → List ℕ
+font_name_text [] = []
+font_name_text (t ∷ ts) = font_name_text ts ++ token_text t ++ codes " "
 
 abbrev pub latest_font : List Call → Option (List Token)
 latest_font [] = None
@@ -91,10 +91,10 @@ latest_font (c ∷ cs) =
     of_selected (Plain size ∷ Plain name ∷ os) = Some (size ∷ name ∷ [])
     of_selected os = None
 
-abbrev pub width_by : Option (List Token) → Option (List ℕ) → Option Point
+abbrev pub width_by : Option (List Token) → Option (List ℕ) → Option PathPoint
 width_by (Some font) (Some bytes) = Some (record {
-  x = font_text font ++ codes "<" ++ as_hexadecimal bytes ++ codes "> stringwidth pop";
-  y = font_text font ++ codes "<" ++ as_hexadecimal bytes ++ codes "> stringwidth exch pop";
+  x = font_name_text font ++ codes "<" ++ as_hexadecimal bytes ++ codes "> stringwidth pop";
+  y = font_name_text font ++ codes "<" ++ as_hexadecimal bytes ++ codes "> stringwidth exch pop";
 })
 width_by font bytes = None
 
@@ -105,22 +105,22 @@ bytes_shown os = None
 
 -- `xyshow`: each of its characters has two numbers
 
-abbrev pub moved_along : Point → List Token → Option Point
+abbrev pub moved_along : PathPoint → List Token → Option PathPoint
 moved_along p [] = Some p
 moved_along p (Number x ∷ Number y ∷ ts) = moved_along (record { x = calculated Add p.x x; y = calculated Add p.y y }) ts
 moved_along p ts = None
 
-abbrev pub moved_each : Option Point → List Token → Option (List ℕ) → Option Point
+abbrev pub moved_each : Option PathPoint → List Token → Option (List ℕ) → Option PathPoint
 moved_each (Some p) ts (Some bytes) = if length ts == 2 * length bytes then moved_along p ts else None
 moved_each p ts bytes = None
 
-abbrev pub moved_by_all : Option Point → List Object → Option Point
+abbrev pub moved_by_all : Option PathPoint → List Object → Option PathPoint
 moved_by_all p (Array ts ∷ os) = moved_each p ts (bytes_shown os)
 moved_by_all p os = None
 
 -- where an element of the path ends, if it begins there; the settings are those with which a text was shown
-abbrev pub end_of : Call → (settings : List Call) → (start : Option Point) → Option Point
-end_of c settings start =
+abbrev pub element_end : Call → (settings : List Call) → (start : Option PathPoint) → Option PathPoint
+element_end c settings start =
     if among c.name (codes "moveto" ∷ codes "lineto" ∷ codes "curveto" ∷ []) then two_numbers c.operands
     else if among c.name (codes "rmoveto" ∷ codes "rlineto" ∷ codes "rcurveto" ∷ []) then moved_by start (two_numbers c.operands)
     else if bytes_eq c.name (codes "show") then moved_by start (width_by (latest_font settings) (bytes_shown c.operands))
@@ -128,10 +128,10 @@ end_of c settings start =
     else None
 
 -- the end of a path under this transformation, if all that it is calculated from was written under the same one
-abbrev pub point_of : List Call → List Segment → Option Point
+abbrev pub point_of : List Call → List Segment → Option PathPoint
 point_of chain [] = None
 point_of chain (x ∷ xs) =
-    if is_same_transformation x.chain chain then end_of x.call x.settings (point_of chain xs) else None
+    if is_same_transformation x.chain chain then element_end x.call x.settings (point_of chain xs) else None
 
 -- a place changes no point: a law
 abbrev pub PointIsPlaceless : Type 0

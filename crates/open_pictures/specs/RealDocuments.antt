@@ -17,8 +17,8 @@ use Rattle.open_pictures.specs.Values.{values}
 -- It is accepted, and has so many pages. A machine runs its preamble, and from the state after it each page prints a
 -- picture of itself. Of the output by any specification, on any paper, in signatures or not, it prints those pictures,
 -- placed, sheet by sheet; and so it does of any other sheets of these pages, to which no lines are added but comments
-abbrev pub IsShown : (text : List ℕ) → (count : ℕ) → Type 0
-IsShown text count =
+abbrev pub IsDocumentShown : (text : List ℕ) → (count : ℕ) → Type 0
+IsDocumentShown text count =
     (us : List NestedUnit) × (s : State) × (picture : ℕ → List Painting) × (document_of text ≡ Ok us) × (length (pages us) ≡ count)
     × OpenPreambleRuns values plain_work IsGround (bytes_of (preamble us)) s
     × OnPages (λ p. OpenPagePrints values us s p (picture p)) us

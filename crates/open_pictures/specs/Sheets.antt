@@ -4,7 +4,7 @@ use Rattle.pictures.specs.Objects.{Token}
 use Rattle.pictures.specs.Machine.{State, Painting}
 use Rattle.pictures.specs.Placing.{Around, state_at}
 use Rattle.pictures.specs.Sheets.{Shown, AllOf, IsGround, PaintsBy, run_of, page_picture, placed_tokens}
-use Rattle.pictures.specs.Pictures.{printed, sheets_tokens}
+use Rattle.pictures.specs.Pictures.{printed_sheets, sheets_tokens}
 use Rattle.open_pictures.specs.Machine.{Further, open_step, OpenRuns}
 use Rattle.open_pictures.specs.Blindness.{IsPlaceless}
 
@@ -33,4 +33,4 @@ OpenSheetsArePrinted =
     (x : Further) (s : State) (ys : List (List Shown)) (rest : List Token) → IsPlaceless x → IsGround s → s.painted ≡ []
     → AllOf (AllOf (λ (y : Shown). OpenPaintsAlone x s y.placed.body y.picture)) ys
     → OpenRuns x false (run_of (sheets_tokens ys ++ rest) s)
-    (record s { left = rest; sheets = printed s.graphics ys s.sheets })
+    (record s { left = rest; sheets = printed_sheets s.graphics ys s.sheets })

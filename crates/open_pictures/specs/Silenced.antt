@@ -18,12 +18,12 @@ use Rattle.pictures.specs.Kept.{comments_apart_with, preamble_comments_apart}
 use Rattle.pictures.specs.Sheets.{Shown, run_of, placed_tokens, page_picture}
 use Rattle.pictures.specs.Documents.{FirstHas, OnSheetsFrom, all_sheets}
 use Rattle.pictures.specs.Shelter.{outline_tokens}
-use Rattle.pictures.specs.Pages.{shown_at}
+use Rattle.pictures.specs.Pages.{state_after_sheets}
 use Rattle.pictures.specs.GuardedImposed.{AreToldAsOne}
-use Rattle.pictures.specs.Silenced.{IsSilenced, with_showpage, showing}
+use Rattle.pictures.specs.Silenced.{IsSilenced, with_showpage, after_pages}
 use Rattle.open_pictures.specs.Machine.{Further, OpenRuns}
 use Rattle.open_pictures.specs.Blindness.{RunsPreambles}
-use Rattle.open_pictures.specs.Documents.{begun, OpenPreambleRuns}
+use Rattle.open_pictures.specs.Documents.{begun_machine, OpenPreambleRuns}
 use Rattle.open_pictures.specs.Shelter.{IsPlacelessThere, OpenPaintsSheltered}
 use Rattle.open_pictures.specs.OwnShowpage.{OpenPaintsFrom}
 
@@ -45,9 +45,9 @@ OpenSilencedDocumentIsShown =
     → preamble_comments_apart (units_of (guarded sheet text)) ≡ true
     → OpenPreambleRuns z w IsSilenced (bytes_of (preamble (units_of (guarded sheet text)))) s
     → FirstHas 1 (all_sheets frame sides spec us)
-    → OnSheetsFrom (OpenPaintsFrom x frame.border us picture (showing s)) 0 (all_sheets frame sides spec us)
-    → OpenRuns z false (begun w (tokens (output frame sides spec (units_of (guarded sheet text)))))
-    (shown_at (showing s) frame.border (units_of (guarded sheet text)) picture (all_sheets frame sides spec us))
+    → OnSheetsFrom (OpenPaintsFrom x frame.border us picture (after_pages s)) 0 (all_sheets frame sides spec us)
+    → OpenRuns z false (begun_machine w (tokens (output frame sides spec (units_of (guarded sheet text)))))
+    (state_after_sheets (after_pages s) frame.border (units_of (guarded sheet text)) picture (all_sheets frame sides spec us))
 
 -- and of all else that impose makes of it on sheets that are reported as one paper: a law
 abbrev pub OpenSilencedMadeDocumentIsShown : Type 0
@@ -57,6 +57,6 @@ OpenSilencedMadeDocumentIsShown =
     → IsPlacelessThere x → RunsPreambles x z → AreToldAsOne all → document_of text ≡ Ok us
     → length (guarded sheet text) ≤ most_input_bytes → comments_apart_with (telling all).header (units_of (guarded sheet text)) ≡ true
     → OpenPreambleRuns z w IsSilenced (bytes_of (preamble (units_of (guarded sheet text)))) s
-    → FirstHas 1 all → OnSheetsFrom (OpenPaintsFrom x border us picture (showing s)) 0 all
-    → OpenRuns z false (begun w (tokens (made_output border (telling all) all (units_of (guarded sheet text)))))
-    (shown_at (showing s) border (units_of (guarded sheet text)) picture all)
+    → FirstHas 1 all → OnSheetsFrom (OpenPaintsFrom x border us picture (after_pages s)) 0 all
+    → OpenRuns z false (begun_machine w (tokens (made_output border (telling all) all (units_of (guarded sheet text)))))
+    (state_after_sheets (after_pages s) border (units_of (guarded sheet text)) picture all)

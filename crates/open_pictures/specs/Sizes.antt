@@ -5,7 +5,7 @@ use Rattle.rules.specs.Papers.{Paper}
 use Rattle.rules.specs.Dress.{lines_text}
 use Rattle.papers.specs.Told.{page_size_lines}
 use Rattle.pictures.specs.Objects.{Token, Number, Bound, Truth, Array, Dictionary}
-use Rattle.pictures.specs.Dictionaries.{Entry, system}
+use Rattle.pictures.specs.Dictionaries.{DictionaryEntry, system}
 use Rattle.pictures.specs.Machine.{State, push, Runs}
 use Rattle.pictures.specs.Scanner.{tokens}
 use Rattle.pictures.specs.Sheets.{run_of, among}
@@ -22,7 +22,7 @@ sizing_names =
     ∷ codes "dict" ∷ codes "dup" ∷ codes "[" ∷ codes "]" ∷ codes "put" ∷ codes "get" ∷ codes "exec" ∷ []
 
 -- `/PageSize [width height]` in a dictionary
-abbrev pub size_by : (width height : List ℕ) → ℕ → Entry
+abbrev pub size_by : (width height : List ℕ) → ℕ → DictionaryEntry
 size_by width height d =
     record { dictionary = d; key = codes "PageSize"; value = Array (Number width ∷ Number height ∷ []) }
 
@@ -40,8 +40,8 @@ abbrev pub sized : Paper → State → State
 sized paper s = sized_by (points_text paper.width) (points_text paper.height) s
 
 -- Outside all pages the lines call the operator `setpagedevice` with that dictionary: a law
-abbrev pub SizeIsSet : Type 0
-SizeIsSet =
+abbrev pub DeviceSizeIsSet : Type 0
+DeviceSizeIsSet =
     (s : State) (paper : Paper) (rest : List Token) → MeanOperators sizing_names s
     → means s (codes "PStoPSenablepage") ≡ Some (Truth true)
     → Runs false (run_of (tokens (lines_text (page_size_lines paper)) ++ rest) s)

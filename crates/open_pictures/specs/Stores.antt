@@ -3,12 +3,12 @@
 use Rattle.std.specs.Prelude.{◌≡◌, ℕ, List, [], ◌∷◌, ◌++◌, Bool, ◌&&◌, ◌||◌, if◌then◌else◌, Option, Some, None}
 use Rattle.std.specs.Prelude.{codes, bytes_eq, option_map}
 use Rattle.pictures.specs.Objects.{Token, Object, Saved, Kind, Call}
-use Rattle.pictures.specs.Dictionaries.{Entry, entry_of}
+use Rattle.pictures.specs.Dictionaries.{DictionaryEntry, dictionary_entry}
 use Rattle.pictures.specs.Operators.{Work}
 use Rattle.pictures.specs.Unaware.{no_saved, no_saved_in}
 use Rattle.open_pictures.specs.Blindness.{IsBlind}
-use Rattle.open_pictures.specs.Points.{Point}
-use Rattle.open_pictures.specs.Operators.{Sight, Outcome, Blind, Stroke, Table, by_table, IsOutside, AsksForNone}
+use Rattle.open_pictures.specs.Points.{PathPoint}
+use Rattle.open_pictures.specs.Operators.{Visible, Outcome, Blind, Stroke, Table, by_table, FailsOnOperands, AsksForNone}
 use Rattle.open_pictures.specs.Shelter.{SeesNoMatrices, IsPlacelessThere}
 
 abbrev pub Store : Type 0
@@ -22,7 +22,7 @@ pub record Given : Type 0 where
   pub dictionaries : List ℕ
   pub made : ℕ
   pub settings : List Call
-  pub point : Option Point
+  pub point : Option PathPoint
 
 -- what comes of it: what is run next, a name up to which it drops what is left to run, the operands in place of those, entries
 -- that are put (the latest first), how many dictionaries have been made, what it draws
@@ -30,7 +30,7 @@ pub record Change : Type 0 where
   pub next : List Token
   pub past : Option (List ℕ)
   pub operands : List Object
-  pub puts : List Entry
+  pub puts : List DictionaryEntry
   pub made : ℕ
   pub strokes : List Stroke
 
@@ -57,10 +57,10 @@ unlevelled (Saved level) = Saved 0
 unlevelled o = o
 
 -- of those names it sees nothing: an operator that looks up a name has to stop at them
-abbrev pub seen : List Entry → Store
-seen es d key = if is_put key then None else option_map unlevelled (entry_of d key es)
+abbrev pub seen : List DictionaryEntry → Store
+seen es d key = if is_put key then None else option_map unlevelled (dictionary_entry d key es)
 
-abbrev pub given_of : Sight → Given
+abbrev pub given_of : Visible → Given
 given_of sight = record {
   operands = above_save sight.work.operands;
   store = seen sight.work.entries;
@@ -79,7 +79,7 @@ changed_work c w = record {
 }
 
 -- it makes no save an operand, and puts none
-abbrev pub change_made : Option Change → Sight → Option Outcome
+abbrev pub change_made : Option Change → Visible → Option Outcome
 change_made None sight = None
 change_made (Some c) sight =
     if no_saved c.operands && no_saved_in c.puts then
@@ -113,7 +113,7 @@ by_stores named formed others = record {
 -- a freer form goes on only where the operator doesn't take the operands
 abbrev pub FormsTakeOthers : (List ℕ → Kind → Valued) → Type 0
 FormsTakeOthers formed =
-    (name : List ℕ) (kind : Kind) (sight : Sight) (c : Change) → formed name kind (given_of sight) ≡ Some c → IsOutside kind sight.work
+    (name : List ℕ) (kind : Kind) (sight : Visible) (c : Change) → formed name kind (given_of sight) ≡ Some c → FailsOnOperands kind sight.work
 
 -- with any others that ask for none of the names that the sheet's text puts, they are blind: a law
 abbrev pub StoresAreBlind : Type 0

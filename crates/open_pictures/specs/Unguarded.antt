@@ -7,7 +7,7 @@ use Rattle.rules.specs.Output.{Border}
 use Rattle.rules.specs.Made.{MadeSheet}
 use Rattle.rules.specs.MadeOutput.{made_output}
 use Rattle.papers.specs.Told.{telling}
-use Rattle.dressing.specs.Drawn.{marked}
+use Rattle.dressing.specs.Drawn.{strokes_added}
 use Rattle.dressing.specs.declared.strokes.Stroke.{Stroke}
 use Rattle.pictures.specs.Operators.{Work}
 use Rattle.pictures.specs.Machine.{State, Painting, Runs}
@@ -17,7 +17,7 @@ use Rattle.pictures.specs.Documents.{started, PreambleRuns}
 use Rattle.pictures.specs.Unaware.{IsPlainGround, PagePrints, absent}
 use Rattle.open_pictures.specs.Machine.{Further, OpenRuns}
 use Rattle.open_pictures.specs.Blindness.{IsBlind, RunsPreambles}
-use Rattle.open_pictures.specs.Documents.{begun, OpenPreambleRuns, OpenPagePrints}
+use Rattle.open_pictures.specs.Documents.{begun_machine, OpenPreambleRuns, OpenPagePrints}
 use Rattle.open_pictures.specs.Sizes.{MeanOperators}
 use Rattle.open_pictures.specs.DressedDocuments.{told_by, TakesLines, OnSheetsBegun, dressed_at}
 
@@ -41,7 +41,7 @@ DressedSheetsShowThePages =
     → document_of text ≡ Ok us → comments_apart_with (telling all).header us ≡ true
     → PreambleRuns IsPlainGround (bytes_of (preamble us)) s → TakesPlainLines (told_by all) strokes s
     → OnSheetsBegun (told_by all) (λ at own p. PagePrints us at p (picture p)) s all
-    → Runs false (started (tokens (made_output border (marked strokes (telling all)) all us)))
+    → Runs false (started (tokens (made_output border (strokes_added strokes (telling all)) all us)))
     (dressed_at border strokes us picture s all)
 
 -- the same with any further operators that are blind, and any for the preamble: a law
@@ -52,5 +52,5 @@ OpenDressedSheetsShowThePages =
     → IsBlind x → RunsPreambles x z → document_of text ≡ Ok us → comments_apart_with (telling all).header us ≡ true
     → OpenPreambleRuns z w IsPlainGround (bytes_of (preamble us)) s → TakesPlainLines (told_by all) strokes s
     → OnSheetsBegun (told_by all) (λ at own p. OpenPagePrints x us at p (picture p)) s all
-    → OpenRuns z false (begun w (tokens (made_output border (marked strokes (telling all)) all us)))
+    → OpenRuns z false (begun_machine w (tokens (made_output border (strokes_added strokes (telling all)) all us)))
     (dressed_at border strokes us picture s all)

@@ -10,7 +10,7 @@ use Rattle.pictures.specs.Objects.{Token, Number, Literal, Hexadecimal, Bound, N
 use Rattle.pictures.specs.Objects.{Dictionary, Font, Kind, Computes, Controls, Draws, CloseArray, Get, Put, Length, LoadArray, Compare}
 use Rattle.pictures.specs.Objects.{ForAll, Where, Load, Known, MakeDictionary, MakeExecutable, Looks, CopiesPage, Want, ANumber, AText, AnArray, AMatrix, ATruth, Comparison, Effect, Sets, Shows, Segments, Transforms}
 use Rattle.pictures.specs.Dictionaries.{has, system, is_lacked}
-use Rattle.pictures.specs.Calculations.{whole_of, whole_text}
+use Rattle.pictures.specs.Calculations.{whole_of, whole_number_text}
 use Rattle.pictures.specs.Operators.{objects_compared, sameness, taken, fits, nth}
 use Rattle.open_pictures.specs.Machine.{Further}
 use Rattle.open_pictures.specs.Blindness.{IsBlind}
@@ -19,7 +19,7 @@ use Rattle.open_pictures.specs.Shelter.{SeesNoMatrices, IsPlacelessThere}
 use Rattle.open_pictures.specs.Stores.{Store, Given, Change, Valued, is_put, by_stores}
 use Rattle.open_pictures.specs.Points.{width_by, latest_font}
 use Rattle.open_pictures.specs.Strings.{as_hexadecimal, decimals_compared, words, isolatin1}
-use Rattle.open_pictures.specs.Composites.{Composite, frozen_key, array_tag, string_tag, element_tag, null_tag, reference, referred, null, element_at}
+use Rattle.open_pictures.specs.Composites.{Composite, frozen_key, array_tag, string_tag, element_tag, null_tag, reference, referred, null_object, element_at}
 use Rattle.open_pictures.specs.Composites.{element_token, element_entry, element_entries, number_object, array_of, string_of}
 use Rattle.open_pictures.specs.Composites.{characters_of, items_for, items_of, leaving, putting, run_next, point_left, making}
 use Rattle.open_pictures.specs.Matrices.{fill_identity, fill_matrix, combine, move_by, point_by, distance_by, transform_more}
@@ -42,9 +42,9 @@ abbrev pub closed_array : Option (List Object × List Object) → Given → Opti
 closed_array None given = None
 closed_array (Some (items, os)) given = if are_tokens items then None else making array_tag (length items) items os given
 
-abbrev pub item_at : List ℕ → Option (List Object) → Option Object
-item_at text None = None
-item_at text (Some items) = if list_all is_ascii_digit text then nth (number_of text) items else None
+abbrev pub object_at : List ℕ → Option (List Object) → Option Object
+object_at text None = None
+object_at text (Some items) = if list_all is_ascii_digit text then nth (number_of text) items else None
 
 abbrev pub pushing : Option Object → List Object → Given → Option Change
 pushing None os given = None
@@ -66,7 +66,7 @@ no_operators =
 abbrev pub system_value : List ℕ → Option Object
 system_value name =
     if bytes_eq name (codes "languagelevel") then Some (number_object 3)
-    else if bytes_eq name (codes "null") then Some null
+    else if bytes_eq name (codes "null") then Some null_object
     else if list_any (bytes_eq name) no_operators then None
     else Some (Operator name (Looks CopiesPage))
 
@@ -104,7 +104,7 @@ known_more os given = None
 
 -- `get` of an array or a string, and of systemdict
 abbrev pub get_from : List Object → Given → Option Change
-get_from (Plain (Number text) ∷ Plain t ∷ os) given = pushing (item_at text (items_of given.store (Plain t))) os given
+get_from (Plain (Number text) ∷ Plain t ∷ os) given = pushing (object_at text (items_of given.store (Plain t))) os given
 get_from (Plain (Literal name) ∷ SystemDictionary ∷ os) given = pushing (system_more name) os given
 get_from os given = None
 
@@ -117,14 +117,14 @@ element_for tag (Plain (Number text)) =
 element_for tag o = if tag == string_tag then None else Some o
 
 -- it has so many elements, and may be changed
-abbrev pub has_room : Store → Composite → ℕ → Bool
-has_room store c n = nat_le n c.count && not (has (store c.number frozen_key))
+abbrev pub may_be_filled : Store → Composite → ℕ → Bool
+may_be_filled store c n = nat_le n c.count && not (has (store c.number frozen_key))
 
 -- these elements from that place on, if there are as many
 abbrev pub put_items : Composite → List ℕ → Option (List Object) → List Object → Given → Option Change
 put_items c text None os given = None
 put_items c text (Some items) os given =
-    if list_all is_ascii_digit text && has_room given.store c (number_of text + length items)
+    if list_all is_ascii_digit text && may_be_filled given.store c (number_of text + length items)
     then putting (element_entries c.number (c.first + number_of text) items) os given
     else None
 
@@ -161,11 +161,11 @@ capacity_of (Font ts ∷ os) given = leaving (capacity ∷ os) given
 capacity_of os given = None
 
 -- `length` of an array, a string, a name, or a font
-abbrev pub length_of : List Object → Given → Option Change
-length_of (Font ts ∷ os) given = leaving (capacity ∷ os) given
-length_of (Plain (Literal name) ∷ os) given = number_left (Some (length name)) os given
-length_of (Plain t ∷ os) given = number_left (option_map length (items_of given.store (Plain t))) os given
-length_of os given = None
+abbrev pub length_operator : List Object → Given → Option Change
+length_operator (Font ts ∷ os) given = leaving (capacity ∷ os) given
+length_operator (Plain (Literal name) ∷ os) given = number_left (Some (length name)) os given
+length_operator (Plain t ∷ os) given = number_left (option_map length (items_of given.store (Plain t))) os given
+length_operator os given = None
 
 abbrev pub loading : Option (List Object) → List Object → Given → Option Change
 loading None os given = None
@@ -177,12 +177,12 @@ load_from (Plain t ∷ os) given = loading (option_map (λ items. items ++ Plain
 load_from os given = None
 
 -- tokens that push the elements, in order: those of a composite that are there by then
-abbrev pub element_tokens : Option Composite → Option (List Token)
-element_tokens None = None
-element_tokens (Some c) = Some (map (λ i. element_token c.tag c.number i) (range_with_len c.first c.count))
+abbrev pub pushing_tokens : Option Composite → Option (List Token)
+pushing_tokens None = None
+pushing_tokens (Some c) = Some (map (λ i. element_token c.tag c.number i) (range_with_len c.first c.count))
 
 abbrev pub tokens_of : Store → Token → Option (List Token)
-tokens_of store (Bound name) = element_tokens (referred name)
+tokens_of store (Bound name) = pushing_tokens (referred name)
 tokens_of store t = option_map (map (λ b. Number (decimal b))) (string_of store (Plain t))
 
 abbrev pub each_run : List Token → Option (List Token) → List Object → Given → Option Change
@@ -273,23 +273,23 @@ abbrev pub make_executable : List Object → Given → Option Change
 make_executable (Plain (Bound name) ∷ os) given = make_procedure (referred name) os given
 make_executable os given = None
 
-abbrev pub formed : List ℕ → Kind → Valued
-formed name (Computes Where) given = where_more given.operands given
-formed name (Computes Load) given = load_more given.operands given
-formed name (Computes Known) given = known_more given.operands given
-formed name (Computes MakeDictionary) given = make_dictionary given.operands given
-formed name (Computes MakeExecutable) given = make_executable given.operands given
-formed name (Computes CloseArray) given = closed_array (down_to_mark [] given.operands) given
-formed name (Computes Get) given = get_from given.operands given
-formed name (Computes Put) given = put_into given.operands given
-formed name (Computes Length) given = length_of given.operands given
-formed name (Computes LoadArray) given = load_from given.operands given
-formed name (Computes (Compare c)) given = compare_more c given.operands given
-formed name (Controls ForAll) given = for_all given.operands given
-formed name (Draws (AText ∷ wants) Shows) given = show_more name given.operands given
-formed name (Draws (ANumber ∷ wants) Transforms) given = fill_matrix name given.operands given
-formed name (Draws (AMatrix ∷ wants) Transforms) given = transform_more name given.operands given
-formed name kind given = None
+abbrev pub formed_value : List ℕ → Kind → Valued
+formed_value name (Computes Where) given = where_more given.operands given
+formed_value name (Computes Load) given = load_more given.operands given
+formed_value name (Computes Known) given = known_more given.operands given
+formed_value name (Computes MakeDictionary) given = make_dictionary given.operands given
+formed_value name (Computes MakeExecutable) given = make_executable given.operands given
+formed_value name (Computes CloseArray) given = closed_array (down_to_mark [] given.operands) given
+formed_value name (Computes Get) given = get_from given.operands given
+formed_value name (Computes Put) given = put_into given.operands given
+formed_value name (Computes Length) given = length_operator given.operands given
+formed_value name (Computes LoadArray) given = load_from given.operands given
+formed_value name (Computes (Compare c)) given = compare_more c given.operands given
+formed_value name (Controls ForAll) given = for_all given.operands given
+formed_value name (Draws (AText ∷ wants) Shows) given = show_more name given.operands given
+formed_value name (Draws (ANumber ∷ wants) Transforms) given = fill_matrix name given.operands given
+formed_value name (Draws (AMatrix ∷ wants) Transforms) given = transform_more name given.operands given
+formed_value name kind given = None
 
 -- By name.
 
@@ -302,13 +302,13 @@ interval_of start count None os given = None
 interval_of start count (Some c) os given =
     if nat_le (start + count) c.count then leaving (reference (record c { first = c.first + start; count = count }) ∷ os) given else None
 
-abbrev pub part_of : (start count : ℕ) → List Token → Option (List Token)
-part_of start count ts = if nat_le (start + count) (length ts) then Some (take count (drop start ts)) else None
+abbrev pub token_part : (start count : ℕ) → List Token → Option (List Token)
+token_part start count ts = if nat_le (start + count) (length ts) then Some (take count (drop start ts)) else None
 
 -- `getinterval` of a composite one refers to a part of it
 abbrev pub get_interval_on : (start count : ℕ) → List Object → Given → Option Change
 get_interval_on start count (Plain (Bound name) ∷ os) given = interval_of start count (referred name) os given
-get_interval_on start count (Array ts ∷ os) given = pushing (option_map Array (part_of start count ts)) os given
+get_interval_on start count (Array ts ∷ os) given = pushing (option_map Array (token_part start count ts)) os given
 get_interval_on start count os given = None
 
 abbrev pub get_interval : List Object → Given → Option Change
@@ -327,7 +327,7 @@ put_interval os given = None
 abbrev pub store_all_in : Option Composite → List Object → Given → Option Change
 store_all_in None os given = None
 store_all_in (Some c) os given =
-    if (c.tag == array_tag) && (nat_le c.count (length os) && has_room given.store c c.count)
+    if (c.tag == array_tag) && (nat_le c.count (length os) && may_be_filled given.store c c.count)
     then putting (element_entries c.number c.first (reverse (take c.count os))) (reference c ∷ drop c.count os) given
     else None
 
@@ -361,21 +361,21 @@ store_value (o ∷ Plain (Literal key) ∷ os) given =
 store_value os given = None
 
 -- an object as text (`cvs`): a whole number, a boolean, a name, a string
-abbrev pub text_of : Store → Object → Option (List ℕ)
-text_of store (Plain (Number text)) = option_map whole_text (whole_of text)
-text_of store (Truth true) = Some (codes "true")
-text_of store (Truth false) = Some (codes "false")
-text_of store o = characters_of store o
+abbrev pub string_text : Store → Object → Option (List ℕ)
+string_text store (Plain (Number text)) = option_map whole_number_text (whole_of text)
+string_text store (Truth true) = Some (codes "true")
+string_text store (Truth false) = Some (codes "false")
+string_text store o = characters_of store o
 
 abbrev pub write_text : Option Composite → Option (List ℕ) → List Object → Given → Option Change
 write_text (Some c) (Some bytes) os given =
-    if (c.tag == string_tag) && has_room given.store c (length bytes)
+    if (c.tag == string_tag) && may_be_filled given.store c (length bytes)
     then putting (element_entries c.number c.first (map number_object bytes)) (reference (record c { count = length bytes }) ∷ os) given
     else None
 write_text c bytes os given = None
 
 abbrev pub to_string : List Object → Given → Option Change
-to_string (Plain (Bound name) ∷ o ∷ os) given = write_text (referred name) (text_of given.store o) os given
+to_string (Plain (Bound name) ∷ o ∷ os) given = write_text (referred name) (string_text given.store o) os given
 to_string os given = None
 
 -- `cvn`
@@ -423,18 +423,18 @@ abbrev pub drop_truth : List Object → Given → Option Change
 drop_truth (Truth test ∷ os) given = leaving os given
 drop_truth os given = None
 
-pub record Row : Type 0 where
+pub record OperatorRow : Type 0 where
   pub name : List ℕ
   pub does : Valued
 
-abbrev pub row : List ℕ → Valued → Row
+abbrev pub row : List ℕ → Valued → OperatorRow
 row name does = record { name = name; does = does }
 
-abbrev pub rows : List Row
+abbrev pub rows : List OperatorRow
 rows =
     row (codes "array") (λ given. make_new array_tag given.operands given)
     ∷ row (codes "string") (λ given. make_new string_tag given.operands given)
-    ∷ row (codes "null") (λ given. leaving (null ∷ given.operands) given)
+    ∷ row (codes "null") (λ given. leaving (null_object ∷ given.operands) given)
     ∷ row (codes "getinterval") (λ given. get_interval given.operands given)
     ∷ row (codes "putinterval") (λ given. put_interval given.operands given)
     ∷ row (codes "astore") (λ given. store_all given.operands given)
@@ -466,23 +466,23 @@ rows =
     ∷ row (codes "xyshow") (drawing (codes "xyshow") (AnArray ∷ AText ∷ []) Shows)
     ∷ []
 
-abbrev pub row_of : List ℕ → List Row → Option Valued
-row_of name [] = None
-row_of name (r ∷ rs) = if bytes_eq r.name name then Some r.does else row_of name rs
+abbrev pub row_named : List ℕ → List OperatorRow → Option Valued
+row_named name [] = None
+row_named name (r ∷ rs) = if bytes_eq r.name name then Some r.does else row_named name rs
 
 -- references, and the names that push an element
-abbrev pub named : List ℕ → Option Valued
-named (tag ∷ []) = if tag == null_tag then Some (λ given. leaving (null ∷ given.operands) given) else row_of (tag ∷ []) rows
-named (tag ∷ a ∷ b ∷ c ∷ []) =
+abbrev pub operator_named : List ℕ → Option Valued
+operator_named (tag ∷ []) = if tag == null_tag then Some (λ given. leaving (null_object ∷ given.operands) given) else row_named (tag ∷ []) rows
+operator_named (tag ∷ a ∷ b ∷ c ∷ []) =
     if tag == element_tag then Some (λ given. leaving (element_at given.store a b c ∷ given.operands) given)
     else if tag == array_tag || tag == string_tag then
     Some (λ given. leaving (Plain (Bound (tag ∷ a ∷ b ∷ c ∷ [])) ∷ given.operands) given)
-    else row_of (tag ∷ a ∷ b ∷ c ∷ []) rows
-named name = row_of name rows
+    else row_named (tag ∷ a ∷ b ∷ c ∷ []) rows
+operator_named name = row_named name rows
 
 -- the table, with any others besides
 abbrev pub values_with : (others : List ℕ → Option Blind) → Table
-values_with others = by_stores named formed others
+values_with others = by_stores operator_named formed_value others
 
 abbrev pub no_others : List ℕ → Option Blind
 no_others name = None

@@ -14,7 +14,7 @@ ghost use Rattle.open_pictures.specs.Stores.{StoresAreBlind, StoresArePlacelessT
 ghost use Rattle.open_pictures.specs.Values.{ValuesAreBlind, ValuesArePlacelessThere};
 ghost use Rattle.open_pictures.specs.Shelter.{AnswersSeeNoMatrices, OpenShelterCommutes, TablesArePlacelessThere};
 ghost use Rattle.open_pictures.specs.DressedDocuments.{DressedDocumentIsShown, OpenDressedDocumentIsShown};
-ghost use Rattle.open_pictures.specs.Sizes.{SizeIsSet};
+ghost use Rattle.open_pictures.specs.Sizes.{DeviceSizeIsSet};
 ghost use Rattle.open_pictures.specs.Unguarded.{DressedSheetsShowThePages, OpenDressedSheetsShowThePages};
 ghost use Rattle.open_pictures.specs.Barcode.{BarcodeIsShown};
 ghost use Rattle.open_pictures.specs.Groff.{GroffIsShown};
@@ -179,8 +179,8 @@ pub fn values_are_placeless_there()
 {}
 
 /// Where sheets have several papers, each calls `setpagedevice` with the size of its own.
-pub fn size_is_set()
-    ensures { SizeIsSet }
+pub fn device_size_is_set()
+    ensures { DeviceSizeIsSet }
 {}
 
 /// A machine prints of all that impose writes of a document, with the guard put in, what the document's pages paint by

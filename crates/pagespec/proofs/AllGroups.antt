@@ -3,43 +3,43 @@ use Rattle.std.proofs.Common.{◌≡◌, ◌≢◌, ℕ, List, [], ◌∷◌, Op
 use Rattle.std.specs.List.{AllZip}
 use Rattle.std.specs.Prelude.{MatchResult, Result, Ok, Err, IfOk, IfErr}
 use Rattle.rules.specs.Specification.{WrittenItem, IsBareItem, AreGroups}
-use Rattle.pagespec.specs.Reading.{◌>>=◌, groups_at, bare_at, all_groups_at, whole, whole_groups_at, or_bare}
+use Rattle.pagespec.specs.Reading.{◌>>=◌, groups_at, bare_at, all_groups_at, if_all_read, whole_groups_at, or_bare}
 use Rattle.pagespec.specs.Places.{StuckIn, StuckAfter, ReadsBefore}
 use Rattle.pagespec.specs.Parsed.{ItemShows}
-use Rattle.pagespec.specs.Groups.{GroupsRead, ParsesTo, BareRead, IsStop, AreWhole}
+use Rattle.pagespec.specs.Groups.{GroupsRead, ParsesTo, BareRead, IsStop, AreWholeGroups}
 use Rattle.pagespec.specs.declared.parsed.ParsedItem.{ParsedItem}
 use Rattle.pagespec.specs.declared.groups.ParsedGroups.{ParsedGroups}
 use Rattle.pagespec.specs.declared.groups.Stop.{Stop}
-use Rattle.pagespec.specs.declared.scan.Stuck.{Stuck as Place}
+use Rattle.pagespec.specs.declared.scan.ParseStop.{ParseStop as Place}
 use Rattle.pagespec.specs.declared.groups.Stop.TheVariants.{Stuck, NoMemory}
 use Rattle.pagespec.proofs.Texts.{bare_found, all_groups_read}
 use Rattle.pagespec.proofs.StuckPlaces.{stuck_there, stuck_farther}
 use Rattle.pagespec.proofs.MeasureStuck.{IsSome, Nothing}
 
-pub whole_there : (t rest : List ℕ) (parsed : ParsedGroups) → GroupsRead t parsed rest → rest ≡ [] → ParsesTo (groups_at t >>= whole) parsed
-whole_there t rest parsed (gs, found, are) e = (gs, ap (λ o. o >>= whole) found ∙ ap (λ r. whole (gs, r)) e, are)
+pub whole_there : (t rest : List ℕ) (parsed : ParsedGroups) → GroupsRead t parsed rest → rest ≡ [] → ParsesTo (groups_at t >>= if_all_read) parsed
+whole_there t rest parsed (gs, found, are) e = (gs, ap (λ o. o >>= if_all_read) found ∙ ap (λ r. if_all_read (gs, r)) e, are)
 
 -- nothing follows the groups of a whole text
-not_whole : (o : Option (List (List WrittenItem) × List ℕ)) (rest : List ℕ) → rest ≢ [] → ReadsBefore rest o → (o >>= whole) ≡ None
+not_whole : (o : Option (List (List WrittenItem) × List ℕ)) (rest : List ℕ) → rest ≢ [] → ReadsBefore rest o → (o >>= if_all_read) ≡ None
 not_whole o [] n read = absurd (n refl)
 not_whole o (b ∷ rest) n (gs, [], e, l) = absurd (cc (l))
-not_whole o (b ∷ rest) n (gs, a ∷ after, e, l) = ap (λ x. x >>= whole) e
+not_whole o (b ∷ rest) n (gs, a ∷ after, e, l) = ap (λ x. x >>= if_all_read) e
 
-pub whole_ended : (t rest : List ℕ) (left : ℕ) → (gs : List (List WrittenItem)) → groups_at t ≡ Some (gs, rest) → rest ≢ [] → StuckAfter AreWhole groups_at t rest left → StuckIn AreWhole whole_groups_at t left
+pub whole_ended : (t rest : List ℕ) (left : ℕ) → (gs : List (List WrittenItem)) → groups_at t ≡ Some (gs, rest) → rest ≢ [] → StuckAfter AreWholeGroups groups_at t rest left → StuckIn AreWholeGroups whole_groups_at t left
 whole_ended t rest left gs found n s = (
   not_whole (groups_at t) rest n (gs, rest, found, refl),
-  stuck_there (IsSome AreWhole) (λ u. ReadsBefore rest (groups_at u)) (IsSome AreWhole) (Nothing whole_groups_at) t left
-      (λ x is. ([], subst (IsSome AreWhole) (sym (append-nil x)) is)) (λ u l read. not_whole (groups_at u) rest n read) s,
+  stuck_there (IsSome AreWholeGroups) (λ u. ReadsBefore rest (groups_at u)) (IsSome AreWholeGroups) (Nothing whole_groups_at) t left
+      (λ x is. ([], subst (IsSome AreWholeGroups) (sym (append-nil x)) is)) (λ u l read. not_whole (groups_at u) rest n read) s,
 )
 
-pub whole_stuck : (t : List ℕ) (left : ℕ) → StuckIn AreWhole groups_at t left → StuckIn AreWhole whole_groups_at t left
+pub whole_stuck : (t : List ℕ) (left : ℕ) → StuckIn AreWholeGroups groups_at t left → StuckIn AreWholeGroups whole_groups_at t left
 whole_stuck t left (none, s) = (
-  ap (λ o. o >>= whole) none,
-  stuck_there (IsSome AreWhole) (Nothing groups_at) (IsSome AreWhole) (Nothing whole_groups_at) t left
-      (λ x is. ([], subst (IsSome AreWhole) (sym (append-nil x)) is)) (λ u l e. ap (λ o. o >>= whole) e) s,
+  ap (λ o. o >>= if_all_read) none,
+  stuck_there (IsSome AreWholeGroups) (Nothing groups_at) (IsSome AreWholeGroups) (Nothing whole_groups_at) t left
+      (λ x is. ([], subst (IsSome AreWholeGroups) (sym (append-nil x)) is)) (λ u l e. ap (λ o. o >>= if_all_read) e) s,
 )
 
-pub all_there : (t : List ℕ) (parsed : ParsedGroups) → ParsesTo (groups_at t >>= whole) parsed → ParsesTo (all_groups_at t) parsed
+pub all_there : (t : List ℕ) (parsed : ParsedGroups) → ParsesTo (groups_at t >>= if_all_read) parsed → ParsesTo (all_groups_at t) parsed
 unfolding all_groups_at
 all_there t parsed (gs, found, are) = (gs, ap (or_bare t) found, are)
 
@@ -47,17 +47,17 @@ all_none : (t : List ℕ) → bare_at t ≡ None → whole_groups_at t ≡ None 
 unfolding all_groups_at
 all_none t b e = ap (or_bare t) e ∙ ap (λ o. o >>= λ i. Some ((i ∷ []) ∷ [])) b
 
-as_groups : (t : List ℕ) → IsSome AreWhole t → (m : List ℕ) × IsSome AreGroups (t ++ m)
-as_groups t (gs, are) = ([], (gs, inl (subst (λ x. AreWhole x gs) (sym (append-nil t)) are)))
+as_groups : (t : List ℕ) → IsSome AreWholeGroups t → (m : List ℕ) × IsSome AreGroups (t ++ m)
+as_groups t (gs, are) = ([], (gs, inl (subst (λ x. AreWholeGroups x gs) (sym (append-nil t)) are)))
 
 as_bare : (t : List ℕ) → IsSome IsBareItem t → (m : List ℕ) × IsSome AreGroups (t ++ m)
 as_bare t (i, is) = ([], ((i ∷ []) ∷ [], inr (i, refl, subst (λ x. IsBareItem x i) (sym (append-nil t)) is)))
 
 -- both readers are stuck, and so is the one that goes farther
-pub all_stuck : (t : List ℕ) (bare groups left : ℕ) → StuckIn IsBareItem bare_at t bare → StuckIn AreWhole whole_groups_at t groups → left ≡ min groups bare → StuckIn AreGroups all_groups_at t left
+pub all_stuck : (t : List ℕ) (bare groups left : ℕ) → StuckIn IsBareItem bare_at t bare → StuckIn AreWholeGroups whole_groups_at t groups → left ≡ min groups bare → StuckIn AreGroups all_groups_at t left
 all_stuck t bare groups left (no_bare, b) (no_groups, g) e = (
   all_none t no_bare no_groups,
-  stuck_farther (IsSome AreWhole) (Nothing whole_groups_at) (IsSome IsBareItem) (Nothing bare_at) (IsSome AreGroups) (Nothing all_groups_at) t groups bare left as_groups as_bare (λ u x y. all_none u y x) g b e,
+  stuck_farther (IsSome AreWholeGroups) (Nothing whole_groups_at) (IsSome IsBareItem) (Nothing bare_at) (IsSome AreGroups) (Nothing all_groups_at) t groups bare left as_groups as_bare (λ u x y. all_none u y x) g b e,
 )
 
 all_bare : (t : List ℕ) (i : WrittenItem) → bare_at t ≡ Some i → all_groups_at t ≡ Some ((i ∷ []) ∷ [])

@@ -10,7 +10,7 @@ use Rattle.std.proofs.lemmas.Fmt.{IsAscii-decimal_wide}
 use Rattle.std.proofs.lemmas.List.Elements.{All-head, All-tail}
 use Rattle.rules.specs.Numbers.{is_large, number_text, IsNumber, IsSign, IsFraction}
 use Rattle.rules.specs.Papers.{LengthUnit, Pt, Cm, Mm, In, Width, Height}
-use Rattle.rules.specs.Specification.{Measure, WrittenItem, WrittenSpec, Spec, Turn, Upright, Left, Half, Right, minus_text, unit_text, measure_text, turn_text, turn_of, quarters, scale, offset_x, offset_y, scale_part, is_one, offset_part, is_zero_points, item_text, joined_by, modulo_text, settled_item, settled, canonical}
+use Rattle.rules.specs.Specification.{Measure, WrittenItem, WrittenSpec, Spec, Turn, Upright, Left, Half, Right, minus_text, unit_text, measure_text, turn_text, quarter_turn, quarters, scale, offset_x, offset_y, scale_part, is_one, offset_part, is_zero_points, item_text, joined_by, modulo_text, settled_item, settled, canonical}
 use Rattle.rules.specs.Admissible.{IsAdmissible, fault_of, has_large, items, most_slots}
 use Rattle.rules.proofs.Digits.{IsDigit}
 use Rattle.rules.proofs.Printed.{number_text_is_number}
@@ -92,8 +92,8 @@ ascii_item i small =
     let (page, behind) = either (nat_lt 99_999 i.page) (list_any has_large i.modifiers) small in
     let (small_x, small_y) = offset_small i.modifiers behind in
     let low : i.page < 10 ^ 5 = page_small i.page page in
-    five (minus_text i.from_end) (decimal i.page) (turn_text (turn_of (quarters i.modifiers))) (scale_part (scale i.modifiers)) (offset_part (offset_x i.modifiers) (offset_y i.modifiers))
-    (ascii_minus i.from_end) (IsAscii-decimal_wide i.page (omega (arith, low))) (ascii_turn (turn_of (quarters i.modifiers))) (ascii_scale (scale i.modifiers) (scale_small i.modifiers behind))
+    five (minus_text i.from_end) (decimal i.page) (turn_text (quarter_turn (quarters i.modifiers))) (scale_part (scale i.modifiers)) (offset_part (offset_x i.modifiers) (offset_y i.modifiers))
+    (ascii_minus i.from_end) (IsAscii-decimal_wide i.page (omega (arith, low))) (ascii_turn (quarter_turn (quarters i.modifiers))) (ascii_scale (scale i.modifiers) (scale_small i.modifiers behind))
     (ascii_offset (offset_x i.modifiers) (offset_y i.modifiers) small_x small_y)
   where
     five : (a b c d e : List ℕ) → IsAscii a → IsAscii b → IsAscii c → IsAscii d → IsAscii e → IsAscii (a ++ b ++ c ++ d ++ e)

@@ -7,7 +7,7 @@ use Rattle.lengths.proofs.Digits.{by_test}
 use Rattle.lengths.proofs.Numbers.{same_byte}
 use Rattle.rules.specs.Numbers.{is_large, number_text, IsNumber}
 use Rattle.rules.specs.Papers.{LengthUnit, Pt, Cm, Mm, In, Width, Height}
-use Rattle.rules.specs.Specification.{Measure, Modifier, Quarters, Scaled, Moved, WrittenItem, WrittenSpec, Spec, Turn, Upright, Left, Half, Right, IsJoined, IsDigits, IsMeasure, IsModifier, AreModifiers, IsItem, AreGroups, IsSpec, minus_text, unit_name, unit_text, measure_text, turn_text, turn_of, quarters, scale, offset_x, offset_y, zero_points, scale_part, is_one, offset_part, is_points, is_zero_points, item_text, joined_by, settled_item, settled, canonical}
+use Rattle.rules.specs.Specification.{Measure, Modifier, Quarters, Scaled, Moved, WrittenItem, WrittenSpec, Spec, Turn, Upright, Left, Half, Right, IsJoined, IsDigits, IsMeasure, IsModifier, AreModifiers, IsItem, AreGroups, IsSpec, minus_text, unit_name, unit_text, measure_text, turn_text, quarter_turn, quarters, scale, offset_x, offset_y, zero_points, scale_part, is_one, offset_part, is_points, is_zero_points, item_text, joined_by, settled_item, settled, canonical}
 use Rattle.rules.specs.Admissible.{Fault, TooLarge, ModuloZero, PageOutOfBlock, ScaleZero, Repeated, TooManySlots, TooManyGroups, items, fault_of, else_first, only_if, at_lowest, any_too_large, has_large, is_flat, repeats, Takes, most_slots, most_groups}
 use Rattle.rules.proofs.Digits.{Writes, decimal_writes}
 use Rattle.rules.proofs.Printed.{number_text_is_number}
@@ -37,7 +37,7 @@ abbrev pub fewest : Turn → ℤ → Measure → Measure → List Modifier
 fewest t v x y = few t (is_one v) (is_zero_points x && is_zero_points y) v x y
 
 abbrev normal_item : WrittenItem → WrittenItem
-normal_item i = record { from_end = i.from_end; page = i.page; modifiers = fewest (turn_of (quarters i.modifiers)) (scale i.modifiers) (offset_x i.modifiers) (offset_y i.modifiers) }
+normal_item i = record { from_end = i.from_end; page = i.page; modifiers = fewest (quarter_turn (quarters i.modifiers)) (scale i.modifiers) (offset_x i.modifiers) (offset_y i.modifiers) }
 
 abbrev normal : WrittenSpec → WrittenSpec
 normal spec = record { modulo = spec.modulo; groups = map (λ g. map normal_item g) spec.groups }
@@ -91,7 +91,7 @@ item_written : (i : WrittenItem) → large_item i ≡ false → IsItem (item_tex
 item_written i small =
     let (page, behind) = either (nat_lt 99_999 i.page) (list_any has_large i.modifiers) small in
     let (small_x, small_y) = offset_small i.modifiers behind in
-    let t = turn_of (quarters i.modifiers) in
+    let t = quarter_turn (quarters i.modifiers) in
     let v = scale i.modifiers in
     let x = offset_x i.modifiers in
     let y = offset_y i.modifiers in
@@ -151,11 +151,11 @@ no_turn true false v x y = refl
 no_turn false true v x y = refl
 no_turn false false v x y = refl
 
-pub turn_back : (t : Turn) (one none : Bool) (v : ℤ) (x y : Measure) → turn_of (quarters (few t one none v x y)) ≡ t
-turn_back Upright one none v x y = ap turn_of (no_turn one none v x y)
-turn_back Left one none v x y = ap (λ n. turn_of (1 + n)) (no_turn one none v x y)
-turn_back Half one none v x y = ap (λ n. turn_of (2 + n)) (no_turn one none v x y)
-turn_back Right one none v x y = ap (λ n. turn_of (3 + n)) (no_turn one none v x y)
+pub turn_back : (t : Turn) (one none : Bool) (v : ℤ) (x y : Measure) → quarter_turn (quarters (few t one none v x y)) ≡ t
+turn_back Upright one none v x y = ap quarter_turn (no_turn one none v x y)
+turn_back Left one none v x y = ap (λ n. quarter_turn (1 + n)) (no_turn one none v x y)
+turn_back Half one none v x y = ap (λ n. quarter_turn (2 + n)) (no_turn one none v x y)
+turn_back Right one none v x y = ap (λ n. quarter_turn (3 + n)) (no_turn one none v x y)
 
 -- a turn has no scale and no offset
 pub past_turn : {A : Type 0} (f : List Modifier → A) → ((n : ℕ) (ms : List Modifier) → f (Quarters n ∷ ms) ≡ f ms) → (t : Turn) (ms : List Modifier) → f (turn_modifiers t ++ ms) ≡ f ms
@@ -214,7 +214,7 @@ offset_y_here false false v x y e = refl
 
 item_back : (i : WrittenItem) → settled_item (normal_item i) ≡ settled_item i
 item_back i =
-    let t = turn_of (quarters i.modifiers) in
+    let t = quarter_turn (quarters i.modifiers) in
     let v = scale i.modifiers in
     let x = offset_x i.modifiers in
     let y = offset_y i.modifiers in
@@ -316,7 +316,7 @@ large_normal i small =
     let (page, behind) = either (nat_lt 99_999 i.page) (list_any has_large i.modifiers) small in
     let (small_x, small_y) = offset_small i.modifiers behind in
     neither_is (nat_lt 99_999 i.page) _ page
-    (any_few has_large (λ n. refl) (turn_of (quarters i.modifiers)) (is_one (scale i.modifiers)) (is_zero_points (offset_x i.modifiers) && is_zero_points (offset_y i.modifiers)) (scale i.modifiers) (offset_x i.modifiers) (offset_y i.modifiers)
+    (any_few has_large (λ n. refl) (quarter_turn (quarters i.modifiers)) (is_one (scale i.modifiers)) (is_zero_points (offset_x i.modifiers) && is_zero_points (offset_y i.modifiers)) (scale i.modifiers) (offset_x i.modifiers) (offset_y i.modifiers)
     (scale_small i.modifiers behind) (neither_is (is_large (offset_x i.modifiers).number) (is_large (offset_y i.modifiers).number) small_x small_y))
 
 scale_above : (ms : List Modifier) → list_any is_flat ms ≡ false → int_le (scale ms) (pos 0) ≡ false
@@ -327,7 +327,7 @@ scale_above (Moved x y ∷ ms) e = scale_above ms e
 
 flat_normal : (i : WrittenItem) → list_any is_flat i.modifiers ≡ false → list_any is_flat (normal_item i).modifiers ≡ false
 flat_normal i e =
-    any_few is_flat (λ n. refl) (turn_of (quarters i.modifiers)) (is_one (scale i.modifiers)) (is_zero_points (offset_x i.modifiers) && is_zero_points (offset_y i.modifiers)) (scale i.modifiers) (offset_x i.modifiers) (offset_y i.modifiers)
+    any_few is_flat (λ n. refl) (quarter_turn (quarters i.modifiers)) (is_one (scale i.modifiers)) (is_zero_points (offset_x i.modifiers) && is_zero_points (offset_y i.modifiers)) (scale i.modifiers) (offset_x i.modifiers) (offset_y i.modifiers)
     (scale_above i.modifiers e) refl
 
 abbrev pub repeat : List Modifier → Bool
@@ -344,7 +344,7 @@ repeat_few t one none v x y = past_turn repeat (λ n ms. refl) t (scale_modifier
 
 repeat_normal : (i : WrittenItem) → repeats i ≡ false → repeats (normal_item i) ≡ false
 repeat_normal i e =
-    repeat_few (turn_of (quarters i.modifiers)) (is_one (scale i.modifiers)) (is_zero_points (offset_x i.modifiers) && is_zero_points (offset_y i.modifiers)) (scale i.modifiers) (offset_x i.modifiers) (offset_y i.modifiers)
+    repeat_few (quarter_turn (quarters i.modifiers)) (is_one (scale i.modifiers)) (is_zero_points (offset_x i.modifiers) && is_zero_points (offset_y i.modifiers)) (scale i.modifiers) (offset_x i.modifiers) (offset_y i.modifiers)
 
 long_made : (g : List WrittenItem) → nat_lt most_slots (length g) ≡ false → nat_lt most_slots (length (map normal_item g)) ≡ false
 long_made g e = ap (nat_lt most_slots) (length-map g normal_item) ∙ e

@@ -3,11 +3,11 @@ use Rattle.std.proofs.Common.{arith, ◌≡◌, ◌≢◌, ℕ, suc, ◌+◌, �
 use Rattle.std.specs.Prelude.{map, flat_map, if◌then◌else◌, ◌==◌, IsErrAnd, MatchResult, Result, Ok, Err}
 use Rattle.std.proofs.lemmas.List.{length-append, map-append, nil_from_length}
 use Rattle.rules.specs.Specification.{WrittenItem, IsItem}
-use Rattle.pagespec.specs.Reading.{byte_at, item_at, group_at, groups_at, bare_at, whole, item_with, is_minus, past_minus, modifiers_at}
+use Rattle.pagespec.specs.Reading.{byte_at, item_at, group_at, groups_at, bare_at, if_all_read, item_with, is_minus_first, past_minus, modifiers_at}
 use Rattle.lengths.specs.Reading.{is_empty}
 use Rattle.pagespec.specs.Parsed.{ItemShows, ModifiersRead}
 use Rattle.pagespec.specs.Places.{StuckIn, StuckAfter}
-use Rattle.pagespec.specs.Groups.{AreParsed, ItemAppended, GroupRead, GroupsRead, BareRead, IsStop, IsGroup, AreWhole}
+use Rattle.pagespec.specs.Groups.{AreParsed, ItemAppended, GroupRead, GroupsRead, BareRead, IsStop, IsGroup, AreWholeGroups}
 use Rattle.pagespec.specs.declared.parsed.ParsedItem.{ParsedItem}
 use Rattle.pagespec.specs.declared.parsed.Modifiers.{Modifiers}
 use Rattle.pagespec.specs.declared.groups.ParsedGroups.{ParsedGroups}
@@ -119,13 +119,13 @@ groups_last k n count bytes rest behind items lengths parsed is on group e b = (
   },
 )
 
-pub groups_stuck : (n left : ℕ) (bytes rest : List ℕ) (items : List ParsedItem) (lengths : List ℕ) → GroupsOn n bytes rest items lengths → StuckIn IsGroup group_at rest left → StuckIn AreWhole groups_at bytes left
+pub groups_stuck : (n left : ℕ) (bytes rest : List ℕ) (items : List ParsedItem) (lengths : List ℕ) → GroupsOn n bytes rest items lengths → StuckIn IsGroup group_at rest left → StuckIn AreWholeGroups groups_at bytes left
 groups_stuck n left bytes rest items lengths on s = row_stuck 44 IsGroup GroupClosed group_at group_read comma_closed bytes rest left on.front on.before s
 
-pub groups_ended : (n left : ℕ) (bytes rest behind : List ℕ) (items : List ParsedItem) (lengths : List ℕ) → GroupsOn n bytes rest items lengths → byte_at 44 behind ≡ None → StuckAfter IsGroup group_at rest behind left → StuckAfter AreWhole groups_at bytes behind left
+pub groups_ended : (n left : ℕ) (bytes rest behind : List ℕ) (items : List ParsedItem) (lengths : List ℕ) → GroupsOn n bytes rest items lengths → byte_at 44 behind ≡ None → StuckAfter IsGroup group_at rest behind left → StuckAfter AreWholeGroups groups_at bytes behind left
 groups_ended n left bytes rest behind items lengths on none s = row_ended 44 IsGroup GroupClosed group_at group_read comma_closed bytes rest behind left on.front on.before none s
 
-pub groups_out : (n left : ℕ) (bytes rest : List ℕ) (items : List ParsedItem) (lengths : List ℕ) → n ≡ 0 → GroupsOn n bytes rest items lengths → StuckIn AreWhole groups_at bytes left
+pub groups_out : (n left : ℕ) (bytes rest : List ℕ) (items : List ParsedItem) (lengths : List ℕ) → n ≡ 0 → GroupsOn n bytes rest items lengths → StuckIn AreWholeGroups groups_at bytes left
 groups_out n left bytes rest items lengths is on =
     let (text, split, row) = on.before in
     absurd (omega (arith, is, on.many, row_length 44 IsGroup text on.front row, ap length split, length-append text rest))
@@ -135,10 +135,10 @@ is_some_text : {A : Type 0} (t : List ℕ) (o : Option A) → t ≢ [] → (if i
 is_some_text [] o n = absurd (n refl)
 is_some_text (b ∷ t) o n = refl
 
-bare_is : (t body rest : List ℕ) (parsed : Modifiers) → body ≡ past_minus t → t ≢ [] → (read : ModifiersRead body parsed rest) → bare_at t ≡ whole (item_with (is_minus t) 0 (read.0, rest))
+bare_is : (t body rest : List ℕ) (parsed : Modifiers) → body ≡ past_minus t → t ≢ [] → (read : ModifiersRead body parsed rest) → bare_at t ≡ if_all_read (item_with (is_minus_first t) 0 (read.0, rest))
 unfolding bare_at
 bare_is t body rest parsed b some (ms, found, shows) =
-    is_some_text t _ some ∙ (ap (λ x. whole (item_with (is_minus t) 0 (modifiers_at (length x) x))) (sym b) ∙ ap (λ x. whole (item_with (is_minus t) 0 x)) found)
+    is_some_text t _ some ∙ (ap (λ x. if_all_read (item_with (is_minus_first t) 0 (modifiers_at (length x) x))) (sym b) ∙ ap (λ x. if_all_read (item_with (is_minus_first t) 0 x)) found)
 
 pub bare_empty : (t : List ℕ) → t ≡ [] → bare_at t ≡ None
 unfolding bare_at
@@ -148,19 +148,19 @@ pub bare_stuck : (t body rest : List ℕ) (parsed : Modifiers) → body ≡ past
 bare_stuck t body [] parsed b some read more = absurd (more refl)
 bare_stuck t body (x ∷ rest) parsed b some read more = bare_is t body (x ∷ rest) parsed b some read
 
-pub bare_there : (t body rest : List ℕ) (from_end : Bool) (parsed : Modifiers) → from_end ≡ is_minus t → body ≡ past_minus t → t ≢ [] → ModifiersRead body parsed rest → rest ≡ []
+pub bare_there : (t body rest : List ℕ) (from_end : Bool) (parsed : Modifiers) → from_end ≡ is_minus_first t → body ≡ past_minus t → t ≢ [] → ModifiersRead body parsed rest → rest ≡ []
     → BareRead t (record { from_end = from_end; page = 0; modifiers = parsed })
 bare_there t body rest from_end parsed m b some (ms, found, shows) e = (
-  record { from_end = is_minus t; page = 0; modifiers = ms },
-  bare_is t body rest parsed b some (ms, found, shows) ∙ ap (λ r. whole (item_with (is_minus t) 0 (ms, r))) e,
+  record { from_end = is_minus_first t; page = 0; modifiers = ms },
+  bare_is t body rest parsed b some (ms, found, shows) ∙ ap (λ r. if_all_read (item_with (is_minus_first t) 0 (ms, r))) e,
   record { end = m; page = refl; modifiers = shows },
 )
 
 -- one reader is stuck exactly where the other is
-pub stop_same : {X Y U V : Type 0} (R : List ℕ → X → Type 0) (part : List ℕ → Option Y) (bytes : List ℕ) (S : List ℕ → U → Type 0) (whole : List ℕ → Option V) (text : List ℕ) (s : Stop)
-    → ((left : ℕ) → StuckIn R part bytes left → StuckIn S whole text left) → IsStop R part bytes s → IsStop S whole text s
-stop_same R part bytes S whole text (Stuck place) f e = f place.left e
-stop_same R part bytes S whole text NoMemory f e = tt
+pub stop_same : {X Y U V : Type 0} (R : List ℕ → X → Type 0) (part : List ℕ → Option Y) (bytes : List ℕ) (S : List ℕ → U → Type 0) (if_all_read : List ℕ → Option V) (text : List ℕ) (s : Stop)
+    → ((left : ℕ) → StuckIn R part bytes left → StuckIn S if_all_read text left) → IsStop R part bytes s → IsStop S if_all_read text s
+stop_same R part bytes S if_all_read text (Stuck place) f e = f place.left e
+stop_same R part bytes S if_all_read text NoMemory f e = tt
 
 -- what holds of the stop that is handed on
 pub handed_on : {X : Type 0} (r : Result X Stop) (s : Stop) (P : X → Type 0) (Q : Stop → Type 0) → IsErrAnd r (λ t. t ≡ s) → Q s → MatchResult r P Q

@@ -8,19 +8,19 @@ use Rattle.std.proofs.lemmas.List.{append-nil, length-append}
 use Rattle.std.proofs.lemmas.List.Elements.{All-head}
 use Rattle.rules.specs.Numbers.{number_of}
 use Rattle.rules.specs.Specification.{Modifier, Quarters, Scaled, Moved, WrittenItem, IsItem, IsDigits, IsModifier, AreModifiers, minus_text}
-use Rattle.lengths.specs.Reading.{Ends, digits, past_digits, is_empty}
+use Rattle.lengths.specs.Reading.{EndsNumber, digits, past_digits, is_empty}
 use Rattle.lengths.proofs.Digits.{IsDigit, by_test, digits_whole, digits_pass, digits-append, past_digits-append}
 use Rattle.lengths.proofs.Numbers.{same_byte, chosen_some, not_empty, ends_digits, taken, no_minus}
 use Rattle.pagespec.proofs.Letters.{turn_letter}
-use Rattle.pagespec.specs.Reading.{modifier_at, modifiers_at, is_minus, past_minus, item_with, item_from, item_at}
+use Rattle.pagespec.specs.Reading.{modifier_at, modifiers_at, is_minus_first, past_minus, item_with, item_from, item_at}
 use Rattle.pagespec.proofs.Modifiers.{Stood, modifiers_found, modifiers_read, modifiers_end, few_modifiers}
 
 -- the text continues neither a modifier nor a number
 pub record Closed (rest : List ℕ) : Type 0 where
-  pub ends : Ends rest
+  pub ends : EndsNumber rest
   pub none : modifier_at rest ≡ None
 
-pub minus_whole : (t : List ℕ) → t ≡ minus_text (is_minus t) ++ past_minus t
+pub minus_whole : (t : List ℕ) → t ≡ minus_text (is_minus_first t) ++ past_minus t
 minus_whole [] = refl
 minus_whole (b ∷ t) = elim (by_test (b == 45)) [ inl e ↦ rw e (ap (λ x. x ∷ t) (same_byte b 45 e)) | inr e ↦ rw e refl ]
 
@@ -29,10 +29,10 @@ pub item_found : (t : List ℕ) (x : WrittenItem × List ℕ) → item_at t ≡ 
 unfolding item_at
 item_found t x e =
     let u = past_minus t in
-    let (some, same) = chosen_some (is_empty (digits u)) (item_with (is_minus t) (number_of (digits u)) (modifiers_at (length (past_digits u)) (past_digits u))) x e in
+    let (some, same) = chosen_some (is_empty (digits u)) (item_with (is_minus_first t) (number_of (digits u)) (modifiers_at (length (past_digits u)) (past_digits u))) x e in
     let (front, m_is, are) = modifiers_found (length (past_digits u)) (past_digits u) in
     let rest : List ℕ = (modifiers_at (length (past_digits u)) (past_digits u)).1 in
-    let m : List ℕ = minus_text (is_minus t) in
+    let m : List ℕ = minus_text (is_minus_first t) in
     let t_is : t ≡ (m ++ digits u ++ front) ++ rest =
     minus_whole t ∙ (ap (λ y. m ++ y) (sym (digits_whole u) ∙ ap (λ y. digits u ++ y) m_is)
     ∙ (sym (append_assoc m (digits u) (front ++ rest)) ∙ sym (append_assoc (m ++ digits u) front rest))) in
@@ -40,7 +40,7 @@ item_found t x e =
 
 -- the first byte is no minus
 abbrev pub Unsigned : List ℕ → Type 0
-Unsigned t = (is_minus t ≡ false) × (past_minus t ≡ t)
+Unsigned t = (is_minus_first t ≡ false) × (past_minus t ≡ t)
 
 pub digits_unsigned : (ds t : List ℕ) → AllPass is_ascii_digit ds → ds ≢ [] → Unsigned (ds ++ t)
 digits_unsigned [] t h n = absurd (n refl)
@@ -61,7 +61,7 @@ pub modifiers_unsigned : (ms : List Modifier) (text : List ℕ) → AreModifiers
 modifiers_unsigned [] text e = subst Unsigned (sym e) (refl, refl)
 modifiers_unsigned (m ∷ ms) text (front, more, e, is, are) = subst Unsigned (sym e) (modifier_unsigned m front more is)
 
-pub minus_taken : (from_end : Bool) (t : List ℕ) → Unsigned t → (is_minus (minus_text from_end ++ t) ≡ from_end) × (past_minus (minus_text from_end ++ t) ≡ t)
+pub minus_taken : (from_end : Bool) (t : List ℕ) → Unsigned t → (is_minus_first (minus_text from_end ++ t) ≡ from_end) × (past_minus (minus_text from_end ++ t) ≡ t)
 minus_taken true t u = (refl, refl)
 minus_taken false t u = u
 

@@ -4,7 +4,7 @@ use Rattle.std.specs.Prelude.{◌==◌, ◌&&◌, if◌then◌else◌, codes}
 use Rattle.std.proofs.lemmas.Grind.{common_steps}
 use Rattle.rules.specs.Papers.{LengthUnit, Pt, Cm, Mm, In, Width, Height}
 use Rattle.rules.specs.Specification.{Measure, IsMeasure, unit_name}
-use Rattle.lengths.specs.Reading.{number_at, Ends}
+use Rattle.lengths.specs.Reading.{number_at, EndsNumber}
 use Rattle.lengths.proofs.Digits.{by_test}
 use Rattle.lengths.proofs.Numbers.{number_found, number_read, some_same, same_byte}
 use Rattle.pagespec.specs.Places.{IsUnit}
@@ -71,7 +71,7 @@ measure_found t rest a e =
     (number ++ unit, t_is ∙ (ap (λ x. number ++ x) u_is ∙ sym (append_assoc number unit (unit_at v.1).1)), (number, unit, refl, is, is_unit))
 
 -- a unit's letters are neither digits nor dots
-unit_ends : (u : LengthUnit) (rest : List ℕ) → Ends (unit_name u ++ rest)
+unit_ends : (u : LengthUnit) (rest : List ℕ) → EndsNumber (unit_name u ++ rest)
 unit_ends Pt rest = (refl, refl)
 unit_ends Cm rest = (refl, refl)
 unit_ends Mm rest = (refl, refl)
@@ -79,15 +79,15 @@ unit_ends In rest = (refl, refl)
 unit_ends Width rest = (refl, refl)
 unit_ends Height rest = (refl, refl)
 
-is_unit_ends : (unit rest : List ℕ) (u : LengthUnit) → IsUnit unit u → Ends rest → Ends (unit ++ rest)
-is_unit_ends unit rest u (inl e) ends = subst (λ x. Ends (x ++ rest)) (sym e) (unit_ends u rest)
-is_unit_ends unit rest u (inr e) ends = subst (λ x. Ends (x ++ rest)) (sym e.0) ends
+is_unit_ends : (unit rest : List ℕ) (u : LengthUnit) → IsUnit unit u → EndsNumber rest → EndsNumber (unit ++ rest)
+is_unit_ends unit rest u (inl e) ends = subst (λ x. EndsNumber (x ++ rest)) (sym e) (unit_ends u rest)
+is_unit_ends unit rest u (inr e) ends = subst (λ x. EndsNumber (x ++ rest)) (sym e.0) ends
 
 is_unit_read : (unit rest : List ℕ) (u : LengthUnit) → IsUnit unit u → NoUnit rest → unit_at (unit ++ rest) ≡ (u, rest)
 is_unit_read unit rest u (inl e) none = ap (λ x. unit_at (x ++ rest)) e ∙ unit_read u rest
 is_unit_read unit rest u (inr e) none = ap (λ x. unit_at (x ++ rest)) e.0 ∙ (none ∙ ap (λ x. (x, rest)) (sym e.1))
 
-pub measure_read : (text rest : List ℕ) (a : Measure) → IsMeasure text a → Ends rest → NoUnit rest → measure_at (text ++ rest) ≡ Some (a, rest)
+pub measure_read : (text rest : List ℕ) (a : Measure) → IsMeasure text a → EndsNumber rest → NoUnit rest → measure_at (text ++ rest) ≡ Some (a, rest)
 unfolding measure_at
 measure_read text rest a (number, unit, e, is, is_unit) ends none =
     ap (λ x. measure_at (x ++ rest)) e ∙ (ap measure_at (append_assoc number unit rest)

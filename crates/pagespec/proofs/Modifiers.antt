@@ -6,7 +6,7 @@ use Rattle.std.proofs.lemmas.List.{length-append}
 use Rattle.rules.specs.Numbers.{IsNumber}
 use Rattle.rules.specs.Specification.{Measure, Modifier, Quarters, Scaled, Moved, IsMeasure, IsTurn, IsModifier, AreModifiers}
 use Rattle.std.specs.Char.{is_ascii_digit}
-use Rattle.lengths.specs.Reading.{number_at, Ends}
+use Rattle.lengths.specs.Reading.{number_at, EndsNumber}
 use Rattle.lengths.proofs.Digits.{by_test}
 use Rattle.lengths.proofs.Numbers.{number_found, number_read, some_same, same_byte}
 use Rattle.pagespec.proofs.Letters.{letter_turn, turn_letter}
@@ -72,18 +72,18 @@ modifiers_found zero t = ([], refl, refl)
 modifiers_found (suc k) t = found_or k t (λ u. modifiers_found k u) (modifier_at t) refl
 
 -- a letter of a turn is no other byte that means something
-turn_ends : (b n : ℕ) → n ≡ quarters_of b → 0 < n → (t : List ℕ) → Ends (b ∷ t)
+turn_ends : (b n : ℕ) → n ≡ quarters_of b → 0 < n → (t : List ℕ) → EndsNumber (b ∷ t)
 turn_ends b n q h t = (elim (by_test (is_ascii_digit b)) [ inl e ↦ absurd (grind (arith, common_steps)) | inr e ↦ e ], elim (by_test (b == 46)) [ inl e ↦ absurd (grind (arith, common_steps)) | inr e ↦ e ])
 
-modifier_ends : (m : Modifier) (text rest : List ℕ) → IsModifier text m → Ends (text ++ rest)
-modifier_ends (Quarters n) text rest is = let (letter, e, q, h) = turn_letter text n is in subst (λ x. Ends (x ++ rest)) (sym e) (turn_ends letter n q h rest)
-modifier_ends (Scaled v) text rest (number, e, is) = subst (λ x. Ends (x ++ rest)) (sym e) (refl, refl)
-modifier_ends (Moved x y) text rest (first, second, e, is, is_y) = subst (λ x. Ends (x ++ rest)) (sym e) (refl, refl)
+modifier_ends : (m : Modifier) (text rest : List ℕ) → IsModifier text m → EndsNumber (text ++ rest)
+modifier_ends (Quarters n) text rest is = let (letter, e, q, h) = turn_letter text n is in subst (λ x. EndsNumber (x ++ rest)) (sym e) (turn_ends letter n q h rest)
+modifier_ends (Scaled v) text rest (number, e, is) = subst (λ x. EndsNumber (x ++ rest)) (sym e) (refl, refl)
+modifier_ends (Moved x y) text rest (first, second, e, is, is_y) = subst (λ x. EndsNumber (x ++ rest)) (sym e) (refl, refl)
 
-pub modifiers_end : (ms : List Modifier) (text rest : List ℕ) → AreModifiers text ms → Ends rest → Ends (text ++ rest)
-modifiers_end [] text rest e ends = subst (λ x. Ends (x ++ rest)) (sym e) ends
+pub modifiers_end : (ms : List Modifier) (text rest : List ℕ) → AreModifiers text ms → EndsNumber rest → EndsNumber (text ++ rest)
+modifiers_end [] text rest e ends = subst (λ x. EndsNumber (x ++ rest)) (sym e) ends
 modifiers_end (m ∷ ms) text rest (front, more, e, is, are) ends =
-    subst Ends (sym (ap (λ x. x ++ rest) e ∙ append_assoc front more rest)) (modifier_ends m front (more ++ rest) is)
+    subst EndsNumber (sym (ap (λ x. x ++ rest) e ∙ append_assoc front more rest)) (modifier_ends m front (more ++ rest) is)
 
 not_at : (b n : ℕ) → n ≡ quarters_of b → 0 < n → (b == 64) ≡ false
 not_at b n q h = elim (by_test (b == 64)) [ inl e ↦ absurd (grind (arith, common_steps)) | inr e ↦ e ]
@@ -116,11 +116,11 @@ offset_read first second rest x y is_x is_y =
     let b = measure_read second (41 ∷ rest) y is_y (refl, refl) (bracket_no_unit rest) in
     rw a (rw b refl)
 
-scale_read : (number rest : List ℕ) (v : ℤ) → IsNumber number v → Ends rest → scale_at (number ++ rest) ≡ Some (Scaled v, rest)
+scale_read : (number rest : List ℕ) (v : ℤ) → IsNumber number v → EndsNumber rest → scale_at (number ++ rest) ≡ Some (Scaled v, rest)
 unfolding scale_at
 scale_read number rest v is ends = rw (number_read number rest v is ends) refl
 
-pub modifier_read : (m : Modifier) (text rest : List ℕ) → IsModifier text m → Ends rest → modifier_at (text ++ rest) ≡ Some (m, rest)
+pub modifier_read : (m : Modifier) (text rest : List ℕ) → IsModifier text m → EndsNumber rest → modifier_at (text ++ rest) ≡ Some (m, rest)
 unfolding modifier_at
 modifier_read (Quarters n) text rest is ends = let (letter, e, q, h) = turn_letter text n is in ap (λ x. modifier_at (x ++ rest)) e ∙ turn_read letter n rest _ _ _ refl refl refl q h
 modifier_read (Scaled v) text rest (number, e, is) ends = ap (λ x. modifier_at (x ++ rest)) e ∙ scale_read number rest v is ends
@@ -129,7 +129,7 @@ modifier_read (Moved x y) text rest (first, second, e, is_x, is_y) ends =
     ∙ offset_read first second rest x y is_x is_y)
 
 -- modifiers are read whole, where no other follows
-pub modifiers_read : (k : ℕ) (ms : List Modifier) (text rest : List ℕ) → AreModifiers text ms → Ends rest → modifier_at rest ≡ None → length ms ≤ k → modifiers_at k (text ++ rest) ≡ (ms, rest)
+pub modifiers_read : (k : ℕ) (ms : List Modifier) (text rest : List ℕ) → AreModifiers text ms → EndsNumber rest → modifier_at rest ≡ None → length ms ≤ k → modifiers_at k (text ++ rest) ≡ (ms, rest)
 unfolding modifiers_at
 modifiers_read zero [] text rest e ends none h = ap (λ x. ([], x ++ rest)) e
 modifiers_read (suc k) [] text rest e ends none h = ap (λ x. modifiers_at (suc k) (x ++ rest)) e ∙ rw none refl

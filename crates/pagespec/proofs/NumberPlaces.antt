@@ -3,7 +3,7 @@ use Rattle.std.proofs.Common.{inl, inr, ◌≡◌, ◌≢◌, ℕ, List, [], ◌
 use Rattle.std.specs.Prelude.{◌==◌, ◌||◌, ℤ, if◌then◌else◌}
 use Rattle.std.specs.Char.{is_ascii_digit}
 use Rattle.std.proofs.lemmas.List.{append_cancel_right}
-use Rattle.lengths.specs.Reading.{digits, past_digits, decimals_at, past_decimals, value_of, is_empty, number_from, number_at}
+use Rattle.lengths.specs.Reading.{digits, past_digits, decimals_at, past_decimals, decimal_value, is_empty, number_from, number_at}
 use Rattle.lengths.proofs.Digits.{by_test, digits-yes, digits-no, past_digits-yes, past_digits-no, digits_whole, digits_pass, digits-append, past_digits-append}
 use Rattle.lengths.proofs.Numbers.{same_byte, chosen_some, not_empty, from_parts, point_of}
 use Rattle.pagespec.specs.Reading.{byte_at}
@@ -114,7 +114,7 @@ record Body (negative : Bool) (u rest : List ℕ) (v : ℤ) : Type 0 where
 
 body_read : (negative : Bool) (u rest : List ℕ) (v : ℤ) → number_from negative u ≡ Some (v, rest) → Body negative u rest v
 body_read negative u rest v e =
-    let (some, same) = chosen_some (is_empty (digits u ++ decimals_at (past_digits u))) (value_of negative (digits u) (decimals_at (past_digits u)), past_decimals (past_digits u)) (v, rest) e in
+    let (some, same) = chosen_some (is_empty (digits u ++ decimals_at (past_digits u))) (decimal_value negative (digits u) (decimals_at (past_digits u)), past_decimals (past_digits u)) (v, rest) e in
     let behind : past_decimals (past_digits u) ≡ rest = ap (λ x. x.1) same in
     let ds = digits u in
     let pt = point_of (past_digits u) in

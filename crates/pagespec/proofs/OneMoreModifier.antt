@@ -9,8 +9,8 @@ use Rattle.std.proofs.lemmas.List.Sums.{sum_by-append}
 use Rattle.rules.specs.Specification.{Measure, Modifier, Quarters, Scaled, Moved, quarters}
 use Rattle.rules.specs.Admissible.{has_large, is_scale, is_offset, is_flat}
 use Rattle.pagespec.specs.Items.{measure_of}
-use Rattle.pagespec.specs.Views.{Stands}
-use Rattle.pagespec.specs.Parsed.{Shows, first_scale, first_offset, is_repeated}
+use Rattle.pagespec.specs.Views.{StandsFor}
+use Rattle.pagespec.specs.Parsed.{Summarizes, first_scale, first_offset, is_repeated}
 use Rattle.pagespec.specs.declared.item.Measure.{Measure as ParsedMeasure}
 use Rattle.pagespec.specs.declared.parsed.Modifiers.{Modifiers}
 use Rattle.pagespec.specs.declared.scan.Modifier.{Modifier as Part}
@@ -147,7 +147,7 @@ map-or f (Some x) p = refl
 quarters_sum : (q n k : ℕ) → q ≡ k % 4 → (q % 4 + n % 4) % 4 ≡ (k + n) % 4
 quarters_sum q n k e = omega arith
 
-pub shows_turn : (ms : List Modifier) (s : Modifiers) (n : ℕ) → Shows ms s → Shows (ms ++ Quarters n ∷ []) (record s { quarters = (s.quarters % 4 + n % 4) % 4 })
+pub shows_turn : (ms : List Modifier) (s : Modifiers) (n : ℕ) → Summarizes ms s → Summarizes (ms ++ Quarters n ∷ []) (record s { quarters = (s.quarters % 4 + n % 4) % 4 })
 shows_turn ms s n h = record {
   turn = quarters_sum s.quarters n (quarters ms) h.turn ∙ ap (λ k. k % 4) (sym (quarters_turn ms n));
   large = h.large ∙ sym (any_more has_large ms (Quarters n) ∙ or_false (list_any has_large ms));
@@ -159,9 +159,9 @@ shows_turn ms s n h = record {
   };
 }
 
-pub shows_scale : (ms : List Modifier) (s : Modifiers) (v : ℤ) (first : Option ℤ) (low again : Bool) → Shows ms s → has_large (Scaled v) ≡ false → first ≡ option_or s.scale (Some v)
+pub shows_scale : (ms : List Modifier) (s : Modifiers) (v : ℤ) (first : Option ℤ) (low again : Bool) → Summarizes ms s → has_large (Scaled v) ≡ false → first ≡ option_or s.scale (Some v)
     → low ≡ (s.scale_zero || int_le v (pos 0)) → again ≡ (s.repeated || is_some s.scale)
-    → Shows (ms ++ Scaled v ∷ []) (record s { scale = first; scale_zero = low; repeated = again })
+    → Summarizes (ms ++ Scaled v ∷ []) (record s { scale = first; scale_zero = low; repeated = again })
 shows_scale ms s v first low again h small first_is low_is again_is = record {
   turn = h.turn ∙ ap (λ k. k % 4) (sym (quarters_scale ms v));
   large = h.large ∙ sym (any_more has_large ms (Scaled v) ∙ (ap (λ b. list_any has_large ms || b) small ∙ or_false (list_any has_large ms)));
@@ -176,9 +176,9 @@ shows_scale ms s v first low again h small first_is low_is again_is = record {
 abbrev both : ParsedMeasure × ParsedMeasure → Measure × Measure
 both m = (measure_of m.0, measure_of m.1)
 
-pub shows_move : (ms : List Modifier) (s : Modifiers) (x y : ParsedMeasure) (first : Option (ParsedMeasure × ParsedMeasure)) (again : Bool) → Shows ms s → has_large (Moved (measure_of x) (measure_of y)) ≡ false
+pub shows_move : (ms : List Modifier) (s : Modifiers) (x y : ParsedMeasure) (first : Option (ParsedMeasure × ParsedMeasure)) (again : Bool) → Summarizes ms s → has_large (Moved (measure_of x) (measure_of y)) ≡ false
     → first ≡ option_or s.offset (Some (x, y)) → again ≡ (s.repeated || is_some s.offset)
-    → Shows (ms ++ Moved (measure_of x) (measure_of y) ∷ []) (record s { offset = first; repeated = again })
+    → Summarizes (ms ++ Moved (measure_of x) (measure_of y) ∷ []) (record s { offset = first; repeated = again })
 shows_move ms s x y first again h small first_is again_is = record {
   turn = h.turn ∙ ap (λ k. k % 4) (sym (quarters_move ms (measure_of x) (measure_of y)));
   large = h.large ∙ sym (any_more has_large ms (Moved (measure_of x) (measure_of y)) ∙ (ap (λ b. list_any has_large ms || b) small ∙ or_false (list_any has_large ms)));
@@ -199,7 +199,7 @@ or_true : (b : Bool) → (b || true) ≡ true
 or_true true = refl
 or_true false = refl
 
-pub shows_large : (ms : List Modifier) (s : Modifiers) (m : Modifier) → Shows ms s → has_large m ≡ true → Shows (ms ++ m ∷ []) (record s { too_large = true })
+pub shows_large : (ms : List Modifier) (s : Modifiers) (m : Modifier) → Summarizes ms s → has_large m ≡ true → Summarizes (ms ++ m ∷ []) (record s { too_large = true })
 shows_large ms s m h e = record {
   turn = h.turn ∙ ap (λ k. k % 4) (sym (large_quarters ms m e));
   large = sym (any_more has_large ms m ∙ (ap (λ b. list_any has_large ms || b) e ∙ or_true (list_any has_large ms)));
@@ -210,19 +210,19 @@ pub not_not : (b : Bool) → not (not b) ≡ b
 not_not true = refl
 not_not false = refl
 
-pub turn_stands : (p : Part) (n : ℕ) (m : Modifier) → p ≡ Turn n → Stands p m → m ≡ Quarters n
-turn_stands p n m e h = subst (λ q. Stands q m) e h
+pub turn_stands : (p : Part) (n : ℕ) (m : Modifier) → p ≡ Turn n → StandsFor p m → m ≡ Quarters n
+turn_stands p n m e h = subst (λ q. StandsFor q m) e h
 
-pub scale_stands : (p : Part) (v : ℤ) (m : Modifier) → p ≡ Scale v → Stands p m → (m ≡ Scaled v) × (has_large (Scaled v) ≡ false)
-scale_stands p v m e h = let k = subst (λ q. Stands q m) e h in (k.0, subst (λ x. has_large x ≡ false) k.0 k.1)
+pub scale_stands : (p : Part) (v : ℤ) (m : Modifier) → p ≡ Scale v → StandsFor p m → (m ≡ Scaled v) × (has_large (Scaled v) ≡ false)
+scale_stands p v m e h = let k = subst (λ q. StandsFor q m) e h in (k.0, subst (λ x. has_large x ≡ false) k.0 k.1)
 
-pub move_stands : (p : Part) (x y : ParsedMeasure) (m : Modifier) → p ≡ Offset x y → Stands p m
+pub move_stands : (p : Part) (x y : ParsedMeasure) (m : Modifier) → p ≡ Offset x y → StandsFor p m
     → (m ≡ Moved (measure_of x) (measure_of y)) × (has_large (Moved (measure_of x) (measure_of y)) ≡ false)
-move_stands p x y m e h = let k = subst (λ q. Stands q m) e h in (k.0, subst (λ z. has_large z ≡ false) k.0 k.1)
+move_stands p x y m e h = let k = subst (λ q. StandsFor q m) e h in (k.0, subst (λ z. has_large z ≡ false) k.0 k.1)
 
-pub large_stands : (p : Part) (m : Modifier) → p ≡ TooLarge → Stands p m → has_large m ≡ true
-large_stands p m e h = subst (λ q. Stands q m) e h
+pub large_stands : (p : Part) (m : Modifier) → p ≡ TooLarge → StandsFor p m → has_large m ≡ true
+large_stands p m e h = subst (λ q. StandsFor q m) e h
 
 -- the same fact at an equal modifier
-pub shows_same : (ms : List Modifier) (m n : Modifier) (s : Modifiers) → m ≡ n → Shows (ms ++ n ∷ []) s → Shows (ms ++ m ∷ []) s
-shows_same ms m n s e h = subst (λ x. Shows (ms ++ x ∷ []) s) (sym e) h
+pub shows_same : (ms : List Modifier) (m n : Modifier) (s : Modifiers) → m ≡ n → Summarizes (ms ++ n ∷ []) s → Summarizes (ms ++ m ∷ []) s
+shows_same ms m n s e h = subst (λ x. Summarizes (ms ++ x ∷ []) s) (sym e) h

@@ -11,7 +11,7 @@ use Rattle.pagespec.specs.Groups.{AreParsed}
 use Rattle.pagespec.specs.Faults.{fault_named, first_fault_of}
 use Rattle.pagespec.specs.Settled.{item_of_parsed, split_by, AreLengths}
 use Rattle.pagespec.specs.Written.{WrittenRead}
-use Rattle.pagespec.specs.Refusals.{NamesFault, IsRefusal, IsPlaced}
+use Rattle.pagespec.specs.Refusals.{NamesFault, IsRefusal, IsSyntaxPlace}
 use Rattle.pagespec.specs.Parsed.{ItemShows}
 use Rattle.pagespec.specs.declared.parsed.ParsedItem.{ParsedItem}
 use Rattle.pagespec.specs.declared.groups.ParsedGroups.{ParsedGroups}
@@ -130,7 +130,7 @@ fault_refused t modulo ks ns e read h told =
     (ap (option_map fault_named) told ∙ told_fault read.spec modulo ks ns read.shows read.counted read.modulo_is)
 
 -- a text that was read has no syntax fault
-no_syntax_fault : (t : List ℕ) (modulo : ℕ) (ks : List ParsedItem) (ns : List ℕ) (e : SpecError) → Read t modulo ks ns → IsRefusal t e → IsPlaced t e
+no_syntax_fault : (t : List ℕ) (modulo : ℕ) (ks : List ParsedItem) (ns : List ℕ) (e : SpecError) → Read t modulo ks ns → IsRefusal t e → IsSyntaxPlace t e
 no_syntax_fault t modulo ks ns error.TooLong read refused = tt
 no_syntax_fault t modulo ks ns (error.Syntax at) read refused = absurd (refused.1 read.spec read.stands)
 no_syntax_fault t modulo ks ns error.TooLarge read refused = tt
@@ -142,7 +142,7 @@ no_syntax_fault t modulo ks ns (error.TooManySlots g) read refused = tt
 no_syntax_fault t modulo ks ns error.TooManyGroups read refused = tt
 no_syntax_fault t modulo ks ns error.NoMemory read refused = tt
 
-pub fault_placed : (t : List ℕ) (modulo : ℕ) (ks : List ParsedItem) (ns : List ℕ) (e : SpecError) → Read t modulo ks ns → length t ≤ most_spec_bytes → Some e ≡ first_fault_of modulo ks ns → IsPlaced t e
+pub fault_placed : (t : List ℕ) (modulo : ℕ) (ks : List ParsedItem) (ns : List ℕ) (e : SpecError) → Read t modulo ks ns → length t ≤ most_spec_bytes → Some e ≡ first_fault_of modulo ks ns → IsSyntaxPlace t e
 fault_placed t modulo ks ns e read h told = no_syntax_fault t modulo ks ns e read (fault_refused t modulo ks ns e read h told)
 
 none_told : (f : Option Fault) (o : Option SpecError) → None ≡ o → option_map fault_named o ≡ option_map (λ x. Some x) f → f ≡ None

@@ -4,7 +4,7 @@ use Rattle.std.specs.Prelude.{map, flat_map, unwrap_or, option_map, pos, ℤ}
 use Rattle.std.specs.List.{AllZip}
 use Rattle.std.proofs.lemmas.List.{length-append, length-map, length-drop, map-append, map_more}
 use Rattle.std.proofs.lemmas.Slice.Zip.{AllZip-long}
-use Rattle.rules.specs.Specification.{Measure, Modifier, Quarters, Scaled, Moved, Turn, WrittenItem, Item, settled_item, quarters, turn_of, scale, offset_x, offset_y, zero_points}
+use Rattle.rules.specs.Specification.{Measure, Modifier, Quarters, Scaled, Moved, Turn, WrittenItem, Item, settled_item, quarters, quarter_turn, scale, offset_x, offset_y, zero_points}
 use Rattle.pagespec.specs.Items.{measure_of, item_of}
 use Rattle.pagespec.specs.declared.item.Item as code
 use Rattle.pagespec.specs.Parsed.{Known, first_scale, first_offset}
@@ -36,7 +36,7 @@ offset_kept_is (Some m) = refl
 same_turn : (q n : ℕ) → q ≡ n % 4 → q % 4 ≡ n % 4
 same_turn q n e = omega arith
 
-turn_is : (q n : ℕ) → q ≡ n % 4 → turn_of q ≡ turn_of n
+turn_is : (q n : ℕ) → q ≡ n % 4 → quarter_turn q ≡ quarter_turn n
 turn_is q n e = rw (same_turn q n e) refl
 
 abbrev item : ℕ → Bool → Turn → ℤ → Measure → Measure → Item

@@ -7,7 +7,7 @@ use Rattle.std.proofs.lemmas.List.Folds.{list_any-append}
 use Rattle.std.proofs.lemmas.Fmt.{length-decimal-le_wide}
 use Rattle.rules.specs.Numbers.{greatest_whole, is_large, number_text}
 use Rattle.rules.specs.Papers.{LengthUnit, Pt, Cm, Mm, In, Width, Height}
-use Rattle.rules.specs.Specification.{Measure, Modifier, Quarters, Scaled, Moved, WrittenItem, WrittenSpec, Turn, Upright, Left, Half, Right, IsJoined, IsDigits, IsMeasure, AreModifiers, IsItem, IsBareItem, AreGroups, IsSpec, minus_text, unit_name, unit_text, measure_text, turn_text, turn_of, quarters, scale, offset_x, offset_y, scale_part, is_one, offset_part, is_zero_points, item_text, joined_by, modulo_text, settled_item, settled, canonical}
+use Rattle.rules.specs.Specification.{Measure, Modifier, Quarters, Scaled, Moved, WrittenItem, WrittenSpec, Turn, Upright, Left, Half, Right, IsJoined, IsDigits, IsMeasure, AreModifiers, IsItem, IsBareItem, AreGroups, IsSpec, minus_text, unit_name, unit_text, measure_text, turn_text, quarter_turn, quarters, scale, offset_x, offset_y, scale_part, is_one, offset_part, is_zero_points, item_text, joined_by, modulo_text, settled_item, settled, canonical}
 use Rattle.rules.specs.Admissible.{fault_of, has_large, items, most_slots, most_spec_bytes}
 use Rattle.pagespec.specs.Canonical.{LeavesPageOut, CanonicalIsShort}
 use Rattle.pagespec.proofs.Letters.{turn_letter}
@@ -68,11 +68,11 @@ either false b e = (refl, e)
 
 -- modifiers are written no longer than in the text
 modifiers_short : (ms : List Modifier) (text : List ℕ) → AreModifiers text ms → list_any has_large ms ≡ false
-    → length (turn_text (turn_of (quarters ms))) + length (scale_part (scale ms)) + length (offset_part (offset_x ms) (offset_y ms)) ≤ length text
+    → length (turn_text (quarter_turn (quarters ms))) + length (scale_part (scale ms)) + length (offset_part (offset_x ms) (offset_y ms)) ≤ length text
 modifiers_short [] text are small = omega arith
 modifiers_short (Quarters n ∷ ms) text (front, rest, e, is, are) small =
     let (letter, one, q, h) = turn_letter front n is in
-    omega (arith, ap length e, length-append front rest, ap length one, turn_few (turn_of (quarters (Quarters n ∷ ms))), modifiers_short ms rest are small)
+    omega (arith, ap length e, length-append front rest, ap length one, turn_few (quarter_turn (quarters (Quarters n ∷ ms))), modifiers_short ms rest are small)
 modifiers_short (Scaled v ∷ ms) text (front, rest, e, (number, one, is), are) small =
     let (here, behind) = either (is_large v) (list_any has_large ms) small in
     omega (arith, ap length e, length-append front rest, ap length one, scale_short v (length number) (number_short number v is here), modifiers_short ms rest are behind)
@@ -106,8 +106,8 @@ large_item i = nat_lt greatest_whole i.page || list_any has_large i.modifiers
 
 -- the parts of an item's text
 item_length : (i : WrittenItem) → length (item_text (settled_item i))
-    ≡ length (minus_text i.from_end) + length (decimal i.page) + (length (turn_text (turn_of (quarters i.modifiers))) + length (scale_part (scale i.modifiers)) + length (offset_part (offset_x i.modifiers) (offset_y i.modifiers)))
-item_length i = five (minus_text i.from_end) (decimal i.page) (turn_text (turn_of (quarters i.modifiers))) (scale_part (scale i.modifiers)) (offset_part (offset_x i.modifiers) (offset_y i.modifiers))
+    ≡ length (minus_text i.from_end) + length (decimal i.page) + (length (turn_text (quarter_turn (quarters i.modifiers))) + length (scale_part (scale i.modifiers)) + length (offset_part (offset_x i.modifiers) (offset_y i.modifiers)))
+item_length i = five (minus_text i.from_end) (decimal i.page) (turn_text (quarter_turn (quarters i.modifiers))) (scale_part (scale i.modifiers)) (offset_part (offset_x i.modifiers) (offset_y i.modifiers))
   where
     five : (a b c d e : List ℕ) → length (a ++ b ++ c ++ d ++ e) ≡ length a + length b + (length c + length d + length e)
     five a b c d e = omega (arith, length-append (a ++ b ++ c ++ d) e, length-append (a ++ b ++ c) d, length-append (a ++ b) c, length-append a b)
@@ -150,7 +150,7 @@ bare_few text i (rest, e, page, some, are) small =
       item_length i,
       bare_zero i page,
       minus_few i.from_end,
-      turn_few (turn_of (quarters i.modifiers)),
+      turn_few (quarter_turn (quarters i.modifiers)),
       scale_short (scale i.modifiers) 16 (number_few (scale i.modifiers) (scale_small i.modifiers behind)),
       offset_short (offset_x i.modifiers) (offset_y i.modifiers) 39 (omega (arith, measure_few (offset_x i.modifiers) small_x, measure_few (offset_y i.modifiers) small_y)),
     )

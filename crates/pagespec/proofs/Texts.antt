@@ -9,7 +9,7 @@ use Rattle.rules.specs.Specification.{WrittenItem, WrittenSpec, IsJoined, IsItem
 use Rattle.lengths.specs.Reading.{digits, past_digits, is_empty}
 use Rattle.lengths.proofs.Digits.{digits_whole, digits_pass, digits-append, past_digits-append}
 use Rattle.lengths.proofs.Numbers.{some_same, not_empty, ends_digits}
-use Rattle.pagespec.specs.Reading.{◌>>=◌, byte_at, modifier_at, modifiers_at, is_minus, past_minus, item_with, item_from, item_at, bare_at, whole, joined_at, group_at, groups_at, or_bare, all_groups_at, tree_of, past_modulo, tree_from, spec_at}
+use Rattle.pagespec.specs.Reading.{◌>>=◌, byte_at, modifier_at, modifiers_at, is_minus_first, past_minus, item_with, item_from, item_at, bare_at, if_all_read, joined_at, group_at, groups_at, or_bare, all_groups_at, tree_of, past_modulo, tree_from, spec_at}
 use Rattle.pagespec.specs.Groups.{IsGroup}
 use Rattle.pagespec.proofs.Measures.{bind_some, byte_found}
 use Rattle.pagespec.proofs.Modifiers.{Stood, modifiers_found, modifiers_read, modifiers_end, few_modifiers}
@@ -52,7 +52,7 @@ groups_read text rest gs is closed none =
     joined_read 44 IsGroup GroupClosed group_at group_read comma_closed (suc (length (text ++ rest))) gs text rest is closed none
     (omega (arith, few_parts 44 IsGroup gs text is, length-append text rest))
 
-whole_found : {X : Type 0} (x : X × List ℕ) (y : X) → whole x ≡ Some y → (x.1 ≡ []) × (x.0 ≡ y)
+whole_found : {X : Type 0} (x : X × List ℕ) (y : X) → if_all_read x ≡ Some y → (x.1 ≡ []) × (x.0 ≡ y)
 whole_found (x, []) y e = (refl, some_same _ _ e)
 whole_found (x, b ∷ t) y e = absurd (cc (e))
 
@@ -66,7 +66,7 @@ bare_found t i e =
     let u = past_minus t in
     let (some, read) = bare_of (is_empty t) _ i e in
     let (front, m_is, are) = modifiers_found (length u) u in
-    let (rest, same) = whole_found (item_with (is_minus t) 0 (modifiers_at (length u) u)) i read in
+    let (rest, same) = whole_found (item_with (is_minus_first t) 0 (modifiers_at (length u) u)) i read in
     let u_is : u ≡ front = m_is ∙ (ap (λ x. front ++ x) rest ∙ append-nil front) in
     subst (IsBareItem t) same (u, minus_whole t, refl, not_empty t some, subst (λ x. AreModifiers x (modifiers_at (length u) u).0) (sym u_is) are)
 
@@ -78,13 +78,13 @@ bare_read : (t : List ℕ) (i : WrittenItem) → IsBareItem t i → bare_at t �
 unfolding bare_at
 bare_read t i (ms, e, page, some, are) =
     let minus = minus_taken i.from_end ms (modifiers_unsigned i.modifiers ms are) in
-    let is_m : is_minus t ≡ i.from_end = ap is_minus e ∙ minus.0 in
+    let is_m : is_minus_first t ≡ i.from_end = ap is_minus_first e ∙ minus.0 in
     let past : past_minus t ≡ ms = ap past_minus e ∙ minus.1 in
     let read : modifiers_at (length ms) ms ≡ (i.modifiers, []) = ap (modifiers_at (length ms)) (sym (append-nil ms)) ∙ modifiers_read (length ms) i.modifiers ms [] are nil_closed.0.ends nil_closed.0.none (few_modifiers i.modifiers ms are) in
     bare_taken t _ some
-    ∙ (ap (λ x. whole (item_with x 0 (modifiers_at (length (past_minus t)) (past_minus t)))) is_m
-    ∙ (ap (λ x. whole (item_with i.from_end 0 (modifiers_at (length x) x))) past
-    ∙ (ap (λ x. whole (item_with i.from_end 0 x)) read ∙ ap (λ n. Some (record i { page = n })) (sym page))))
+    ∙ (ap (λ x. if_all_read (item_with x 0 (modifiers_at (length (past_minus t)) (past_minus t)))) is_m
+    ∙ (ap (λ x. if_all_read (item_with i.from_end 0 (modifiers_at (length x) x))) past
+    ∙ (ap (λ x. if_all_read (item_with i.from_end 0 x)) read ∙ ap (λ n. Some (record i { page = n })) (sym page))))
 
 -- an item without its number isn't one with a number
 bare_is_none : (t : List ℕ) (i : WrittenItem) → IsBareItem t i → item_at t ≡ None
@@ -94,18 +94,18 @@ bare_is_none t i (ms, e, page, some, are) =
     let past : past_minus t ≡ ms = ap past_minus e ∙ minus.1 in
     let ends = ends_digits (ms ++ []) (modifiers_end i.modifiers ms [] are tt) in
     let no : digits ms ≡ [] = ap digits (sym (append-nil ms)) ∙ ends.0 in
-    ap (λ x. item_from (is_minus t) x) past ∙ ap (λ x. if is_empty x then None else Some (item_with (is_minus t) (number_of x) (modifiers_at (length (past_digits ms)) (past_digits ms)))) no
+    ap (λ x. item_from (is_minus_first t) x) past ∙ ap (λ x. if is_empty x then None else Some (item_with (is_minus_first t) (number_of x) (modifiers_at (length (past_digits ms)) (past_digits ms)))) no
 
 no_groups : (t : List ℕ) → item_at t ≡ None → groups_at t ≡ None
 unfolding joined_at
 no_groups t e = rw e refl
 
-or_found : (t : List ℕ) (o : Option (List (List WrittenItem))) (gs : List (List WrittenItem)) → (groups_at t >>= whole) ≡ o → or_bare t o ≡ Some gs → AreGroups t gs
+or_found : (t : List ℕ) (o : Option (List (List WrittenItem))) (gs : List (List WrittenItem)) → (groups_at t >>= if_all_read) ≡ o → or_bare t o ≡ Some gs → AreGroups t gs
 or_found t None gs g e =
     let (i, found, same) = bind_some (bare_at t) _ gs e in
     inr (i, sym (some_same _ _ same), bare_found t i found)
 or_found t (Some hs) gs g e =
-    let (x, found, w) = bind_some (groups_at t) whole hs g in
+    let (x, found, w) = bind_some (groups_at t) if_all_read hs g in
     let (rest, same) = whole_found x hs w in
     let (front, t_is, joined) = groups_found t x found in
     let whole_text : t ≡ front = t_is ∙ (ap (λ y. front ++ y) rest ∙ append-nil front) in
@@ -113,14 +113,14 @@ or_found t (Some hs) gs g e =
 
 pub all_groups_found : (t : List ℕ) (gs : List (List WrittenItem)) → all_groups_at t ≡ Some gs → AreGroups t gs
 unfolding all_groups_at
-all_groups_found t gs e = or_found t (groups_at t >>= whole) gs refl e
+all_groups_found t gs e = or_found t (groups_at t >>= if_all_read) gs refl e
 
 pub all_groups_read : (t : List ℕ) (gs : List (List WrittenItem)) → AreGroups t gs → all_groups_at t ≡ Some gs
 unfolding all_groups_at
 all_groups_read t gs (inl joined) =
-    ap (λ x. or_bare t (x >>= whole)) (ap groups_at (sym (append-nil t)) ∙ groups_read t [] gs joined nil_closed refl)
+    ap (λ x. or_bare t (x >>= if_all_read)) (ap groups_at (sym (append-nil t)) ∙ groups_read t [] gs joined nil_closed refl)
 all_groups_read t gs (inr (i, same, bare)) =
-    ap (λ x. or_bare t (x >>= whole)) (no_groups t (bare_is_none t i bare))
+    ap (λ x. or_bare t (x >>= if_all_read)) (no_groups t (bare_is_none t i bare))
     ∙ (ap (λ o. o >>= λ j. Some ((j ∷ []) ∷ [])) (bare_read t i bare) ∙ ap (λ x. Some x) (sym same))
 
 -- the digits before a colon
@@ -156,15 +156,15 @@ colon_item t rest (e, some) =
     ap item_at e ∙ item_read (digits t) (58 ∷ rest) (record { from_end = false; page = number_of (digits t); modifiers = [] })
     (digits t, [], sym (append-nil (digits t)), (digits_pass t, some, refl), refl) (colon_closed rest).0
 
-colon_groups : (t rest : List ℕ) (i : WrittenItem) → item_at t ≡ Some (i, 58 ∷ rest) → (groups_at t >>= whole) ≡ None
+colon_groups : (t rest : List ℕ) (i : WrittenItem) → item_at t ≡ Some (i, 58 ∷ rest) → (groups_at t >>= if_all_read) ≡ None
 unfolding joined_at
 colon_groups t rest i e = rw e refl
 
 no_colon : (t rest : List ℕ) (gs : List (List WrittenItem)) → HasModulo t rest → AreGroups t gs → ⊥
 no_colon t rest gs has (inl joined) =
     let e : groups_at t ≡ Some (gs, []) = ap groups_at (sym (append-nil t)) ∙ groups_read t [] gs joined nil_closed refl in
-    let f : (groups_at t >>= whole) ≡ None = colon_groups t rest _ (colon_item t rest has) in
-    let g : (groups_at t >>= whole) ≡ Some gs = ap (λ x. x >>= whole) e in
+    let f : (groups_at t >>= if_all_read) ≡ None = colon_groups t rest _ (colon_item t rest has) in
+    let g : (groups_at t >>= if_all_read) ≡ Some gs = ap (λ x. x >>= if_all_read) e in
     cc
 no_colon t rest gs has (inr (i, same, bare)) =
     let e = bare_is_none t i bare in

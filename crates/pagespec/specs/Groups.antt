@@ -20,8 +20,8 @@ IsStop R part bytes NoMemory = Unit {0}
 abbrev pub IsGroup : List ℕ → List WrittenItem → Type 0
 IsGroup text g = IsJoined plus_sign IsItem text g
 
-abbrev pub AreWhole : List ℕ → List (List WrittenItem) → Type 0
-AreWhole text gs = IsJoined comma IsGroup text gs
+abbrev pub AreWholeGroups : List ℕ → List (List WrittenItem) → Type 0
+AreWholeGroups text gs = IsJoined comma IsGroup text gs
 
 -- the written items were parsed as these
 abbrev pub AreParsed : List ParsedItem → List WrittenItem → Type 0

@@ -34,19 +34,19 @@ pub record Known (ms : List Modifier) (s : Modifiers) : Type 0 where
   pub scale_zero : s.scale_zero ≡ list_any is_flat ms
   pub repeated : s.repeated ≡ is_repeated ms
 
-pub record Shows (ms : List Modifier) (s : Modifiers) : Type 0 where
+pub record Summarizes (ms : List Modifier) (s : Modifiers) : Type 0 where
   pub turn : s.quarters ≡ quarters ms % 4
   pub large : s.too_large ≡ list_any has_large ms
   pub known : s.too_large ≡ false → Known ms s
 
 -- the modifiers at the front of a text, and their result
 abbrev pub ModifiersRead : List ℕ → Modifiers → List ℕ → Type 0
-ModifiersRead bytes s rest = (ms : List Modifier) × (modifiers_at (length bytes) bytes ≡ (ms, rest)) × Shows ms s
+ModifiersRead bytes s rest = (ms : List Modifier) × (modifiers_at (length bytes) bytes ≡ (ms, rest)) × Summarizes ms s
 
 pub record ItemShows (i : WrittenItem) (k : ParsedItem) : Type 0 where
   pub end : k.from_end ≡ i.from_end
   pub page : k.page ≡ min least_large i.page
-  pub modifiers : Shows i.modifiers k.modifiers
+  pub modifiers : Summarizes i.modifiers k.modifiers
 
 -- the item at the front of a text
 abbrev pub ItemRead : List ℕ → ParsedItem → List ℕ → Type 0

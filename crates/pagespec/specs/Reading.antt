@@ -77,9 +77,9 @@ unfoldable pub modifiers_at : ℕ → List ℕ → List Modifier × List ℕ
 modifiers_at zero text = ([], text)
 modifiers_at (suc k) text = modifiers_or (λ t. modifiers_at k t) text (modifier_at text)
 
-abbrev pub is_minus : List ℕ → Bool
-is_minus [] = false
-is_minus (b ∷ text) = b == minus_sign
+abbrev pub is_minus_first : List ℕ → Bool
+is_minus_first [] = false
+is_minus_first (b ∷ text) = b == minus_sign
 
 abbrev pub past_minus : List ℕ → List ℕ
 past_minus [] = []
@@ -97,7 +97,7 @@ item_from from_end text =
 
 -- an item with its page number
 unfoldable pub item_at : List ℕ → Option (WrittenItem × List ℕ)
-item_at text = item_from (is_minus text) (past_minus text)
+item_at text = item_from (is_minus_first text) (past_minus text)
 
 abbrev pub with_part : {X : Type 0} → X → List X × List ℕ → Option (List X × List ℕ)
 with_part x more = Some (x ∷ more.0, more.1)
@@ -120,24 +120,24 @@ group_at text = joined_at plus_sign item_at (suc (length text)) text
 abbrev pub groups_at : List ℕ → Option (List (List WrittenItem) × List ℕ)
 groups_at text = joined_at comma group_at (suc (length text)) text
 
-abbrev pub whole : {X : Type 0} → X × List ℕ → Option X
-whole x = if is_empty x.1 then Some x.0 else None
+abbrev pub if_all_read : {X : Type 0} → X × List ℕ → Option X
+if_all_read x = if is_empty x.1 then Some x.0 else None
 
 -- groups that nothing follows
 abbrev pub whole_groups_at : List ℕ → Option (List (List WrittenItem))
-whole_groups_at text = groups_at text >>= whole
+whole_groups_at text = groups_at text >>= if_all_read
 
 -- the one item that may leave its page number out
 unfoldable pub bare_at : List ℕ → Option WrittenItem
 bare_at text = if is_empty text then None
-    else whole (item_with (is_minus text) 0 (modifiers_at (length (past_minus text)) (past_minus text)))
+    else if_all_read (item_with (is_minus_first text) 0 (modifiers_at (length (past_minus text)) (past_minus text)))
 
 abbrev pub or_bare : List ℕ → Option (List (List WrittenItem)) → Option (List (List WrittenItem))
 or_bare text None = bare_at text >>= λ i. Some ((i ∷ []) ∷ [])
 or_bare text (Some groups) = Some groups
 
 unfoldable pub all_groups_at : List ℕ → Option (List (List WrittenItem))
-all_groups_at text = or_bare text (groups_at text >>= whole)
+all_groups_at text = or_bare text (groups_at text >>= if_all_read)
 
 abbrev pub tree_of : ℕ → List (List WrittenItem) → Option WrittenSpec
 tree_of modulo groups = Some (record { modulo = modulo; groups = groups })

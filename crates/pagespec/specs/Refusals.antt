@@ -15,6 +15,6 @@ abbrev pub IsRefusal : List ℕ → SpecError → Type 0
 IsRefusal text e = NamesFault text (fault_named e)
 
 -- the place of a syntax fault is how far some text of the grammar goes along with the text
-abbrev pub IsPlaced : List ℕ → SpecError → Type 0
-IsPlaced text (Syntax at) = IsPlaceIn text at
-IsPlaced text e = Unit {0}
+abbrev pub IsSyntaxPlace : List ℕ → SpecError → Type 0
+IsSyntaxPlace text (Syntax at) = IsPlaceIn text at
+IsSyntaxPlace text e = Unit {0}

@@ -1,6 +1,6 @@
 -- The results of the parsed items.
 use Rattle.std.specs.Prelude.{◌≤◌, ℕ, pos, List, [], ◌∷◌, length, take, drop, Option, Some, None, unwrap_or}
-use Rattle.rules.specs.Specification.{Measure, Item, turn_of, zero_points}
+use Rattle.rules.specs.Specification.{Measure, Item, quarter_turn, zero_points}
 use Rattle.pagespec.specs.Items.{measure_of}
 use Rattle.pagespec.specs.declared.item.Measure.{Measure as ParsedMeasure}
 use Rattle.pagespec.specs.declared.parsed.ParsedItem.{ParsedItem}
@@ -13,7 +13,7 @@ abbrev pub item_of_parsed : ParsedItem → Item
 item_of_parsed k = record {
   page = k.page;
   from_end = k.from_end;
-  turn = turn_of k.modifiers.quarters;
+  turn = quarter_turn k.modifiers.quarters;
   scale = unwrap_or k.modifiers.scale (pos 1_000_000_000);
   x = (offset_of_parsed k.modifiers.offset).0;
   y = (offset_of_parsed k.modifiers.offset).1;

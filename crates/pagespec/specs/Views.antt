@@ -18,12 +18,12 @@ IsMeasureOf (Some m) a = (a ≡ measure_of m) × (is_large a.number ≡ false)
 abbrev pub MeasureRead : List ℕ → Option Measure → List ℕ → Type 0
 MeasureRead bytes m rest = (a : rules.Measure) × (measure_at bytes ≡ Some (a, rest)) × IsMeasureOf m a
 
-abbrev pub Stands : Modifier → rules.Modifier → Type 0
-Stands (Turn n) m = m ≡ rules.Quarters n
-Stands (Scale n) m = (m ≡ rules.Scaled n) × (has_large m ≡ false)
-Stands (Offset x y) m = (m ≡ rules.Moved (measure_of x) (measure_of y)) × (has_large m ≡ false)
-Stands TooLarge m = has_large m ≡ true
+abbrev pub StandsFor : Modifier → rules.Modifier → Type 0
+StandsFor (Turn n) m = m ≡ rules.Quarters n
+StandsFor (Scale n) m = (m ≡ rules.Scaled n) × (has_large m ≡ false)
+StandsFor (Offset x y) m = (m ≡ rules.Moved (measure_of x) (measure_of y)) × (has_large m ≡ false)
+StandsFor TooLarge m = has_large m ≡ true
 
 -- the modifier at the front of a text
 abbrev pub ModifierRead : List ℕ → Modifier → List ℕ → Type 0
-ModifierRead bytes part rest = (m : rules.Modifier) × (modifier_at bytes ≡ Some (m, rest)) × Stands part m
+ModifierRead bytes part rest = (m : rules.Modifier) × (modifier_at bytes ≡ Some (m, rest)) × StandsFor part m

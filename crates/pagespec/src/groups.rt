@@ -3,10 +3,10 @@ ghost use Rattle.std.specs.Prelude.{◌≡◌, ◌∷◌, [], min, IfOk, IfErr, 
 ghost use Rattle.rules.specs.Specification.{IsItem, IsBareItem, AreGroups};
 ghost use Rattle.pagespec.specs.Places.{StuckIn, StuckAfter};
 ghost use Rattle.pagespec.specs.Reading.{item_at, group_at, groups_at, bare_at, all_groups_at, whole_groups_at};
-ghost use Rattle.pagespec.specs.Groups.{IsStop, IsGroup, AreWhole, ItemAppended, GroupRead, GroupsRead, BareRead, ParsesTo};
+ghost use Rattle.pagespec.specs.Groups.{IsStop, IsGroup, AreWholeGroups, ItemAppended, GroupRead, GroupsRead, BareRead, ParsesTo};
 
 use crate::parsed::{ParsedItem, read_item, read_modifiers, split_minus};
-use crate::scan::{Rest, Stuck, read_byte};
+use crate::scan::{ParseStop, Rest, read_byte};
 use std::alloc::Global;
 
 /// The items of all groups in one row, in the order of the text, and the number of items of each group.
@@ -19,7 +19,7 @@ pub struct ParsedGroups {
 /// Why reading stopped early.
 #[derive(Clone, Copy)]
 pub enum Stop {
-    Stuck(Stuck),
+    Stuck(ParseStop),
     NoMemory,
 }
 
@@ -33,23 +33,23 @@ pub fn read_all_groups(alloc: Global, bytes: &[u8]) -> Result<ParsedGroups, Stop
     };
     match read_groups_to_end(alloc, bytes) {
         Ok(parsed) => Ok(parsed),
-        Err(Stop::Stuck(stuck)) => Err(Stop::Stuck(farther(stuck, bare))),
+        Err(Stop::Stuck(stuck)) => Err(Stop::Stuck(later_stop(stuck, bare))),
         Err(Stop::NoMemory) => Err(Stop::NoMemory),
     }
 }
 
 /// The place that is further on in the text.
-fn farther(one: Stuck, other: Stuck) -> Stuck
+fn later_stop(one: ParseStop, other: ParseStop) -> ParseStop
     ensures { result.left ≡ min one.left other.left }
 {
-    Stuck {
+    ParseStop {
         left: one.left.min(other.left),
     }
 }
 
 /// The groups that are the whole text.
 fn read_groups_to_end(alloc: Global, bytes: &[u8]) -> Result<ParsedGroups, Stop>
-    ensures { MatchResult result (ParsesTo (whole_groups_at bytes.now)) (IsStop AreWhole whole_groups_at bytes.now) }
+    ensures { MatchResult result (ParsesTo (whole_groups_at bytes.now)) (IsStop AreWholeGroups whole_groups_at bytes.now) }
 {
     let (parsed, rest) = read_groups(alloc, bytes)?;
     if rest.text.is_empty() {
@@ -75,11 +75,11 @@ fn one_item(alloc: Global, item: ParsedItem) -> Result<ParsedGroups, Stop>
 }
 
 /// An item without its page number, which is 0, as the whole text.
-fn read_bare_item(bytes: &[u8]) -> Result<ParsedItem, Stuck>
+fn read_bare_item(bytes: &[u8]) -> Result<ParsedItem, ParseStop>
     ensures { MatchResult result (BareRead bytes.now) (λ stuck. StuckIn IsBareItem bare_at bytes.now stuck.left) }
 {
     if bytes.is_empty() {
-        return Err(Stuck { left: 0 });
+        return Err(ParseStop { left: 0 });
     }
     let (from_end, body) = split_minus(bytes);
     let (modifiers, rest) = read_modifiers(body);
@@ -96,8 +96,8 @@ fn read_bare_item(bytes: &[u8]) -> Result<ParsedItem, Stuck>
 /// The groups at the front, and what is left after them.
 fn read_groups(alloc: Global, bytes: &[u8]) -> Result<(ParsedGroups, Rest<'_>), Stop>
     ensures { MatchResult result (λ x. GroupsRead bytes.now x.0 x.1.text.now
-        × StuckAfter AreWhole groups_at bytes.now x.1.text.now x.1.stuck.left)
-        (IsStop AreWhole groups_at bytes.now) }
+        × StuckAfter AreWholeGroups groups_at bytes.now x.1.text.now x.1.stuck.left)
+        (IsStop AreWholeGroups groups_at bytes.now) }
 {
     let mut items = Vec::new(alloc);
     let mut lengths = Vec::new(alloc);
@@ -113,7 +113,7 @@ fn read_groups(alloc: Global, bytes: &[u8]) -> Result<(ParsedGroups, Rest<'_>), 
             None => return Ok((ParsedGroups { items, lengths }, behind)),
         }
     }
-    Err(Stop::Stuck(Stuck { left: 0 }))
+    Err(Stop::Stuck(ParseStop { left: 0 }))
 }
 
 /// Adds the items of the group at the front to the row; gives their number, and what is left after them.
@@ -130,7 +130,7 @@ fn read_group<'t>(bytes: &'t [u8], items: &mut Vec<ParsedItem>) -> Result<(usize
             None => return Ok((i + 1, behind)),
         }
     }
-    Err(Stop::Stuck(Stuck { left: 0 }))
+    Err(Stop::Stuck(ParseStop { left: 0 }))
 }
 
 /// Adds the item at the front to the row; gives what is left after it.

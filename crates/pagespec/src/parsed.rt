@@ -2,12 +2,12 @@
 ghost use Rattle.std.specs.Prelude.{◌≡◌, ◌∷◌, ◌++◌, [], List, Some, length, MatchResult, not, int_le, pos};
 ghost use Rattle.rules.specs.Specification.{IsItem, Modifier as WrittenModifier};
 ghost use Rattle.pagespec.specs.Places.{StuckIn, StuckAfter, AreSomeModifiers};
-ghost use Rattle.pagespec.specs.Reading.{is_minus, past_minus, modifiers_at, item_at};
-ghost use Rattle.pagespec.specs.Views.{Stands};
-ghost use Rattle.pagespec.specs.Parsed.{Shows, ModifiersRead, ItemRead};
+ghost use Rattle.pagespec.specs.Reading.{is_minus_first, past_minus, modifiers_at, item_at};
+ghost use Rattle.pagespec.specs.Views.{StandsFor};
+ghost use Rattle.pagespec.specs.Parsed.{Summarizes, ModifiersRead, ItemRead};
 
 use crate::item::Measure;
-use crate::scan::{Modifier, Rest, Stuck, read_modifier, rest_at};
+use crate::scan::{Modifier, ParseStop, Rest, read_modifier, rest_at};
 use lengths::{Number, read_digits};
 
 /// The result of an item's modifiers, as far as they were read.
@@ -40,7 +40,7 @@ impl Modifiers {
     /// The result with one modifier more after them.
     fn and(self, modifier: Modifier) -> Modifiers
         ensures { (ms : List WrittenModifier) (m : WrittenModifier)
-            → Shows ms self → Stands modifier m → Shows (ms ++ m ∷ []) result }
+            → Summarizes ms self → StandsFor modifier m → Summarizes (ms ++ m ∷ []) result }
     {
         match modifier {
             Modifier::Turn(n) => Modifiers {
@@ -82,7 +82,7 @@ pub struct ParsedItem {
 }
 
 /// The item at the front, and what is left after it.
-pub fn read_item(bytes: &[u8]) -> Result<(ParsedItem, Rest<'_>), Stuck>
+pub fn read_item(bytes: &[u8]) -> Result<(ParsedItem, Rest<'_>), ParseStop>
     ensures { MatchResult result (λ x. ItemRead bytes.now x.0 x.1.text.now
         × StuckAfter IsItem item_at bytes.now x.1.text.now x.1.stuck.left)
         (λ stuck. StuckIn IsItem item_at bytes.now stuck.left) }
@@ -98,13 +98,13 @@ pub fn read_item(bytes: &[u8]) -> Result<(ParsedItem, Rest<'_>), Stuck>
             };
             Ok((item, rest))
         }
-        None => Err(Stuck { left: body.len() }),
+        None => Err(ParseStop { left: body.len() }),
     }
 }
 
 /// Whether there is a minus, and what follows it.
 pub fn split_minus(bytes: &[u8]) -> (bool, &[u8])
-    ensures minus { result.0 ≡ is_minus bytes.now }
+    ensures minus { result.0 ≡ is_minus_first bytes.now }
     ensures rest { result.1.now ≡ past_minus bytes.now }
 {
     match bytes {

@@ -5,7 +5,7 @@ ghost use Rattle.rules.specs.Admissible.{Takes, most_slots};
 ghost use Rattle.pagespec.specs.Reading.{spec_at, past_modulo};
 ghost use Rattle.pagespec.specs.Groups.{IsStop};
 ghost use Rattle.pagespec.specs.Written.{WrittenRead, ModuloRead};
-ghost use Rattle.pagespec.specs.Refusals.{IsRefusal, IsPlaced};
+ghost use Rattle.pagespec.specs.Refusals.{IsRefusal, IsSyntaxPlace};
 
 use crate::check::first_fault;
 use crate::error::SpecError;
@@ -28,7 +28,7 @@ const MOST_BYTES: usize = 65_536;
 pub fn read_spec(alloc: Global, text: &str) -> Result<Spec, SpecError>
     ensures taken { IfOk result (λ spec. Takes most_slots text.now spec) }
     ensures refused { IfErr result (IsRefusal text.now) }
-    ensures placed { IfErr result (IsPlaced text.now) }
+    ensures placed { IfErr result (IsSyntaxPlace text.now) }
 {
     if MOST_BYTES < text.len() {
         return Err(SpecError::TooLong);

@@ -8,14 +8,14 @@ ghost use Rattle.lengths.specs.Reading.{number_at, unsigned};
 ghost use Rattle.lengths.specs.Units.{length_unit};
 ghost use Rattle.pagespec.specs.Places.{StuckIn, StuckAfter, IsUnit};
 ghost use Rattle.pagespec.specs.Reading.{byte_at, unit_at, past_letter, measure_at, offset_at, scale_at, modifier_at, quarters_of};
-ghost use Rattle.pagespec.specs.Views.{MeasureRead, ModifierRead, IsMeasureOf, Stands};
+ghost use Rattle.pagespec.specs.Views.{MeasureRead, ModifierRead, IsMeasureOf, StandsFor};
 
 use crate::item::Measure;
 use lengths::{Number, NumberError, Unit, read_number};
 
 /// The place where a reader can't continue: in no text of the grammar does the next byte come here.
 #[derive(Clone, Copy)]
-pub struct Stuck {
+pub struct ParseStop {
     /// The number of bytes that are left there.
     pub left: usize,
 }
@@ -25,7 +25,7 @@ pub struct Stuck {
 pub struct Rest<'t> {
     pub text: &'t [u8],
     /// Where a longer reading was stuck: at a byte of `text`, or at its end.
-    pub stuck: Stuck,
+    pub stuck: ParseStop,
 }
 
 /// A modifier as it is written. Of a number over 99,999 only its presence is kept.
@@ -39,12 +39,12 @@ pub enum Modifier {
 }
 
 /// The modifier at the front, and what follows it.
-pub fn read_modifier(bytes: &[u8]) -> Result<(Modifier, &[u8]), Stuck>
+pub fn read_modifier(bytes: &[u8]) -> Result<(Modifier, &[u8]), ParseStop>
     ensures { MatchResult result (λ x. ModifierRead bytes.now x.0 x.1.now)
         (λ stuck. StuckIn IsModifier modifier_at bytes.now stuck.left) }
 {
     match bytes.split_first() {
-        None => Err(Stuck { left: 0 }),
+        None => Err(ParseStop { left: 0 }),
         Some((first, rest)) => {
             if *first == b'@' {
                 read_scale(rest)
@@ -53,7 +53,7 @@ pub fn read_modifier(bytes: &[u8]) -> Result<(Modifier, &[u8]), Stuck>
             } else {
                 let quarters = quarters_of(*first);
                 if quarters == 0 {
-                    Err(Stuck { left: bytes.len() })
+                    Err(ParseStop { left: bytes.len() })
                 } else {
                     Ok((Modifier::Turn(quarters), rest))
                 }
@@ -76,22 +76,22 @@ fn quarters_of(letter: u8) -> u8
 }
 
 /// A scale after its sign.
-fn read_scale(bytes: &[u8]) -> Result<(Modifier, &[u8]), Stuck>
+fn read_scale(bytes: &[u8]) -> Result<(Modifier, &[u8]), ParseStop>
     ensures { MatchResult result
-        (λ x. (m : WrittenModifier) × (scale_at bytes.now ≡ Some (m, x.1.now)) × Stands x.0 m)
+        (λ x. (m : WrittenModifier) × (scale_at bytes.now ≡ Some (m, x.1.now)) × StandsFor x.0 m)
         (λ stuck. StuckIn (λ t m. IsModifier (at_sign ∷ t) m) scale_at bytes.now stuck.left) }
 {
     match read_number(bytes) {
         Ok((number, len)) => Ok((Modifier::Scale(number), bytes.split_at(len).1)),
         Err(NumberError::TooLarge(len)) => Ok((Modifier::TooLarge, bytes.split_at(len).1)),
-        Err(NumberError::NotANumber) => Err(stuck_in_number(bytes)),
+        Err(NumberError::NotANumber) => Err(stop_in_number(bytes)),
     }
 }
 
 /// An offset after its opening parenthesis.
-fn read_offset(bytes: &[u8]) -> Result<(Modifier, &[u8]), Stuck>
+fn read_offset(bytes: &[u8]) -> Result<(Modifier, &[u8]), ParseStop>
     ensures { MatchResult result
-        (λ x. (m : WrittenModifier) × (offset_at bytes.now ≡ Some (m, x.1.now)) × Stands x.0 m)
+        (λ x. (m : WrittenModifier) × (offset_at bytes.now ≡ Some (m, x.1.now)) × StandsFor x.0 m)
         (λ stuck. StuckIn (λ t m. IsModifier (opening_parenthesis ∷ t) m) offset_at bytes.now stuck.left) }
 {
     let (x, behind_x) = match read_measure(bytes) {
@@ -114,7 +114,7 @@ fn read_offset(bytes: &[u8]) -> Result<(Modifier, &[u8]), Stuck>
 
 /// An offset of these two measures.
 fn offset_of(x: Option<Measure>, y: Option<Measure>) -> Modifier
-    ensures { (a b : WrittenMeasure) → IsMeasureOf x a → IsMeasureOf y b → Stands result (Moved a b) }
+    ensures { (a b : WrittenMeasure) → IsMeasureOf x a → IsMeasureOf y b → StandsFor result (Moved a b) }
 {
     match (x, y) {
         (Some(x), Some(y)) => Modifier::Offset(x, y),
@@ -123,7 +123,7 @@ fn offset_of(x: Option<Measure>, y: Option<Measure>) -> Modifier
 }
 
 /// A number and a unit; None if the number is too large.
-fn read_measure(bytes: &[u8]) -> Result<(Option<Measure>, Rest<'_>), Stuck>
+fn read_measure(bytes: &[u8]) -> Result<(Option<Measure>, Rest<'_>), ParseStop>
     ensures { MatchResult result (λ x. MeasureRead bytes.now x.0 x.1.text.now
         × StuckAfter IsMeasure measure_at bytes.now x.1.text.now x.1.stuck.left)
         (λ stuck. StuckIn IsMeasure measure_at bytes.now stuck.left) }
@@ -137,7 +137,7 @@ fn read_measure(bytes: &[u8]) -> Result<(Option<Measure>, Rest<'_>), Stuck>
             let (_, rest) = read_unit(bytes.split_at(len).1);
             Ok((None, rest))
         }
-        Err(NumberError::NotANumber) => Err(stuck_in_number(bytes)),
+        Err(NumberError::NotANumber) => Err(stop_in_number(bytes)),
     }
 }
 
@@ -150,7 +150,7 @@ fn read_unit(bytes: &[u8]) -> (Unit, Rest<'_>)
 {
     let (unit, text) = split_unit(bytes);
     let left = text.len().min(past_letter(bytes).len());
-    let stuck = Stuck { left };
+    let stuck = ParseStop { left };
     (unit, Rest { text, stuck })
 }
 
@@ -187,7 +187,7 @@ pub fn rest_at(text: &[u8]) -> Rest<'_>
 {
     Rest {
         text,
-        stuck: Stuck { left: text.len() },
+        stuck: ParseStop { left: text.len() },
     }
 }
 
@@ -202,16 +202,16 @@ pub fn read_byte(byte: u8, bytes: &[u8]) -> Option<&[u8]>
 }
 
 /// The place after a sign and a dot, if the text doesn't begin with a number.
-fn stuck_in_number(bytes: &[u8]) -> Stuck
+fn stop_in_number(bytes: &[u8]) -> ParseStop
     requires { number_at bytes.now ≡ None }
     ensures { StuckIn IsNumber number_at bytes.now result.left }
 {
     let body = past_sign(bytes);
     match read_byte(b'.', body) {
-        Some(decimals) => Stuck {
+        Some(decimals) => ParseStop {
             left: decimals.len(),
         },
-        None => Stuck { left: body.len() },
+        None => ParseStop { left: body.len() },
     }
 }
 

@@ -54,7 +54,7 @@ fn settled_item(parsed: ParsedItem) -> Item
 
 /// The turn by this many quarters to the left.
 fn turn_by(quarters: u8) -> Turn
-    ensures { turn_of result ≡ rules.turn_of quarters }
+    ensures { turn_of result ≡ rules.quarter_turn quarters }
 {
     match quarters % 4 {
         0 => Turn::None,

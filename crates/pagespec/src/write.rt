@@ -34,7 +34,7 @@ fn append_modulo(modulo: u32, out: &mut Vec<u8>) -> Result<(), AllocError>
         return Ok(());
     }
     append_count(modulo, out)?;
-    append(out, b":")
+    append_bytes(out, b":")
 }
 
 /// The groups with commas between them.
@@ -56,7 +56,7 @@ fn append_more_groups(groups: &[Vec<Item>], out: &mut Vec<u8>) -> Result<(), All
         out.old.items ++ flat_map (λ g. comma ∷ group_text g) (groups_of groups.now)) }
 {
     for group in groups {
-        append(out, b",")?;
+        append_bytes(out, b",")?;
         append_group(group, out)?;
     }
     Ok(())
@@ -81,7 +81,7 @@ fn append_more_items(items: &[Item], out: &mut Vec<u8>) -> Result<(), AllocError
         out.old.items ++ flat_map (λ i. plus_sign ∷ rules.item_text i) (map item_of items.now)) }
 {
     for item in items {
-        append(out, b"+")?;
+        append_bytes(out, b"+")?;
         append_item(item, out)?;
     }
     Ok(())
@@ -90,10 +90,10 @@ fn append_more_items(items: &[Item], out: &mut Vec<u8>) -> Result<(), AllocError
 fn append_item(item: &Item, out: &mut Vec<u8>) -> Result<(), AllocError>
     ensures { OnOk result (out.new.items ≡ out.old.items ++ rules.item_text (item_of item.now)) }
 {
-    append(out, minus(item.from_end))?;
+    append_bytes(out, minus(item.from_end))?;
     append_count(item.page, out)?;
-    append(out, turn_letter(item.turn))?;
-    append_scale(item.scale, out)?;
+    append_bytes(out, turn_letter(item.turn))?;
+    append_scale_modifier(item.scale, out)?;
     append_offset(&item.offset.0, &item.offset.1, out)
 }
 
@@ -116,13 +116,13 @@ fn turn_letter(turn: Turn) -> &'static [u8]
 }
 
 /// The scale after its sign, if it isn't 1.
-fn append_scale(scale: Number, out: &mut Vec<u8>) -> Result<(), AllocError>
+fn append_scale_modifier(scale: Number, out: &mut Vec<u8>) -> Result<(), AllocError>
     ensures { OnOk result (out.new.items ≡ out.old.items ++ rules.scale_part scale) }
 {
     if scale.billionths() == 1_000_000_000 {
         return Ok(());
     }
-    append(out, b"@")?;
+    append_bytes(out, b"@")?;
     print_number(scale, out)
 }
 
@@ -133,11 +133,11 @@ fn append_offset(x: &Measure, y: &Measure, out: &mut Vec<u8>) -> Result<(), Allo
     if is_no_offset(x, y) {
         return Ok(());
     }
-    append(out, b"(")?;
+    append_bytes(out, b"(")?;
     append_measure(x, out)?;
-    append(out, b",")?;
+    append_bytes(out, b",")?;
     append_measure(y, out)?;
-    append(out, b")")
+    append_bytes(out, b")")
 }
 
 fn is_no_offset(x: &Measure, y: &Measure) -> bool
@@ -166,7 +166,7 @@ fn append_measure(measure: &Measure, out: &mut Vec<u8>) -> Result<(), AllocError
     ensures { OnOk result (out.new.items ≡ out.old.items ++ rules.measure_text (measure_of measure.now)) }
 {
     print_number(measure.number, out)?;
-    append(out, unit_name(measure.unit))
+    append_bytes(out, unit_name(measure.unit))
 }
 
 fn unit_name(unit: Unit) -> &'static [u8]
@@ -187,10 +187,10 @@ fn append_count(count: u32, out: &mut Vec<u8>) -> Result<(), AllocError>
     ensures { OnOk result (out.new.items ≡ out.old.items ++ decimal count) }
 {
     let mut buffer = Buffer::new();
-    append(out, buffer.format(count).as_bytes())
+    append_bytes(out, buffer.format(count).as_bytes())
 }
 
-fn append(out: &mut Vec<u8>, text: &[u8]) -> Result<(), AllocError>
+fn append_bytes(out: &mut Vec<u8>, text: &[u8]) -> Result<(), AllocError>
     ensures { OnOk result (out.new.items ≡ out.old.items ++ text.now) }
 {
     out.extend_from_slice(text)

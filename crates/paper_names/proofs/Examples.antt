@@ -9,7 +9,7 @@ use Rattle.lengths.specs.Lengths.{a4}
 use Rattle.paper_names.specs.declared.error.PaperError.TheVariants.{Unknown, NoUnit, NoSuchSize}
 use Rattle.paper_names.specs.Names.{papers, paper_named, listed}
 use Rattle.paper_names.specs.Sizes.{paper_of, size_of}
-use Rattle.paper_names.specs.Home.{first_word, home_paper}
+use Rattle.paper_names.specs.Home.{first_word, default_paper}
 
 -- Names.
 
@@ -133,11 +133,11 @@ name_with_x = refl
 first_of_two : first_word (codes "\n letter\ta4") ≡ codes "letter"
 first_of_two = refl
 
-by_variable : home_paper (codes "A5") (codes "letter") ≡ points 420 595
+by_variable : default_paper (codes "A5") (codes "letter") ≡ points 420 595
 unfolding papers
 by_variable = refl
 
-by_file : home_paper (codes "a9") (codes "letter\n") ≡ points 612 792
+by_file : default_paper (codes "a9") (codes "letter\n") ≡ points 612 792
 unfolding papers
 by_file = refl
 
@@ -148,6 +148,6 @@ behind_comment = refl
 comment_alone : first_word (codes "# a3") ≡ []
 comment_alone = refl
 
-nowhere : home_paper [] [] ≡ a4
+nowhere : default_paper [] [] ≡ a4
 unfolding papers
 nowhere = refl

@@ -41,5 +41,5 @@ first_of None (Some paper) = paper
 first_of None None = a4
 
 -- by the value of the variable and the text of the file, each of which is empty if it isn't there (RULES, 12.1)
-abbrev pub home_paper : (variable file : List ℕ) → Paper
-home_paper variable file = first_of (paper_named variable) (paper_named (first_word file))
+abbrev pub default_paper : (variable file : List ℕ) → Paper
+default_paper variable file = first_of (paper_named variable) (paper_named (first_word file))

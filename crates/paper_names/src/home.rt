@@ -7,8 +7,8 @@ use lengths::{Paper, a4};
 
 /// The paper that is usual where the program runs: by the value of the variable `PAPERSIZE`, else by the first word of
 /// `/etc/papersize`, comments left out, else a4. Neither counts if it is no name of a paper, and each is empty if it isn't there.
-pub fn home_paper(variable: &[u8], file: &[u8]) -> Paper
-    ensures { result ≡ meaning.home_paper variable.now file.now }
+pub fn default_paper(variable: &[u8], file: &[u8]) -> Paper
+    ensures { result ≡ meaning.default_paper variable.now file.now }
 {
     match paper_by_name(variable) {
         Some(paper) => paper,

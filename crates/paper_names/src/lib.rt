@@ -7,6 +7,6 @@ mod names;
 mod size;
 
 pub use error::PaperError;
-pub use home::home_paper;
+pub use home::default_paper;
 pub use names::{name_list, paper_by_name};
 pub use size::read_paper;

@@ -5,9 +5,9 @@ use Rattle.std.specs.List.{Contains}
 use Rattle.std.specs.Ordering.{int_eq}
 use Rattle.std.proofs.lemmas.Bool.Decides.{Decides-int_eq, nat_tests}
 use Rattle.rules.specs.Papers.{Paper}
-use Rattle.papers.specs.Own.{covering, covers, is_near, larger}
+use Rattle.papers.specs.Own.{smallest_cover, covers, counts_as_one, larger}
 use Rattle.papers.specs.declared.kinds.PaperKind.{PaperKind}
-use Rattle.papers.specs.AsOne.{OrderIsNothing, apart_from, is_larger, kind_of, kinds, larger_of, most_kinds, paper_among, with_near}
+use Rattle.papers.specs.AsOne.{OrderIsNothing, apart_from, is_larger, kind_of, kinds, larger_of, most_kinds, kind_paper, with_near}
 use Rattle.papers.proofs.Covered.{both, by_test}
 use Rattle.papers.proofs.CountedAsOne.{In, contained, left_over, near_covered, stays_covered}
 
@@ -178,18 +178,18 @@ high_enough a b e = second_of (int_le b.width a.width) (int_le b.height a.height
     second_of true y t = t
     second_of false y t = absurd (true≢false (sym t))
 
-covers_covering : (c a b : Paper) → covers c a ≡ true → covers c b ≡ true → covers c (covering a b) ≡ true
+covers_covering : (c a b : Paper) → covers c a ≡ true → covers c b ≡ true → covers c (smallest_cover a b) ≡ true
 covers_covering c a b e f = both (int_le (larger a.width b.width) c.width) (int_le (larger a.height b.height) c.height)
     (covers_larger c.width a.width b.width (wide_enough c a e) (wide_enough c b f))
     (covers_larger c.height a.height b.height (high_enough c a e) (high_enough c b f))
 
 -- what covers the first and each near one covers the kind
-least : (f a c : Paper) (ps : List Paper) → covers c a ≡ true → ((p : Paper) → In p ps → is_near p f ≡ true → covers c p ≡ true) → covers c (fold (with_near f) a ps) ≡ true
+least : (f a c : Paper) (ps : List Paper) → covers c a ≡ true → ((p : Paper) → In p ps → counts_as_one p f ≡ true → covers c p ≡ true) → covers c (fold (with_near f) a ps) ≡ true
 least f a c [] base each = base
 least f a c (q ∷ qs) base each = least f (with_near f a q) c qs
-    (by_test (is_near q f)
-    (λ is. ap (λ b. covers c (if b then covering a q else a)) is ∙ covers_covering c a q base (each q (inl refl) is))
-    (λ isnt. ap (λ b. covers c (if b then covering a q else a)) isnt ∙ base))
+    (by_test (counts_as_one q f)
+    (λ is. ap (λ b. covers c (if b then smallest_cover a q else a)) is ∙ covers_covering c a q base (each q (inl refl) is))
+    (λ isnt. ap (λ b. covers c (if b then smallest_cover a q else a)) isnt ∙ base))
     (λ p has near. each p (inr has) near)
 
 covers_tie : (a b : Paper) → covers a b ≡ true → covers b a ≡ true → a ≡ b
@@ -203,12 +203,12 @@ same_kind f ps qs same = ap (kind_at f) (covers_tie (fold (with_near f) f ps) (f
     (least f f (fold (with_near f) f ps) qs (stays_covered f f ps) (λ p has near. near_covered f f ps p (same.1 p has) near))
     (least f f (fold (with_near f) f qs) ps (stays_covered f f qs) (λ p has near. near_covered f f qs p (same.0 p has) near)))
 
-pub was_left : (f : Paper) (ps : List Paper) (p : Paper) → In p (apart_from f ps) → In p ps × (is_near p f ≡ false)
+pub was_left : (f : Paper) (ps : List Paper) (p : Paper) → In p (apart_from f ps) → In p ps × (counts_as_one p f ≡ false)
 was_left f [] p has = absurd has
-was_left f (q ∷ qs) p has = by_test (is_near q f)
+was_left f (q ∷ qs) p has = by_test (counts_as_one q f)
     (λ is. let w = was_left f qs p (subst (λ b. In p (cond (not b) (q ∷ apart_from f qs) (apart_from f qs))) is has) in (inr w.0, w.1))
     (λ isnt. elim (subst (λ b. In p (cond (not b) (q ∷ apart_from f qs) (apart_from f qs))) isnt has) [
-      | inl same ↦ (inl same, ap (λ r. is_near r f) same ∙ isnt)
+      | inl same ↦ (inl same, ap (λ r. counts_as_one r f) same ∙ isnt)
       | inr more ↦ let w = was_left f qs p more in (inr w.0, w.1)
     ])
 
@@ -235,7 +235,7 @@ found (q ∷ qs) p (inl same) = (0, omega arith, sym same)
 found (q ∷ qs) p (inr has) = let w = found qs p has in (suc w.0, (let l = w.1 in omega (arith, l)), w.2)
 
 pub order_is_nothing : OrderIsNothing
-order_is_nothing taken others own same = ap (λ ks. map (paper_among ks) own) (same_kinds most_kinds taken others (
+order_is_nothing taken others own same = ap (λ ks. map (kind_paper ks) own) (same_kinds most_kinds taken others (
   λ p has. contained others p ((same p).0 (found taken p has)),
   λ p has. contained taken p ((same p).1 (found others p has)),
 ))

@@ -3,7 +3,7 @@ use Rattle.std.proofs.Common.{arith, ◌≡◌, ℕ, ◌≤◌, Bool, true, fals
 use Rattle.std.specs.Prelude.{ℤ, pos, negsuc, int_le, nat_le, ◌&&◌, if◌then◌else◌}
 use Rattle.std.proofs.lemmas.Bool.Decides.{nat_tests}
 use Rattle.rules.specs.Papers.{Paper}
-use Rattle.papers.specs.Own.{covering, covers, larger}
+use Rattle.papers.specs.Own.{smallest_cover, covers, larger}
 
 -- ---- the order of sides
 is_le : (a b : ℕ) → a ≤ b → nat_le a b ≡ true
@@ -70,10 +70,10 @@ second false b e = absurd (true≢false (sym e))
 pub covers_self : (p : Paper) → covers p p ≡ true
 covers_self p = both (int_le p.width p.width) (int_le p.height p.height) (same p.width) (same p.height)
 
-pub covers_first : (a b : Paper) → covers (covering a b) a ≡ true
+pub covers_first : (a b : Paper) → covers (smallest_cover a b) a ≡ true
 covers_first a b = both (int_le a.width (larger a.width b.width)) (int_le a.height (larger a.height b.height)) (over_first a.width b.width) (over_first a.height b.height)
 
-pub covers_second : (a b : Paper) → covers (covering a b) b ≡ true
+pub covers_second : (a b : Paper) → covers (smallest_cover a b) b ≡ true
 covers_second a b = both (int_le b.width (larger a.width b.width)) (int_le b.height (larger a.height b.height)) (over_second a.width b.width) (over_second a.height b.height)
 
 pub covers_through : (a b c : Paper) → covers a b ≡ true → covers b c ≡ true → covers a c ≡ true

@@ -12,16 +12,16 @@ use Rattle.papers.specs.Media as of_document
 use Rattle.papers.specs.declared.media.Comment.{Comment}
 use Rattle.papers.specs.declared.media.Comment.TheVariants.{BoundingBox}
 use Rattle.papers.specs.Comments.{first_name, first_named, first_named_in, medium_told, named_medium, page_head, told_by_document}
-use Rattle.papers.specs.Own.{medium_by, or_this, own_paper, own_papers, page_or}
+use Rattle.papers.specs.Own.{medium_by, or_this, own_paper, papers_of_each_page, page_or}
 
-same_name : (fs : List (List ℕ)) → of_document.first_named fs ≡ first_named paper_named fs
+same_name : (fs : List (List ℕ)) → of_document.paper_of_first_name fs ≡ first_named paper_named fs
 same_name [] = refl
 same_name (field ∷ more) = ap (else_take (paper_named (name_in field))) (same_name more)
 
-same_names : (values : List (List ℕ)) → of_document.first_named_in values ≡ first_named_in paper_named values
+same_names : (values : List (List ℕ)) → of_document.paper_of_first_name_in values ≡ first_named_in paper_named values
 same_names [] = refl
 same_names (value ∷ more) =
-    ap (λ p. else_take p (of_document.first_named_in more)) (same_name (fields_in value)) ∙ ap (else_take (first_named paper_named (fields_in value))) (same_names more)
+    ap (λ p. else_take p (of_document.paper_of_first_name_in more)) (same_name (fields_in value)) ∙ ap (else_take (first_named paper_named (fields_in value))) (same_names more)
 
 abbrev paper_told : Option (Paper × Comment) → Option Paper
 paper_told told = option_map (λ p. p.0) told
@@ -44,7 +44,7 @@ by_media : (usual : Paper) (lines trailer : List (List ℕ)) (m : Option Paper)
 by_media usual lines trailer (Some paper) = refl
 by_media usual lines trailer None =
     let box : Option (List (List ℕ)) = box_of lines trailer in
-    named_or_boxed usual box (of_document.first_named_in (names lines))
+    named_or_boxed usual box (of_document.paper_of_first_name_in (names lines))
     ∙ ap (λ n. else_take (option_map (lying_as (option_and_then box_paper box)) n) (option_and_then (paper_of_box usual) box)) (same_names (names lines))
 
 pub document_tells : (usual : Paper) (text : List ℕ)
@@ -86,7 +86,7 @@ same_pages f g other (p ∷ ps) same =
 -- what each page says, and else its document, is its own
 pub each_is_own : (us : List NestedUnit) (text head : List ℕ) (n : ℕ) (other home usual : Paper) → text ≡ bytes_of us → us ≡ units_of text → n ≡ header_len text → head ≡ take n text
     → usual ≡ usual_in home text → other ≡ or_this (told_by_document paper_named usual (header text) (trailer_lines (units_of text))) usual
-    → map (λ page. page_or (medium_by (contents head)) (page_head page) other) (pages us) ≡ own_papers None paper_named home (bytes_of us) us
+    → map (λ page. page_or (medium_by (contents head)) (page_head page) other) (pages us) ≡ papers_of_each_page None paper_named home (bytes_of us) us
 each_is_own us text head n other home usual whole units len front set else_ =
     let headed : contents head ≡ header text = ap contents (front ∙ ap (λ k. take k text) len) in
     ap (λ hs. map (λ page. page_or (medium_by hs) (page_head page) other) (pages us)) headed
@@ -101,6 +101,6 @@ one_for_all paper [] = refl
 one_for_all paper (x ∷ xs) = ap (λ ps. paper ∷ ps) (one_for_all paper xs)
 
 pub asked_for : (asked : Option Paper) (paper home : Paper) (text : List ℕ) (us : List NestedUnit) (n : ℕ) → n ≡ length (pages us) → asked ≡ Some paper
-    → replicate n paper ≡ own_papers asked paper_named home text us
+    → replicate n paper ≡ papers_of_each_page asked paper_named home text us
 asked_for asked paper home text us n count is =
-    ap (λ k. replicate k paper) count ∙ one_for_all paper (pages us) ∙ ap (λ a. own_papers a paper_named home text us) (sym is)
+    ap (λ k. replicate k paper) count ∙ one_for_all paper (pages us) ∙ ap (λ a. papers_of_each_page a paper_named home text us) (sym is)

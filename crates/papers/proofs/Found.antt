@@ -21,8 +21,8 @@ use Rattle.imposed_again.proofs.Plainly.{no_ends_append, no_ends_decimal}
 use Rattle.papers.specs.Comments.{first_named_in, is_in_head, medium_in, page_head, paper_of_medium, told_by_document, told_by_page}
 use Rattle.papers.specs.Found.{AreQuiet, Finish, IsTellablePaper, PapersAreFound, as_printed, telling_and}
 use Rattle.papers.specs.Media.{box_of, box_paper, comment_fields, comment_value, comment_values, continued, else_take, header, lying_as, media_paper, paper_of_box, trailer_lines, usual_in, value_of}
-use Rattle.papers.specs.Own.{covering, medium_by, or_this, own_paper, page_or}
-use Rattle.papers.specs.Told.{box_line, box_lines, different_from, exact_box_line, in_print, is_told_alike, is_whole, medium_line, page_size_lines, papers_told, sheet_lines, size_name, telling_of, whole_paper}
+use Rattle.papers.specs.Own.{smallest_cover, medium_by, or_this, own_paper, page_or}
+use Rattle.papers.specs.Told.{box_line, box_lines, different_from, exact_box_line, in_print, is_told_alike, is_in_whole_points, medium_line, page_size_lines, papers_told, sheet_lines, size_name, telling_of, whole_paper}
 use Rattle.papers.proofs.Covered.{by_test}
 use Rattle.papers.proofs.Heads.{head, head_step, page_head_is, with_content}
 use Rattle.papers.proofs.OutputHeads.{AreContinued, Continues, IsHeaded, behind_line, content_is, headed}
@@ -136,7 +136,7 @@ document_medium p first count more e f =
     let rest : List (List ℕ) = (telling_of (p ∷ [])).header ++ more in
     ap (λ t. if t then Some (value_of first) else comment_value medium_comment (count ∷ rest)) e
     ∙ ap (λ t. if t then Some (value_of count) else comment_value medium_comment rest) f
-    ∙ past_exact (is_whole p) p (medium_line (codes "%%DocumentMedia: ") (codes "Plain") p ∷ []) more
+    ∙ past_exact (is_in_whole_points p) p (medium_line (codes "%%DocumentMedia: ") (codes "Plain") p ∷ []) more
 
 one_found : (named : List ℕ → Option Paper) (home : Paper) (first count : List ℕ) (more trailer : List (List ℕ)) (page : List ℕ) (p : Paper)
     → is_comment medium_comment first ≡ false → is_comment medium_comment count ≡ false → IsTellablePaper p → page_head page ≡ []
@@ -218,7 +218,7 @@ continued_exact true p rest h = h
 continued_exact false p rest h = (continued_exact_box p, h)
 
 continued_boxes : (p : Paper) (rest : List (List ℕ)) → AreContinued rest → AreContinued (box_lines p ++ rest)
-continued_boxes p rest h = (continued_box (whole_paper p), continued_exact (is_whole p) p rest h)
+continued_boxes p rest h = (continued_box (whole_paper p), continued_exact (is_in_whole_points p) p rest h)
 
 continued_more : (ps : List Paper) → AreContinued (map (λ r. medium_line (codes "%%+ ") (size_name r) r) ps)
 continued_more [] = tt
@@ -227,7 +227,7 @@ continued_more (p ∷ ps) = (record { whole = (tame.one_more p).whole; goes = re
 header_continues : (told : List Paper) → AreContinued (telling_of told).header
 header_continues [] = tt
 header_continues (p ∷ []) = continued_boxes p _ (record { whole = (tame.medium (codes "Plain") p refl).whole; goes = refl; not_last = refl }, tt)
-header_continues (p ∷ q ∷ ps) = continued_boxes (fold covering p (q ∷ ps)) _
+header_continues (p ∷ q ∷ ps) = continued_boxes (fold smallest_cover p (q ∷ ps)) _
     (record { whole = (tame.medium (size_name p) p (tame.whole_name p)).whole; goes = refl; not_last = refl }, continued_more (q ∷ ps))
 
 tame_and : (finish : Finish) (all : List MadeSheet) → AreQuiet finish → IsTameDress (telling_and finish all)

@@ -14,7 +14,7 @@ use Rattle.rules.specs.Papers.{Paper}
 use Rattle.rules.specs.Units.{line_len}
 use Rattle.papers.specs.Comments.{Medium, medium_told, page_head, paper_of_medium}
 use Rattle.papers.specs.declared.known_media.KnownMedia.{KnownMedia}
-use Rattle.papers.specs.Named.{IsKept, Knows, found_at, known_paper, with_media}
+use Rattle.papers.specs.Named.{IsNameKept, Knows, found_at, known_paper, with_media}
 use Rattle.papers.proofs.Heads.{head, page_head_is}
 
 -- ---- a map after a change at one name, read at any name
@@ -56,12 +56,12 @@ told_in : (page text : List ℕ) → text ≡ drop (line_len page) page → medi
 told_in page text at = ap medium_told (sym (page_head_is page ∙ ap head (sym at)))
 
 pub kept_name : (old new : KnownMedia) (page text name : List ℕ) → text ≡ drop (line_len page) page → Some name ≡ medium_told (head text)
-    → ((at : List ℕ) → found_at new at ≡ update bytes_eq (found_at old) name (Some None) at) → IsKept new page
+    → ((at : List ℕ) → found_at new at ≡ update bytes_eq (found_at old) name (Some None) at) → IsNameKept new page
 kept_name old new page text name at told put =
     let here : found_at new name ≡ Some None = put name ∙ ap (λ b. cond b (Some None) (found_at old name)) ((bytes_decides name name).1 refl) in
     subst (λ n. IfSome n (λ x. found_at new x ≡ Some None)) (told ∙ told_in page text at) here
 
-pub no_name : (known : KnownMedia) (page text : List ℕ) → text ≡ drop (line_len page) page → None ≡ medium_told (head text) → IsKept known page
+pub no_name : (known : KnownMedia) (page text : List ℕ) → text ≡ drop (line_len page) page → None ≡ medium_told (head text) → IsNameKept known page
 no_name known page text at told = subst (λ n. IfSome n (λ x. found_at known x ≡ Some None)) (told ∙ told_in page text at) tt
 
 still_told : (old new : KnownMedia) (n : Option (List ℕ)) → ((at : List ℕ) → found_at old at ≡ Some None → found_at new at ≡ Some None)
@@ -76,12 +76,12 @@ the_last : (k n : ℕ) → k < n + 1 → nat_lt k n ≡ false → n ≡ k
 the_last k n less isnt = grind (arith, nat_tests, less, isnt)
 
 -- the pages of which one more is kept
-pub pages_kept : (old new : KnownMedia) (ps : List (List ℕ)) (n : ℕ) (page : List ℕ) → page ≡ slice_index_or ps n [] → IsKept new page
+pub pages_kept : (old new : KnownMedia) (ps : List (List ℕ)) (n : ℕ) (page : List ℕ) → page ≡ slice_index_or ps n [] → IsNameKept new page
     → ((at : List ℕ) → found_at old at ≡ Some None → found_at new at ≡ Some None)
-    → ((k : ℕ) → k < n → IsKept old (slice_index_or ps k [])) → (k : ℕ) → k < n + 1 → IsKept new (slice_index_or ps k [])
+    → ((k : ℕ) → k < n → IsNameKept old (slice_index_or ps k [])) → (k : ℕ) → k < n + 1 → IsNameKept new (slice_index_or ps k [])
 pages_kept old new ps n page is here h before k less = by_test (nat_lt k n)
     (λ lt. still_told old new (medium_told (page_head (slice_index_or ps k []))) h (before k (below k n lt)))
-    (λ ge. subst (λ p. IsKept new p) (is ∙ ap (λ j. slice_index_or ps j []) (the_last k n less ge)) here)
+    (λ ge. subst (λ p. IsNameKept new p) (is ∙ ap (λ j. slice_index_or ps j []) (the_last k n less ge)) here)
 
 -- ---- what is found in the end
 settles : (name : List ℕ) (paper : Option Paper) (ms : List Medium) → with_media name (Some paper) ms ≡ Some paper
@@ -104,7 +104,7 @@ found_by kept known ms h (Some name) is =
     ap (option_and_then (λ found. option_and_then (λ paper. paper) found)) (h name ∙ ap (option_map (λ found. with_media name found ms)) is) ∙ first_found name ms
 
 pub knows : (kept known : KnownMedia) (ms : List Medium) (page : List ℕ) → ((at : List ℕ) → found_at known at ≡ option_map (λ found. with_media at found ms) (found_at kept at))
-    → IsKept kept page → Knows known ms page
+    → IsNameKept kept page → Knows known ms page
 knows kept known ms page h is = found_by kept known ms h (medium_told (page_head page)) is
 
 -- with no media no page's name is one

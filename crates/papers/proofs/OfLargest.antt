@@ -2,7 +2,7 @@
 use Rattle.std.proofs.Common.{arith, ◌≡◌, ℕ, zero, suc, ◌<◌, List, [], ◌∷◌, false, length, get_or}
 use Rattle.std.specs.Prelude.{fold}
 use Rattle.rules.specs.Papers.{Paper}
-use Rattle.papers.specs.Own.{is_near}
+use Rattle.papers.specs.Own.{counts_as_one}
 use Rattle.papers.specs.declared.kinds.PaperKind.{PaperKind}
 use Rattle.papers.specs.AsOne.{KindsAreOfLargest, apart_from, is_larger, kind_of, kinds, larger_of, most_kinds}
 use Rattle.papers.proofs.AnyOrder.{found, largest_in, none_larger, was_left}
@@ -10,8 +10,8 @@ use Rattle.papers.proofs.CountedAsOne.{In, contained, left_over}
 
 record IsLargest (ps : List Paper) (ks : List PaperKind) (i : ℕ) (d : PaperKind) : Type 0 where
   pub is_in : In (get_or ks i d).first ps
-  pub is_left : (h : ℕ) → h < i → is_near (get_or ks i d).first (get_or ks h d).first ≡ false
-  pub no_larger : (p : Paper) → In p ps → ((h : ℕ) → h < i → is_near p (get_or ks h d).first ≡ false) → is_larger p (get_or ks i d).first ≡ false
+  pub is_left : (h : ℕ) → h < i → counts_as_one (get_or ks i d).first (get_or ks h d).first ≡ false
+  pub no_larger : (p : Paper) → In p ps → ((h : ℕ) → h < i → counts_as_one p (get_or ks h d).first ≡ false) → is_larger p (get_or ks i d).first ≡ false
 
 of_largest : (room : ℕ) (ps : List Paper) (i : ℕ) (d : PaperKind) → i < length (kinds room ps) → IsLargest ps (kinds room ps) i d
 of_largest zero ps i d less = absurd (omega (arith, less))
@@ -32,8 +32,8 @@ of_largest (suc room) (p ∷ ps) (suc i) d less =
       no_larger = λ q has left. next.no_larger q (left_over f (p ∷ ps) q has (left 0 (omega arith))) (λ h before. left (suc h) (omega (arith, before)));
     }
   where
-    at_each : (q : Paper) (k : PaperKind) (ks : List PaperKind) (d : PaperKind) (i : ℕ) → is_near q k.first ≡ false → ((h : ℕ) → h < i → is_near q (get_or ks h d).first ≡ false)
-        → (h : ℕ) → h < suc i → is_near q (get_or (k ∷ ks) h d).first ≡ false
+    at_each : (q : Paper) (k : PaperKind) (ks : List PaperKind) (d : PaperKind) (i : ℕ) → counts_as_one q k.first ≡ false → ((h : ℕ) → h < i → counts_as_one q (get_or ks h d).first ≡ false)
+        → (h : ℕ) → h < suc i → counts_as_one q (get_or (k ∷ ks) h d).first ≡ false
     at_each q k ks d i first more zero before = first
     at_each q k ks d i first more (suc h) before = more h (omega (arith, before))
 

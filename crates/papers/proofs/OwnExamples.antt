@@ -3,12 +3,12 @@ use Rattle.std.proofs.Common.{◌≡◌, ℕ, List, [], ◌∷◌, Some, None, B
 use Rattle.std.specs.Prelude.{codes, option_map}
 use Rattle.rules.specs.Papers.{Paper, points}
 use Rattle.lengths.specs.Reading.{number_at}
-use Rattle.papers.specs.AsOne.{as_one, first_instead_of}
+use Rattle.papers.specs.AsOne.{merge_near_sizes, first_instead_of}
 use Rattle.papers.specs.Media.{edges_of}
-use Rattle.papers.specs.Reach.{Placing, placing, reach_of, whole}
+use Rattle.papers.specs.Reach.{Placing, placing, reach_of, paper_edges}
 
 abbrev counted : List Paper → List Paper
-counted own = as_one own own
+counted own = merge_near_sizes own own
 
 -- programs' sizes of A4, and one page on its side
 sizes_of_a4 : counted (points 595 841 ∷ points 842 595 ∷ points 595 842 ∷ points 596 842 ∷ [])
@@ -27,7 +27,7 @@ two_sides : counted (points 600 800 ∷ points 590 810 ∷ []) ≡ points 600 81
 two_sides = refl
 
 -- of pages that aren't taken no paper decides
-of_taken_pages : as_one (points 595 842 ∷ []) (points 595 842 ∷ points 596 842 ∷ []) ≡ points 595 842 ∷ points 595 842 ∷ []
+of_taken_pages : merge_near_sizes (points 595 842 ∷ []) (points 595 842 ∷ points 596 842 ∷ []) ≡ points 595 842 ∷ points 595 842 ∷ []
 of_taken_pages = refl
 
 -- a box that covers all pages is the paper of none
@@ -54,7 +54,7 @@ box_before_zero = refl
 abbrev cut_page : (apart : Bool) → Placing
 cut_page apart = placing (true ∷ []) (points 842 1191 ∷ []) (None ∷ []) apart
 
-cut_alone : option_map (λ r. r.edges) (reach_of (cut_page false) (points 595 842 ∷ [])) ≡ Some (whole (points 842 1191))
+cut_alone : option_map (λ r. r.edges) (reach_of (cut_page false) (points 595 842 ∷ [])) ≡ Some (paper_edges (points 842 1191))
 cut_alone = refl
 
 cut_apart : reach_of (cut_page true) (points 595 842 ∷ []) ≡ None

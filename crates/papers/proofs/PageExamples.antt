@@ -2,14 +2,14 @@
 use Rattle.std.proofs.Common.{◌≡◌, ℕ, List, [], ◌∷◌, true, false, Some, None, refl}
 use Rattle.std.specs.Prelude.{codes, pos, Result, Ok}
 use Rattle.std.specs.Fmt.{digits}
-use Rattle.rules.specs.Papers.{Paper, Pt, points, paper_named}
+use Rattle.rules.specs.Papers.{Paper, Pt, points, paper_with_name}
 use Rattle.rules.specs.Specification.{Item, Upright}
 use Rattle.rules.specs.Units.{◌>>=◌}
 use Rattle.rules.specs.Run.{document_of, DocumentFault}
 use Rattle.lengths.specs.Reading.{number_at}
 use Rattle.rules.specs.Made.{MadeSheet, Blank, Placed}
 use Rattle.rules.specs.MadeOutput.{made_output}
-use Rattle.papers.specs.Own.{covering, covers, is_near, own_papers}
+use Rattle.papers.specs.Own.{smallest_cover, covers, counts_as_one, papers_of_each_page}
 use Rattle.papers.specs.Told.{box_lines, telling}
 
 abbrev home : Paper
@@ -17,7 +17,7 @@ home = points 612 792
 
 -- the papers of the pages of a text, for a home of letter
 abbrev own : List ℕ → Result (List Paper) DocumentFault
-own text = document_of text >>= λ us. Ok (own_papers None paper_named home text us)
+own text = document_of text >>= λ us. Ok (papers_of_each_page None paper_with_name home text us)
 
 -- ---- what a page says
 
@@ -109,19 +109,19 @@ not_in_the_trailer : own (codes "%!PS\n%%Page: 1 1\nx\n%%Trailer\n%%BoundingBox:
 unfolding number_at
 not_in_the_trailer = refl
 
-asked_for : (document_of (codes "%!PS\n%%Page: 1 1\n%%PageBoundingBox: 0 0 842 595\nx\n") >>= λ us. Ok (own_papers (Some (points 1 2)) paper_named home [] us))
+asked_for : (document_of (codes "%!PS\n%%Page: 1 1\n%%PageBoundingBox: 0 0 842 595\nx\n") >>= λ us. Ok (papers_of_each_page (Some (points 1 2)) paper_with_name home [] us))
     ≡ Ok (points 1 2 ∷ [])
 asked_for = refl
 
 -- ---- two papers
 
-near_by_fifteen : is_near (points 600 800) (points 615 785) ≡ true
+near_by_fifteen : counts_as_one (points 600 800) (points 615 785) ≡ true
 near_by_fifteen = refl
 
-apart_by_sixteen : is_near (points 600 800) (points 600 816) ≡ false
+apart_by_sixteen : counts_as_one (points 600 800) (points 600 816) ≡ false
 apart_by_sixteen = refl
 
-covers_both : covering (points 595 842) (points 842 595) ≡ points 842 842
+covers_both : smallest_cover (points 595 842) (points 842 595) ≡ points 842 842
 covers_both = refl
 
 smaller_is_covered : covers (points 842 595) (points 595 420) ≡ true

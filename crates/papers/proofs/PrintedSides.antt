@@ -12,7 +12,7 @@ use Rattle.rules.proofs.LastZeros.{filled}
 use Rattle.rules.proofs.Printed.{decimals_few, decimals_pass, decimals_read, fraction_is}
 use Rattle.lengths.specs.Reading.{number_at}
 use Rattle.lengths.proofs.Numbers.{number_read}
-use Rattle.papers.specs.Media.{is_short, paper_of, paper_of_sides, points_at, points_of}
+use Rattle.papers.specs.Media.{is_short, paper_meant, paper_or_error, points_at, points_of}
 use Rattle.papers.specs.Found.{IsTellable, IsTellablePaper, as_printed, printed_side}
 
 -- ---- a side is read as it was printed
@@ -99,7 +99,7 @@ chosen w h short_w short_h side_w side_h =
     if short_w || short_h then None else (if side_w && side_h then Some (of_parts w h) else None)
 
 sides_taken : (w h : ℕ) → 100_000 ≤ w → w ≤ 9_999_999_999 → 100_000 ≤ h → h ≤ 9_999_999_999
-    → paper_of_sides (pos (w * 1_270_000)) (pos (h * 1_270_000)) ≡ Some (of_parts w h)
+    → paper_or_error (pos (w * 1_270_000)) (pos (h * 1_270_000)) ≡ Some (of_parts w h)
 sides_taken w h sw fw sh fh =
     let side_w : Bool = may_be_side (pos (w * 1_270_000)) in
     let side_h : Bool = may_be_side (pos (h * 1_270_000)) in
@@ -119,12 +119,12 @@ in_parts p w h =
     ap (λ x. sized (pos (nat_abs x * 1_270_000)) (printed_side p.height)) w.is
     ∙ ap (λ y. sized (pos (w.parts * 1_270_000)) (pos (nat_abs y * 1_270_000))) h.is
 
-pub paper_read : (p : Paper) → IsTellablePaper p → paper_of (points_of (points_text p.width)) (points_of (points_text p.height)) ≡ Some (as_printed p)
+pub paper_read : (p : Paper) → IsTellablePaper p → paper_meant (points_of (points_text p.width)) (points_of (points_text p.height)) ≡ Some (as_printed p)
 paper_read p t =
     let w = t.0 in
     let h = t.1 in
-    ap (λ x. paper_of x (points_of (points_text p.height))) (ap points_of (written p.width w) ∙ side_read w.parts w.few)
-    ∙ ap (λ y. paper_of (Some (pos (w.parts * 1_270_000))) y) (ap points_of (written p.height h) ∙ side_read h.parts h.few)
+    ap (λ x. paper_meant x (points_of (points_text p.height))) (ap points_of (written p.width w) ∙ side_read w.parts w.few)
+    ∙ ap (λ y. paper_meant (Some (pos (w.parts * 1_270_000))) y) (ap points_of (written p.height h) ∙ side_read h.parts h.few)
     ∙ sides_taken w.parts h.parts w.some w.few h.some h.few
     ∙ ap Some (sym (in_parts p w h))
 

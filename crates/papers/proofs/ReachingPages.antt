@@ -5,7 +5,7 @@ use Rattle.std.proofs.Math.Seq.{take-suc}
 use Rattle.std.proofs.lemmas.List.{append-nil, length-take-le}
 use Rattle.rules.specs.Papers.{Paper}
 use Rattle.dsc.proofs.Cases.{by_test}
-use Rattle.papers.specs.Reach.{Placing, extent, if_beyond, is_beyond, reaching, told_reach, with_all, with_page}
+use Rattle.papers.specs.Reach.{Placing, extent, if_beyond, is_beyond, reaching, told_reach, with_all, with_reaching_page}
 use Rattle.papers.specs.declared.boxes.Edges.{Edges}
 use Rattle.papers.specs.declared.reach.Reach.{Reach}
 
@@ -24,7 +24,7 @@ length_is : {A : Type 0} (xs : List A) (last : A) → length (xs ++ last ∷ [])
 length_is [] last = refl
 length_is (x ∷ xs) last = let e = length_is xs last in omega (arith, e)
 
-told_more : (pages : List (ℕ × Paper × Edges)) (page : ℕ × Paper × Edges) → told_reach (pages ++ page ∷ []) ≡ Some (with_page (told_reach pages) page)
+told_more : (pages : List (ℕ × Paper × Edges)) (page : ℕ × Paper × Edges) → told_reach (pages ++ page ∷ []) ≡ Some (with_reaching_page (told_reach pages) page)
 told_more [] page = refl
 told_more (first ∷ more) page = ap (λ k. Some (record { first = first.0; paper = first.1; edges = first.2; pages = k + 1 })) (length_is more page)
 
@@ -51,7 +51,7 @@ still_few : (reach : Option Reach) (n : ℕ) → IfSome reach (λ r. r.pages ≤
 still_few None n h = h
 still_few (Some r) n h = omega (arith, h)
 
-one_few : (reach : Option Reach) (n : ℕ) (page : ℕ × Paper × Edges) → IfSome reach (λ r. r.pages ≤ n) → (with_page reach page).pages ≤ n + 1
+one_few : (reach : Option Reach) (n : ℕ) (page : ℕ × Paper × Edges) → IfSome reach (λ r. r.pages ≤ n) → (with_reaching_page reach page).pages ≤ n + 1
 one_few None n page h = omega arith
 one_few (Some r) n page h = omega (arith, h)
 

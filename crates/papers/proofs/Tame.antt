@@ -7,8 +7,8 @@ use Rattle.rules.specs.Units.{begins_block, has_key, is_comment}
 use Rattle.imposed_again.proofs.Plainly.{no_ends_append, no_ends_points}
 use Rattle.imposed_again.specs.Seams.{no_ends}
 use Rattle.imposed_again.specs.MadeAgain.{AreTame, IsTame, IsTameDress}
-use Rattle.papers.specs.Own.{covering}
-use Rattle.papers.specs.Told.{TellingIsTame, box_line, box_lines, exact_box_line, is_whole, whole_paper, medium_line, medium_text, page_size_lines, papers_told, size_name, size_text, telling_of}
+use Rattle.papers.specs.Own.{smallest_cover}
+use Rattle.papers.specs.Told.{TellingIsTame, box_line, box_lines, exact_box_line, is_in_whole_points, whole_paper, medium_line, medium_text, page_size_lines, papers_told, size_name, size_text, telling_of}
 
 -- ---- no line ends in them
 whole_sides : (p : Paper) (between : List ℕ) → no_ends between ≡ true → no_ends (points_text p.width ++ (between ++ points_text p.height)) ≡ true
@@ -39,7 +39,7 @@ exact_boxes true p rest h = h
 exact_boxes false p rest h = (exact_box p, h)
 
 boxes : (p : Paper) (rest : List (List ℕ)) → AreTame rest → AreTame (box_lines p ++ rest)
-boxes p rest h = (box (whole_paper p), exact_boxes (is_whole p) p rest h)
+boxes p rest h = (box (whole_paper p), exact_boxes (is_in_whole_points p) p rest h)
 
 pub medium : (name : List ℕ) (p : Paper) → no_ends name ≡ true → IsTame (medium_line (codes "%%DocumentMedia: ") name p)
 medium name p plain =
@@ -108,7 +108,7 @@ told [] = record { header = tt; start = λ s paper. tt; finish = λ s paper. tt 
 told (p ∷ []) = record { header = boxes p _ (medium (codes "Plain") p refl, tt); start = λ s paper. tt; finish = λ s paper. tt }
 told (p ∷ q ∷ ps) =
     record {
-      header = boxes (fold covering p (q ∷ ps)) _ (medium (size_name p) p (whole_name p), all_more (q ∷ ps));
+      header = boxes (fold smallest_cover p (q ∷ ps)) _ (medium (size_name p) p (whole_name p), all_more (q ∷ ps));
       start = λ s paper. (named paper, set_size paper);
       finish = λ s paper. tt;
     }

@@ -13,11 +13,11 @@ use Rattle.rules.specs.Papers.{Paper}
 use Rattle.rules.specs.Units.{is_blank, is_comment}
 use Rattle.dsc.specs.Fields.{fields_in}
 use Rattle.papers.specs.Comments.{Medium, first_name, media, medium_in, medium_of, paper_of_medium}
-use Rattle.papers.specs.Own.{covering}
+use Rattle.papers.specs.Own.{smallest_cover}
 use Rattle.papers.specs.Found.{IsTellable, IsTellablePaper, as_printed}
-use Rattle.papers.specs.Media.{comment_values, continued, is_enclosed, is_opened, media_paper, name_and_rest, name_in, paper_of, plain_len, points_of}
+use Rattle.papers.specs.Media.{comment_values, continued, is_enclosed, is_opened, media_paper, name_and_rest, name_in, paper_meant, plain_len, points_of}
 use Rattle.papers.specs.Media.{sides_paper, split_name, value_of}
-use Rattle.papers.specs.Told.{exact_box_line, is_told_alike, is_whole, medium_line, several_header, size_name, size_text}
+use Rattle.papers.specs.Told.{exact_box_line, is_told_alike, is_in_whole_points, medium_line, several_header, size_name, size_text}
 use Rattle.papers.proofs.Covered.{by_test}
 use Rattle.papers.proofs.PrintedSides.{paper_read, side_all, side_some}
 use Rattle.papers.proofs.SetSizes.{alike_sides}
@@ -197,7 +197,7 @@ medium_split : (name : List ℕ) (p : Paper) → Plain name → 0 < length name 
     → name_and_rest (32 ∷ (name ++ rest_of p)) ≡ Some (name_in name, rest_of p)
 medium_split name p plain some closed = name_read name (size_text p ++ codes " 0 () ()") plain some closed
 
-sides_read : (p : Paper) → IsTellablePaper p → sides_paper (fields_in (rest_of p)) ≡ paper_of (points_of (points_text p.width)) (points_of (points_text p.height))
+sides_read : (p : Paper) → IsTellablePaper p → sides_paper (fields_in (rest_of p)) ≡ paper_meant (points_of (points_text p.width)) (points_of (points_text p.height))
 sides_read p t = ap sides_paper (of_sides p t)
 
 -- the medium of all sheets
@@ -212,7 +212,7 @@ name_closed : (p : Paper) → IsTellablePaper p → Closed (size_name p)
 name_closed p t = closed_front (points_text p.width) (120 ∷ points_text p.height) (side_some p.width t.0) (side_all (λ b. (b == 40) ≡ false) not_open refl p.width t.0)
 
 abbrev medium_told : Paper → Medium
-medium_told p = record { name = name_in (size_name p); paper = paper_of (points_of (points_text p.width)) (points_of (points_text p.height)) }
+medium_told p = record { name = name_in (size_name p); paper = paper_meant (points_of (points_text p.width)) (points_of (points_text p.height)) }
 
 named_medium_read : (p : Paper) → IsTellablePaper p → medium_in (32 ∷ (size_name p ++ rest_of p)) ≡ medium_told p ∷ []
 named_medium_read p t =
@@ -251,16 +251,16 @@ media_told p ps first count more e f t ts =
     let rest : List (List ℕ) = several_header p ps ++ more in
     ap (λ b. flat_map medium_in (if b then value_of first ∷ continued (count ∷ rest) else comment_values medium_comment (count ∷ rest))) e
     ∙ ap (λ b. flat_map medium_in (if b then value_of count ∷ continued rest else comment_values medium_comment rest)) f
-    ∙ ap (flat_map medium_in) (past_exact (is_whole (fold covering p ps)) (fold covering p ps) (medium_line (codes "%%DocumentMedia: ") (size_name p) p ∷ map line_of ps) more)
+    ∙ ap (flat_map medium_in) (past_exact (is_in_whole_points (fold smallest_cover p ps)) (fold smallest_cover p ps) (medium_line (codes "%%DocumentMedia: ") (size_name p) p ∷ map line_of ps) more)
     ∙ ap (λ ms. ms ++ flat_map medium_in (continued (map line_of ps ++ more))) (named_medium_read p t)
     ∙ ap (λ ms. medium_told p ∷ ms) (more_media ps more ts)
 
 -- ---- a medium with the name of one that is reported alike
 same_paper : (p q : Paper) → IsTellablePaper p → IsTellablePaper q → size_name p ≡ size_name q
-    → paper_of (points_of (points_text p.width)) (points_of (points_text p.height)) ≡ Some (as_printed q)
+    → paper_meant (points_of (points_text p.width)) (points_of (points_text p.height)) ≡ Some (as_printed q)
 same_paper p q t u e =
     let same = same_halves p q t u e in
-    ap (λ sides. paper_of (points_of (get_or sides 0 [])) (points_of (get_or sides 1 []))) same ∙ paper_read q u
+    ap (λ sides. paper_meant (points_of (get_or sides 0 [])) (points_of (get_or sides 1 []))) same ∙ paper_read q u
 
 behind : (b c : Bool) → (b || c) ≡ true → b ≡ false → c ≡ true
 behind true c e f = absurd (true≢false f)

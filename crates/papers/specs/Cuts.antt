@@ -1,12 +1,12 @@
 -- Pages that a paper cuts. All here is this project's own rules.
 use Rattle.std.specs.Prelude.{ℕ, ◌+◌, Bool, not, ◌&&◌, if◌then◌else◌, List, [], ◌∷◌, length, map, fold, Option, Some, None}
 use Rattle.rules.specs.Papers.{Paper}
-use Rattle.papers.specs.Own.{covering, covers, is_near}
+use Rattle.papers.specs.Own.{smallest_cover, covers, counts_as_one}
 use Rattle.papers.specs.declared.cuts.Cut.{Cut}
 
 -- a paper cuts a page of its own paper if it doesn't cover it, and the two don't count as one (RULES, 17)
 abbrev pub is_cut : (paper own : Paper) → Bool
-is_cut paper own = not (covers paper own) && not (is_near paper own)
+is_cut paper own = not (covers paper own) && not (counts_as_one paper own)
 
 -- the pages that it cuts, of those from this number on
 abbrev pub cuts_from : Paper → (first : ℕ) → (own : List Paper) → List (ℕ × Paper)
@@ -18,23 +18,23 @@ abbrev pub one_page : (page : ℕ) → Paper → Cut
 one_page n p = record { first = n; last = n; pages = 1; paper = p }
 
 -- pages, and after them one more
-abbrev pub with_page : Option Cut → (page : ℕ) → Paper → Cut
-with_page None n p = one_page n p
-with_page (Some c) n p = record { first = c.first; last = n; pages = c.pages + 1; paper = covering c.paper p }
+abbrev pub with_cut_page : Option Cut → (page : ℕ) → Paper → Cut
+with_cut_page None n p = one_page n p
+with_cut_page (Some c) n p = record { first = c.first; last = n; pages = c.pages + 1; paper = smallest_cover c.paper p }
 
 -- the last of some pages
-abbrev pub last_of : ℕ × Paper → List (ℕ × Paper) → ℕ × Paper
-last_of page [] = page
-last_of page (next ∷ more) = last_of next more
+abbrev pub last_cut : ℕ × Paper → List (ℕ × Paper) → ℕ × Paper
+last_cut page [] = page
+last_cut page (next ∷ more) = last_cut next more
 
 -- the first and the last of some pages, how many they are, and the least paper that covers all of theirs
 abbrev pub told_of : List (ℕ × Paper) → Option Cut
 told_of [] = None
 told_of (page ∷ more) = Some (record {
   first = page.0;
-  last = (last_of page more).0;
+  last = (last_cut page more).0;
   pages = length more + 1;
-  paper = fold covering page.1 (map (λ p. p.1) more);
+  paper = fold smallest_cover page.1 (map (λ p. p.1) more);
 })
 
 -- which pages a paper cuts, if pages have these papers of their own

@@ -14,7 +14,7 @@ use Rattle.rules.specs.MadeOutput.{made_output}
 use Rattle.imposed_again.specs.Again.{depth_behind}
 use Rattle.imposed_again.specs.MadeAgain.{AreTame}
 use Rattle.papers.specs.Comments.{is_in_head}
-use Rattle.papers.specs.Own.{own_papers}
+use Rattle.papers.specs.Own.{papers_of_each_page}
 use Rattle.papers.specs.Told.{in_print, telling}
 
 -- a side that is read again as it is printed: from one point up to 99,999.99999 points
@@ -57,6 +57,6 @@ PapersAreFound =
     → AllByRecursion (λ sheet. IsTellablePaper sheet.paper) all → AreQuiet finish
     → document_of text ≡ Ok us → depth_behind (page_run us) ≡ 0 → 0 < length all → length all ≤ most_pages
     → length (made_output border (telling_and finish all) all us) ≤ most_input_bytes
-    → own_papers None named home (made_output border (telling_and finish all) all us)
+    → papers_of_each_page None named home (made_output border (telling_and finish all) all us)
     (units_of (made_output border (telling_and finish all) all us))
     ≡ map (λ sheet. as_printed sheet.paper) all

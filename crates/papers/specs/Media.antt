@@ -35,16 +35,16 @@ abbrev pub is_short : ℤ → Bool
 is_short side = int_lt side (pos 127_000_000_000)
 
 -- the paper with these sides, if they may be a paper's, and none is shorter than a point
-abbrev pub paper_of_sides : (width height : ℤ) → Option Paper
-paper_of_sides width height = if is_short width || is_short height then None
+abbrev pub paper_or_error : (width height : ℤ) → Option Paper
+paper_or_error width height = if is_short width || is_short height then None
     else (if is_paper width height then Some (record { width = width; height = height }) else None)
 
-abbrev pub paper_of : (width height : Option ℤ) → Option Paper
-paper_of width height = option_and_then (λ w. option_and_then (λ h. paper_of_sides w h) height) width
+abbrev pub paper_meant : (width height : Option ℤ) → Option Paper
+paper_meant width height = option_and_then (λ w. option_and_then (λ h. paper_or_error w h) height) width
 
 -- the parentheses that may enclose a text
-abbrev pub opening : ℕ
-opening = 40
+abbrev pub open_parenthesis : ℕ
+open_parenthesis = 40
 
 abbrev pub closing : ℕ
 closing = 41
@@ -52,7 +52,7 @@ closing = 41
 -- a field in parentheses
 abbrev pub is_enclosed : List ℕ → Bool
 is_enclosed field =
-    nat_le 2 (length field) && (slice_index field 0 == opening && slice_index field (length field - 1) == closing)
+    nat_le 2 (length field) && (slice_index field 0 == open_parenthesis && slice_index field (length field - 1) == closing)
 
 -- the name in a field: what is between its parentheses, if it has them
 abbrev pub name_in : (field : List ℕ) → List ℕ
@@ -61,7 +61,7 @@ name_in field = if is_enclosed field then slice_range field 1 (length field - 1)
 -- a text begins with a parenthesis
 abbrev pub is_opened : List ℕ → Bool
 is_opened [] = false
-is_opened (b ∷ rest) = b == opening
+is_opened (b ∷ rest) = b == open_parenthesis
 
 -- the length of what stands before the first blank
 abbrev pub plain_len : List ℕ → ℕ
@@ -121,7 +121,7 @@ comment_values name (content ∷ rest) = if is_comment name content then value_o
 
 -- the paper of a medium after its name: width, height, and more
 abbrev pub sides_paper : List (List ℕ) → Option Paper
-sides_paper (width ∷ height ∷ more) = paper_of (points_of width) (points_of height)
+sides_paper (width ∷ height ∷ more) = paper_meant (points_of width) (points_of height)
 sides_paper other = None
 
 -- the paper of a medium: its name, its width, its height, and more (RULES, 12.2)
@@ -136,15 +136,15 @@ is_zero (Some length) = int_eq length (pos 0)
 abbrev pub box_paper : List (List ℕ) → Option Paper
 box_paper (left ∷ bottom ∷ right ∷ top ∷ more) =
     if is_zero (points_of left)
-    then (if is_zero (points_of bottom) then paper_of (points_of right) (points_of top) else None) else None
+    then (if is_zero (points_of bottom) then paper_meant (points_of right) (points_of top) else None) else None
 box_paper other = None
 
 -- by so much, 15 points, programs' sizes of one paper may differ
-abbrev pub nearness : ℕ
-nearness = 15 * 127_000_000_000
+abbrev pub box_nearness : ℕ
+box_nearness = 15 * 127_000_000_000
 
 abbrev pub are_near : (a b : ℤ) → Bool
-are_near a b = nat_le (nat_abs (a -ℤ b)) nearness
+are_near a b = nat_le (nat_abs (a -ℤ b)) box_nearness
 
 -- the edges of a box
 abbrev pub edges : (left bottom right top : Option ℤ) → Option Edges
@@ -158,7 +158,7 @@ edges_of other = None
 
 -- an edge lies past the end of a side by more than 15 points
 abbrev pub is_past : (side edge : ℤ) → Bool
-is_past side edge = int_lt (side +ℤ pos nearness) edge
+is_past side edge = int_lt (side +ℤ pos box_nearness) edge
 
 -- 100,000 points or longer, as no number of a box is
 abbrev pub is_long : ℤ → Bool
@@ -166,7 +166,7 @@ is_long side = not (int_lt side (pos 12_700_000_000_000_000))
 
 -- the paper with these sides, if none is so long
 abbrev pub shorter_paper : (width height : ℤ) → Option Paper
-shorter_paper width height = if is_long width || is_long height then None else paper_of_sides width height
+shorter_paper width height = if is_long width || is_long height then None else paper_or_error width height
 
 -- a box reaches over a paper to the right or above
 abbrev pub reaches_over : Paper → Edges → Bool
@@ -213,14 +213,14 @@ abbrev pub box_of : (lines trailer : List (List ℕ)) → Option (List (List ℕ
 box_of lines trailer = option_and_then (box_or_last trailer) (comment_fields (codes "%%BoundingBox") lines)
 
 -- the paper of the first field that is the name of one
-abbrev pub first_named : List (List ℕ) → Option Paper
-first_named [] = None
-first_named (field ∷ more) = else_take (paper_named (name_in field)) (first_named more)
+abbrev pub paper_of_first_name : List (List ℕ) → Option Paper
+paper_of_first_name [] = None
+paper_of_first_name (field ∷ more) = else_take (paper_named (name_in field)) (paper_of_first_name more)
 
 -- that of the first in these values
-abbrev pub first_named_in : List (List ℕ) → Option Paper
-first_named_in [] = None
-first_named_in (names ∷ more) = else_take (first_named (fields_in names)) (first_named_in more)
+abbrev pub paper_of_first_name_in : List (List ℕ) → Option Paper
+paper_of_first_name_in [] = None
+paper_of_first_name_in (names ∷ more) = else_take (paper_of_first_name (fields_in names)) (paper_of_first_name_in more)
 
 -- a paper lies as a box does: on its side, if the box has the paper's sides exchanged
 abbrev pub lying_as : (box : Option Paper) → Paper → Paper
@@ -236,7 +236,7 @@ or_box usual box None = option_map (λ paper. (paper, BoundingBox)) (option_and_
 abbrev pub or_named : (usual : Paper) → (lines trailer : List (List ℕ)) → Option Paper → Option (Paper × Comment)
 or_named usual lines trailer (Some paper) = Some (paper, DocumentMedia)
 or_named usual lines trailer None =
-    or_box usual (box_of lines trailer) (first_named_in (comment_values (codes "%%DocumentPaperSizes") lines))
+    or_box usual (box_of lines trailer) (paper_of_first_name_in (comment_values (codes "%%DocumentPaperSizes") lines))
 
 abbrev pub document_told : (usual : Paper) → List ℕ → Option (Paper × Comment)
 document_told usual text = or_named usual (header text) (trailer_lines (units_of text))
@@ -260,7 +260,7 @@ in_brackets (b ∷ rest) = if b == 91 then Some (take (open_len rest) rest) else
 
 -- the paper whose sides are two numbers, and nothing else
 abbrev pub two_sides : List (List ℕ) → Option Paper
-two_sides (width ∷ height ∷ []) = paper_of (points_of width) (points_of height)
+two_sides (width ∷ height ∷ []) = paper_meant (points_of width) (points_of height)
 two_sides other = None
 
 -- the paper that a line asks for: two numbers in brackets after the first /PageSize

@@ -17,10 +17,10 @@ abbrev pub known_paper : KnownMedia → (name : List ℕ) → Option Paper
 known_paper known name = option_and_then (λ found. option_and_then (λ paper. paper) found) (found_at known name)
 
 -- a name is kept, and nothing is found of it
-abbrev pub is_missing : Option (Option (Option Paper)) → Bool
-is_missing None = false
-is_missing (Some None) = true
-is_missing (Some (Some paper)) = false
+abbrev pub is_name_missing : Option (Option (Option Paper)) → Bool
+is_name_missing None = false
+is_name_missing (Some None) = true
+is_name_missing (Some (Some paper)) = false
 
 -- what is found of a name with one more medium, and with more of them
 abbrev pub with_medium : (name : List ℕ) → Option (Option Paper) → Medium → Option (Option Paper)
@@ -32,8 +32,8 @@ with_media name found [] = found
 with_media name found (m ∷ ms) = with_media name (with_medium name found m) ms
 
 -- a page's name is kept, and nothing is found of it
-abbrev pub IsKept : KnownMedia → (page : List ℕ) → Type 0
-IsKept known page = IfSome (medium_told (page_head page)) (λ name. found_at known name ≡ Some None)
+abbrev pub IsNameKept : KnownMedia → (page : List ℕ) → Type 0
+IsNameKept known page = IfSome (medium_told (page_head page)) (λ name. found_at known name ≡ Some None)
 
 -- by its name a page has the paper of the first of these media with it
 abbrev pub Knows : KnownMedia → List Medium → (page : List ℕ) → Type 0

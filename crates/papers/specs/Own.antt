@@ -27,10 +27,10 @@ own_paper named home header trailer page =
 
 -- the papers of a document's pages, in order: the one that was asked for, if one was, and else each page's own, where the one that the document's
 -- setup asks for goes before the one at home
-abbrev pub own_papers : (asked : Option Paper) → (named : List ℕ → Option Paper) → (home : Paper) → (text : List ℕ)
+abbrev pub papers_of_each_page : (asked : Option Paper) → (named : List ℕ → Option Paper) → (home : Paper) → (text : List ℕ)
     → List NestedUnit → List Paper
-own_papers (Some paper) named home text us = map (λ page. paper) (pages us)
-own_papers None named home text us = map (own_paper named (usual_in home text) (header text) (trailer_lines us)) (pages us)
+papers_of_each_page (Some paper) named home text us = map (λ page. paper) (pages us)
+papers_of_each_page None named home text us = map (own_paper named (usual_in home text) (header text) (trailer_lines us)) (pages us)
 
 -- ---- two papers
 
@@ -38,16 +38,16 @@ own_papers None named home text us = map (own_paper named (usual_in home text) (
 abbrev pub nearness : ℕ
 nearness = 15 * 127_000_000_000
 
-abbrev pub is_near : Paper → Paper → Bool
-is_near a b = nat_le (nat_abs (a.width -ℤ b.width)) nearness && nat_le (nat_abs (a.height -ℤ b.height)) nearness
+abbrev pub counts_as_one : Paper → Paper → Bool
+counts_as_one a b = nat_le (nat_abs (a.width -ℤ b.width)) nearness && nat_le (nat_abs (a.height -ℤ b.height)) nearness
 
 -- the larger side
 abbrev pub larger : ℤ → ℤ → ℤ
 larger a b = if int_le a b then b else a
 
 -- the least paper that covers both
-abbrev pub covering : Paper → Paper → Paper
-covering a b = record { width = larger a.width b.width; height = larger a.height b.height }
+abbrev pub smallest_cover : Paper → Paper → Paper
+smallest_cover a b = record { width = larger a.width b.width; height = larger a.height b.height }
 
 -- a paper covers another one: no side is shorter
 abbrev pub covers : (large small : Paper) → Bool

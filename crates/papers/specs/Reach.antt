@@ -59,12 +59,12 @@ abbrev pub placing : (taken : List Bool) → (own : List Paper) → (boxes : Lis
 placing taken own boxes apart = record { taken = λ n. get_or taken n false; own = own; boxes = boxes; cut_apart = apart }
 
 -- all of a paper
-abbrev pub whole : Paper → Edges
-whole paper = record { left = pos 0; bottom = pos 0; right = paper.width; top = paper.height }
+abbrev pub paper_edges : Paper → Edges
+paper_edges paper = record { left = pos 0; bottom = pos 0; right = paper.width; top = paper.height }
 
 -- how far a page reaches: as its own paper, if that is cut and not reported apart, else as its box
 abbrev pub extent_of : (cut_apart : Bool) → (placed own : Paper) → (box : Option Edges) → Option Edges
-extent_of apart placed own box = if is_cut placed own then (if apart then None else Some (whole own)) else box
+extent_of apart placed own box = if is_cut placed own then (if apart then None else Some (paper_edges own)) else box
 
 -- how far a page reaches beyond its paper, if it is taken
 abbrev pub extent : Placing → (page : ℕ) → (placed : Paper) → Option Edges
@@ -82,14 +82,14 @@ reaching pages n [] = []
 reaching pages n (p ∷ ps) = if_beyond n p (extent pages n p) ++ reaching pages (n + 1) ps
 
 -- pages, and after them one more
-abbrev pub with_page : Option Reach → (page : ℕ × Paper × Edges) → Reach
-with_page None page = record { first = page.0; paper = page.1; edges = page.2; pages = 1 }
-with_page (Some r) page = record { first = r.first; paper = r.paper; edges = r.edges; pages = r.pages + 1 }
+abbrev pub with_reaching_page : Option Reach → (page : ℕ × Paper × Edges) → Reach
+with_reaching_page None page = record { first = page.0; paper = page.1; edges = page.2; pages = 1 }
+with_reaching_page (Some r) page = record { first = r.first; paper = r.paper; edges = r.edges; pages = r.pages + 1 }
 
 -- the reach with that of the first of these pages, if there is one
 abbrev pub with_all : Option Reach → List (ℕ × Paper × Edges) → Option Reach
 with_all reach [] = reach
-with_all reach (page ∷ more) = Some (with_page reach page)
+with_all reach (page ∷ more) = Some (with_reaching_page reach page)
 
 -- the first of some pages, and how many they are
 abbrev pub told_reach : List (ℕ × Paper × Edges) → Option Reach

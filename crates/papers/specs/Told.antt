@@ -9,7 +9,7 @@ use Rattle.rules.specs.Papers.{Paper}
 use Rattle.rules.specs.Made.{MadeSheet}
 use Rattle.rules.specs.Dress.{Dress, undressed}
 use Rattle.imposed_again.specs.MadeAgain.{IsTameDress}
-use Rattle.papers.specs.Own.{covering}
+use Rattle.papers.specs.Own.{smallest_cover}
 
 -- both sides of a paper, in points
 abbrev pub size_text : Paper → List ℕ
@@ -44,12 +44,12 @@ whole_up side = pos ((printed_parts side + 99_999) / 100_000 * 127_000_000_000)
 abbrev pub whole_paper : Paper → Paper
 whole_paper paper = record { width = whole_up paper.width; height = whole_up paper.height }
 
-abbrev pub is_whole : Paper → Bool
-is_whole paper = (printed_parts paper.width % 100_000 == 0) && (printed_parts paper.height % 100_000 == 0)
+abbrev pub is_in_whole_points : Paper → Bool
+is_in_whole_points paper = (printed_parts paper.width % 100_000 == 0) && (printed_parts paper.height % 100_000 == 0)
 
 -- the box of a paper, in whole numbers (DSC 3.0); and after it as it is, if its sides aren't whole
 abbrev pub exact_box_lines : Paper → List (List ℕ)
-exact_box_lines paper = if is_whole paper then [] else exact_box_line paper ∷ []
+exact_box_lines paper = if is_in_whole_points paper then [] else exact_box_line paper ∷ []
 
 abbrev pub box_lines : Paper → List (List ℕ)
 box_lines paper = box_line (whole_paper paper) ∷ exact_box_lines paper
@@ -94,7 +94,7 @@ one_header p = box_lines p ++ medium_line (codes "%%DocumentMedia: ") (codes "Pl
 
 abbrev pub several_header : Paper → List Paper → List (List ℕ)
 several_header p ps =
-    box_lines (fold covering p ps) ++ medium_line (codes "%%DocumentMedia: ") (size_name p) p
+    box_lines (fold smallest_cover p ps) ++ medium_line (codes "%%DocumentMedia: ") (size_name p) p
     ∷ map (λ r. medium_line (codes "%%+ ") (size_name r) r) ps
 
 -- the lines of a sheet that is one of several papers

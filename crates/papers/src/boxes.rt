@@ -46,7 +46,7 @@ pub(crate) fn box_paper(value: &[u8]) -> Option<Paper>
     let (right, rest) = next_field(rest)?;
     let (top, _) = next_field(rest)?;
     if is_zero(points_of(left)) && is_zero(points_of(bottom)) {
-        paper_of(points_of(right), points_of(top))
+        paper_with_sides(points_of(right), points_of(top))
     } else {
         None
     }
@@ -90,11 +90,14 @@ fn is_past(side: Grains, edge: Grains) -> bool
 fn paper_round(edges: &Edges) -> Option<Paper>
     ensures { result ≡ meaning.paper_round edges.now }
 {
-    shorter_paper(sum(edges.left, edges.right), sum(edges.bottom, edges.top))
+    shorter_paper(
+        length_sum(edges.left, edges.right),
+        length_sum(edges.bottom, edges.top),
+    )
 }
 
 /// The sum of both lengths, in grains.
-fn sum(one: Grains, other: Grains) -> i128
+fn length_sum(one: Grains, other: Grains) -> i128
     ensures { result ≡ one +ℤ other }
 {
     one.get() + other.get()
@@ -133,15 +136,15 @@ fn all_edges(
 }
 
 /// The paper with these sides, if there is one.
-pub(crate) fn paper_of(width: Option<Grains>, height: Option<Grains>) -> Option<Paper>
-    ensures { result ≡ meaning.paper_of width height }
+pub(crate) fn paper_with_sides(width: Option<Grains>, height: Option<Grains>) -> Option<Paper>
+    ensures { result ≡ meaning.paper_meant width height }
 {
     paper_of_sides(width?.get(), height?.get())
 }
 
 /// The paper with these sides in grains, if a paper may have them and none is shorter than a point.
 fn paper_of_sides(width: i128, height: i128) -> Option<Paper>
-    ensures { result ≡ meaning.paper_of_sides width height }
+    ensures { result ≡ meaning.paper_or_error width height }
 {
     if width < ONE_POINT || height < ONE_POINT {
         return None;

@@ -1,10 +1,10 @@
 //! Pages that a paper cuts.
 ghost use Rattle.std.specs.Prelude.{◌≡◌, ◌<◌, ◌-ℤ◌, nat_abs, IfSome, IsTrue};
 ghost use Rattle.rules.specs.Papers.{is_side};
-ghost use Rattle.papers.specs.Own.{covers as covers_it, is_near as is_near_to};
-ghost use Rattle.papers.specs.Cuts.{cut_of, is_cut as is_cut_by, with_page as with_one};
+ghost use Rattle.papers.specs.Own.{covers as covers_it, counts_as_one as is_near_to};
+ghost use Rattle.papers.specs.Cuts.{cut_of, is_cut as is_cut_by, with_cut_page as with_one};
 
-use crate::covering;
+use crate::smallest_cover;
 use lengths::Paper;
 
 /// Two sides that differ by at most this number of grains, 15 points, count as one.
@@ -31,14 +31,14 @@ pub fn cut_by(paper: &Paper, own: &[Paper]) -> Option<Cut>
     let mut cut = None;
     for (page, other) in own.iter().enumerate() {
         if is_cut(paper, other) {
-            cut = Some(with_page(cut, page, other));
+            cut = Some(with_cut_page(cut, page, other));
         }
     }
     cut
 }
 
 /// The same pages, and after them this one.
-fn with_page(cut: Option<Cut>, page: usize, paper: &Paper) -> Cut
+fn with_cut_page(cut: Option<Cut>, page: usize, paper: &Paper) -> Cut
     requires few { IfSome cut (λ c. c.pages < usize.MAX) }
     ensures { result ≡ with_one cut page paper.now }
 {
@@ -53,7 +53,7 @@ fn with_page(cut: Option<Cut>, page: usize, paper: &Paper) -> Cut
             first: cut.first,
             last: page,
             pages: cut.pages + 1,
-            paper: covering(&cut.paper, paper),
+            paper: smallest_cover(&cut.paper, paper),
         },
     }
 }

@@ -20,7 +20,7 @@ pub(crate) fn name_in(field: &[u8]) -> &[u8]
 pub fn name_and_rest(value: &[u8]) -> Option<(&[u8], &[u8])>
     ensures { option_map (λ p. (p.0.now, p.1.now)) result ≡ meaning.name_and_rest value.now }
 {
-    let (_, text) = value.split_at(blanks_at(value));
+    let (_, text) = value.split_at(leading_blanks(value));
     if text.is_empty() {
         return None;
     }
@@ -29,7 +29,7 @@ pub fn name_and_rest(value: &[u8]) -> Option<(&[u8], &[u8])>
 }
 
 /// The number of blanks at the front.
-pub(crate) fn blanks_at(text: &[u8]) -> usize
+pub(crate) fn leading_blanks(text: &[u8]) -> usize
     ensures value { result ≡ prefix_len is_blank text.now }
     ensures within { result ≤ length text.now }
 {
@@ -44,11 +44,11 @@ fn name_len(text: &[u8]) -> usize
     ensures within { result ≤ length text.now }
 {
     if text.first() != Some(&b'(') {
-        return plain_len(text);
+        return len_before_blank(text);
     }
     let open = open_len(text);
     let (_, rest) = text.split_at(open);
-    open + plain_len(rest)
+    open + len_before_blank(rest)
 }
 
 /// The length of what is before the first closing parenthesis.
@@ -60,7 +60,7 @@ fn open_len(text: &[u8]) -> usize
 }
 
 /// The length of what is before the first blank.
-fn plain_len(text: &[u8]) -> usize
+fn len_before_blank(text: &[u8]) -> usize
     ensures value { result ≡ meaning.plain_len text.now }
     ensures within { result ≤ length text.now }
 {

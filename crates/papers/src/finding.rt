@@ -5,7 +5,7 @@ ghost use Rattle.dsc.specs.Units.{units_of};
 ghost use Rattle.paper_names.specs.Names.{paper_named};
 ghost use Rattle.papers.specs.Media.{comment_fields, comment_value, contents, header, paper_of_box as paper_of_box_at, trailer_lines};
 ghost use Rattle.papers.specs.Comments.{head_of, named_medium, page_head, told_by_document, told_by_page as told};
-ghost use Rattle.papers.specs.Own.{medium_by, or_this, own_papers as papers_of_pages, page_or};
+ghost use Rattle.papers.specs.Own.{medium_by, or_this, papers_of_each_page as papers_of_pages, page_or};
 ghost use Rattle.papers.specs.Named.{known_paper};
 
 use crate::known_media::KnownMedia;
@@ -19,7 +19,7 @@ use std::alloc::{AllocError, Global};
 
 /// The papers of a document's pages, in order: the one that is asked for, if one is. Else each page's own: what the page
 /// says itself, else what its document says, else the one at home. Refused out of memory alone.
-pub fn own_papers(
+pub fn page_papers(
     alloc: Global,
     document: &Document<'_>,
     asked: Option<Paper>,
@@ -29,13 +29,13 @@ pub fn own_papers(
         papers.items ≡ papers_of_pages asked paper_named home.now (bytes_of document.now) document.now) }
 {
     match asked {
-        Some(paper) => one_paper(alloc, document.pages(), paper),
-        None => told_papers(alloc, document, home),
+        Some(paper) => pages_of_one_paper(alloc, document.pages(), paper),
+        None => declared_papers(alloc, document, home),
     }
 }
 
 /// A number of pages of one paper.
-fn one_paper(alloc: Global, pages: u32, paper: Paper) -> Result<Vec<Paper>, AllocError>
+fn pages_of_one_paper(alloc: Global, pages: u32, paper: Paper) -> Result<Vec<Paper>, AllocError>
     ensures { IfOk result (λ papers. papers.items ≡ replicate pages paper) }
 {
     let mut papers = Vec::new(alloc);
@@ -44,7 +44,7 @@ fn one_paper(alloc: Global, pages: u32, paper: Paper) -> Result<Vec<Paper>, Allo
 }
 
 /// Each page's own paper.
-fn told_papers(
+fn declared_papers(
     alloc: Global,
     document: &Document<'_>,
     home: &Paper,

@@ -1,11 +1,11 @@
 //! Papers that count as one, since programs round the sizes of one paper differently.
 ghost use Rattle.std.specs.Prelude.{◌≡◌, ℕ, suc, ◌++◌, IfOk, OnOk};
-ghost use Rattle.papers.specs.AsOne.{as_one as counted_as_one, first_instead_of as first_instead, is_used as is_paper_used};
+ghost use Rattle.papers.specs.AsOne.{merge_near_sizes as counted_as_one, first_instead_of as first_instead, is_used as is_paper_used};
 ghost use Rattle.papers.specs.AsOne.{apart_from, is_larger as is_larger_than, kind_of as kind_made, kinds as kinds_with, largest_of};
-ghost use Rattle.papers.specs.AsOne.{paper_among as paper_in};
+ghost use Rattle.papers.specs.AsOne.{kind_paper as paper_in};
 
-use crate::covering;
 use crate::cuts::is_near;
+use crate::smallest_cover;
 use lengths::Paper;
 use std::alloc::{AllocError, Global};
 
@@ -24,7 +24,11 @@ struct PaperKind {
 /// The papers of pages, each as the one as which it counts among those that are taken: the largest of these, the widest or of
 /// several the highest, makes a kind with all near to it, by at most 15 points on each side; then the largest that is left, up to
 /// 64 kinds. A paper of a kind counts as the least that covers the kind, another one stays as it is. Refused out of memory alone.
-pub fn as_one(alloc: Global, taken: &[Paper], own: &[Paper]) -> Result<Vec<Paper>, AllocError>
+pub fn merge_near_sizes(
+    alloc: Global,
+    taken: &[Paper],
+    own: &[Paper],
+) -> Result<Vec<Paper>, AllocError>
     ensures { IfOk result (λ papers. papers.items ≡ counted_as_one taken.now own.now) }
 {
     let kinds = kinds_of(alloc, MOST_KINDS, taken)?;
@@ -115,7 +119,7 @@ fn kind_of(first: &Paper, papers: &[Paper]) -> PaperKind
     let mut paper = *first;
     for other in papers {
         if is_near(other, first) {
-            paper = covering(&paper, other);
+            paper = smallest_cover(&paper, other);
         }
     }
     PaperKind {

@@ -5,7 +5,7 @@ ghost use Rattle.std.specs.Str.{bytes_eq};
 ghost use Rattle.rules.specs.Parts.{pages};
 ghost use Rattle.papers.specs.Media.{contents, continued};
 ghost use Rattle.papers.specs.Comments.{media, medium_in};
-ghost use Rattle.papers.specs.Named.{IsKept, KnowsAll, found_at, is_missing as is_not_found, known_paper, with_media, with_medium};
+ghost use Rattle.papers.specs.Named.{IsNameKept, KnowsAll, found_at, is_name_missing as is_not_found, known_paper, with_media, with_medium};
 
 use crate::fields::name_and_rest;
 use crate::media::sides_paper;
@@ -48,7 +48,7 @@ impl KnownMedia {
     /// Their names.
     fn named(alloc: Global, document: &Document<'_>) -> Result<KnownMedia, AllocError>
         ensures { IfOk result (λ known. (k : ℕ) → k < length (pages document.now)
-            → IsKept known (slice_index_or (pages document.now) k [])) }
+            → IsNameKept known (slice_index_or (pages document.now) k [])) }
     {
         let mut known = KnownMedia {
             papers: BTreeMap::new(alloc),
@@ -61,7 +61,7 @@ impl KnownMedia {
 
     /// Keeps the name of the medium that a page names.
     fn keep(&mut self, alloc: Global, page: &[u8]) -> Result<(), AllocError>
-        ensures kept { OnOk result (IsKept self.new page.now) }
+        ensures kept { OnOk result (IsNameKept self.new page.now) }
         ensures still { OnOk result ((at : List ℕ) → found_at self.old at ≡ Some None → found_at self.new at ≡ Some None) }
     {
         match medium_name(behind_first_line(page)) {

@@ -6,7 +6,7 @@ ghost use Rattle.dsc.specs.Fields.{fields_in};
 ghost use Rattle.dsc.specs.Units.{units_of};
 ghost use Rattle.papers.specs.Media as meaning;
 
-use crate::boxes::{box_paper, paper_of, paper_of_box};
+use crate::boxes::{box_paper, paper_of_box, paper_with_sides};
 use crate::comments::{continuation, first_comment};
 use crate::fields::{name_and_rest, name_in, points_of};
 use crate::setup::set_size;
@@ -82,13 +82,13 @@ fn lying_as(told: Option<Paper>, paper: Paper) -> Paper
     ensures { result ≡ meaning.lying_as told paper }
 {
     match told {
-        Some(told) if is_turned(&told, &paper) => paper.turned(),
+        Some(told) if has_exchanged_sides(&told, &paper) => paper.turned(),
         _ => paper,
     }
 }
 
 /// Whether one has the sides of the other exchanged.
-fn is_turned(told: &Paper, paper: &Paper) -> bool
+fn has_exchanged_sides(told: &Paper, paper: &Paper) -> bool
     ensures { result ≡ (meaning.are_near told.now.width paper.now.height && meaning.are_near told.now.height paper.now.width) }
 {
     are_near(told.width(), paper.height()) && are_near(told.height(), paper.width())
@@ -105,7 +105,7 @@ fn are_near(one: Grains, other: Grains) -> bool
 
 /// The paper of the first known name in the first list of names among the comments, which lines may continue.
 fn named_in(header: &[u8]) -> Option<Paper>
-    ensures { result ≡ meaning.first_named_in
+    ensures { result ≡ meaning.paper_of_first_name_in
         (meaning.comment_values (codes "%%DocumentPaperSizes") (meaning.contents header.now)) }
 {
     let (value, others) = first_comment(header, b"%%DocumentPaperSizes", b"%%DocumentPaperSizes:")?;
@@ -117,7 +117,7 @@ fn named_in(header: &[u8]) -> Option<Paper>
 
 /// The paper of the first known name in the lines at the front that continue a comment.
 fn named_behind(text: &[u8]) -> Option<Paper>
-    ensures { result ≡ meaning.first_named_in (meaning.continued (meaning.contents text.now)) }
+    ensures { result ≡ meaning.paper_of_first_name_in (meaning.continued (meaning.contents text.now)) }
 {
     let mut rest = text;
     while let Some((value, others)) = continuation(rest) {
@@ -131,7 +131,7 @@ fn named_behind(text: &[u8]) -> Option<Paper>
 
 /// The paper of the first field that is the name of one.
 fn first_named(value: &[u8]) -> Option<Paper>
-    ensures { result ≡ meaning.first_named (fields_in value.now) }
+    ensures { result ≡ meaning.paper_of_first_name (fields_in value.now) }
 {
     let mut rest = value;
     while let Some((field, others)) = next_field(rest) {
@@ -148,7 +148,7 @@ fn media_in(header: &[u8]) -> Option<Paper>
     ensures { result ≡ option_and_then meaning.media_paper
         (meaning.comment_value (codes "%%DocumentMedia") (meaning.contents header.now)) }
 {
-    media_paper(text_of(header, b"%%DocumentMedia", b"%%DocumentMedia:")?)
+    media_paper(comment_text(header, b"%%DocumentMedia", b"%%DocumentMedia:")?)
 }
 
 /// The text after the colon of the first box among the comments, which may be in the trailer.
@@ -184,7 +184,7 @@ pub fn is_at_end(value: &[u8]) -> bool
 
 /// The text after the colon of the first comment with this key.
 #[tactic(auto, using(crate::proofs::Contents::none_said, crate::proofs::Contents::first_said))]
-fn text_of<'t>(header: &'t [u8], key: &[u8], with_colon: &[u8]) -> Option<&'t [u8]>
+fn comment_text<'t>(header: &'t [u8], key: &[u8], with_colon: &[u8]) -> Option<&'t [u8]>
     requires { with_colon.now ≡ key.now ++ colon ∷ [] }
     ensures { option_map (λ value. value.now) result ≡ meaning.comment_value key.now (meaning.contents header.now) }
 {
@@ -221,5 +221,5 @@ pub(crate) fn sides_paper(rest: &[u8]) -> Option<Paper>
 {
     let (width, rest) = next_field(rest)?;
     let (height, _) = next_field(rest)?;
-    paper_of(points_of(width), points_of(height))
+    paper_with_sides(points_of(width), points_of(height))
 }

@@ -105,15 +105,17 @@ fn with_if_beyond(
     ensures { result ≡ meaning.with_all reach (meaning.if_beyond page paper.now edges) }
 {
     match edges {
-        Some(edges) if is_beyond(paper, &edges) => Some(with_page(reach, page, paper, edges)),
+        Some(edges) if is_beyond(paper, &edges) => Some(with_reaching_page(
+            reach, page, paper, edges,
+        )),
         _ => reach,
     }
 }
 
 /// The same pages, and after them this one.
-fn with_page(reach: Option<Reach>, page: usize, paper: &Paper, edges: Edges) -> Reach
+fn with_reaching_page(reach: Option<Reach>, page: usize, paper: &Paper, edges: Edges) -> Reach
     requires few { IfSome reach (λ r. r.pages < usize.MAX) }
-    ensures { result ≡ meaning.with_page reach (page, paper.now, edges) }
+    ensures { result ≡ meaning.with_reaching_page reach (page, paper.now, edges) }
 {
     match reach {
         None => Reach {
@@ -148,7 +150,7 @@ fn extent_at(
     } else if pages.cut_apart {
         None
     } else {
-        whole(&own)
+        paper_edges(&own)
     }
 }
 
@@ -182,8 +184,8 @@ fn box_at(document: &Document<'_>, other: Option<&[u8]>, page: usize) -> Option<
 }
 
 /// The edges of a paper.
-fn whole(paper: &Paper) -> Option<Edges>
-    ensures { result ≡ Some (meaning.whole paper.now) }
+fn paper_edges(paper: &Paper) -> Option<Edges>
+    ensures { result ≡ Some (meaning.paper_edges paper.now) }
 {
     Some(Edges {
         left: Grains::new(0)?,

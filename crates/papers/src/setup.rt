@@ -4,8 +4,8 @@ ghost use Rattle.rules.specs.Units.{is_comment};
 ghost use Rattle.dsc.specs.Fields.{fields_in};
 ghost use Rattle.papers.specs.Media as meaning;
 
-use crate::boxes::paper_of;
-use crate::fields::{blanks_at, points_of};
+use crate::boxes::paper_with_sides;
+use crate::fields::{leading_blanks, points_of};
 use dsc::{comment_value, first_content, line_end_after, next_field};
 use lengths::Paper;
 
@@ -52,7 +52,7 @@ fn size_asked(content: &[u8]) -> Option<Paper>
 fn size_behind(text: &[u8]) -> Option<Paper>
     ensures { result ≡ meaning.size_behind text.now }
 {
-    let (_, text) = text.split_at(blanks_at(text));
+    let (_, text) = text.split_at(leading_blanks(text));
     two_sides(in_brackets(text)?)
 }
 
@@ -99,6 +99,6 @@ fn two_sides(inside: &[u8]) -> Option<Paper>
     let (height, rest) = next_field(rest)?;
     match next_field(rest) {
         Some(_) => None,
-        None => paper_of(points_of(width), points_of(height)),
+        None => paper_with_sides(points_of(width), points_of(height)),
     }
 }

@@ -2,13 +2,13 @@
 use Rattle.std.specs.Prelude.{Some, codes, decimal}
 use Rattle.std.proofs.Common.{ℕ, refl, ap, ◌∙◌, true, false, not, List, [], ◌∷◌, ◌++◌, length, arith}
 use Rattle.pictures.specs.Objects.{Token, Number, Name, Literal, Bound, Opens, Closes, Object, Plain, Truth, Procedure, Dictionary, NotEqual}
-use Rattle.pictures.specs.Dictionaries.{Entry, system, has}
+use Rattle.pictures.specs.Dictionaries.{DictionaryEntry, system, has}
 use Rattle.pictures.specs.Operators.{with_operands, judged, located, loaded, sameness}
 use Rattle.pictures.specs.Machine.{State, push, saved, worked}
 use Rattle.pictures.specs.Sheets.{run_of}
 use Rattle.pictures.proofs.Runs.{runs_one, runs_none}
 use Rattle.pictures.specs.Behind.{save_tokens, keeping_tokens}
-use Rattle.pictures.specs.Lines.{asks_userdict, at_sheet_save, with_asking, marked, AsksUserdict, AskingShows}
+use Rattle.pictures.specs.Lines.{asks_userdict, at_sheet_save, with_asking, with_dictionary, AsksUserdict, AskingShows}
 use Rattle.pictures.proofs.Absent.{known, known_below, through}
 use Rattle.pictures.proofs.Counting.{counted}
 use Rattle.pictures.proofs.Steps.{some, by_name}
@@ -39,13 +39,13 @@ deciding l =
 pub asks_userdict_there : AsksUserdict
 asks_userdict_there s number d rest found other writable guard absent few =
     let ds : List ℕ = s.work.dictionaries in
-    let es : List Entry = s.work.entries in
+    let es : List DictionaryEntry = s.work.entries in
     let names = known_below asked_names number ds es absent in
     let first_names = known asked_names (number ∷ ds) es absent in
-    let put : List Entry = record { dictionary = d; key = codes "showpage"; value = asks_userdict } ∷ [] in
+    let put : List DictionaryEntry = record { dictionary = d; key = codes "showpage"; value = asks_userdict } ∷ [] in
     let s0 : State = at_sheet_save s in
     let os : List Object = s0.work.operands in
-    let end : State = saved (run_of rest (marked number (with_asking d s0))) in
+    let end : State = saved (run_of rest (with_dictionary number (with_asking d s0))) in
     let count : Object = Plain (Number (decimal (length os))) in
     let l1 : List Token = Bound (codes "ne") ∷ asked_name rest in
     let more : List Token = finding rest in
@@ -74,8 +74,8 @@ asks_userdict_there s number d rest found other writable guard absent few =
     (ap (λ x. Some (run_of (Bound (codes "and") ∷ putting more) (with s7 (Truth (not (has x)) ∷ s5.work.operands)))) writable)
     (some 7 (run_of (Bound (codes "and") ∷ putting more) s8) (run_of more s6) end refl
     (by_name (codes "ImposeGuard") beginning s6 (run_of beginning guarded_number) end (Some (Dictionary number)) (through ds put es (codes "ImposeGuard") refl ∙ guard) refl
-    (some 1 (run_of beginning guarded_number) (run_of (Name (codes "systemdict") ∷ really rest) (marked number s6)) end refl
-    (really_saves (marked number s6) rest (through (number ∷ ds) put es (codes "systemdict") refl ∙ first_names (codes "systemdict") refl)))))))))))))
+    (some 1 (run_of beginning guarded_number) (run_of (Name (codes "systemdict") ∷ really rest) (with_dictionary number s6)) end refl
+    (really_saves (with_dictionary number s6) rest (through (number ∷ ds) put es (codes "systemdict") refl ∙ first_names (codes "systemdict") refl)))))))))))))
 
 pub asking_shows : AskingShows
 asking_shows s ts rest e f g =

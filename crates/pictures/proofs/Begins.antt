@@ -4,22 +4,22 @@ use Rattle.std.specs.Fmt.{digits}
 use Rattle.std.proofs.lemmas.Slice.Eq.{bytes_eq-Decides}
 use Rattle.std.proofs.Common.{◌≡◌, ℕ, ◌+◌, ◌^◌, ◌<◌, refl, ap, ◌∙◌, sym, subst, Bool, true, false, not, true≢false, ◌&&◌, ◌==◌, List, [], ◌∷◌, ◌++◌, length, arith}
 use Rattle.pictures.specs.Objects.{Token, Number, Name, Literal, Bound, Opens, Closes, Object, Plain, Truth, Procedure, Mark, Dictionary, SystemDictionary, Matrix, Saved, Call, Equal}
-use Rattle.pictures.specs.Dictionaries.{Entry, meaning, system, or, entry_of}
-use Rattle.pictures.specs.Operators.{Work, with_operands, judged, located, loaded, ended, holder}
+use Rattle.pictures.specs.Dictionaries.{DictionaryEntry, meaning, system, or, dictionary_entry}
+use Rattle.pictures.specs.Operators.{Work, with_operands, judged, located, loaded, scope_ended, holder}
 use Rattle.pictures.specs.Calculations.{compared}
 use Rattle.pictures.specs.Chains.{is_same_chain, are_same_operands}
 use Rattle.pictures.specs.Machine.{State, Graphics, Segment, Runs, push, worked, traced, may_precede, procedure_for, numbers_before}
-use Rattle.pictures.specs.Sheets.{run_of, among, BorderNumbers, Numbers, zero_text, edge, point, edge_tokens, border_tokens, saving_tokens, placing_tokens, place_in, border_in, in_userdict}
-use Rattle.pictures.specs.Sheets.{matrix_of}
+use Rattle.pictures.specs.Sheets.{run_of, among, BorderNumbers, Numbers, zero_text, edge, path_point, edge_tokens, border_tokens, saving_tokens, placing_tokens, place_in, border_in, in_userdict}
+use Rattle.pictures.specs.Sheets.{matrix_call}
 use Rattle.pictures.proofs.Runs.{runs_one, runs_none, runs_join}
 use Rattle.pictures.proofs.Straight.{Known, straight, straight_runs}
 use Rattle.pictures.proofs.Opening.{snapshot_of, apart, is_apart}
 use Rattle.pictures.proofs.Tests.{first, second}
 use Rattle.pictures.proofs.Placed.{both_true}
 use Rattle.pictures.specs.Behind.{operator, save_tokens, clip_tokens, outer_tokens, showpage_tokens, looking_tokens, putting_back_tokens, keeping_tokens}
-use Rattle.pictures.specs.Behind.{path_tokens as tracing_tokens}
+use Rattle.pictures.specs.Behind.{pathforall_tokens as tracing_tokens}
 use Rattle.pictures.specs.Shelter.{Outer, outer_is, means, outer_entries, outer_made, sheltered, outline_tokens}
-use Rattle.pictures.specs.Pages.{HasGuard, TakesPages, Encloses, Shows, around, placed_at, has_nothing, looked_up, looked_up_first, PageBegins}
+use Rattle.pictures.specs.Pages.{HasGuard, TakesPages, Encloses, ShowsByGuard, around, placed_at, has_nothing, names_looked_up, looked_up_first, PageBegins}
 use Rattle.pictures.proofs.Absent.{known, known_below, keys_differ, through}
 use Rattle.pictures.proofs.Counting.{counted}
 use Rattle.pictures.proofs.Steps.{some, by_name}
@@ -38,7 +38,7 @@ bears : (outers : List Outer) (s : State) → TakesPages outers s → Bears oute
 bears outers s h = record { guard = h.guard; found = 0; found_is = h.userdict_first; encloses = h.encloses; numbers = h.numbers }
 
 -- within the sheet's save, where so many dictionaries and matrices have been made
-abbrev pub within : State → List Object → List ℕ → List Entry → ℕ → Graphics → State
+abbrev pub within : State → List Object → List ℕ → List DictionaryEntry → ℕ → Graphics → State
 within s os ds es made g = record s {
   work = record { operands = os; dictionaries = ds; entries = es; made = made };
   level = s.level + 1;
@@ -48,7 +48,7 @@ within s os ds es made g = record s {
 }
 
 -- and the page's transformation is noted
-abbrev noted_within : State → List Object → List ℕ → List Entry → ℕ → Graphics → List Call → State
+abbrev noted_within : State → List Object → List ℕ → List DictionaryEntry → ℕ → Graphics → List Call → State
 noted_within s os ds es made g chain = record (within s os ds es (made + 1) g) {
   kept = record { number = made + 1; chain = chain } ∷ s.kept;
 }
@@ -114,7 +114,7 @@ stays_shown s l flag is show =
     (some 2 (run_of (filling l) (push (Truth false) s)) end end refl (runs_none false end))))
 
 -- and within a page nothing is asked
-still_shown : (outers : List Outer) (s : State) (os : List Object) (l : List Token) → Encloses outers s → Shows outers s
+still_shown : (outers : List Outer) (s : State) (os : List Object) (l : List Token) → Encloses outers s → ShowsByGuard outers s
     → Runs false (run_of (Name (codes "PStoPSenablepage") ∷ looking l) (before s os)) (run_of l (before s os))
 still_shown [] s os l flag shows = stays_shown (before s os) l flag shows.0 shows.1
 still_shown (o ∷ os) s operands l e shows =
@@ -181,10 +181,10 @@ page_saves : (outers : List Outer) (s : State) (l : List Token) (h : TakesPages 
     (run_of l (within s (Saved s.level ∷ for_save s) (h.guard.number ∷ s.work.dictionaries) s.work.entries s.work.made s.graphics))
 page_saves outers s l h =
     let ds : List ℕ = s.work.dictionaries in
-    let es : List Entry = s.work.entries in
+    let es : List DictionaryEntry = s.work.entries in
     let end : State = run_of l (within s (Saved s.level ∷ for_save s) (h.guard.number ∷ ds) es s.work.made s.graphics) in
     let there : State = before s (for_save s) in
-    up_to_test s end l (known_below looked_up 0 ds es h.guard.names (codes "userdict") refl) h.userdict_first h.guard.few_operands
+    up_to_test s end l (known_below names_looked_up 0 ds es h.guard.names (codes "userdict") refl) h.userdict_first h.guard.few_operands
     (runs_join false (run_of (Name (codes "PStoPSenablepage") ∷ looking (finding l)) there) (run_of (finding l) there) end
     (still_shown outers s (for_save s) (finding l) h.encloses h.shows)
     (marks_page s (for_save s) h.guard.number l h.guard.guard_is (known looked_up_first (h.guard.number ∷ ds) es h.guard.clip_alone (codes "systemdict") refl)))
@@ -194,15 +194,15 @@ page_saves outers s l h =
 pub same_text : (a : List ℕ) → bytes_eq a a ≡ true
 same_text a = (bytes_eq-Decides a a).1 refl
 
-same_numbers : (n : Numbers) → are_same_operands (matrix_of n).operands (matrix_of n).operands ≡ true
+same_numbers : (n : Numbers) → are_same_operands (matrix_call n).operands (matrix_call n).operands ≡ true
 same_numbers n =
     both_true _ true
     (both_true (bytes_eq n.a n.a) _ (same_text n.a) (both_true (bytes_eq n.b n.b) _ (same_text n.b) (both_true (bytes_eq n.c n.c) _ (same_text n.c)
     (both_true (bytes_eq n.d n.d) _ (same_text n.d) (both_true (bytes_eq n.x n.x) _ (same_text n.x) (both_true (bytes_eq n.y n.y) true (same_text n.y) refl))))))
     refl
 
-pub same_place : (n : Numbers) (cs : List Call) → is_same_chain cs cs ≡ true → is_same_chain (matrix_of n ∷ cs) (matrix_of n ∷ cs) ≡ true
-same_place n cs e = both_true (are_same_operands (matrix_of n).operands (matrix_of n).operands) (is_same_chain cs cs) (same_numbers n) e
+pub same_place : (n : Numbers) (cs : List Call) → is_same_chain cs cs ≡ true → is_same_chain (matrix_call n ∷ cs) (matrix_call n ∷ cs) ≡ true
+same_place n cs e = both_true (are_same_operands (matrix_call n).operands (matrix_call n).operands) (is_same_chain cs cs) (same_numbers n) e
 
 -- the elements of the paper's edge, each with its procedure
 abbrev edge_elements : Numbers → List Token
@@ -224,19 +224,19 @@ edge_traced n chain e =
     let l2 : List Token = Number zero_text ∷ Number n.height ∷ (line ++ l1) in
     let l3 : List Token = Number n.width ∷ Number n.height ∷ (line ++ l2) in
     let l4 : List Token = Number n.width ∷ Number zero_text ∷ (line ++ l3) in
-    one (point_closing chain) (point (codes "lineto") zero_text n.height chain ∷ point (codes "lineto") n.width n.height chain ∷ point (codes "lineto") n.width zero_text chain ∷ point (codes "moveto") zero_text zero_text chain ∷ []) [] l1 [] e refl refl
-    ∙ one (point (codes "lineto") zero_text n.height chain) (point (codes "lineto") n.width n.height chain ∷ point (codes "lineto") n.width zero_text chain ∷ point (codes "moveto") zero_text zero_text chain ∷ []) (codes "closepath") line l1 e refl refl
-    ∙ one (point (codes "lineto") n.width n.height chain) (point (codes "lineto") n.width zero_text chain ∷ point (codes "moveto") zero_text zero_text chain ∷ []) (codes "lineto") line l2 e refl refl
-    ∙ one (point (codes "lineto") n.width zero_text chain) (point (codes "moveto") zero_text zero_text chain ∷ []) (codes "lineto") line l3 e refl refl
-    ∙ one (point (codes "moveto") zero_text zero_text chain) [] (codes "lineto") (element (codes "moveto")) l4 e refl refl
+    one (point_closing chain) (path_point (codes "lineto") zero_text n.height chain ∷ path_point (codes "lineto") n.width n.height chain ∷ path_point (codes "lineto") n.width zero_text chain ∷ path_point (codes "moveto") zero_text zero_text chain ∷ []) [] l1 [] e refl refl
+    ∙ one (path_point (codes "lineto") zero_text n.height chain) (path_point (codes "lineto") n.width n.height chain ∷ path_point (codes "lineto") n.width zero_text chain ∷ path_point (codes "moveto") zero_text zero_text chain ∷ []) (codes "closepath") line l1 e refl refl
+    ∙ one (path_point (codes "lineto") n.width n.height chain) (path_point (codes "lineto") n.width zero_text chain ∷ path_point (codes "moveto") zero_text zero_text chain ∷ []) (codes "lineto") line l2 e refl refl
+    ∙ one (path_point (codes "lineto") n.width zero_text chain) (path_point (codes "moveto") zero_text zero_text chain ∷ []) (codes "lineto") line l3 e refl refl
+    ∙ one (path_point (codes "moveto") zero_text zero_text chain) [] (codes "lineto") (element (codes "moveto")) l4 e refl refl
   where
     point_closing : List Call → Segment
     point_closing chain = record { call = record { name = codes "closepath"; operands = [] }; chain = chain; settings = [] }
 
 -- The dictionary that marks a page is taken off the stack.
 
-ended_at : (d : ℕ) (ds : List ℕ) (es : List Entry) (key : List ℕ) (found : ℕ) (w : Work) → holder ds es key ≡ Some found
-    → ended (d ∷ ds) w ≡ Some (record w { dictionaries = ds })
+ended_at : (d : ℕ) (ds : List ℕ) (es : List DictionaryEntry) (key : List ℕ) (found : ℕ) (w : Work) → holder ds es key ≡ Some found
+    → scope_ended (d ∷ ds) w ≡ Some (record w { dictionaries = ds })
 ended_at d [] es key found w e = absurd (nothing_found (holder [] es key) found refl e)
   where
     is_some : Option ℕ → Bool
@@ -249,38 +249,38 @@ ended_at d (c ∷ ds) es key found w e = refl
 
 -- The guard's clip.
 
-abbrev entry : List ℕ → Object → Entry
+abbrev entry : List ℕ → Object → DictionaryEntry
 entry = in_userdict
 
 -- what is put before the clip
-abbrev puts : State → List Entry
+abbrev puts : State → List DictionaryEntry
 puts s = entry (codes "showpage") (Procedure []) ∷ entry (codes "ImposeSave") (Saved s.level) ∷ []
 
-abbrev put_entries : State → List Entry
+abbrev put_entries : State → List DictionaryEntry
 put_entries s = puts s ++ s.work.entries
 
 -- and by it
-abbrev matrix_put : ℕ → List Entry
+abbrev matrix_put : ℕ → List DictionaryEntry
 matrix_put made = entry (codes "PStoPSmatrix") (Matrix (made + 1)) ∷ []
 
-abbrev outline_put : ℕ → Numbers → List Entry
+abbrev outline_put : ℕ → Numbers → List DictionaryEntry
 outline_put made n = entry (codes "PStoPSclip") (Procedure (outline_tokens n)) ∷ matrix_put made
 
-abbrev all_put : ℕ → Numbers → List Entry
+abbrev all_put : ℕ → Numbers → List DictionaryEntry
 all_put made n = entry (codes "PStoPSenablepage") (Truth false) ∷ outline_put made n
 
 -- a name that means the operator still does
-still : (ds : List ℕ) (more es : List Entry) (name : List ℕ) → keys_differ more name ≡ true → meaning ds es name ≡ system name → meaning ds (more ++ es) name ≡ system name
+still : (ds : List ℕ) (more es : List DictionaryEntry) (name : List ℕ) → keys_differ more name ≡ true → meaning ds es name ≡ system name → meaning ds (more ++ es) name ≡ system name
 still ds more es name h e = through ds more es name h ∙ e
 
 -- these names are known still after entries for others
-known_through : (names : List (List ℕ)) (ds : List ℕ) (more es : List Entry) → ((name : List ℕ) → among name names ≡ true → keys_differ more name ≡ true)
+known_through : (names : List (List ℕ)) (ds : List ℕ) (more es : List DictionaryEntry) → ((name : List ℕ) → among name names ≡ true → keys_differ more name ≡ true)
     → ((name : List ℕ) → among name names ≡ true → meaning ds es name ≡ system name)
     → (name : List ℕ) → among name names ≡ true → meaning ds (more ++ es) name ≡ system name
 known_through names ds more es d k name h = through ds more es name (d name h) ∙ k name h
 
 -- the entries' keys are none of these names
-abbrev pub all_apart : List Entry → List (List ℕ) → Bool
+abbrev pub all_apart : List DictionaryEntry → List (List ℕ) → Bool
 all_apart [] names = true
 all_apart (e ∷ es) names = apart e.key names && all_apart es names
 
@@ -288,18 +288,18 @@ turned : (b : Bool) → b ≡ false → not b ≡ true
 turned true e = sym e
 turned false e = refl
 
-pub differ : (more : List Entry) (names : List (List ℕ)) → all_apart more names ≡ true → (name : List ℕ) → among name names ≡ true → keys_differ more name ≡ true
+pub differ : (more : List DictionaryEntry) (names : List (List ℕ)) → all_apart more names ≡ true → (name : List ℕ) → among name names ≡ true → keys_differ more name ≡ true
 differ [] names a name h = refl
 differ (e ∷ more) names a name h =
     both_true (not (bytes_eq e.key name)) (keys_differ more name)
     (turned (bytes_eq e.key name) (is_apart e.key name names (first (apart e.key names) (all_apart more names) a) h))
     (differ more names (second (apart e.key names) (all_apart more names) a) name h)
 
-outer_apart : (outers : List Outer) → all_apart (outer_entries outers) looked_up ≡ true
+outer_apart : (outers : List Outer) → all_apart (outer_entries outers) names_looked_up ≡ true
 outer_apart [] = refl
 outer_apart (o ∷ os) = refl
 
-outer_path : (outers : List Outer) (es : List Entry) → entry_of 0 (codes "ImposePath") (outer_entries outers ++ es) ≡ entry_of 0 (codes "ImposePath") es
+outer_path : (outers : List Outer) (es : List DictionaryEntry) → dictionary_entry 0 (codes "ImposePath") (outer_entries outers ++ es) ≡ dictionary_entry 0 (codes "ImposePath") es
 outer_path [] es = refl
 outer_path (o ∷ os) es = refl
 
@@ -308,7 +308,7 @@ abbrev on_paper : State → Numbers → List Segment → Graphics
 on_paper s n path = record { chain = (place_in s.graphics n).chain; path = path; clip = (place_in s.graphics n).clip; settings = s.graphics.settings }
 
 -- where the page begins, but for its border, if these entries were there, and so much was made
-abbrev begun_over : State → Numbers → List Entry → ℕ → State
+abbrev begun_over : State → Numbers → List DictionaryEntry → ℕ → State
 begun_over s n es made = record s {
   work = record s.work { entries = all_put made n ++ es; made = made + 1 };
   kept = record { number = made + 1; chain = (place_in s.graphics n).chain } ∷ s.kept;
@@ -326,7 +326,7 @@ begun_over s n es made = record s {
 }
 
 -- the entries that the sheet's text and the guard have put for the pages round it
-abbrev round_entries : List Outer → State → List Entry
+abbrev round_entries : List Outer → State → List DictionaryEntry
 round_entries outers s = outer_entries outers ++ put_entries s
 
 abbrev begun : List Outer → State → Numbers → State
@@ -340,9 +340,9 @@ noting l =
     ∷ Bound (codes "end") ∷ Bound (codes "newpath") ∷ Name (codes "systemdict") ∷ Literal (codes "save") ∷ Bound (codes "get") ∷ Bound (codes "exec") ∷ Bound (codes "pop") ∷ l
 
 -- the page is noted
-page_noted : (s : State) (n : Numbers) (l : List Token) (es : List Entry) (made : ℕ)
-    → Known looked_up (record s.work { entries = es }) → Known looked_up (record s.work { dictionaries = 0 ∷ s.work.dictionaries; entries = es })
-    → entry_of 0 (codes "ImposePath") es ≡ Some (Procedure tracing_tokens)
+page_noted : (s : State) (n : Numbers) (l : List Token) (es : List DictionaryEntry) (made : ℕ)
+    → Known names_looked_up (record s.work { entries = es }) → Known names_looked_up (record s.work { dictionaries = 0 ∷ s.work.dictionaries; entries = es })
+    → dictionary_entry 0 (codes "ImposePath") es ≡ Some (Procedure tracing_tokens)
     → (found : ℕ) → holder s.work.dictionaries s.work.entries (codes "showpage") ≡ Some found
     → is_same_chain (place_in s.graphics n).chain (place_in s.graphics n).chain ≡ true
     → Runs false (run_of (noting l) (within s s.work.operands s.work.dictionaries es made (on_paper s n (edge n (place_in s.graphics n).chain))))
@@ -353,9 +353,9 @@ page_noted s n l es made below here path_is found first_is same =
     let chain : List Call = (place_in s.graphics n).chain in
     let end : State = run_of l (begun_over s n es made) in
     let g : Graphics = on_paper s n (edge n chain) in
-    let with_matrix : List Entry = matrix_put made ++ es in
-    let with_outline : List Entry = outline_put made n ++ es in
-    let with_all : List Entry = all_put made n ++ es in
+    let with_matrix : List DictionaryEntry = matrix_put made ++ es in
+    let with_outline : List DictionaryEntry = outline_put made n ++ es in
+    let with_all : List DictionaryEntry = all_put made n ++ es in
     let l9 : List Token = Literal (codes "save") ∷ Bound (codes "get") ∷ Bound (codes "exec") ∷ Bound (codes "pop") ∷ l in
     let l8 : List Token = Bound (codes "newpath") ∷ Name (codes "systemdict") ∷ l9 in
     let l7 : List Token = Bound (codes "end") ∷ l8 in
@@ -392,10 +392,10 @@ page_noted s n l es made below here path_is found first_is same =
 
 -- A page round it is kept.
 
-nothing_there : (d : ℕ) (name : List ℕ) (es : List Entry) → has_nothing d es ≡ true → entry_of d name es ≡ None
+nothing_there : (d : ℕ) (name : List ℕ) (es : List DictionaryEntry) → has_nothing d es ≡ true → dictionary_entry d name es ≡ None
 nothing_there d name [] e = refl
 nothing_there d name (x ∷ es) e =
-    passed (bytes_eq x.key name) (x.dictionary == d) x.value (entry_of d name es) (first (not (x.dictionary == d)) (has_nothing d es) e)
+    passed (bytes_eq x.key name) (x.dictionary == d) x.value (dictionary_entry d name es) (first (not (x.dictionary == d)) (has_nothing d es) e)
     ∙ nothing_there d name es (second (not (x.dictionary == d)) (has_nothing d es) e)
   where
     passed : (a b : Bool) (v : Object) (y : Option Object) → not b ≡ true → (if a && b then Some v else y) ≡ y
@@ -404,7 +404,7 @@ nothing_there d name (x ∷ es) e =
     passed true true v y e = absurd (true≢false (sym e))
 
 -- a name that the new dictionary doesn't have means what it meant
-new_means : (d : ℕ) (ds : List ℕ) (es : List Entry) (name : List ℕ) (o : Object) → has_nothing d es ≡ true → meaning ds es name ≡ Some o → meaning (d ∷ ds) es name ≡ Some o
+new_means : (d : ℕ) (ds : List ℕ) (es : List DictionaryEntry) (name : List ℕ) (o : Object) → has_nothing d es ≡ true → meaning ds es name ≡ Some o → meaning (d ∷ ds) es name ≡ Some o
 new_means d ds es name o e f = ap (λ x. or x (meaning ds es name)) (nothing_there d name es e) ∙ f
 
 -- after the flag
@@ -412,16 +412,16 @@ abbrev if_within : List Token → List Token
 if_within l = Bound (codes "not") ∷ Opens ∷ (outer_tokens ++ (Closes ∷ Bound (codes "if") ∷ noting l))
 
 -- the entries, with the outer page's matrix, outline and so on in the new dictionary
-abbrev matrix_kept : ℕ → Outer → List Entry → List Entry
+abbrev matrix_kept : ℕ → Outer → List DictionaryEntry → List DictionaryEntry
 matrix_kept d o es = record { dictionary = d; key = codes "PStoPSmatrix"; value = Matrix o.matrix } ∷ es
 
-abbrev outline_kept : ℕ → Outer → List Entry → List Entry
+abbrev outline_kept : ℕ → Outer → List DictionaryEntry → List DictionaryEntry
 outline_kept d o es = record { dictionary = d; key = codes "PStoPSclip"; value = Procedure (outline_tokens o.numbers) } ∷ matrix_kept d o es
 
-abbrev outer_kept : ℕ → Outer → List Outer → List Entry → List Entry
+abbrev outer_kept : ℕ → Outer → List Outer → List DictionaryEntry → List DictionaryEntry
 outer_kept d o os es = record { dictionary = d; key = codes "ImposeOuter"; value = outer_is os } ∷ outline_kept d o es
 
-abbrev outer_put : ℕ → Outer → List Outer → List Entry → List Entry
+abbrev outer_put : ℕ → Outer → List Outer → List DictionaryEntry → List DictionaryEntry
 outer_put d o os es = entry (codes "ImposeOuter") (Dictionary d) ∷ outer_kept d o os es
 
 keeps_it : (s : State) (o : Outer) (os : List Outer) (l : List Token) (g : Graphics) → meaning s.work.dictionaries (put_entries s) (codes "userdict") ≡ system (codes "userdict")
@@ -436,8 +436,8 @@ keeps_it s o os l g user found first_is matrix_is outline_is outer new =
     let ds : List ℕ = s.work.dictionaries in
     let all : List Object = s.work.operands in
     let d : ℕ = s.work.made + 1 in
-    let es : List Entry = put_entries s in
-    let own : List Entry = s.work.entries in
+    let es : List DictionaryEntry = put_entries s in
+    let own : List DictionaryEntry = s.work.entries in
     let end : State = run_of l (within s all ds (outer_put d o os es) d g) in
     let below : List Object = Dictionary d ∷ Plain (Literal (codes "ImposeOuter")) ∷ Dictionary 0 ∷ all in
     let start : State = within s all ds es s.work.made g in
@@ -452,9 +452,9 @@ keeps_it s o os l g user found first_is matrix_is outline_is outer new =
     Literal (codes "ImposeOuter") ∷ Number (codes "3") ∷ Bound (codes "dict") ∷ Bound (codes "dup") ∷ Bound (codes "begin")
     ∷ Bound (codes "[") ∷ Literal (codes "PStoPSmatrix") ∷ Literal (codes "PStoPSclip") ∷ Literal (codes "ImposeOuter") ∷ Bound (codes "]")
     ∷ Opens ∷ Bound (codes "dup") ∷ Bound (codes "load") ∷ Bound (codes "def") ∷ Closes ∷ Bound (codes "forall") ∷ l6 in
-    let asks : List ℕ → List Entry → State = λ name now. within s (Plain (Literal name) ∷ Plain (Literal name) ∷ below) (d ∷ ds) now d g in
-    let named : List ℕ → List Entry → State = λ name now. within s (Plain (Literal name) ∷ below) (d ∷ ds) now d g in
-    let told : List ℕ → Object → List Entry → State = λ name x now. within s (x ∷ Plain (Literal name) ∷ below) (d ∷ ds) now d g in
+    let asks : List ℕ → List DictionaryEntry → State = λ name now. within s (Plain (Literal name) ∷ Plain (Literal name) ∷ below) (d ∷ ds) now d g in
+    let named : List ℕ → List DictionaryEntry → State = λ name now. within s (Plain (Literal name) ∷ below) (d ∷ ds) now d g in
+    let told : List ℕ → Object → List DictionaryEntry → State = λ name x now. within s (x ∷ Plain (Literal name) ∷ below) (d ∷ ds) now d g in
     let s4 : State = within s below (d ∷ ds) (outer_kept d o os es) d g in
     let s5 : State = within s below ds (outer_kept d o os es) d g in
     by_name (codes "userdict") l0 start (run_of l0 (push (Dictionary 0) start)) end (system (codes "userdict")) user refl
@@ -486,7 +486,7 @@ clips_round (o ∷ os) s n l g h =
     let start : State = within s s.work.operands ds (put_entries s) s.work.made g in
     let end : ℕ → State = λ d. run_of (noting l) (within s s.work.operands ds (outer_put d o os (put_entries s)) (s.work.made + 1) g) in
     let e = h.encloses in
-    let user = still ds (puts s) s.work.entries (codes "userdict") refl (known_below looked_up 0 ds s.work.entries h.guard.names (codes "userdict") refl) in
+    let user = still ds (puts s) s.work.entries (codes "userdict") refl (known_below names_looked_up 0 ds s.work.entries h.guard.names (codes "userdict") refl) in
     let runs : (d : ℕ) → s.work.made + 1 ≡ d → Runs false (run_of (outer_tokens ++ noting l) start) (end d) =
     λ d same. subst (λ x. Runs false (run_of (outer_tokens ++ noting l) start) (end x)) same
     (keeps_it s o os (noting l) g user h.found h.found_is e.1 e.2 e.3 (subst (λ x. has_nothing x s.work.entries ≡ true) e.4 e.5)) in
@@ -505,18 +505,18 @@ page_clips outers s n l h =
     let end : State = run_of l (begun outers s n) in
     let bare : Graphics = record { chain = chain; path = path; clip = s.graphics.clip; settings = s.graphics.settings } in
     let g : Graphics = on_paper s n path in
-    let es : List Entry = round_entries outers s in
+    let es : List DictionaryEntry = round_entries outers s in
     let l1 : List Token = Bound (codes "clip") ∷ Name (codes "PStoPSenablepage") ∷ if_within l in
     let before_end : State = within s os (h.guard.number ∷ ds) (put_entries s) made bare in
     let s1 : State = within s os ds (put_entries s) made bare in
     let s2 : State = within s os ds (put_entries s) made g in
     let round : State = within s os ds es (outer_made outers s.work.made) g in
-    let below : Known looked_up (record s.work { entries = es }) =
-    known_through looked_up ds (outer_entries outers) (put_entries s) (differ (outer_entries outers) looked_up (outer_apart outers))
-    (known_through looked_up ds (puts s) s.work.entries (differ (puts s) looked_up refl) (known_below looked_up 0 ds s.work.entries h.guard.names)) in
-    let here : Known looked_up (record s.work { dictionaries = 0 ∷ ds; entries = es }) =
-    known_through looked_up (0 ∷ ds) (outer_entries outers) (put_entries s) (differ (outer_entries outers) looked_up (outer_apart outers))
-    (known_through looked_up (0 ∷ ds) (puts s) s.work.entries (differ (puts s) looked_up refl) (known looked_up (0 ∷ ds) s.work.entries h.guard.names)) in
+    let below : Known names_looked_up (record s.work { entries = es }) =
+    known_through names_looked_up ds (outer_entries outers) (put_entries s) (differ (outer_entries outers) names_looked_up (outer_apart outers))
+    (known_through names_looked_up ds (puts s) s.work.entries (differ (puts s) names_looked_up refl) (known_below names_looked_up 0 ds s.work.entries h.guard.names)) in
+    let here : Known names_looked_up (record s.work { dictionaries = 0 ∷ ds; entries = es }) =
+    known_through names_looked_up (0 ∷ ds) (outer_entries outers) (put_entries s) (differ (outer_entries outers) names_looked_up (outer_apart outers))
+    (known_through names_looked_up (0 ∷ ds) (puts s) s.work.entries (differ (puts s) names_looked_up refl) (known names_looked_up (0 ∷ ds) s.work.entries h.guard.names)) in
     runs_one false (run_of (clip_tokens ++ l) before_end) (run_of l1 s1) end (ap (λ x. worked x (run_of l1 before_end)) (ended_at h.guard.number ds s.work.entries (codes "showpage") h.found before_end.work h.found_is))
     (some 1 (run_of l1 s1) (run_of (Name (codes "PStoPSenablepage") ∷ if_within l) s2) end refl
     (runs_join false (run_of (Name (codes "PStoPSenablepage") ∷ if_within l) s2) (run_of (noting l) round) end
@@ -536,11 +536,11 @@ after_save : (outers : List Outer) (s : State) (l : List Token) (h : Bears outer
     → Runs false (run_of (putting l) (saved_state s h.guard.number)) (run_of l (within s s.work.operands (h.guard.number ∷ s.work.dictionaries) (put_entries s) s.work.made s.graphics))
 after_save outers s l h =
     let ds : List ℕ = h.guard.number ∷ s.work.dictionaries in
-    let es : List Entry = s.work.entries in
+    let es : List DictionaryEntry = s.work.entries in
     let os : List Object = s.work.operands in
     let first_names = known looked_up_first ds es h.guard.clip_alone in
     let end : State = run_of l (within s os ds (put_entries s) s.work.made s.graphics) in
-    let one : List Entry = entry (codes "ImposeSave") (Saved s.level) ∷ [] in
+    let one : List DictionaryEntry = entry (codes "ImposeSave") (Saved s.level) ∷ [] in
     let l2 : List Token = Name (codes "userdict") ∷ Literal (codes "showpage") ∷ Opens ∷ Closes ∷ Name (codes "put") ∷ l in
     let l3 : List Token = Literal (codes "showpage") ∷ Opens ∷ Closes ∷ Name (codes "put") ∷ l in
     let s2 : State = saved_state s h.guard.number in
@@ -566,7 +566,7 @@ saving : (outers : List Outer) (s : State) (l : List Token) (h : TakesPages oute
 unfolding bears
 saving outers s l h =
     let end : State = run_of l (within s s.work.operands (h.guard.number ∷ s.work.dictionaries) (put_entries s) s.work.made s.graphics) in
-    up_to_save s end l (known_below looked_up 0 s.work.dictionaries s.work.entries h.guard.names (codes "userdict") refl) h.guard.save_is
+    up_to_save s end l (known_below names_looked_up 0 s.work.dictionaries s.work.entries h.guard.names (codes "userdict") refl) h.guard.save_is
     (runs_join false (run_of (save_tokens ++ putting l) (before s (for_save s))) (run_of (putting l) (saved_state s h.guard.number)) end (page_saves outers s (putting l) h)
     (after_save outers s l (bears outers s h)))
 
@@ -583,11 +583,11 @@ behind_clip border = Name (codes "newpath") ∷ border_tokens border
 abbrev pub bordered : List Outer → State → Numbers → Option BorderNumbers → State
 bordered outers s n border = record (begun outers s n) { painted = border_in s.graphics n border ++ s.painted }
 
-border_is : (outers : List Outer) (n : Numbers) (s : State) (border : Option BorderNumbers) → straight looked_up (behind_clip border) (begun outers s n) ≡ Some (run_of s.left (bordered outers s n border))
+border_is : (outers : List Outer) (n : Numbers) (s : State) (border : Option BorderNumbers) → straight names_looked_up (behind_clip border) (begun outers s n) ≡ Some (run_of s.left (bordered outers s n border))
 border_is outers n s None = refl
 border_is outers n s (Some b) = refl
 
-all_put_apart : (outers : List Outer) (made : ℕ) (n : Numbers) → all_apart (all_put made n ++ outer_entries outers) looked_up ≡ true
+all_put_apart : (outers : List Outer) (made : ℕ) (n : Numbers) → all_apart (all_put made n ++ outer_entries outers) names_looked_up ≡ true
 all_put_apart [] made n = refl
 all_put_apart (o ∷ os) made n = refl
 
@@ -605,14 +605,14 @@ behind_save outers s n more h =
     let s2 : State = within s os (h.guard.number ∷ ds) (put_entries s) made (record { chain = chain; path = edge n chain; clip = s.graphics.clip; settings = s.graphics.settings }) in
     let first_known : Known looked_up_first s1.work =
     known_through looked_up_first (h.guard.number ∷ ds) (puts s) s.work.entries (differ (puts s) looked_up_first refl) (known looked_up_first (h.guard.number ∷ ds) s.work.entries h.guard.clip_alone) in
-    let here : Known looked_up (record s.work { entries = put_entries s }) =
-    known_through looked_up ds (puts s) s.work.entries (differ (puts s) looked_up refl) (known_below looked_up 0 ds s.work.entries h.guard.names) in
-    let names : Known looked_up (begun outers s n).work =
-    known_through looked_up ds (all_put (outer_made outers s.work.made) n ++ outer_entries outers) (put_entries s) (differ (all_put (outer_made outers s.work.made) n ++ outer_entries outers) looked_up (all_put_apart outers (outer_made outers s.work.made) n)) here in
+    let here : Known names_looked_up (record s.work { entries = put_entries s }) =
+    known_through names_looked_up ds (puts s) s.work.entries (differ (puts s) names_looked_up refl) (known_below names_looked_up 0 ds s.work.entries h.guard.names) in
+    let names : Known names_looked_up (begun outers s n).work =
+    known_through names_looked_up ds (all_put (outer_made outers s.work.made) n ++ outer_entries outers) (put_entries s) (differ (all_put (outer_made outers s.work.made) n ++ outer_entries outers) names_looked_up (all_put_apart outers (outer_made outers s.work.made) n)) here in
     runs_join false (run_of (up_to_clip n ++ clip) s1) (run_of clip s2) end (straight_runs looked_up_first (up_to_clip n) clip s1 s2 first_known refl)
     (by_name (codes "clip") (behind_clip n.border ++ more) s2 (run_of (clip_tokens ++ (behind_clip n.border ++ more)) s2) end (Some (Procedure clip_tokens)) (ap (λ x. or x (meaning ds (put_entries s) (codes "clip"))) h.guard.clip_is) refl
     (runs_join false (run_of (clip_tokens ++ (behind_clip n.border ++ more)) s2) (run_of (behind_clip n.border ++ more) (begun outers s n)) end (page_clips outers s n (behind_clip n.border ++ more) h)
-    (straight_runs looked_up (behind_clip n.border) more (begun outers s n) (bordered outers s n n.border) names (border_is outers n s n.border))))
+    (straight_runs names_looked_up (behind_clip n.border) more (begun outers s n) (bordered outers s n n.border) names (border_is outers n s n.border))))
 
 pub page_begins : PageBegins
 unfolding bears

@@ -6,7 +6,7 @@ use Rattle.pictures.specs.Machine.{State, push, set_to, filled_from, steps, and_
 use Rattle.pictures.specs.Sheets.{run_of}
 use Rattle.pictures.proofs.Tests.{first}
 use Rattle.pictures.proofs.Placed.{both_true}
-use Rattle.pictures.specs.Shelter.{Outer, means, holds_the_place, keeps_the_page, is_drawn_anew, noting, unclipped, as_it_began, meant, shelter_step}
+use Rattle.pictures.specs.Shelter.{Outer, means, holds_the_place, keeps_the_page, is_drawn_anew, noting, unclipped, as_it_began, meant_sheltered, shelter_step}
 use Rattle.pictures.specs.ByItself.{ByItselfAsTheOperators}
 use Rattle.pictures.proofs.Sheltering.{ThePlace, the_place}
 
@@ -27,7 +27,7 @@ by_itself_as_the_operators outers outline s u rest k =
           ∙ ap (λ x. option_map noting x) e,
       λ e. (
         2,
-        ap (λ x. and_then (steps (shelter_step outers outline) 1) (meant outers outline x (run_of l s))) place.1
+        ap (λ x. and_then (steps (shelter_step outers outline) 1) (meant_sheltered outers outline x (run_of l s))) place.1
             ∙ ap (λ c. and_then (steps (shelter_step outers outline) 0) (set_to c os (run_of rest (push (Matrix place.0) s)))) place.3
             ∙ e,
       ),
@@ -36,7 +36,7 @@ by_itself_as_the_operators outers outline s u rest k =
           let start : State = push (Matrix given) s in
           let turned : State = push (Matrix given) (push (Matrix place.0) s) in (
             3,
-            ap (λ x. and_then (steps (shelter_step outers outline) 2) (meant outers outline x (run_of m start))) place.1
+            ap (λ x. and_then (steps (shelter_step outers outline) 2) (meant_sheltered outers outline x (run_of m start))) place.1
                 ∙ ap (λ c. and_then (steps (shelter_step outers outline) 0) (filled_from c given os (run_of rest turned))) place.3
                 ∙ e,
           ),

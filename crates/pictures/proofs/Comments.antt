@@ -4,7 +4,7 @@ use Rattle.std.proofs.Common.{◌≡◌, ℕ, refl, ap, ◌∙◌, sym, subst, B
 use Rattle.rules.specs.Bytes.{line, line_feed, space, tab, carriage_return}
 use Rattle.rules.specs.Numbers.{points_text}
 use Rattle.rules.specs.Dress.{lines_text}
-use Rattle.pictures.specs.Scanner.{Between, InComment, Class, White, Regular, class_of, is_white, percent_sign, form_feed, null, ends_comment, scan_from, behind}
+use Rattle.pictures.specs.Scanner.{Between, InComment, Class, White, Regular, class_of, is_white, percent_sign, form_feed, null, ends_comment, scan_from, after_tokens}
 use Rattle.pictures.specs.Imposed.{ends_nowhere, is_comment_line, are_comments}
 use Rattle.pictures.proofs.Tests.{first, second}
 use Rattle.pictures.proofs.Names.{not_true}
@@ -15,7 +15,7 @@ use Rattle.pictures.proofs.NumberTokens.{Reads, reads_join, AllRegular, IsWord, 
 comment_digits : (ds : List ℕ) → AllDigits ds → Reads InComment ds [] InComment
 comment_digits [] h = refl
 comment_digits (d ∷ ds) h =
-    ap (λ b. behind [] (scan_from (if b then Between else InComment) ds)) h.0.4 ∙ ap (behind []) (comment_digits ds h.1)
+    ap (λ b. after_tokens [] (scan_from (if b then Between else InComment) ds)) h.0.4 ∙ ap (after_tokens []) (comment_digits ds h.1)
 
 pub page_line : (n : ℕ) → Reads Between (line (codes "%%Page: " ++ decimal n ++ codes " " ++ decimal n)) [] Between
 page_line n =
@@ -42,8 +42,8 @@ count_line n =
 nowhere_read : (bs : List ℕ) → ends_nowhere bs ≡ true → Reads InComment bs [] InComment
 nowhere_read [] e = refl
 nowhere_read (b ∷ bs) e =
-    ap (λ t. behind [] (scan_from (if t then Between else InComment) bs)) (not_true (ends_comment b) (first (not (ends_comment b)) (ends_nowhere bs) e))
-    ∙ ap (behind []) (nowhere_read bs (second (not (ends_comment b)) (ends_nowhere bs) e))
+    ap (λ t. after_tokens [] (scan_from (if t then Between else InComment) bs)) (not_true (ends_comment b) (first (not (ends_comment b)) (ends_nowhere bs) e))
+    ∙ ap (after_tokens []) (nowhere_read bs (second (not (ends_comment b)) (ends_nowhere bs) e))
 
 pub comment_read : (l : List ℕ) → is_comment_line l ≡ true → Reads Between (line l) [] Between
 comment_read [] e = absurd (true≢false (sym e))
@@ -51,7 +51,7 @@ comment_read (b ∷ bs) e =
     let same : b ≡ percent_sign = eqb-true b percent_sign (first (b == percent_sign) (ends_nowhere bs) e) in
     subst (λ c. Reads Between (line (c ∷ bs)) [] Between) (sym same)
     (reads_join Between InComment Between (percent_sign ∷ bs) (line_feed ∷ []) [] []
-    (ap (behind []) (nowhere_read bs (second (b == percent_sign) (ends_nowhere bs) e)))
+    (ap (after_tokens []) (nowhere_read bs (second (b == percent_sign) (ends_nowhere bs) e)))
     refl)
 
 pub comments_read : (ls : List (List ℕ)) → are_comments ls ≡ true → Reads Between (lines_text ls) [] Between

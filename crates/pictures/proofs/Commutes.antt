@@ -6,7 +6,7 @@ use Rattle.pictures.specs.Objects.{Saved, Operator, Kind, Computes, Controls, Dr
 use Rattle.pictures.specs.Objects.{Effect, Segments, Transforms, Sets, Paints, PaintsBeside, Shows, Clips, Forgets}
 use Rattle.pictures.specs.Operators.{Work, taken, computed, computed_on, controlled}
 use Rattle.pictures.specs.Dictionaries.{meaning, system}
-use Rattle.pictures.specs.Machine.{State, Graphics, Snapshot, keep, body_of, opened, drawn, worked, running, popped, popped_all, save_of, back, returned, restored, chain_of, filled_from, copied, perform, done, meant, act, step_on, step, may_go_back}
+use Rattle.pictures.specs.Machine.{State, Graphics, Snapshot, keep, body_of, opened, drawn, worked, running, popped, popped_all, save_of, back_to, returned, restored, chain_of, filled_from, copied, perform, effect_of_value, meant, act, step_on, step, may_go_back}
 use Rattle.pictures.specs.Placing.{Around, state_at, snapshot_at, graphics_at}
 use Rattle.pictures.specs.Pictures.{PlacingCommutes}
 use Rattle.pictures.proofs.Runs.{follow_steps}
@@ -89,15 +89,15 @@ goes_back_if : (a : Around) (may : Bool) (t : State) → Follows a (if may then 
 goes_back_if a true t = refl
 goes_back_if a false t = tt
 
-goes_back : (a : Around) (os : List Object) (x y : Option (Snapshot × List Snapshot)) (s : State) → Finds a x y → Follows a (back os x s) (back os y (state_at a s))
+goes_back : (a : Around) (os : List Object) (x y : Option (Snapshot × List Snapshot)) (s : State) → Finds a x y → Follows a (back_to os x s) (back_to os y (state_at a s))
 goes_back a os None y s h = tt
 goes_back a os (Some (shot, shots)) y s h = goes (back_there shot shots)
   where
-    back_there : (shot : Snapshot) (shots : List Snapshot) → Follows a (back os (Some (shot, shots)) s) (back os (Some (snapshot_at a.place shot, map (snapshot_at a.place) shots ++ a.saves)) (state_at a s))
+    back_there : (shot : Snapshot) (shots : List Snapshot) → Follows a (back_to os (Some (shot, shots)) s) (back_to os (Some (snapshot_at a.place shot, map (snapshot_at a.place) shots ++ a.saves)) (state_at a s))
     back_there shot shots = goes_back_if a (may_go_back shot os s.work) (returned os shot shots s)
 
-    goes : Follows a (back os (Some (shot, shots)) s) (back os (Some (snapshot_at a.place shot, map (snapshot_at a.place) shots ++ a.saves)) (state_at a s)) → Follows a (back os (Some (shot, shots)) s) (back os y (state_at a s))
-    goes f = subst (λ z. Follows a (back os (Some (shot, shots)) s) (back os z (state_at a s))) (sym h) f
+    goes : Follows a (back_to os (Some (shot, shots)) s) (back_to os (Some (snapshot_at a.place shot, map (snapshot_at a.place) shots ++ a.saves)) (state_at a s)) → Follows a (back_to os (Some (shot, shots)) s) (back_to os y (state_at a s))
+    goes f = subst (λ z. Follows a (back_to os (Some (shot, shots)) s) (back_to os z (state_at a s))) (sym h) f
 
 restores : (a : Around) (os : List Object) (s : State) → Follows a (restored os s) (restored os (state_at a s))
 restores a (Saved level ∷ os) s = goes_back a os (save_of level s.saves) (save_of level (state_at a s).saves) s (finds_save a level s.saves)
@@ -125,7 +125,7 @@ performs a name Ships s = tt
 performs a name Resets s = tt
 performs a name Copies s = copies a s.work.operands s
 
-does : (a : Around) (o : Object) (s : State) → Follows a (done true o s) (done false o (state_at a s))
+does : (a : Around) (o : Object) (s : State) → Follows a (effect_of_value true o s) (effect_of_value false o (state_at a s))
 does a (Procedure ts) s = goes_before a ts s
 does a (Plain (Name name)) s = refl
 does a (Operator name kind) s = performs a name kind s

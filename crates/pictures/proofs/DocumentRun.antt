@@ -16,9 +16,9 @@ use Rattle.rules.specs.Made.{MadeSlot, made_slot, made_of}
 use Rattle.rules.proofs.Whole.{parts_make_text}
 use Rattle.pictures.specs.Objects.{Token}
 use Rattle.pictures.specs.Machine.{State, Painting, Runs}
-use Rattle.pictures.specs.Scanner.{Between, ended, tokens, IsComplete}
+use Rattle.pictures.specs.Scanner.{Between, ended_token, tokens, EndsBetweenTokens}
 use Rattle.pictures.specs.Sheets.{run_of, with_more}
-use Rattle.pictures.specs.Documents.{started, page_of, pages_past, OnSlotsFrom, OnSheetsFrom, OnSheets, all_sheets}
+use Rattle.pictures.specs.Documents.{started, document_page, pages_past, OnSlotsFrom, OnSheetsFrom, OnSheets, all_sheets}
 use Rattle.pictures.specs.DocumentRun.{ComesBy, ComesTo, PrintsSheetBy, pages_before, AreIndependentBy, OnPages, page_pictures, DocumentPrintsBy, PagesArePrinted}
 use Rattle.pictures.specs.Unaware.{PagePrints, SheetsShowTheDocument}
 use Rattle.pictures.proofs.Runs.{AreRuns, free_are_runs, runs_none}
@@ -51,19 +51,19 @@ record Stands (R : State → State → Type 0) (us : List NestedUnit) (s : State
   painted : state.painted ≡ []
   sheets : state.sheets ≡ page_pictures picture p
 
-one_more : (us : List NestedUnit) (p : ℕ) → p < length (pages us) → pages_before us (suc p) ≡ pages_before us p ++ tokens (page_of us p)
+one_more : (us : List NestedUnit) (p : ℕ) → p < length (pages us) → pages_before us (suc p) ≡ pages_before us p ++ tokens (document_page us p)
 one_more us p h =
     let next : suc p ≡ p + 1 = omega arith in
-    ap (λ n. pages_before us n) next ∙ ap (flat_map tokens) (take_more (pages us) p [] h) ∙ flat_map-append tokens (take p (pages us)) (page_of us p ∷ [])
-    ∙ ap (λ ts. pages_before us p ++ ts) (append-nil (tokens (page_of us p)))
+    ap (λ n. pages_before us n) next ∙ ap (flat_map tokens) (take_more (pages us) p [] h) ∙ flat_map-append tokens (take p (pages us)) (document_page us p ∷ [])
+    ∙ ap (λ ts. pages_before us p ++ ts) (append-nil (tokens (document_page us p)))
 
 next_stands : (R : State → State → Type 0) → AreRuns R → GoOnAlike R → (us : List NestedUnit) (s : State) (picture : ℕ → List Painting) (p : ℕ) → p < length (pages us)
-    → (x : Stands R us s picture p) → PrintsSheetBy R x.state (tokens (page_of us p)) (picture p) → Stands R us s picture (suc p)
+    → (x : Stands R us s picture p) → PrintsSheetBy R x.state (tokens (document_page us p)) (picture p) → Stands R us s picture (suc p)
 next_stands R m on us s picture p h x (t, (run, left), painted, sheets) = record {
   state = t;
   comes = (
     subst (λ ts. R (run_of ts s) t) (sym (one_more us p h))
-        (come_further R m on s x.state t (pages_before us p) (tokens (page_of us p)) x.comes run),
+        (come_further R m on s x.state t (pages_before us p) (tokens (document_page us p)) x.comes run),
     left,
   );
   painted = painted;
@@ -71,7 +71,7 @@ next_stands R m on us s picture p h x (t, (run, left), painted, sheets) = record
 }
 
 all_stand : (R : State → State → Type 0) → AreRuns R → GoOnAlike R → (us : List NestedUnit) (s : State) (picture : ℕ → List Painting) → s.painted ≡ [] → s.sheets ≡ []
-    → OnPages (λ p. IsComplete (page_of us p) × PrintsSheetBy R s (tokens (page_of us p)) (picture p)) us → AreIndependentBy R us s
+    → OnPages (λ p. EndsBetweenTokens (document_page us p) × PrintsSheetBy R s (tokens (document_page us p)) (picture p)) us → AreIndependentBy R us s
     → (p : ℕ) → p ≤ length (pages us) → Stands R us s picture p
 all_stand R m on us s picture e f prints same zero h = record { state = run_of [] s; comes = (m.stays (run_of [] s), refl); painted = e; sheets = f }
 all_stand R m on us s picture e f prints same (suc p) h =
@@ -81,7 +81,7 @@ all_stand R m on us s picture e f prints same (suc p) h =
 
 -- The document's tokens.
 
-pages_read : (ps : List (List ℕ)) → ((p : ℕ) → p < length ps → IsComplete (slice_index_or ps p []))
+pages_read : (ps : List (List ℕ)) → ((p : ℕ) → p < length ps → EndsBetweenTokens (slice_index_or ps p []))
     → Reads Between (flat_map (λ page. page) ps) (flat_map tokens ps) Between
 pages_read [] h = refl
 pages_read (page ∷ ps) h =
@@ -96,8 +96,8 @@ whole text us e =
     subst (λ vs. bytes_of (preamble vs) ++ flat_map (λ page. page) (pages vs) ++ bytes_of (trailer vs) ≡ text) z.2
     (parts_make_text text z.0 z.1)
 
-document_tokens : (text : List ℕ) (us : List NestedUnit) → document_of text ≡ Ok us → IsComplete (bytes_of (preamble us))
-    → ((p : ℕ) → p < length (pages us) → IsComplete (page_of us p))
+document_tokens : (text : List ℕ) (us : List NestedUnit) → document_of text ≡ Ok us → EndsBetweenTokens (bytes_of (preamble us))
+    → ((p : ℕ) → p < length (pages us) → EndsBetweenTokens (document_page us p))
     → tokens text ≡ tokens (bytes_of (preamble us)) ++ (flat_map tokens (pages us) ++ tokens (bytes_of (trailer us)))
 document_tokens text us e complete h =
     let first : List ℕ = bytes_of (preamble us) in
@@ -107,13 +107,13 @@ document_tokens text us e complete h =
     let both : Reads Between (first ++ middle) ts Between =
     reads_join Between Between Between first middle (tokens first) (flat_map tokens (pages us)) (complete_read first complete) (pages_read (pages us) h) in
     ap tokens (sym (whole text us e)) ∙ tokens_join (first ++ middle) last (ap (λ x. x.1) both)
-    ∙ ap (λ us. us ++ tokens last) (ap (λ x. x.0 ++ ended x.1) both ∙ append-nil ts)
+    ∙ ap (λ us. us ++ tokens last) (ap (λ x. x.0 ++ ended_token x.1) both ∙ append-nil ts)
     ∙ append_assoc (tokens first) (flat_map tokens (pages us)) (tokens last)
 
 -- any machine with such runs prints a document page after page
 pub document_prints : (R : State → State → Type 0) → AreRuns R → GoOnAlike R → (start : List Token → State) (text : List ℕ) (us : List NestedUnit) (picture : ℕ → List Painting) (s : State)
     → document_of text ≡ Ok us → RunsOn R start (bytes_of (preamble us)) s → s.painted ≡ [] → s.sheets ≡ []
-    → OnPages (λ p. IsComplete (page_of us p) × PrintsSheetBy R s (tokens (page_of us p)) (picture p)) us → AreIndependentBy R us s
+    → OnPages (λ p. EndsBetweenTokens (document_page us p) × PrintsSheetBy R s (tokens (document_page us p)) (picture p)) us → AreIndependentBy R us s
     → DocumentPrintsBy R start text us picture
 document_prints R m on start text us picture s e (complete, begins) painted sheets h same =
     let n : ℕ = length (pages us) in
@@ -220,7 +220,7 @@ on_all_sheets P frame sides spec us h =
 pub sheets_show_the_document : SheetsShowTheDocument
 sheets_show_the_document frame sides spec text us picture s e apart (complete, run, left, painted, printed, ground) plain h same = (
   pages_are_printed text us picture s e (complete, (run, left), painted, printed)
-      (λ p l. ((h p l).0, prints s (tokens (page_of us p)) (picture p) (h p l).2)) same,
+      (λ p l. ((h p l).0, prints s (tokens (document_page us p)) (picture p) (h p l).2)) same,
   sheets_show_the_pages frame sides spec text us picture s e apart (complete, run, left, painted, printed, ground) plain
       (on_all_sheets (λ p. PagePrints us s p (picture p)) frame sides spec us h),
 )

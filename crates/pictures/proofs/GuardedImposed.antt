@@ -11,7 +11,7 @@ use Rattle.rules.specs.Made.{MadeSheet}
 use Rattle.dsc.specs.Units.{units_of}
 use Rattle.guard.specs.Guard.{guarded}
 use Rattle.guard.proofs.TheGuard.{guard_stays}
-use Rattle.papers.specs.Told.{telling, telling_of, papers_told, different_from, is_told_alike, in_print, size_text, box_line, exact_box_line, exact_box_lines, is_whole, whole_paper, medium_line}
+use Rattle.papers.specs.Told.{telling, telling_of, papers_told, different_from, is_told_alike, in_print, size_text, box_line, exact_box_line, exact_box_lines, is_in_whole_points, whole_paper, medium_line}
 use Rattle.pictures.specs.Imposed.{ends_nowhere, is_comment_line, are_comments, IsQuiet}
 use Rattle.pictures.proofs.Placed.{both_true}
 use Rattle.pictures.proofs.Comments.{points_stay, stay_both}
@@ -40,7 +40,7 @@ medium_is_comment p = stay_both (size_text p) (codes " 0 () ()") (size_stays p) 
 one_is_quiet : (p : Paper) → IsQuiet (telling_of (p ∷ []))
 one_is_quiet p = record {
   header = both_true (is_comment_line (box_line (whole_paper p))) (are_comments (exact_box_lines p ++ medium_line (codes "%%DocumentMedia: ") (codes "Plain") p ∷ [])) (box_is_comment (whole_paper p))
-      (boxes_are_comments (is_whole p) p (medium_line (codes "%%DocumentMedia: ") (codes "Plain") p ∷ [])
+      (boxes_are_comments (is_in_whole_points p) p (medium_line (codes "%%DocumentMedia: ") (codes "Plain") p ∷ [])
       (both_true (is_comment_line (medium_line (codes "%%DocumentMedia: ") (codes "Plain") p)) true (medium_is_comment p) refl));
   start = λ s paper. refl;
   finish = λ s paper. refl;

@@ -5,7 +5,7 @@ use Rattle.pictures.specs.Objects.{Token, Name, Object, Saved}
 use Rattle.pictures.specs.Chains.{is_same_chain}
 use Rattle.pictures.specs.Dictionaries.{system}
 use Rattle.pictures.specs.Operators.{all_old, all_are_old}
-use Rattle.pictures.specs.Machine.{State, Painting, Snapshot, push, Runs, back, save_of}
+use Rattle.pictures.specs.Machine.{State, Painting, Snapshot, push, Runs, back_to, save_of}
 use Rattle.pictures.specs.Placing.{Place, picture_at}
 use Rattle.pictures.specs.Sheets.{run_of, Numbers, Shown, saving_tokens, placing_tokens, closing_tokens, placed_tokens, LeavesAsItWas, page_picture, place_in, border_in}
 use Rattle.pictures.proofs.Runs.{AreRuns, free_are_runs, runs_one, runs_none, name_step}
@@ -13,7 +13,7 @@ use Rattle.pictures.proofs.Opening.{snapshot_of}
 use Rattle.pictures.proofs.Placed.{both_true}
 use Rattle.pictures.specs.Shelter.{Outer, sheltered, outline_tokens}
 use Rattle.pictures.specs.Lines.{clip_to}
-use Rattle.pictures.specs.Pages.{HasGuard, IsGuarded, TakesPages, Around, around, snapshot_at, placed_at, IsOnPaper, GuardedPageIsPlaced}
+use Rattle.pictures.specs.Pages.{HasGuard, IsGuarded, TakesPages, AroundGuarded, around, guarded_snapshot_at, placed_at, IsOnPaper, GuardedPageIsPlaced}
 use Rattle.pictures.proofs.Sheltering.{shelter_commutes}
 use Rattle.pictures.proofs.Begins.{page_begins, same_place}
 
@@ -30,28 +30,28 @@ past true v w x y z f e = absurd (true≢false (sym (ap is_none e)))
 past false v w x y z f e = f e
 
 -- saves of other levels are passed over
-passed_over : (a : Around) (level : ℕ) (shots more : List Snapshot) → save_of level shots ≡ None → save_of level (map (snapshot_at a) shots ++ more) ≡ save_of level more
+passed_over : (a : AroundGuarded) (level : ℕ) (shots more : List Snapshot) → save_of level shots ≡ None → save_of level (map (guarded_snapshot_at a) shots ++ more) ≡ save_of level more
 passed_over a level [] more e = refl
 passed_over a level (shot ∷ shots) more e =
-    past (shot.level == level) (snapshot_at a shot, map (snapshot_at a) shots ++ more) (shot, shots) (save_of level shots) (save_of level (map (snapshot_at a) shots ++ more)) (save_of level more)
+    past (shot.level == level) (guarded_snapshot_at a shot, map (guarded_snapshot_at a) shots ++ more) (shot, shots) (save_of level shots) (save_of level (map (guarded_snapshot_at a) shots ++ more)) (save_of level more)
     (passed_over a level shots more) e
 
 restoring : (s t : State) (n : Numbers) (rest more : List Token) → all_are_old s.work.made s.level s.work.operands ≡ true → all_old s.work.made s.work.dictionaries ≡ true → LeavesAsItWas s t
-    → back t.work.operands (save_of s.level (placed_at (around more n s) t).saves) (run_of rest (push (Saved s.level) (placed_at (around more n s) t)))
+    → back_to t.work.operands (save_of s.level (placed_at (around more n s) t).saves) (run_of rest (push (Saved s.level) (placed_at (around more n s) t)))
     ≡ Some (behind rest n s t.painted)
 restoring s t n rest more old_operands old_dictionaries l =
     let x : State = run_of rest (push (Saved s.level) (placed_at (around more n s) t)) in
     let may : (all_are_old s.work.made s.level t.work.operands && all_old s.work.made t.work.dictionaries) ≡ true =
     ap₂ (λ os ds. all_are_old s.work.made s.level os && all_old s.work.made ds) l.operands l.dictionaries ∙ both_true _ _ old_operands old_dictionaries in
-    ap (λ found. back t.work.operands found x) (passed_over (around more n s) s.level t.saves (snapshot_of s ∷ s.saves) l.saves)
-    ∙ ap (λ b. back t.work.operands (if b then Some (snapshot_of s, s.saves) else save_of s.level s.saves) x) (eq-eqb s.level s.level refl)
+    ap (λ found. back_to t.work.operands found x) (passed_over (around more n s) s.level t.saves (snapshot_of s ∷ s.saves) l.saves)
+    ∙ ap (λ b. back_to t.work.operands (if b then Some (snapshot_of s, s.saves) else save_of s.level s.saves) x) (eq-eqb s.level s.level refl)
     ∙ ap (λ b. if b then Some (gone_back rest n s t.painted t.work.operands t.work.dictionaries) else None) may
     ∙ ap₂ (λ os ds. Some (gone_back rest n s t.painted os ds)) l.operands l.dictionaries
 
 pub closing : (s t : State) (n : Numbers) (rest : List Token) → all_are_old s.work.made s.level s.work.operands ≡ true → all_old s.work.made s.work.dictionaries ≡ true → LeavesAsItWas s t
     → Runs false (placed_at (around (closing_tokens ++ rest) n s) t) (behind rest n s t.painted)
 closing s t n rest old_operands old_dictionaries l =
-    let a : Around = around (closing_tokens ++ rest) n s in
+    let a : AroundGuarded = around (closing_tokens ++ rest) n s in
     let p : State = placed_at a t in
     let q : State = record p { left = Name (codes "restore") ∷ rest } in
     let start : Runs false (run_of (closing_tokens ++ rest) p) (behind rest n s t.painted) =
@@ -98,7 +98,7 @@ pub placed_from : (R : State → State → Type 0) → AreRuns R → (outers : L
     → R (run_of (placed_tokens x.placed ++ rest) s) (record t { left = rest; painted = page_picture t.graphics x ++ t.painted })
 placed_from R m outers s t end x rest g begins runs leaves paints =
     let n : Numbers = x.placed.numbers in
-    let a : Around = around (closing_tokens ++ rest) n t in
+    let a : AroundGuarded = around (closing_tokens ++ rest) n t in
     let begun : State = placed_at a (sheltered outers t (outline_tokens n) x.placed.body) in
     let start : State = run_of (middle_tokens n x.placed.body rest) s in
     let place : Place = place_in t.graphics n in

@@ -7,7 +7,7 @@ use Rattle.pictures.specs.Sheets.{Shown}
 use Rattle.pictures.proofs.Runs.{AreRuns, free_are_runs}
 use Rattle.pictures.proofs.Sheets.{Prints, Stays, fresh, still_leaves, sheets_run, all_all_of}
 use Rattle.pictures.specs.Shelter.{Outer, outline_tokens, PaintsSheltered}
-use Rattle.pictures.specs.Pages.{IsGuarded, Encloses, Shows, TakesPages, GuardedSheetsArePrinted}
+use Rattle.pictures.specs.Pages.{IsGuarded, Encloses, ShowsByGuard, TakesPages, GuardedSheetsArePrinted}
 use Rattle.pictures.proofs.Lines.{loaded_showpage}
 use Rattle.pictures.proofs.GuardedPlaced.{guarded_page_is_placed, takes_pages}
 
@@ -17,7 +17,7 @@ still_encloses : (outers : List Outer) (s : State) (ps : List Painting) (sheets 
 still_encloses [] s ps sheets h = h
 still_encloses (o ∷ os) s ps sheets h = h
 
-still_shows : (outers : List Outer) (s : State) (ps : List Painting) (sheets : List (List Painting)) → Shows outers s → Shows outers (record s { painted = ps; sheets = sheets })
+still_shows : (outers : List Outer) (s : State) (ps : List Painting) (sheets : List (List Painting)) → ShowsByGuard outers s → ShowsByGuard outers (record s { painted = ps; sheets = sheets })
 still_shows [] s ps sheets h = h
 still_shows (o ∷ os) s ps sheets h = h
 

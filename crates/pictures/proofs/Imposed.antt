@@ -11,7 +11,7 @@ use Rattle.rules.specs.MadeOutput.{dressed_preamble, made_output}
 use Rattle.pictures.specs.Objects.{Token}
 use Rattle.pictures.specs.Machine.{State, Painting, Runs}
 use Rattle.pictures.specs.Scanner.{tokens}
-use Rattle.pictures.specs.Documents.{started, frame_of, sheet_pictures, pages_past_all, FirstHas, OnSheetsFrom, all_sheets}
+use Rattle.pictures.specs.Documents.{started, page_frame, sheet_pictures, pages_past_all, FirstHas, OnSheetsFrom, all_sheets}
 use Rattle.pictures.specs.Kept.{comments_apart_with}
 use Rattle.pictures.specs.Unaware.{PagePrints, SheetsShowThePages}
 use Rattle.pictures.specs.Imposed.{IsQuiet, MadeSheetsShowThePages}
@@ -49,7 +49,7 @@ made_sheets_show_the_pages border dress all text us picture s q d apart (complet
     still_document_is_shown (Runs false) free_are_runs started border dress all text us picture s q d apart (free_runs_on (bytes_of (preamble us)) s complete run left) painted
     (ground_prints (Runs false) free_are_runs s ground)
     (on_sheets (λ k paper p. PagePrints us s p (picture p)) (Bodies (Runs false) (still s) border us picture)
-    (λ k paper p x. body_places (frame_of border paper) us s p k (picture p) ground (page_paints us s p (picture p) plain x)) 0 all h)
+    (λ k paper p x. body_places (page_frame border paper) us s p k (picture p) ground (page_paints us s p (picture p) plain x)) 0 all h)
 
 pub sheets_show_the_pages : SheetsShowThePages
 sheets_show_the_pages frame sides spec text us picture s d apart run plain h =

@@ -14,7 +14,7 @@ use Rattle.rules.specs.MadeOutput.{with_lines, drops_with, dressed_preamble}
 use Rattle.rules.proofs.Whole.{units_make_text}
 use Rattle.rules.proofs.CutUnits.{cut_is_units, same_ok, apart_results, none_below}
 use Rattle.pictures.specs.Objects.{Token}
-use Rattle.pictures.specs.Scanner.{Reading, Between, InComment, scan_from, behind, tokens, IsComplete}
+use Rattle.pictures.specs.Scanner.{Reading, Between, InComment, scan_from, after_tokens, tokens, EndsBetweenTokens}
 use Rattle.pictures.specs.Scanner as Scanner
 use Rattle.pictures.specs.Kept.{reading_behind, is_between, has_form_feed, goes, apart_at, comments_apart, apart_in, first_is_complete, comments_apart_with, KeptRunsAlike, PreambleRunsAlike}
 use Rattle.pictures.proofs.Tests.{by_test, first, second}
@@ -24,8 +24,8 @@ use Rattle.pictures.proofs.NumberTokens.{Reads, reads_join}
 use Rattle.pictures.proofs.Comments.{count_line}
 
 -- a complete text, followed by another
-complete_then : (a b : List ℕ) → IsComplete a → scan_from Between (a ++ b) ≡ behind (scan_from Between a).0 (scan_from Between b)
-complete_then a b e = scan_behind Between a b ∙ ap (λ r. behind (scan_from Between a).0 (scan_from r b)) e
+complete_then : (a b : List ℕ) → EndsBetweenTokens a → scan_from Between (a ++ b) ≡ after_tokens (scan_from Between a).0 (scan_from Between b)
+complete_then a b e = scan_behind Between a b ∙ ap (λ r. after_tokens (scan_from Between a).0 (scan_from r b)) e
 
 -- Units that are lines, with those after them.
 
@@ -110,10 +110,10 @@ gone : (u : NestedUnit) (us ks : List NestedUnit) → (scan_from Between u.unit.
 gone u us ks x f end = ⊎_elim
     (λ e.
     let whole : scan_from Between (bytes_of (u ∷ us)) ≡ scan_from Between (bytes_of us) =
-    scan_behind Between u.unit.bytes (bytes_of us) ∙ ap (λ z. behind z.0 (scan_from z.1 (bytes_of us))) e in
+    scan_behind Between u.unit.bytes (bytes_of us) ∙ ap (λ z. after_tokens z.0 (scan_from z.1 (bytes_of us))) e in
     f (sym (ap (λ z. z.1) whole) ∙ end) ∙ sym whole)
     (λ y. absurd (not_both (scan_from Between (bytes_of (u ∷ us))).1 end
-    (ap (λ z. z.1) (scan_behind Between u.unit.bytes (bytes_of us) ∙ ap (λ z. behind z.0 (scan_from z.1 (bytes_of us))) y.0)
+    (ap (λ z. z.1) (scan_behind Between u.unit.bytes (bytes_of us) ∙ ap (λ z. after_tokens z.0 (scan_from z.1 (bytes_of us))) y.0)
     ∙ ap (λ vs. (scan_from InComment (bytes_of vs)).1) y.1)))
     x
 
@@ -123,7 +123,7 @@ stays : (r : Reading) (u : NestedUnit) (us ks : List NestedUnit)
     → (scan_from r (bytes_of (u ∷ us))).1 ≡ Between → Same r (u ∷ ks) (u ∷ us)
 stays r u us ks f end =
     let whole = scan_behind r u.unit.bytes (bytes_of us) in
-    scan_behind r u.unit.bytes (bytes_of ks) ∙ ap (behind (scan_from r u.unit.bytes).0) (f (sym (ap (λ z. z.1) whole) ∙ end)) ∙ sym whole
+    scan_behind r u.unit.bytes (bytes_of ks) ∙ ap (after_tokens (scan_from r u.unit.bytes).0) (f (sym (ap (λ z. z.1) whole) ∙ end)) ∙ sym whole
 
 kept_same : (drops : List ℕ → Bool) (was : Bool) (r : Reading) (us : List NestedUnit) → Begin drops → AreLines us → comments_apart was drops r us ≡ true
     → (scan_from r (bytes_of us)).1 ≡ Between → Same r (kept_after was drops us) us
@@ -163,12 +163,12 @@ either_end [] P p q = p
 either_end (b ∷ []) P p q = one_end (is_end b) b P p q
 either_end (b ∷ c ∷ bs) P p q = either_end (c ∷ bs) (λ l. P (b ∷ l)) p q
 
-with_end : (text : List ℕ) → IsComplete text → scan_from Between (ended text) ≡ scan_from Between text
+with_end : (text : List ℕ) → EndsBetweenTokens text → scan_from Between (ended text) ≡ scan_from Between text
 with_end text e = either_end text (λ l. scan_from Between l ≡ scan_from Between text) refl
     (complete_then text (line_feed ∷ []) e ∙ ap (λ ts. (ts, Between)) (append-nil (scan_from Between text).0) ∙ ap (λ r. ((scan_from Between text).0, r)) (sym e))
 
-page_kept : (page : List ℕ) (x : Result (List TextUnit) FaultyBlock) → cut page ≡ x → apart_in x ≡ true → IsComplete page
-    → (tokens (body_text (prepared page)) ≡ tokens page) × IsComplete (body_text (prepared page))
+page_kept : (page : List ℕ) (x : Result (List TextUnit) FaultyBlock) → cut page ≡ x → apart_in x ≡ true → EndsBetweenTokens page
+    → (tokens (body_text (prepared page)) ≡ tokens page) × EndsBetweenTokens (body_text (prepared page))
 page_kept page (Err fault) e a c = absurd (true≢false (sym a))
 page_kept page (Ok us) e a c =
     let all : List NestedUnit = nested us in
@@ -177,11 +177,11 @@ page_kept page (Ok us) e a c =
     let end : (scan_from Between (bytes_of all)).1 ≡ Between = ap (λ l. (scan_from Between l).1) whole ∙ c in
     let same : scan_from Between (bytes_of some) ≡ scan_from Between (bytes_of all) =
     kept_same drops_in_page false Between all body_begins (nested_lines 0 page us ((cut_is_units page us).0 e)) a end in
-    let complete : IsComplete (bytes_of some) = ap (λ x. x.1) same ∙ end in
+    let complete : EndsBetweenTokens (bytes_of some) = ap (λ x. x.1) same ∙ end in
     let body : body_text (prepared page) ≡ ended (bytes_of some) = ap (λ r. body_text (r >>= λ vs. Ok (ended (bytes_of (kept drops_in_page (nested vs)))))) e in
     let read : scan_from Between (body_text (prepared page)) ≡ scan_from Between page =
     ap (scan_from Between) body ∙ with_end (bytes_of some) complete ∙ same ∙ ap (scan_from Between) whole in
-    (ap (λ x. x.0 ++ Scanner.ended x.1) read, ap (λ x. x.1) read ∙ c)
+    (ap (λ x. x.0 ++ Scanner.ended_token x.1) read, ap (λ x. x.1) read ∙ c)
 
 pub kept_runs_alike : KeptRunsAlike
 kept_runs_alike page a c = page_kept page (cut page) refl a c
@@ -211,7 +211,7 @@ document_lines text us e =
     subst AreLines z.2 (nested_lines 0 text z.0 ((cut_is_units text z.0).0 z.1))
 
 -- the text ends between tokens, so it is these tokens
-complete_is : (a : List ℕ) → IsComplete a → Reads Between a (scan_from Between a).0 Between
+complete_is : (a : List ℕ) → EndsBetweenTokens a → Reads Between a (scan_from Between a).0 Between
 complete_is a e = ap (λ r. ((scan_from Between a).0, r)) e
 
 -- what is put after the first unit has no tokens
@@ -223,9 +223,9 @@ put_same put u us none e =
     let rest : List ℕ = bytes_of us in
     let first_read : Reads Between a ts Between = complete_is a (between_is (reading_behind Between a) e) in
     scan_behind Between (a ++ put) rest
-    ∙ ap (λ x. behind x.0 (scan_from x.1 rest)) (reads_join Between Between Between a put ts [] first_read none)
-    ∙ ap (λ l. behind l (scan_from Between rest)) (append-nil ts)
-    ∙ sym (scan_behind Between a rest ∙ ap (λ x. behind x.0 (scan_from x.1 rest)) first_read)
+    ∙ ap (λ x. after_tokens x.0 (scan_from x.1 rest)) (reads_join Between Between Between a put ts [] first_read none)
+    ∙ ap (λ l. after_tokens l (scan_from Between rest)) (append-nil ts)
+    ∙ sym (scan_behind Between a rest ∙ ap (λ x. after_tokens x.0 (scan_from x.1 rest)) first_read)
 
 -- lines that are put there, after the number of sheets
 lines_same : (sheets : ℕ) (lines : List (List ℕ)) (ks : List NestedUnit) → Reads Between (lines_text lines) [] Between → first_is_complete ks ≡ true
@@ -242,9 +242,9 @@ count_same sheets (u ∷ ks) e = put_same (line (codes "%%Pages: " ++ decimal sh
 
 -- a preamble whose first part has the tokens of what is kept of the document's runs like the document's
 abbrev RunsAlike : List ℕ → List NestedUnit → Type 0
-RunsAlike first us = (tokens (ended first) ≡ tokens (bytes_of (preamble us))) × IsComplete (ended first)
+RunsAlike first us = (tokens (ended first) ≡ tokens (bytes_of (preamble us))) × EndsBetweenTokens (ended first)
 
-begun_alike : (lines : List (List ℕ)) (first_text text : List ℕ) (us : List NestedUnit) → document_of text ≡ Ok us → comments_apart_with lines us ≡ true → IsComplete (bytes_of (preamble us))
+begun_alike : (lines : List (List ℕ)) (first_text text : List ℕ) (us : List NestedUnit) → document_of text ≡ Ok us → comments_apart_with lines us ≡ true → EndsBetweenTokens (bytes_of (preamble us))
     → (first_is_complete (kept (drops_with lines) (preamble us)) ≡ true → scan_from Between first_text ≡ scan_from Between (bytes_of (kept (drops_with lines) (preamble us))))
     → RunsAlike first_text us
 begun_alike lines first_text text us e a c f =
@@ -256,7 +256,7 @@ begun_alike lines first_text text us e a c f =
     let begun : scan_from Between first_text ≡ scan_from Between (bytes_of all) = f (second apart (first_is_complete some) a) ∙ same in
     let read : scan_from Between (ended first_text) ≡ scan_from Between (bytes_of all) =
     with_end first_text (ap (λ x. x.1) begun ∙ c) ∙ begun in
-    (ap (λ x. x.0 ++ Scanner.ended x.1) read, ap (λ x. x.1) read ∙ c)
+    (ap (λ x. x.0 ++ Scanner.ended_token x.1) read, ap (λ x. x.1) read ∙ c)
 
 pub preamble_runs_alike : PreambleRunsAlike
 preamble_runs_alike sheets text us e a c =
@@ -264,7 +264,7 @@ preamble_runs_alike sheets text us e a c =
 
 -- and so does one that has lines without tokens in its header
 pub dressed_runs_alike : (sheets : ℕ) (lines : List (List ℕ)) (text : List ℕ) (us : List NestedUnit) → Reads Between (lines_text lines) [] Between → document_of text ≡ Ok us
-    → comments_apart_with lines us ≡ true → IsComplete (bytes_of (preamble us))
-    → (tokens (dressed_preamble sheets lines us) ≡ tokens (bytes_of (preamble us))) × IsComplete (dressed_preamble sheets lines us)
+    → comments_apart_with lines us ≡ true → EndsBetweenTokens (bytes_of (preamble us))
+    → (tokens (dressed_preamble sheets lines us) ≡ tokens (bytes_of (preamble us))) × EndsBetweenTokens (dressed_preamble sheets lines us)
 dressed_runs_alike sheets lines text us none e a c =
     begun_alike lines (with_lines sheets lines (kept (drops_with lines) (preamble us))) text us e a c (lines_same sheets lines (kept (drops_with lines) (preamble us)) none)

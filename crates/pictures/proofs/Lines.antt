@@ -5,9 +5,9 @@ use Rattle.std.proofs.Common.{◌≡◌, ℕ, ◌+◌, ◌<◌, ◌^◌, refl, a
 use Rattle.std.proofs.lemmas.Bool.{ne_eqb}
 use Rattle.pictures.specs.Objects.{Token, Name, Literal, Bound, Opens, Closes, Object, Plain, Truth, Procedure, Matrix, SystemDictionary, Number, NotEqual}
 use Rattle.pictures.specs.Objects.{Array, Call, Dictionary, Mark}
-use Rattle.pictures.specs.Dictionaries.{Entry, system, meaning, entry_of, has}
-use Rattle.pictures.specs.Machine.{State, Graphics, Clip, Kept, Runs, traced, push, shipped, saved, set_to, chain_of, filled_with, filled_from, worked, reset}
-use Rattle.pictures.specs.Operators.{Work, bound_to, loaded, judged, gathered, onto, ended, with_operands}
+use Rattle.pictures.specs.Dictionaries.{DictionaryEntry, system, meaning, dictionary_entry, has}
+use Rattle.pictures.specs.Machine.{State, Graphics, Clip, KeptMatrix, Runs, traced, push, shipped, saved, set_to, chain_of, filled_with, filled_from, worked, reset}
+use Rattle.pictures.specs.Operators.{Work, bound_to, loaded, judged, gathered, onto, scope_ended, with_operands}
 use Rattle.pictures.specs.Sheets.{run_of, edge, Numbers}
 use Rattle.pictures.specs.Calculations.{compared}
 use Rattle.pictures.proofs.Runs.{runs_one, runs_none, runs_join}
@@ -15,9 +15,9 @@ use Rattle.pictures.proofs.Names.{not_true}
 use Rattle.pictures.proofs.Opening.{name_other}
 use Rattle.pictures.proofs.Tests.{first, second}
 use Rattle.pictures.proofs.Straight.{straight_runs}
-use Rattle.pictures.specs.Behind.{handing_tokens, printer_keys, setpagedevice_tokens, showpage_tokens, path_tokens, own_clip_tokens, clips_tokens, save_tokens, page_begins_tokens}
+use Rattle.pictures.specs.Behind.{handing_tokens, printer_keys, setpagedevice_tokens, showpage_tokens, pathforall_tokens, own_clip_tokens, clips_tokens, save_tokens, page_begins_tokens}
 use Rattle.pictures.specs.Shelter.{Outer, outer_is, means, outline_tokens, outline_names}
-use Rattle.pictures.specs.Lines.{PageIsLeft, DeviceIsLeft, with_setting, handed, DeviceIsHanded, ShowpageStaysAName, LoadedShowpage, MatrixIsThePages, DefaultIsThePages, Noted, AreNoted, clip_to, clips_to, clipped, OuterIsKept, ClipIsThePages, GraphicsAreThePages, IsAnother, SaveSaves}
+use Rattle.pictures.specs.Lines.{PageIsLeft, DeviceIsLeft, with_setting, handed, DeviceIsHanded, ShowpageStaysAName, LoadedShowpage, MatrixIsThePages, DefaultIsThePages, Noted, AreNoted, clip_to, clips_to, after_clip, OuterIsKept, ClipIsThePages, GraphicsAreThePages, IsAnother, SaveSaves}
 use Rattle.pictures.proofs.Absent.{known}
 use Rattle.pictures.proofs.Redrawn.{element, told, told_append, path_traced, tells_path, drawings, all_collected, draws_path, with}
 use Rattle.pictures.proofs.Counting.{counted}
@@ -58,7 +58,7 @@ deciding l =
 abbrev grown : State → List Object → State
 grown s os = record s { work = record s.work { operands = os; made = s.work.made + 1 } }
 
-decided : (s : State) (d : ℕ) (key : List ℕ) (l : List Token) (x : Option Object) → entry_of d key s.work.entries ≡ x → bytes_eq key (codes "ImposeDevice") ≡ false
+decided : (s : State) (d : ℕ) (key : List ℕ) (l : List Token) (x : Option Object) → dictionary_entry d key s.work.entries ≡ x → bytes_eq key (codes "ImposeDevice") ≡ false
     → means s (codes "ImposeDevice") ≡ system (codes "setpagedevice")
     → Runs false (run_of (deciding l) (push (Truth (has x)) (push (Plain (Literal key)) (push (Dictionary d) s)))) (run_of l (push (Dictionary d) (with_setting x key s)))
 decided s d key l None e other is =
@@ -76,7 +76,7 @@ decided s d key l (Some o) e other is =
     let l0 : List Token = Bound (codes "get") ∷ l1 in
     let asked : State = grown s (k ∷ Dictionary d ∷ k ∷ both) in
     let rest : State = grown s (k ∷ both) in
-    let e2 : Entry = record { dictionary = s.work.made + 1; key = key; value = o } in
+    let e2 : DictionaryEntry = record { dictionary = s.work.made + 1; key = key; value = o } in
     let filled : State = record s { work = record s.work { operands = new ∷ below; entries = e2 ∷ s.work.entries; made = s.work.made + 1 } } in
     let set : State = push k (push (Dictionary d) (with_setting (Some o) key s)) in
     some 11 (run_of (deciding l) (push (Truth true) (push k (push (Dictionary d) s)))) (run_of l0 asked) end refl
@@ -100,7 +100,7 @@ hands : (keys : List (List ℕ)) (s : State) (d : ℕ) (l : List Token) → are_
     → Runs false (run_of (turns_of keys l) (push (Dictionary d) s)) (run_of l (push (Dictionary d) (handed d keys s)))
 hands [] s d l other is = runs_none false (run_of l (push (Dictionary d) s))
 hands (key ∷ keys) s d l other is =
-    let x : Option Object = entry_of d key s.work.entries in
+    let x : Option Object = dictionary_entry d key s.work.entries in
     let more : List Token = turns_of keys l in
     let end : State = run_of l (push (Dictionary d) (handed d (key ∷ keys) s)) in
     let here : State = push (Truth (has x)) (push (Plain (Literal key)) (push (Dictionary d) s)) in
@@ -176,8 +176,8 @@ default_is_the_pages s number given chain rest e f =
 -- ImposeClip, step by step.
 
 -- the dictionary on top is taken off, since one below it has the name, or one below that
-ended_by : (d : ℕ) (ds : List ℕ) (es : List Entry) (name : List ℕ) (o : Object) (w : Work) → meaning ds es name ≡ Some o → system name ≡ None
-    → ended (d ∷ ds) w ≡ Some (record w { dictionaries = ds })
+ended_by : (d : ℕ) (ds : List ℕ) (es : List DictionaryEntry) (name : List ℕ) (o : Object) (w : Work) → meaning ds es name ≡ Some o → system name ≡ None
+    → scope_ended (d ∷ ds) w ≡ Some (record w { dictionaries = ds })
 ended_by d [] es name o w e f = absurd (not_both (system name) f e)
   where
     is_some : Option Object → Bool
@@ -190,11 +190,11 @@ ended_by d (c ∷ ds) es name o w e f = refl
 
 -- the page's own outline
 own_clip : (s : State) (matrix : ℕ) (n : Numbers) (chain : List Call) (rest : List Token) → Noted s.work.dictionaries s.work.made s.work.entries s.kept matrix n chain
-    → Runs false (run_of (own_clip_tokens ++ rest) s) (clipped s n chain [] rest)
+    → Runs false (run_of (own_clip_tokens ++ rest) s) (after_clip s n chain [] rest)
 own_clip s matrix n chain rest h =
     let g : Graphics = s.graphics in
     let names = known outline_names s.work.dictionaries s.work.entries h.names in
-    let end : State = clipped s n chain [] rest in
+    let end : State = after_clip s n chain [] rest in
     let l3 : List Token = Bound (codes "clip") ∷ Bound (codes "newpath") ∷ rest in
     let l2 : List Token = Bound (codes "newpath") ∷ Name (codes "PStoPSclip") ∷ l3 in
     let l1 : List Token = Bound (codes "setmatrix") ∷ l2 in
@@ -217,23 +217,23 @@ any_outer rest =
 
 all_clips : (outers : List Outer) (s : State) (matrix : ℕ) (n : Numbers) (chain : List Call) (rest : List Token)
     → Noted s.work.dictionaries s.work.made s.work.entries s.kept matrix n chain → AreNoted s.work.dictionaries s.work.made s.work.entries s.kept outers
-    → Runs false (run_of (clips_tokens ++ rest) s) (clipped s n chain outers rest)
+    → Runs false (run_of (clips_tokens ++ rest) s) (after_clip s n chain outers rest)
 all_clips [] s matrix n chain rest h a =
-    let end : State = clipped s n chain [] rest in
+    let end : State = after_clip s n chain [] rest in
     let l : List Token = any_outer rest in
     by_name (codes "ImposeOuter") l s (run_of l (push (outer_is []) s)) end (Some (outer_is [])) a refl
     (some 4 (run_of l (push (outer_is []) s)) (run_of (own_clip_tokens ++ rest) s) end refl (own_clip s matrix n chain rest h))
 all_clips (o ∷ os) s matrix n chain rest h a =
     let ds : List ℕ = s.work.dictionaries in
-    let end : State = clipped s n chain (o ∷ os) rest in
+    let end : State = after_clip s n chain (o ∷ os) rest in
     let l : List Token = any_outer rest in
     let own : List Token = own_clip_tokens ++ rest in
     let l2 : List Token = Bound (codes "end") ∷ own in
     let l1 : List Token = Bound (codes "begin") ∷ Name (codes "ImposeClip") ∷ l2 in
     let there : State = push (Dictionary o.dictionary) s in
     let within : State = record s { work = record s.work { dictionaries = o.dictionary ∷ ds } } in
-    let done : State = clipped within o.numbers o.chain os l2 in
-    let again : State = clipped s o.numbers o.chain os own in
+    let done : State = after_clip within o.numbers o.chain os l2 in
+    let again : State = after_clip s o.numbers o.chain os own in
     by_name (codes "ImposeOuter") l s (run_of l there) end (Some (Dictionary o.dictionary)) a.0 refl
     (some 4 (run_of l there) (run_of (Name (codes "ImposeOuter") ∷ l1) s) end refl
     (by_name (codes "ImposeOuter") l1 s (run_of l1 there) end (Some (Dictionary o.dictionary)) a.0 refl
@@ -248,7 +248,7 @@ outer_is_kept s n chain outers rest h = all_clips outers s h.number n chain rest
 
 -- What is noted stays so where one matrix more is made and filled.
 
-noted_later : (ds : List ℕ) (made : ℕ) (es : List Entry) (ks : List Kept) (matrix : ℕ) (n : Numbers) (chain other : List Call) → Noted ds made es ks matrix n chain
+noted_later : (ds : List ℕ) (made : ℕ) (es : List DictionaryEntry) (ks : List KeptMatrix) (matrix : ℕ) (n : Numbers) (chain other : List Call) → Noted ds made es ks matrix n chain
     → Noted ds (made + 1) es (record { number = made + 1; chain = other } ∷ ks) matrix n chain
 noted_later ds made es ks matrix n chain other h = record {
   older = omega (arith, h.older);
@@ -259,7 +259,7 @@ noted_later ds made es ks matrix n chain other h = record {
   names = h.names;
 }
 
-all_later : (outers : List Outer) (ds : List ℕ) (made : ℕ) (es : List Entry) (ks : List Kept) (other : List Call) → AreNoted ds made es ks outers
+all_later : (outers : List Outer) (ds : List ℕ) (made : ℕ) (es : List DictionaryEntry) (ks : List KeptMatrix) (other : List Call) → AreNoted ds made es ks outers
     → AreNoted ds (made + 1) es (record { number = made + 1; chain = other } ∷ ks) outers
 all_later [] ds made es ks other a = a
 all_later (o ∷ os) ds made es ks other a = (
@@ -285,7 +285,7 @@ pub clip_is_the_pages : ClipIsThePages
 clip_is_the_pages s n chain outers rest h anew =
     let g : Graphics = s.graphics in
     let ds : List ℕ = s.work.dictionaries in
-    let es : List Entry = s.work.entries in
+    let es : List DictionaryEntry = s.work.entries in
     let names = known outline_names ds es h.page.names in
     let l0 : List Token = Bound (codes "matrix") ∷ Bound (codes "currentmatrix") ∷ Name (codes "systemdict") ∷ from_systemdict rest in
     let l1 : List Token = Name (codes "systemdict") ∷ from_systemdict rest in
@@ -308,8 +308,8 @@ clip_is_the_pages s n chain outers rest h anew =
     let s6 : State = noted s g.chain both (record { chain = chain; path = []; clip = clips; settings = g.settings }) in
     let s7 : State = noted s g.chain kept_path (record { chain = g.chain; path = []; clip = clips; settings = g.settings }) in
     let end : State = run_of rest (noted s g.chain os (record g { clip = clips })) in
-    by_name (codes "ImposePath") l0 s (run_of (path_tokens ++ l0) s) end (Some (Procedure path_tokens)) h.path_is refl
-    (some 5 (run_of (path_tokens ++ l0) s) (run_of tracing (with s four)) end refl
+    by_name (codes "ImposePath") l0 s (run_of (pathforall_tokens ++ l0) s) end (Some (Procedure pathforall_tokens)) h.path_is refl
+    (some 5 (run_of (pathforall_tokens ++ l0) s) (run_of tracing (with s four)) end refl
     (runs_one false (run_of tracing (with s four)) traced_state end (ap (λ x. traced x marked (run_of closing (with s four))) (path_traced g.chain g.path [] [] anew))
     (subst (λ ts. Runs false (run_of ts (with s marked)) end) (sym (told_append g.path [] closing))
     (tells_path g.path g.chain [] anew closing marked s end
@@ -327,7 +327,7 @@ clip_is_the_pages s n chain outers rest h anew =
 pub graphics_are_the_pages : GraphicsAreThePages
 graphics_are_the_pages s n chain outers rest h =
     let names = known outline_names s.work.dictionaries s.work.entries h.page.names in
-    let end : State = clipped (reset s) n chain outers rest in
+    let end : State = after_clip (reset s) n chain outers rest in
     let l1 : List Token = Name (codes "ImposeClip") ∷ rest in
     let l0 : List Token = Literal (codes "initgraphics") ∷ Bound (codes "get") ∷ Bound (codes "exec") ∷ l1 in
     by_name (codes "systemdict") l0 s (run_of l0 (push SystemDictionary s)) end (system (codes "systemdict")) (names (codes "systemdict") refl) refl

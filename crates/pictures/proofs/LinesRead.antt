@@ -9,7 +9,7 @@ use Rattle.rules.specs.Units.{TextUnit, BlockFault, is_end, is_blank, content_of
 use Rattle.rules.specs.Filters.{drops_in_header, drops_in_page}
 use Rattle.rules.specs.MadeOutput.{drops_with}
 use Rattle.rules.proofs.CutUnits.{same_ok, apart_results}
-use Rattle.pictures.specs.Scanner.{Between, InComment, scan_from, behind, ends_comment, form_feed, percent_sign}
+use Rattle.pictures.specs.Scanner.{Between, InComment, scan_from, after_tokens, ends_comment, form_feed, percent_sign}
 use Rattle.pictures.specs.Kept.{has_form_feed}
 use Rattle.pictures.proofs.Tests.{by_test, first, second}
 
@@ -123,7 +123,7 @@ no_end false false f e g = g
 two_read : (b : ℕ) (bs : List ℕ) → ends_comment b ≡ true → starts_with nat_eq bs (line_feed ∷ []) ≡ true → scan_from InComment (take 2 (b ∷ bs)) ≡ ([], Between)
 two_read b [] e s = absurd (true≢false (sym s))
 two_read b (c ∷ bs) e s =
-    ap (λ t. behind [] (scan_from (if t then Between else InComment) (c ∷ []))) e
+    ap (λ t. after_tokens [] (scan_from (if t then Between else InComment) (c ∷ []))) e
     ∙ ap (λ d. scan_from Between (d ∷ [])) (sym (eqb-true line_feed c (first (line_feed == c) true s)))
 
 end_read : (b : ℕ) (bs : List ℕ) → ends_comment b ≡ true → scan_from InComment (take (end_len (b ∷ bs)) (b ∷ bs)) ≡ ([], Between)
@@ -131,7 +131,7 @@ end_read b bs e = turn ((b == carriage_return) && starts_with nat_eq bs (line_fe
   where
     turn : (t : Bool) → (t ≡ true → scan_from InComment (take 2 (b ∷ bs)) ≡ ([], Between)) → scan_from InComment (take (if t then 2 else 1) (b ∷ bs)) ≡ ([], Between)
     turn true f = f refl
-    turn false f = ap (λ t. behind [] (scan_from (if t then Between else InComment) [])) e
+    turn false f = ap (λ t. after_tokens [] (scan_from (if t then Between else InComment) [])) e
 
 or_none : (a b : Bool) → (a || b) ≡ false → (a ≡ false) × (b ≡ false)
 or_none true b e = absurd (true≢false e)
@@ -139,8 +139,8 @@ or_none false b e = (refl, e)
 
 one_more : (b : ℕ) (line text : List ℕ) → ends_comment b ≡ false → Ends line text → Ends (b ∷ line) (b ∷ text)
 one_more b line text e = ⊎_elim
-    (λ x. inl (ap (λ t. behind [] (scan_from (if t then Between else InComment) line)) e ∙ ap (behind []) x))
-    (λ x. inr (ap (λ t. behind [] (scan_from (if t then Between else InComment) line)) e ∙ ap (behind []) x.0, ap (λ l. b ∷ l) x.1))
+    (λ x. inl (ap (λ t. after_tokens [] (scan_from (if t then Between else InComment) line)) e ∙ ap (after_tokens []) x))
+    (λ x. inr (ap (λ t. after_tokens [] (scan_from (if t then Between else InComment) line)) e ∙ ap (after_tokens []) x.0, ap (λ l. b ∷ l) x.1))
 
 pub comment_read : (text : List ℕ) → has_form_feed (line_of text) ≡ false → Ends (line_of text) text
 comment_read [] e = inr (refl, refl)
@@ -177,6 +177,6 @@ unit_read text u e f b h =
     subst (λ l. HasNone l text) (sym line)
     (subst (λ l. HasNone l text) (sym x.1)
     (⊎_elim
-    (λ y. inl (ap (behind []) y))
-    (λ y. inr (ap (behind []) y.0, ap (λ l. percent_sign ∷ l) y.1 ∙ sym x.2))
+    (λ y. inl (ap (after_tokens []) y))
+    (λ y. inr (ap (after_tokens []) y.0, ap (λ l. percent_sign ∷ l) y.1 ∙ sym x.2))
     (comment_read bs none)))

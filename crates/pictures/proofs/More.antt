@@ -6,7 +6,7 @@ use Rattle.pictures.specs.Objects.{Saved, Operator, Kind, Computes, Controls, Dr
 use Rattle.pictures.specs.Objects.{Effect}
 use Rattle.pictures.specs.Operators.{Work, with_operands, taken, computed, computed_on, controlled}
 use Rattle.pictures.specs.Dictionaries.{meaning, system}
-use Rattle.pictures.specs.Machine.{State, Graphics, Snapshot, Clip, body_of, opened, drawn, worked, running, popped, popped_all, viewed, set_to, outlined, traced, chain_of, filled_from, copied, path_tokens, save_of, back, returned, restored, perform, done, meant, act, step_on, step, Runs, may_go_back}
+use Rattle.pictures.specs.Machine.{State, Graphics, Snapshot, Clip, body_of, opened, drawn, worked, running, popped, popped_all, viewed, set_to, outlined, traced, chain_of, filled_from, copied, path_tokens, save_of, back_to, returned, restored, perform, effect_of_value, meant, act, step_on, step, Runs, may_go_back}
 use Rattle.pictures.specs.Sheets.{with_more}
 use Rattle.pictures.proofs.Runs.{follow_steps}
 use Rattle.pictures.proofs.Commutes.{Extends, body_goes_on}
@@ -74,7 +74,7 @@ goes_back_if : (more : List Token) (may : Bool) (t : State) → Follows more (if
 goes_back_if more true t = refl
 goes_back_if more false t = tt
 
-goes_back : (more : List Token) (os : List Object) (x : Option (Snapshot × List Snapshot)) (s : State) → Follows more (back os x s) (back os x (with_more more s))
+goes_back : (more : List Token) (os : List Object) (x : Option (Snapshot × List Snapshot)) (s : State) → Follows more (back_to os x s) (back_to os x (with_more more s))
 goes_back more os None s = tt
 goes_back more os (Some (shot, shots)) s = goes_back_if more (may_go_back shot os s.work) (returned os shot shots s)
 
@@ -104,7 +104,7 @@ performs more name Ships s = refl
 performs more name Resets s = refl
 performs more name Copies s = copies more s.work.operands s
 
-does : (more : List Token) (o : Object) (s : State) → Follows more (done false o s) (done false o (with_more more s))
+does : (more : List Token) (o : Object) (s : State) → Follows more (effect_of_value false o s) (effect_of_value false o (with_more more s))
 does more (Procedure ts) s = goes_before more ts s
 does more (Plain (Name name)) s = refl
 does more (Operator name kind) s = performs more name kind s

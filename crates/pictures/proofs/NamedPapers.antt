@@ -3,14 +3,14 @@ use Rattle.std.specs.Prelude.{Option, Some, None, codes, bytes_eq, flat_map, if�
 use Rattle.std.proofs.lemmas.Slice.Eq.{bytes_eq-Decides}
 use Rattle.std.proofs.Common.{◌≡◌, ℕ, zero, suc, refl, ap, ◌∙◌, sym, subst, Bool, true, false, not, true≢false, is_none, ◌&&◌, ◌||◌, List, [], ◌∷◌, ◌++◌, map, append_assoc}
 use Rattle.pictures.specs.Objects.{Token, Literal, Bound, Opens, Closes, Object, Plain, Truth, Procedure, Dictionary}
-use Rattle.pictures.specs.Dictionaries.{Entry, meaning, system, entry_of, has, or, is_lacked}
+use Rattle.pictures.specs.Dictionaries.{DictionaryEntry, meaning, system, dictionary_entry, has, or, is_lacked}
 use Rattle.pictures.specs.Operators.{holder, located, with_operands}
 use Rattle.pictures.specs.Machine.{State, Runs, worked, steps, and_then}
 use Rattle.pictures.specs.Sheets.{run_of, among, in_userdict}
 use Rattle.pictures.proofs.Runs.{runs_one, runs_none, runs_join}
 use Rattle.pictures.proofs.Tests.{by_test, first, second}
 use Rattle.pictures.proofs.Names.{not_true}
-use Rattle.pictures.specs.Shelter.{shelter_step, meant}
+use Rattle.pictures.specs.Shelter.{shelter_step, meant_sheltered}
 use Rattle.pictures.specs.NamedPapers.{paper_names, papers_tokens, each_paper, left_if, papers_left, behind_papers, PapersAreLeft, PaperIsNothing}
 use Rattle.pictures.proofs.Steps.{some}
 use Rattle.pictures.proofs.Ground.{holder_other}
@@ -18,7 +18,7 @@ use Rattle.pictures.proofs.Lines.{page_is_left}
 use Rattle.pictures.proofs.Redrawn.{with}
 
 -- with these dictionaries and entries
-abbrev over : State → List ℕ → List Entry → State
+abbrev over : State → List ℕ → List DictionaryEntry → State
 over s ds es = record s { work = record s.work { dictionaries = ds; entries = es } }
 
 -- no operator of the machine's, and none that it lacks
@@ -35,7 +35,7 @@ deciding l =
     Opens ∷ Bound (codes "pop") ∷ Opens ∷ Closes ∷ Bound (codes "def") ∷ Closes
     ∷ Opens ∷ Bound (codes "pop") ∷ Closes ∷ Bound (codes "ifelse") ∷ l
 
-one_paper : (x : Option ℕ) (s : State) (ds : List ℕ) (es : List Entry) (name : List ℕ) (l : List Token) → holder (0 ∷ ds) es name ≡ x → is_free name ≡ true
+one_paper : (x : Option ℕ) (s : State) (ds : List ℕ) (es : List DictionaryEntry) (name : List ℕ) (l : List Token) → holder (0 ∷ ds) es name ≡ x → is_free name ≡ true
     → Runs false (run_of (Literal name ∷ (each_paper ++ l)) (over s (0 ∷ ds) es)) (run_of l (over s (0 ∷ ds) (left_if x name es)))
 one_paper x s ds es name l found free =
     let system_none = not_true (has (system name)) (first (not (has (system name))) (not (is_lacked name)) free) in
@@ -64,12 +64,12 @@ one_paper x s ds es name l found free =
         runs_one false (run_of (Bound (codes "where") ∷ deciding l) asks) (run_of (deciding l) told) end (ap (λ y. worked y (run_of (deciding l) asks)) e)
         (some 6 (run_of (deciding l) told) end end refl (runs_none false end))
 
-all_papers : (names : List (List ℕ)) (s : State) (ds : List ℕ) (es : List Entry) (l : List Token) → all_free names ≡ true
+all_papers : (names : List (List ℕ)) (s : State) (ds : List ℕ) (es : List DictionaryEntry) (l : List Token) → all_free names ≡ true
     → Runs false (run_of (flat_map (λ e. e ∷ each_paper) (map Literal names) ++ l) (over s (0 ∷ ds) es)) (run_of l (over s (0 ∷ ds) (papers_left names (0 ∷ ds) es)))
 all_papers [] s ds es l free = runs_none false (run_of l (over s (0 ∷ ds) es))
 all_papers (name ∷ names) s ds es l free =
     let more : List Token = flat_map (λ e. e ∷ each_paper) (map Literal names) in
-    let now : List Entry = left_if (holder (0 ∷ ds) es name) name es in
+    let now : List DictionaryEntry = left_if (holder (0 ∷ ds) es name) name es in
     let end : State = run_of l (over s (0 ∷ ds) (papers_left names (0 ∷ ds) now)) in
     subst (λ ts. Runs false (run_of (Literal name ∷ ts) (over s (0 ∷ ds) es)) end) (sym (append_assoc each_paper more l))
     (runs_join false (run_of (Literal name ∷ (each_paper ++ (more ++ l))) (over s (0 ∷ ds) es)) (run_of (more ++ l) (over s (0 ∷ ds) now)) end
@@ -83,16 +83,16 @@ put_nothing true x e = refl
 put_nothing false x e = e
 
 -- a name that does nothing still does
-stays : (names : List (List ℕ)) (ds : List ℕ) (es : List Entry) (name : List ℕ) → entry_of 0 name es ≡ Some (Procedure []) → entry_of 0 name (papers_left names ds es) ≡ Some (Procedure [])
+stays : (names : List (List ℕ)) (ds : List ℕ) (es : List DictionaryEntry) (name : List ℕ) → dictionary_entry 0 name es ≡ Some (Procedure []) → dictionary_entry 0 name (papers_left names ds es) ≡ Some (Procedure [])
 stays [] ds es name e = e
 stays (k ∷ names) ds es name e = stays names ds (left_if (holder ds es k) k es) name (by_found (holder ds es k))
   where
-    by_found : (x : Option ℕ) → entry_of 0 name (left_if x k es) ≡ Some (Procedure [])
+    by_found : (x : Option ℕ) → dictionary_entry 0 name (left_if x k es) ≡ Some (Procedure [])
     by_found None = e
-    by_found (Some d) = put_nothing (bytes_eq k name) (entry_of 0 name es) e
+    by_found (Some d) = put_nothing (bytes_eq k name) (dictionary_entry 0 name es) e
 
 -- another name is where it was
-elsewhere : (x : Option ℕ) (k name : List ℕ) (ds : List ℕ) (es : List Entry) → bytes_eq k name ≡ false → holder ds (left_if x k es) name ≡ holder ds es name
+elsewhere : (x : Option ℕ) (k name : List ℕ) (ds : List ℕ) (es : List DictionaryEntry) → bytes_eq k name ≡ false → holder ds (left_if x k es) name ≡ holder ds es name
 elsewhere None k name ds es other = refl
 elsewhere (Some d) k name ds es other = holder_other ds (in_userdict k (Procedure [])) es name other
 
@@ -101,32 +101,32 @@ turned name k e = by_test (bytes_eq k name)
     (λ t. absurd (true≢false (sym ((bytes_eq-Decides name k).1 (sym ((bytes_eq-Decides k name).0 t))) ∙ e)))
     (λ f. f)
 
-one_put : (x : Option ℕ) (d : ℕ) (k : List ℕ) (es : List Entry) → x ≡ Some d → entry_of 0 k (left_if x k es) ≡ Some (Procedure [])
+one_put : (x : Option ℕ) (d : ℕ) (k : List ℕ) (es : List DictionaryEntry) → x ≡ Some d → dictionary_entry 0 k (left_if x k es) ≡ Some (Procedure [])
 one_put None d k es e = absurd (true≢false (ap is_none e))
-one_put (Some c) d k es e = ap (λ b. if b && true then Some (Procedure []) else entry_of 0 k es) ((bytes_eq-Decides k k).1 refl)
+one_put (Some c) d k es e = ap (λ b. if b && true then Some (Procedure []) else dictionary_entry 0 k es) ((bytes_eq-Decides k k).1 refl)
 
-means_nothing : (names : List (List ℕ)) (ds : List ℕ) (es : List Entry) (name : List ℕ) (d : ℕ) → among name names ≡ true → holder ds es name ≡ Some d
-    → entry_of 0 name (papers_left names ds es) ≡ Some (Procedure [])
+means_nothing : (names : List (List ℕ)) (ds : List ℕ) (es : List DictionaryEntry) (name : List ℕ) (d : ℕ) → among name names ≡ true → holder ds es name ≡ Some d
+    → dictionary_entry 0 name (papers_left names ds es) ≡ Some (Procedure [])
 means_nothing [] ds es name d a e = absurd (true≢false (sym a))
 means_nothing (k ∷ names) ds es name d a e =
-    let now : List Entry = left_if (holder ds es k) k es in
+    let now : List DictionaryEntry = left_if (holder ds es k) k es in
     by_test (bytes_eq name k)
     (λ t. let same : name ≡ k = (bytes_eq-Decides name k).0 t in
-    subst (λ z. entry_of 0 z (papers_left names ds now) ≡ Some (Procedure [])) (sym same)
+    subst (λ z. dictionary_entry 0 z (papers_left names ds now) ≡ Some (Procedure [])) (sym same)
     (stays names ds now k (one_put (holder ds es k) d k es (subst (λ z. holder ds es z ≡ Some d) same e))))
     (λ f. means_nothing names ds now name d (subst (λ b. (b || among name names) ≡ true) f a) (elsewhere (holder ds es k) k name ds es (turned name k f) ∙ e))
 
-not_there : (names : List (List ℕ)) (ds : List ℕ) (es : List Entry) (name : List ℕ) → holder ds es name ≡ None → holder ds (papers_left names ds es) name ≡ None
+not_there : (names : List (List ℕ)) (ds : List ℕ) (es : List DictionaryEntry) (name : List ℕ) → holder ds es name ≡ None → holder ds (papers_left names ds es) name ≡ None
 not_there [] ds es name e = e
 not_there (k ∷ names) ds es name e =
-    let now : List Entry = left_if (holder ds es k) k es in
+    let now : List DictionaryEntry = left_if (holder ds es k) k es in
     by_test (bytes_eq name k)
     (λ t. let same : name ≡ k = (bytes_eq-Decides name k).0 t in
     not_there names ds now name (subst (λ x. holder ds (left_if x k es) name ≡ None) (sym (subst (λ z. holder ds es z ≡ None) same e)) e))
     (λ f. not_there names ds now name (elsewhere (holder ds es k) k name ds es (turned name k f) ∙ e))
 
 -- the line, run where userdict is on top
-line_runs : (s : State) (ds : List ℕ) (es : List Entry) (rest : List Token) → Runs false (run_of (papers_tokens ++ rest) (over s (0 ∷ ds) es)) (run_of rest (over s (0 ∷ ds) (papers_left paper_names (0 ∷ ds) es)))
+line_runs : (s : State) (ds : List ℕ) (es : List DictionaryEntry) (rest : List Token) → Runs false (run_of (papers_tokens ++ rest) (over s (0 ∷ ds) es)) (run_of rest (over s (0 ∷ ds) (papers_left paper_names (0 ∷ ds) es)))
 line_runs s ds es rest =
     some 25 (run_of (papers_tokens ++ rest) (over s (0 ∷ ds) es)) (run_of (flat_map (λ e. e ∷ each_paper) (map Literal paper_names) ++ rest) (over s (0 ∷ ds) es)) (run_of rest (over s (0 ∷ ds) (papers_left paper_names (0 ∷ ds) es))) refl
     (all_papers paper_names s ds es rest refl)
@@ -136,7 +136,7 @@ papers_run s ds rest e =
     subst (λ l. Runs false (run_of (papers_tokens ++ rest) (over s l s.work.entries)) (run_of rest (over s l (papers_left paper_names l s.work.entries)))) (sym e)
     (line_runs s ds s.work.entries rest)
 
-first_of : (ds : List ℕ) (c : List ℕ) (es : List Entry) (name : List ℕ) (o : Object) → ds ≡ 0 ∷ c → entry_of 0 name es ≡ Some o → meaning ds es name ≡ Some o
+first_of : (ds : List ℕ) (c : List ℕ) (es : List DictionaryEntry) (name : List ℕ) (o : Object) → ds ≡ 0 ∷ c → dictionary_entry 0 name es ≡ Some o → meaning ds es name ≡ Some o
 first_of ds c es name o e f = subst (λ l. meaning l es name ≡ Some o) (sym e) (ap (λ x. or x (meaning c es name)) f)
 
 pub papers_are_left : PapersAreLeft
@@ -153,5 +153,5 @@ papers_are_left = (
 pub paper_is_nothing : PaperIsNothing
 paper_is_nothing s name rest e = (
   page_is_left s name rest e,
-  λ outers outline. (suc zero, ap (λ x. and_then (steps (shelter_step outers outline) zero) (meant outers outline x (run_of rest s))) e),
+  λ outers outline. (suc zero, ap (λ x. and_then (steps (shelter_step outers outline) zero) (meant_sheltered outers outline x (run_of rest s))) e),
 )

@@ -3,7 +3,7 @@ use Rattle.std.specs.Prelude.{Some, codes, bytes_eq, nat_lt, if◌then◌else◌
 use Rattle.std.proofs.Common.{◌≡◌, ℕ, zero, suc, ◌+◌, ◌<◌, ◌≤◌, refl, ap, ◌∙◌, Bool, true, false, not, ◌&&◌, ◌||◌, ◌==◌, List, [], ◌∷◌, ◌++◌, map, arith}
 use Rattle.std.proofs.lemmas.Bool.{ltb-true, lt-ltb}
 use Rattle.pictures.specs.Objects.{Object, Dictionary, Saved, Procedure, Matrix, Truth}
-use Rattle.pictures.specs.Dictionaries.{Entry, entry_of, has, meaning}
+use Rattle.pictures.specs.Dictionaries.{DictionaryEntry, dictionary_entry, has, meaning}
 use Rattle.pictures.specs.Operators.{all_old}
 use Rattle.pictures.specs.Machine.{State, Runs}
 use Rattle.pictures.specs.Sheets.{Numbers, Shown, AllOf, in_userdict}
@@ -28,14 +28,14 @@ and_false true b e = e
 and_false false b e = refl
 
 -- what is put in userdict isn't above it
-above_userdict : (ds : List ℕ) (name key : List ℕ) (o : Object) (es : List Entry) → none_above name ds (in_userdict key o ∷ es) ≡ none_above name ds es
+above_userdict : (ds : List ℕ) (name key : List ℕ) (o : Object) (es : List DictionaryEntry) → none_above name ds (in_userdict key o ∷ es) ≡ none_above name ds es
 above_userdict [] name key o es = refl
 above_userdict (d ∷ ds) name key o es =
-    both_ways (0 == d) (has (entry_of d name (in_userdict key o ∷ es))) (has (entry_of d name es)) (none_above name ds (in_userdict key o ∷ es))
-    (λ f. ap (λ b. has (if b then Some o else entry_of d name es)) (and_false (bytes_eq key name) (0 == d) f))
-    ∙ ap (λ x. (0 == d) || (not (has (entry_of d name es)) && x)) (above_userdict ds name key o es)
+    both_ways (0 == d) (has (dictionary_entry d name (in_userdict key o ∷ es))) (has (dictionary_entry d name es)) (none_above name ds (in_userdict key o ∷ es))
+    (λ f. ap (λ b. has (if b then Some o else dictionary_entry d name es)) (and_false (bytes_eq key name) (0 == d) f))
+    ∙ ap (λ x. (0 == d) || (not (has (dictionary_entry d name es)) && x)) (above_userdict ds name key o es)
 
-above_outers : (outers : List Outer) (ds : List ℕ) (name : List ℕ) (made : ℕ) (es : List Entry) → AreNew outers made → all_old made ds ≡ true
+above_outers : (outers : List Outer) (ds : List ℕ) (name : List ℕ) (made : ℕ) (es : List DictionaryEntry) → AreNew outers made → all_old made ds ≡ true
     → none_above name ds (outer_entries outers ++ es) ≡ none_above name ds es
 above_outers [] ds name made es n h = refl
 above_outers (o ∷ os) ds name made es n h = above_userdict ds name (codes "ImposeOuter") (Dictionary o.dictionary) (outer_kept o os ++ es) ∙ above_kept o os ds name made es n h
@@ -45,8 +45,8 @@ above_all : (names : List (List ℕ)) (outers : List Outer) (s : State) (n : Num
 above_all [] outers s n t h = refl
 above_all (name ∷ names) outers s n t h =
     let ds : List ℕ = s.work.dictionaries in
-    let es : List Entry = s.work.entries in
-    let below : List Entry = outer_entries outers ++ (two s ++ es) in
+    let es : List DictionaryEntry = s.work.entries in
+    let below : List DictionaryEntry = outer_entries outers ++ (two s ++ es) in
     both_true (none_above name ds (all_entries outers s n)) (none_above_of names ds (all_entries outers s n))
     (above_userdict ds name (codes "PStoPSenablepage") (Truth false) (outline_entry n ∷ matrix_entry outers s ∷ below)
     ∙ above_userdict ds name (codes "PStoPSclip") (Procedure (outline_tokens n)) (matrix_entry outers s ∷ below)
@@ -58,25 +58,25 @@ above_all (name ∷ names) outers s n t h =
 
 -- Nothing is newer than what has been made then.
 
-newer_still : (a b : ℕ) (es : List Entry) → a ≤ b → none_newer a es ≡ true → none_newer b es ≡ true
+newer_still : (a b : ℕ) (es : List DictionaryEntry) → a ≤ b → none_newer a es ≡ true → none_newer b es ≡ true
 newer_still a b [] le h = refl
 newer_still a b (e ∷ es) le h =
     let old = ltb-true e.dictionary (a + 1) (first (nat_lt e.dictionary (a + 1)) (none_newer a es) h) in
     both_true (nat_lt e.dictionary (b + 1)) (none_newer b es) (lt-ltb e.dictionary (b + 1) (omega (arith, old, le)))
     (newer_still a b es le (second (nat_lt e.dictionary (a + 1)) (none_newer a es) h))
 
-one_more : (made : ℕ) (e : Entry) (es : List Entry) → e.dictionary < made + 1 → none_newer made es ≡ true → none_newer made (e ∷ es) ≡ true
+one_more : (made : ℕ) (e : DictionaryEntry) (es : List DictionaryEntry) → e.dictionary < made + 1 → none_newer made es ≡ true → none_newer made (e ∷ es) ≡ true
 one_more made e es less h = both_true (nat_lt e.dictionary (made + 1)) (none_newer made es) (lt-ltb e.dictionary (made + 1) less) h
 
-outers_made : (outers : List Outer) (made : ℕ) (es : List Entry) → AreNew outers made → none_newer (outer_made outers made + 1) es ≡ true
+outers_made : (outers : List Outer) (made : ℕ) (es : List DictionaryEntry) → AreNew outers made → none_newer (outer_made outers made + 1) es ≡ true
     → none_newer (outer_made outers made + 1) (outer_entries outers ++ es) ≡ true
 outers_made [] made es n h = h
 outers_made (o ∷ os) made es n h =
     let now : ℕ = made + 1 + 1 in
     let less : o.dictionary < now + 1 = omega (arith, n) in
-    let matrix : Entry = record { dictionary = o.dictionary; key = codes "PStoPSmatrix"; value = Matrix o.matrix } in
-    let clip : Entry = record { dictionary = o.dictionary; key = codes "PStoPSclip"; value = Procedure (outline_tokens o.numbers) } in
-    let outer : Entry = record { dictionary = o.dictionary; key = codes "ImposeOuter"; value = outer_is os } in
+    let matrix : DictionaryEntry = record { dictionary = o.dictionary; key = codes "PStoPSmatrix"; value = Matrix o.matrix } in
+    let clip : DictionaryEntry = record { dictionary = o.dictionary; key = codes "PStoPSclip"; value = Procedure (outline_tokens o.numbers) } in
+    let outer : DictionaryEntry = record { dictionary = o.dictionary; key = codes "ImposeOuter"; value = outer_is os } in
     one_more now (in_userdict (codes "ImposeOuter") (Dictionary o.dictionary)) (outer ∷ clip ∷ matrix ∷ es) (omega arith)
     (one_more now outer (clip ∷ matrix ∷ es) less (one_more now clip (matrix ∷ es) less (one_more now matrix es less h)))
 
@@ -85,10 +85,10 @@ newer_there outers s n t =
     let now : ℕ = page_matrix outers s in
     let made = more_made outers s.work.made in
     let zero_made : 0 < now + 1 = omega arith in
-    let es : List Entry = s.work.entries in
-    let save : Entry = in_userdict (codes "ImposeSave") (Saved s.level) in
-    let show : Entry = in_userdict (codes "showpage") (Procedure []) in
-    let below : List Entry = outer_entries outers ++ (two s ++ es) in
+    let es : List DictionaryEntry = s.work.entries in
+    let save : DictionaryEntry = in_userdict (codes "ImposeSave") (Saved s.level) in
+    let show : DictionaryEntry = in_userdict (codes "showpage") (Procedure []) in
+    let below : List DictionaryEntry = outer_entries outers ++ (two s ++ es) in
     one_more now flag_entry (outline_entry n ∷ matrix_entry outers s ∷ below) zero_made
     (one_more now (outline_entry n) (matrix_entry outers s ∷ below) zero_made
     (one_more now (matrix_entry outers s) below zero_made

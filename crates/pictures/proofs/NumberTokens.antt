@@ -9,7 +9,7 @@ use Rattle.std.proofs.lemmas.List.{reverse-append}
 use Rattle.pictures.proofs.Scanned.{scan_behind}
 use Rattle.rules.specs.Bytes.{dot, minus_sign}
 use Rattle.pictures.specs.Objects.{Token, Number, Name, Unknown}
-use Rattle.pictures.specs.Scanner.{Reading, Between, InWord, behind, class_of, Regular, scan_from, word, is_number, is_sign, is_whole, has_radix, begins_exponent, ends_comment, digits_from, decimals_from, begun, in_word}
+use Rattle.pictures.specs.Scanner.{Reading, Between, InWord, after_tokens, class_of, Regular, scan_from, word, is_number_text, is_sign, is_whole_number, has_radix, begins_exponent, ends_comment, digits_from, decimals_from, begun, in_word}
 
 -- a property of each digit holds for all
 at_least : (P : ℕ → Type 0) (n d : ℕ) → n ≤ d → P n → (n + 1 ≤ d → P d) → P d
@@ -59,7 +59,7 @@ regular_fraction (d ∷ ds) h = (refl, (h.0.0, regular_digits ds h.1))
 decimals_only : (some : Bool) (ds : List ℕ) → AllDigits ds → (length ds ≡ 0 → some ≡ true) → decimals_from some ds ≡ true
 decimals_only some [] h e = e refl
 decimals_only some (d ∷ ds) h e =
-    ap (λ b. if b then some && is_whole ds else is_ascii_digit d && decimals_from true ds) h.0.5
+    ap (λ b. if b then some && is_whole_number ds else is_ascii_digit d && decimals_from true ds) h.0.5
     ∙ ap (λ b. b && decimals_from true ds) h.0.1
     ∙ decimals_only true ds h.1 (λ _. refl)
 
@@ -70,8 +70,8 @@ decimals_then (d ∷ ds) h = decimals_only true (d ∷ ds) h (λ _. refl)
 whole_then : (some : Bool) (whole ds : List ℕ) → AllDigits whole → AllDigits ds → (length whole ≡ 0 → some ≡ true) → digits_from some (whole ++ fraction_text ds) ≡ true
 whole_then some [] ds h k e = ap (λ s. digits_from s (fraction_text ds)) (e refl) ∙ decimals_then ds k
 whole_then some (w ∷ whole) ds h k e =
-    ap (λ b. if b then decimals_from some (whole ++ fraction_text ds) else (if begins_exponent w then some && is_whole (whole ++ fraction_text ds) else is_ascii_digit w && digits_from true (whole ++ fraction_text ds))) h.0.2
-    ∙ ap (λ b. if b then some && is_whole (whole ++ fraction_text ds) else is_ascii_digit w && digits_from true (whole ++ fraction_text ds)) h.0.5
+    ap (λ b. if b then decimals_from some (whole ++ fraction_text ds) else (if begins_exponent w then some && is_whole_number (whole ++ fraction_text ds) else is_ascii_digit w && digits_from true (whole ++ fraction_text ds))) h.0.2
+    ∙ ap (λ b. if b then some && is_whole_number (whole ++ fraction_text ds) else is_ascii_digit w && digits_from true (whole ++ fraction_text ds)) h.0.5
     ∙ ap (λ b. b && digits_from true (whole ++ fraction_text ds)) h.0.1
     ∙ whole_then true whole ds h.1 k (λ _. refl)
 
@@ -147,7 +147,7 @@ pub record IsWord (text : List ℕ) : Type 0 where
   pub others : List ℕ
   pub parts : text ≡ first ∷ others
   pub regular : AllRegular (first ∷ others)
-  pub is_word : is_number (first ∷ others) ≡ true
+  pub is_word : is_number_text (first ∷ others) ≡ true
 
 word_of : (negative : Bool) (whole ds : List ℕ) → AllDigits whole → AllDigits ds → 0 < length whole → IsWord ((if negative then minus_sign ∷ [] else []) ++ whole ++ fraction_text ds)
 word_of true whole ds h k l = record {
@@ -185,7 +185,7 @@ abbrev pub Reads : Reading → List ℕ → List Token → Reading → Type 0
 Reads r text ts q = scan_from r text ≡ (ts, q)
 
 pub reads_join : (r q p : Reading) (a b : List ℕ) (ts us : List Token) → Reads r a ts q → Reads q b us p → Reads r (a ++ b) (ts ++ us) p
-reads_join r q p a b ts us e f = scan_behind r a b ∙ ap (λ x. behind x.0 (scan_from x.1 b)) e ∙ ap (behind ts) f
+reads_join r q p a b ts us e f = scan_behind r a b ∙ ap (λ x. after_tokens x.0 (scan_from x.1 b)) e ∙ ap (after_tokens ts) f
 
 abbrev pub onto : List ℕ → List ℕ → List ℕ
 onto [] acc = acc
@@ -198,11 +198,11 @@ reverse_onto (b ∷ bs) acc = reverse_onto bs (b ∷ acc) ∙ ap (λ l. l ++ bs)
 reads_regular : (bs acc : List ℕ) → AllRegular bs → Reads (InWord acc) bs [] (InWord (onto bs acc))
 reads_regular [] acc h = refl
 reads_regular (b ∷ bs) acc h =
-    ap (λ c. behind (in_word c acc b).0 (scan_from (in_word c acc b).1 bs)) h.0 ∙ ap (behind []) (reads_regular bs (b ∷ acc) h.1)
+    ap (λ c. after_tokens (in_word c acc b).0 (scan_from (in_word c acc b).1 bs)) h.0 ∙ ap (after_tokens []) (reads_regular bs (b ∷ acc) h.1)
 
 pub reads_word : (text : List ℕ) → IsWord text → Reads Between text [] (InWord (onto text []))
 reads_word text w = subst (λ t. Reads Between t [] (InWord (onto t []))) (sym w.parts)
-    (ap (λ c. behind (begun c w.first).0 (scan_from (begun c w.first).1 w.others)) w.regular.0 ∙ ap (behind []) (reads_regular w.others (w.first ∷ []) w.regular.1))
+    (ap (λ c. after_tokens (begun c w.first).0 (scan_from (begun c w.first).1 w.others)) w.regular.0 ∙ ap (after_tokens []) (reads_regular w.others (w.first ∷ []) w.regular.1))
 
 pub word_is : (text : List ℕ) → IsWord text → word (reverse (onto text [])) ≡ Number text
 word_is text w = ap word (reverse_onto text []) ∙ subst (λ t. word t ≡ Number t) (sym w.parts)

@@ -9,31 +9,31 @@ use Rattle.rules.specs.Specification.{Item}
 use Rattle.rules.specs.Placement.{Matrix, matrix_of, matrix_text, spaced}
 use Rattle.rules.specs.Output.{Border, Frame, edge_text, border_text, opening_text}
 use Rattle.pictures.specs.Objects.{Token, Number, Name}
-use Rattle.pictures.specs.Scanner.{Reading, Between, InWord, word, ended, behind}
+use Rattle.pictures.specs.Scanner.{Reading, Between, InWord, word, ended_token, after_tokens}
 use Rattle.pictures.specs.Sheets.{BorderNumbers, Numbers, zero_text, saving_tokens, placing_tokens, border_tokens}
 use Rattle.pictures.specs.Documents.{border_numbers, numbers_of, OpeningIsCut}
 use Rattle.pictures.proofs.NumberTokens.{IsWord, Reads, reads_join, reads_word, word_is, onto, points_word, scale_word}
 
 -- a text, a number, and a text that ends the number
-pub add_number : (x number behind : List ℕ) (ts us : List Token) (q : Reading) → Reads Between x ts Between → IsWord number
-    → ((acc : List ℕ) → Reads (InWord acc) behind (word (reverse acc) ∷ us) q) → Reads Between ((x ++ number) ++ behind) (ts ++ (Number number ∷ us)) q
-add_number x number behind ts us q e w f =
+pub add_number : (x number after_tokens : List ℕ) (ts us : List Token) (q : Reading) → Reads Between x ts Between → IsWord number
+    → ((acc : List ℕ) → Reads (InWord acc) after_tokens (word (reverse acc) ∷ us) q) → Reads Between ((x ++ number) ++ after_tokens) (ts ++ (Number number ∷ us)) q
+add_number x number after_tokens ts us q e w f =
     let start : Reads Between (x ++ number) ts (InWord (onto number [])) =
     subst (λ l. Reads Between (x ++ number) l (InWord (onto number []))) (append-nil ts) (reads_join Between Between (InWord (onto number [])) x number ts [] e (reads_word number w)) in
-    reads_join Between (InWord (onto number [])) q (x ++ number) behind ts (Number number ∷ us) start
+    reads_join Between (InWord (onto number [])) q (x ++ number) after_tokens ts (Number number ∷ us) start
     (f (onto number []) ∙ ap (λ t. (t ∷ us, q)) (word_is number w))
 
 -- a text, two numbers with a space between them, and a text that ends the second number
-add_point : (x a b behind : List ℕ) (ts us : List Token) (q : Reading) → Reads Between x ts Between → IsWord a → IsWord b
-    → ((acc : List ℕ) → Reads (InWord acc) behind (word (reverse acc) ∷ us) q)
-    → Reads Between ((x ++ ((a ++ codes " ") ++ b)) ++ behind) ((ts ++ (Number a ∷ [])) ++ (Number b ∷ us)) q
-add_point x a b behind ts us q e wa wb f =
+add_point : (x a b after_tokens : List ℕ) (ts us : List Token) (q : Reading) → Reads Between x ts Between → IsWord a → IsWord b
+    → ((acc : List ℕ) → Reads (InWord acc) after_tokens (word (reverse acc) ∷ us) q)
+    → Reads Between ((x ++ ((a ++ codes " ") ++ b)) ++ after_tokens) ((ts ++ (Number a ∷ [])) ++ (Number b ∷ us)) q
+add_point x a b after_tokens ts us q e wa wb f =
     let last : Reading = InWord (onto b []) in
     let first : Reads Between (a ++ codes " ") (Number a ∷ []) Between = add_number [] a (codes " ") [] [] Between refl wa (λ acc. refl) in
     let both : Reads Between ((a ++ codes " ") ++ b) (Number a ∷ []) last =
     reads_join Between Between last (a ++ codes " ") b (Number a ∷ []) [] first (reads_word b wb) in
     let start : Reads Between (x ++ ((a ++ codes " ") ++ b)) (ts ++ (Number a ∷ [])) last = reads_join Between Between last x ((a ++ codes " ") ++ b) ts (Number a ∷ []) e both in
-    reads_join Between last q (x ++ ((a ++ codes " ") ++ b)) behind (ts ++ (Number a ∷ [])) (Number b ∷ us) start
+    reads_join Between last q (x ++ ((a ++ codes " ") ++ b)) after_tokens (ts ++ (Number a ∷ [])) (Number b ∷ us) start
     (f (onto b []) ∙ ap (λ t. (t ∷ us, q)) (word_is b wb))
 
 -- a path by any numbers
@@ -72,7 +72,7 @@ path_read l r t wl wr wt =
 pub spaced_read : (number rest : List ℕ) (ts : List Token) (q : Reading) → IsWord number → Reads Between rest ts q → Reads Between (number ++ space ∷ rest) (Number number ∷ ts) q
 spaced_read number rest ts q w e =
     reads_join Between (InWord (onto number [])) q number (space ∷ rest) [] (Number number ∷ ts) (reads_word number w)
-    (ap (behind (word (reverse (onto number [])) ∷ [])) e ∙ ap (λ t. (t ∷ ts, q)) (word_is number w))
+    (ap (after_tokens (word (reverse (onto number [])) ∷ [])) e ∙ ap (λ t. (t ∷ ts, q)) (word_is number w))
 
 in_brackets : (a b c d x y : List ℕ) → IsWord a → IsWord b → IsWord c → IsWord d → IsWord x → IsWord y
     → Reads Between (line ((codes "[" ++ spaced (a ∷ b ∷ c ∷ d ∷ x ∷ y ∷ []) ++ codes "]") ++ codes " concat"))
@@ -157,4 +157,4 @@ opening_read frame item =
 pub opening_is_cut : OpeningIsCut
 opening_is_cut frame item =
     let e = opening_read frame item in
-    (ap (λ x. x.0 ++ ended x.1) e ∙ append-nil (saving_tokens ++ placing_tokens (numbers_of frame item)), ap (λ x. x.1) e)
+    (ap (λ x. x.0 ++ ended_token x.1) e ∙ append-nil (saving_tokens ++ placing_tokens (numbers_of frame item)), ap (λ x. x.1) e)

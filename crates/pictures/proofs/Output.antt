@@ -16,11 +16,11 @@ use Rattle.rules.specs.MadeOutput.{made_slot_text, made_sheet_text, with_lines, 
 use Rattle.rules.proofs.Made.{made_is_output}
 use Rattle.pictures.specs.Objects.{Token, Name}
 use Rattle.pictures.specs.Machine.{State, Painting, Runs}
-use Rattle.pictures.specs.Scanner.{Reading, Between, scan_from, tokens, IsComplete}
+use Rattle.pictures.specs.Scanner.{Reading, Between, scan_from, tokens, EndsBetweenTokens}
 use Rattle.pictures.specs.Scanner as Scanner
 use Rattle.pictures.specs.Sheets.{Shown, IsGround, saving_tokens, placing_tokens, closing_tokens, placed_tokens, sheet_tokens, with_more}
-use Rattle.pictures.specs.Pictures.{past, past_all, Begins, sheets_tokens}
-use Rattle.pictures.specs.Documents.{numbers_of, started, body_of_page, frame_of, shown_slot, shown_sheet, sheet_pictures, pages_past, pages_past_all, FirstHas, OnSlotsFrom, OnSheetsFrom, PagePaints, all_sheets, OutputIsPrinted}
+use Rattle.pictures.specs.Pictures.{past, past_all, BeginsAt, sheets_tokens}
+use Rattle.pictures.specs.Documents.{numbers_of, started, body_of_page, page_frame, shown_slot, shown_sheet, sheet_pictures, pages_past, pages_past_all, FirstHas, OnSlotsFrom, OnSheetsFrom, PagePaints, all_sheets, OutputIsPrinted}
 use Rattle.pictures.specs.Imposed.{IsQuiet}
 use Rattle.pictures.proofs.Runs.{AreRuns, free_are_runs}
 use Rattle.pictures.proofs.More.{runs_with_more}
@@ -33,15 +33,15 @@ use Rattle.pictures.proofs.Comments.{page_line, comments_read}
 -- The tokens of an output.
 
 -- a complete text is read to its end
-pub complete_read : (text : List ℕ) → IsComplete text → Reads Between text (tokens text) Between
+pub complete_read : (text : List ℕ) → EndsBetweenTokens text → Reads Between text (tokens text) Between
 complete_read text e =
     let x : List Token × Reading = scan_from Between text in
-    ap (λ r. (x.0, r)) e ∙ ap (λ ts. (ts, Between)) (sym (append-nil x.0) ∙ ap (λ r. x.0 ++ Scanner.ended r) (sym e))
+    ap (λ r. (x.0, r)) e ∙ ap (λ ts. (ts, Between)) (sym (append-nil x.0) ∙ ap (λ r. x.0 ++ Scanner.ended_token r) (sym e))
 
-slot_read : (border : Option Border) (us : List NestedUnit) (picture : ℕ → List Painting) (p : ℕ) (item : Item) (paper : Paper) → IsComplete (body_of_page us p)
+slot_read : (border : Option Border) (us : List NestedUnit) (picture : ℕ → List Painting) (p : ℕ) (item : Item) (paper : Paper) → EndsBetweenTokens (body_of_page us p)
     → Reads Between (made_slot_text border (pages us) (Placed p item paper)) (pages_of (shown_slot border us picture (Placed p item paper))) Between
 slot_read border us picture p item paper h =
-    let frame : Frame = frame_of border paper in
+    let frame : Frame = page_frame border paper in
     let body : List Token = tokens (body_of_page us p) in
     let placing : List Token = placing_tokens (numbers_of frame item) in
     let same : ((saving_tokens ++ placing) ++ body) ++ closing_tokens ≡ (saving_tokens ++ (placing ++ (body ++ closing_tokens))) ++ [] =
@@ -55,7 +55,7 @@ pages_append : (xs ys : List Shown) → pages_of (xs ++ ys) ≡ pages_of xs ++ p
 pages_append xs ys = ap (flat_map placed_tokens) (map-append (λ x. x.placed) xs ys) ∙ flat_map-append placed_tokens (map (λ x. x.placed) xs) (map (λ x. x.placed) ys)
 
 abbrev pub AreComplete : List NestedUnit → ℕ → Paper → ℕ → Type 0
-AreComplete us k paper p = IsComplete (body_of_page us p)
+AreComplete us k paper p = EndsBetweenTokens (body_of_page us p)
 
 pub slots_read : (border : Option Border) (us : List NestedUnit) (picture : ℕ → List Painting) (k : ℕ) (slots : List MadeSlot) → OnSlotsFrom (AreComplete us) k slots
     → Reads Between (flat_map (made_slot_text border (pages us)) slots) (pages_of (flat_map (shown_slot border us picture) slots)) Between
@@ -96,7 +96,7 @@ sheets_read border dress us picture q number k (sheet ∷ all) h =
     (sheets_read border dress us picture q (number + 1) (pages_past k sheet.slots) all h.1)
 
 output_cut : (border : Option Border) (dress : Dress) (all : List MadeSheet) (us : List NestedUnit) (picture : ℕ → List Painting) → IsQuiet dress
-    → IsComplete (dressed_preamble (length all) dress.header us) → OnSheetsFrom (AreComplete us) 0 all
+    → EndsBetweenTokens (dressed_preamble (length all) dress.header us) → OnSheetsFrom (AreComplete us) 0 all
     → tokens (made_output border dress all us)
     ≡ tokens (dressed_preamble (length all) dress.header us) ++ (sheets_tokens (map (shown_sheet border us picture) all) ++ tokens (trailer_text us))
 output_cut border dress all us picture q complete h =
@@ -107,7 +107,7 @@ output_cut border dress all us picture q complete h =
     let both : Reads Between (begun ++ middle) (tokens begun ++ shown) Between =
     reads_join Between Between Between begun middle (tokens begun) shown (complete_read begun complete) (sheets_read border dress us picture q 0 0 all h) in
     tokens_join (begun ++ middle) (trailer_text us) (ap (λ x. x.1) both)
-    ∙ ap (λ ts. ts ++ last) (ap (λ x. x.0 ++ Scanner.ended x.1) both ∙ append-nil (tokens begun ++ shown))
+    ∙ ap (λ ts. ts ++ last) (ap (λ x. x.0 ++ Scanner.ended_token x.1) both ∙ append-nil (tokens begun ++ shown))
     ∙ append_assoc (tokens begun) shown last
 
 -- One property of each page from another.
@@ -125,24 +125,24 @@ on_sheets P Q f k (sheet ∷ all) h = (on_slots P Q f k sheet.slots h.0, on_shee
 
 -- the text ends between tokens, and brings the machine here, whatever comes after it
 abbrev pub RunsOn : (State → State → Type 0) → (List Token → State) → List ℕ → State → Type 0
-RunsOn R start text s = IsComplete text × ((more : List Token) → R (start (tokens text ++ more)) (record s { left = more }))
+RunsOn R start text s = EndsBetweenTokens text × ((more : List Token) → R (start (tokens text ++ more)) (record s { left = more }))
 
 pub runs_on : (R : State → State → Type 0) (start : List Token → State) (text : List ℕ) (s : State)
-    → ((ts more : List Token) → R (start ts) s → R (start (ts ++ more)) (with_more more s)) → IsComplete text → R (start (tokens text)) s → s.left ≡ [] → RunsOn R start text s
+    → ((ts more : List Token) → R (start ts) s → R (start (ts ++ more)) (with_more more s)) → EndsBetweenTokens text → R (start (tokens text)) s → s.left ≡ [] → RunsOn R start text s
 runs_on R start text s on complete run nothing_left =
     (complete, λ more. subst (λ l. R (start (tokens text ++ more)) (record s { left = l ++ more })) nothing_left (on (tokens text) more run))
 
 -- so does another text with the same tokens
-pub runs_alike : (R : State → State → Type 0) (start : List Token → State) (text other : List ℕ) (s : State) → (tokens other ≡ tokens text) × IsComplete other → RunsOn R start text s → RunsOn R start other s
+pub runs_alike : (R : State → State → Type 0) (start : List Token → State) (text other : List ℕ) (s : State) → (tokens other ≡ tokens text) × EndsBetweenTokens other → RunsOn R start text s → RunsOn R start other s
 runs_alike R start text other s (same, complete) (whole, run) = (complete, λ more. subst (λ ts. R (start (ts ++ more)) (record s { left = more })) (sym same) (run more))
 
 -- what is kept of a page is placed, wherever that is, and paints this
 abbrev pub BodyPlaces : (State → State → Type 0) → (ℕ → State) → Frame → List NestedUnit → ℕ → ℕ → List Painting → Type 0
 BodyPlaces R at frame us k p picture =
-    IsComplete (body_of_page us p) × ((item : Item) → Places R at (at 0).graphics k (record { placed = record { numbers = numbers_of frame item; body = tokens (body_of_page us p) }; picture = picture }))
+    EndsBetweenTokens (body_of_page us p) × ((item : Item) → Places R at (at 0).graphics k (record { placed = record { numbers = numbers_of frame item; body = tokens (body_of_page us p) }; picture = picture }))
 
 abbrev pub Bodies : (State → State → Type 0) → (ℕ → State) → Option Border → List NestedUnit → (ℕ → List Painting) → ℕ → Paper → ℕ → Type 0
-Bodies R at border us picture k paper p = BodyPlaces R at (frame_of border paper) us k p (picture p)
+Bodies R at border us picture k paper p = BodyPlaces R at (page_frame border paper) us k p (picture p)
 
 slots_place : (R : State → State → Type 0) (at : ℕ → State) (border : Option Border) (us : List NestedUnit) (picture : ℕ → List Painting) (k : ℕ) (slots : List MadeSlot)
     → OnSlotsFrom (Bodies R at border us picture) k slots → AllPlace R at (at 0).graphics k (flat_map (shown_slot border us picture) slots)
@@ -169,7 +169,7 @@ sheets_past border us picture k [] = refl
 sheets_past border us picture k (sheet ∷ all) =
     ap (λ n. past_all n (map (shown_sheet border us picture) all)) (shown_past border us picture k sheet.slots) ∙ sheets_past border us picture (pages_past k sheet.slots) all
 
-begins_there : (least : ℕ) (border : Option Border) (us : List NestedUnit) (picture : ℕ → List Painting) (all : List MadeSheet) → FirstHas least all → Begins least 0 (map (shown_sheet border us picture) all)
+begins_there : (least : ℕ) (border : Option Border) (us : List NestedUnit) (picture : ℕ → List Painting) (all : List MadeSheet) → FirstHas least all → BeginsAt least 0 (map (shown_sheet border us picture) all)
 begins_there least border us picture [] h = tt
 begins_there least border us picture (sheet ∷ all) h = subst (λ n. least ≤ n) (sym (shown_past border us picture 0 sheet.slots)) h
 
@@ -223,7 +223,7 @@ undressed_preamble n us = ap ended (counted n (kept drops_in_header (preamble us
 
 -- The machine of the laws.
 
-pub free_runs_on : (text : List ℕ) (s : State) → IsComplete text → Runs false (started (tokens text)) s → s.left ≡ [] → RunsOn (Runs false) started text s
+pub free_runs_on : (text : List ℕ) (s : State) → EndsBetweenTokens text → Runs false (started (tokens text)) s → s.left ≡ [] → RunsOn (Runs false) started text s
 free_runs_on text s complete run left = runs_on (Runs false) started text s (λ ts more r. runs_with_more more (started ts) s r) complete run left
 
 pub body_places : (frame : Frame) (us : List NestedUnit) (s : State) (p k : ℕ) (picture : List Painting) → IsGround s → PagePaints us s p picture → BodyPlaces (Runs false) (still s) frame us k p picture
@@ -239,4 +239,4 @@ output_is_printed frame sides spec us picture s (complete, run, left, painted, p
     (subst (λ text. RunsOn (Runs false) started text s) (sym (undressed_preamble (length all) us)) (free_runs_on first s complete run left))
     painted (ground_prints (Runs false) free_are_runs s ground)
     (on_sheets (λ k paper p. PagePaints us s p (picture p)) (Bodies (Runs false) (still s) frame.border us picture)
-    (λ k paper p x. body_places (frame_of frame.border paper) us s p k (picture p) ground x) 0 all h))
+    (λ k paper p x. body_places (page_frame frame.border paper) us s p k (picture p) ground x) 0 all h))

@@ -4,21 +4,21 @@ use Rattle.std.proofs.lemmas.Slice.Eq.{bytes_eq-Decides}
 use Rattle.std.proofs.Common.{◌≡◌, ℕ, refl, ap, ap₂, ◌∙◌, sym, subst, Bool, true, false, not, ◌&&◌, ◌||◌, ◌==◌, List, [], ◌∷◌, true≢false, eqb-true, ◌+◌, arith}
 use Rattle.pictures.specs.Objects.{Token, Name, Opens, Closes, Bound, Unknown, Object, Plain, Procedure, Saved, Operator, Kind, Effect}
 use Rattle.pictures.specs.Objects.{Computes, Controls, Draws, PushesGraphics, PopsGraphics, PopsAllGraphics, Looks, Saves, Restores, Ships, Resets, Copies, CopyOperands, Matrix, Call}
-use Rattle.pictures.specs.Dictionaries.{Entry, meaning, system, entry_of, or, has}
+use Rattle.pictures.specs.Dictionaries.{DictionaryEntry, meaning, system, dictionary_entry, or, has}
 use Rattle.pictures.specs.Operators.{Work, taken, computed, computed_on, controlled}
-use Rattle.pictures.specs.Machine.{State, Graphics, Snapshot, Painting, body_of, opened, drawn, worked, running, popped, popped_all, save_of, back, returned, restored, chain_of, filled_from, copied, perform, done, meant, act, step_on, step, may_go_back, initial, shipped, RunsBy}
-use Rattle.pictures.specs.Sheets.{run_of, alone, entries_before, PaintsBy, PaintsAlone}
+use Rattle.pictures.specs.Machine.{State, Graphics, Snapshot, Painting, body_of, opened, drawn, worked, running, popped, popped_all, save_of, back_to, returned, restored, chain_of, filled_from, copied, perform, effect_of_value, meant, act, step_on, step, may_go_back, initial, shipped, RunsBy}
+use Rattle.pictures.specs.Sheets.{run_of, running_alone, entries_before, PaintsBy, PaintsAlone}
 use Rattle.pictures.specs.DocumentRun.{PrintsSheet}
 use Rattle.pictures.specs.Unaware.{put_names, none_among, asked_on, unaware_step, absent, is_in, IsPlainGround, EndsBy, PrintsBy, PrintsItself, none_before, OwnPicture, PagePrints}
 use Rattle.rules.specs.Parts.{NestedUnit}
 use Rattle.pictures.proofs.Kept.{kept_runs_alike}
 use Rattle.pictures.specs.Scanner.{tokens}
-use Rattle.pictures.specs.Documents.{page_of, PagePaints}
+use Rattle.pictures.specs.Documents.{document_page, PagePaints}
 use Rattle.pictures.proofs.Tests.{first, second}
 use Rattle.pictures.proofs.Runs.{nothing, by_join, by_none, by_one, follow_steps, all_stayed}
 use Rattle.pictures.proofs.Shifted.{ups_same, entry_same, system_same}
 use Rattle.pictures.proofs.Names.{meaning_agrees, not_true}
-use Rattle.pictures.specs.Shifted.{up, ups, two, Agree, AllAgree, up_shot, up_shots, up_state}
+use Rattle.pictures.specs.Shifted.{one_save_more, ups, two, AgreeShifted, AllAgree, up_shot, up_shots, up_state}
 use Rattle.pictures.proofs.Unaware.{unaware_free, AlwaysGoesOn, all_go, always_goes}
 use Rattle.std.proofs.lemmas.Bool.{ne_eqb, ltb-false}
 
@@ -57,7 +57,7 @@ keeps_if : (b : Bool) (s t : State) → t.sheets ≡ s.sheets → Keeps s (if b 
 keeps_if true s t e = e
 keeps_if false s t e = tt
 
-keeps_back : (os : List Object) (x : Option (Snapshot × List Snapshot)) (s : State) → Keeps s (back os x s)
+keeps_back : (os : List Object) (x : Option (Snapshot × List Snapshot)) (s : State) → Keeps s (back_to os x s)
 keeps_back os None s = tt
 keeps_back os (Some (shot, shots)) s = keeps_if (may_go_back shot os s.work) s (returned os shot shots s) refl
 
@@ -87,7 +87,7 @@ keeps_performed name Ships s = tt
 keeps_performed name Resets s = tt
 keeps_performed name Copies s = keeps_copied s.work.operands s
 
-keeps_done : (o : Object) (s : State) → Keeps s (done true o s)
+keeps_done : (o : Object) (s : State) → Keeps s (effect_of_value true o s)
 keeps_done (Operator name k) s = keeps_performed name k s
 keeps_done (Procedure ts) s = refl
 keeps_done (Plain (Name name)) s = refl
@@ -122,38 +122,38 @@ none_of : (x : Option Object) → not (has x) ≡ true → x ≡ None
 none_of None e = refl
 none_of (Some o) e = absurd (true≢false (sym e))
 
-pub absent_means : (ds : List ℕ) (es : List Entry) (k : List ℕ) → absent ds es k ≡ true → meaning ds es k ≡ system k
+pub absent_means : (ds : List ℕ) (es : List DictionaryEntry) (k : List ℕ) → absent ds es k ≡ true → meaning ds es k ≡ system k
 absent_means [] es k e = refl
 absent_means (d ∷ ds) es k e =
-    ap₂ or (none_of (entry_of d k es) (first (not (has (entry_of d k es))) (absent ds es k) e)) (absent_means ds es k (second (not (has (entry_of d k es))) (absent ds es k) e))
+    ap₂ or (none_of (dictionary_entry d k es) (first (not (has (dictionary_entry d k es))) (absent ds es k) e)) (absent_means ds es k (second (not (has (dictionary_entry d k es))) (absent ds es k) e))
 
-pub two_found : (n : ℕ) (es fs : List Entry) (ds : List ℕ) (k : List ℕ) (v : Object) → Agree n es fs → ((d : ℕ) → entry_of d k (two n) ≡ (if 0 == d then Some v else None))
+pub two_found : (n : ℕ) (es fs : List DictionaryEntry) (ds : List ℕ) (k : List ℕ) (v : Object) → AgreeShifted n es fs → ((d : ℕ) → dictionary_entry d k (two n) ≡ (if 0 == d then Some v else None))
     → absent ds fs k ≡ true → is_in 0 ds ≡ true → meaning ds es k ≡ Some v
 two_found n es fs [] k v a t e i = absurd (true≢false (sym i))
 two_found n es fs (d ∷ ds) k v a t e i =
     ap (λ x. or x (meaning ds es k))
-    (a d k ∙ ap₂ (λ x y. or (option_map up x) y) (none_of (entry_of d k fs) (first (not (has (entry_of d k fs))) (absent ds fs k) e)) (t d))
-    ∙ by (0 == d) (λ rest. two_found n es fs ds k v a t (second (not (has (entry_of d k fs))) (absent ds fs k) e) rest) i
+    (a d k ∙ ap₂ (λ x y. or (option_map one_save_more x) y) (none_of (dictionary_entry d k fs) (first (not (has (dictionary_entry d k fs))) (absent ds fs k) e)) (t d))
+    ∙ by (0 == d) (λ rest. two_found n es fs ds k v a t (second (not (has (dictionary_entry d k fs))) (absent ds fs k) e) rest) i
   where
     by : (b : Bool) → (is_in 0 ds ≡ true → meaning ds es k ≡ Some v) → (b || is_in 0 ds) ≡ true → or (if b then Some v else None) (meaning ds es k) ≡ Some v
     by true f i = refl
     by false f i = f i
 
-begins_if : (b c : Bool) (e : Option Object) (x y : Object) → (b ≡ true → e ≡ None) → (c ≡ true → e ≡ None) → option_map up e ≡ e
-    → (if b then Some x else (if c then Some y else e)) ≡ or (option_map up e) (if b then Some x else (if c then Some y else None))
-begins_if true c e x y p q r = ap (λ z. or (option_map up z) (Some x)) (sym (p refl))
-begins_if false true e x y p q r = ap (λ z. or (option_map up z) (Some y)) (sym (q refl))
+begins_if : (b c : Bool) (e : Option Object) (x y : Object) → (b ≡ true → e ≡ None) → (c ≡ true → e ≡ None) → option_map one_save_more e ≡ e
+    → (if b then Some x else (if c then Some y else e)) ≡ or (option_map one_save_more e) (if b then Some x else (if c then Some y else None))
+begins_if true c e x y p q r = ap (λ z. or (option_map one_save_more z) (Some x)) (sym (p refl))
+begins_if false true e x y p q r = ap (λ z. or (option_map one_save_more z) (Some y)) (sym (q refl))
 begins_if false false None x y p q r = refl
 begins_if false false (Some o) x y p q r = sym r
 
-at_userdict : (key k : List ℕ) (d : ℕ) (es : List Entry) → entry_of 0 key es ≡ None → (bytes_eq key k && (0 == d)) ≡ true → entry_of d k es ≡ None
+at_userdict : (key k : List ℕ) (d : ℕ) (es : List DictionaryEntry) → dictionary_entry 0 key es ≡ None → (bytes_eq key k && (0 == d)) ≡ true → dictionary_entry d k es ≡ None
 at_userdict key k d es e h =
-    subst (λ c. entry_of c k es ≡ None) (eqb-true 0 d (second (bytes_eq key k) (0 == d) h))
-    (subst (λ l. entry_of 0 l es ≡ None) ((bytes_eq-Decides key k).0 (first (bytes_eq key k) (0 == d) h)) e)
+    subst (λ c. dictionary_entry c k es ≡ None) (eqb-true 0 d (second (bytes_eq key k) (0 == d) h))
+    (subst (λ l. dictionary_entry 0 l es ≡ None) ((bytes_eq-Decides key k).0 (first (bytes_eq key k) (0 == d) h)) e)
 
-pub begins : (s : State) → IsPlainGround s → Agree s.level (entries_before s) s.work.entries
+pub begins : (s : State) → IsPlainGround s → AgreeShifted s.level (entries_before s) s.work.entries
 begins s p d k =
-    begins_if (bytes_eq (codes "showpage") k && (0 == d)) (bytes_eq (codes "ImposeSave") k && (0 == d)) (entry_of d k s.work.entries) (Procedure []) (Saved s.level)
+    begins_if (bytes_eq (codes "showpage") k && (0 == d)) (bytes_eq (codes "ImposeSave") k && (0 == d)) (dictionary_entry d k s.work.entries) (Procedure []) (Saved s.level)
     (at_userdict (codes "showpage") k d s.work.entries p.no_showpage)
     (at_userdict (codes "ImposeSave") k d s.work.entries p.no_save)
     (entry_same d k s.work.entries p.entries)
@@ -166,15 +166,15 @@ plain_graphics g e =
     ∙ ap (λ c. record { chain = g.chain; path = g.path; clip = c; settings = g.settings }) (ap (λ x. x.clip) e)
 
 abbrev by_itself : State → List Token → List Object → Graphics → List Graphics → List Painting → State
-by_itself s body os g gs ps = record (alone s body) { work = record (alone s body).work { operands = os }; graphics = g; stacked = gs; painted = ps }
+by_itself s body os g gs ps = record (running_alone s body) { work = record (running_alone s body).work { operands = os }; graphics = g; stacked = gs; painted = ps }
 
-pub same_start : (s : State) (body : List Token) → IsPlainGround s → up_state (entries_before s) [] (run_of body s) ≡ alone s body
+pub same_start : (s : State) (body : List Token) → IsPlainGround s → up_state (entries_before s) [] (run_of body s) ≡ running_alone s body
 same_start s body p = sym (
     ap₂ (λ os g. by_itself s body os g [] []) (sym (ups_same s.work.operands p.operands)) (plain_graphics s.graphics p.ground.graphics)
     ∙ ap₂ (λ gs ps. by_itself s body (ups s.work.operands) s.graphics gs ps) (sym p.stacked) (sym p.painted))
 
 -- shifted, no save of the page is of the level of the sheet's
-pub up_missing : (n : ℕ) (ess : List (List Entry)) (shots : List Snapshot) → none_before n shots ≡ true → save_of n (up_shots ess shots) ≡ None
+pub up_missing : (n : ℕ) (ess : List (List DictionaryEntry)) (shots : List Snapshot) → none_before n shots ≡ true → save_of n (up_shots ess shots) ≡ None
 up_missing n [] shots e = refl
 up_missing n (es ∷ ess) [] e = refl
 up_missing n (es ∷ ess) (shot ∷ shots) e =
@@ -228,7 +228,7 @@ paints_by free held unaware own goes s body picture p q =
         dictionaries = q.ends.dictionaries;
         saves = up_missing n y.1 last.saves q.ends.saves;
         save_name = two_found n y.0 last.work.entries last.work.dictionaries (codes "ImposeSave") (Saved n) y.3 (λ d. refl) q.ends.save_name userdict;
-        restore_name = meaning_agrees n y.0 last.work.entries last.work.dictionaries (codes "restore") y.3 refl ∙ ap (option_map up) q.ends.restore_name ∙ system_same (codes "restore");
+        restore_name = meaning_agrees n y.0 last.work.entries last.work.dictionaries (codes "restore") y.3 refl ∙ ap (option_map one_save_more) q.ends.restore_name ∙ system_same (codes "restore");
       };
       picture_is = q.ends.placed_nothing ∙ q.picture_is;
     }
@@ -269,5 +269,5 @@ own_picture s body picture p q = (prints s body picture q, paints s body picture
 
 pub page_paints : (us : List NestedUnit) (s : State) (p : ℕ) (picture : List Painting) → IsPlainGround s → PagePrints us s p picture → PagePaints us s p picture
 page_paints us s p picture g (complete, apart, q) =
-    let alike = kept_runs_alike (page_of us p) apart complete in
-    (alike.1, subst (λ ts. PaintsAlone s ts picture) (sym alike.0) (paints s (tokens (page_of us p)) picture g q))
+    let alike = kept_runs_alike (document_page us p) apart complete in
+    (alike.1, subst (λ ts. PaintsAlone s ts picture) (sym alike.0) (paints s (tokens (document_page us p)) picture g q))

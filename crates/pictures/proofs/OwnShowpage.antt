@@ -13,13 +13,13 @@ use Rattle.guard.proofs.TheGuard.{guard_stays}
 use Rattle.rules.specs.Papers.{Paper}
 use Rattle.rules.specs.Output.{Border}
 use Rattle.pictures.specs.Objects.{Token, Name, Object}
-use Rattle.pictures.specs.Dictionaries.{Entry, meaning, entry_of, has, read_only}
+use Rattle.pictures.specs.Dictionaries.{DictionaryEntry, meaning, dictionary_entry, has, read_only}
 use Rattle.pictures.specs.Operators.{holder}
 use Rattle.pictures.specs.Chains.{is_same_chain}
 use Rattle.pictures.specs.Machine.{State, Graphics, Painting, Runs}
 use Rattle.pictures.specs.Scanner.{tokens}
 use Rattle.pictures.specs.Kept.{comments_apart_with}
-use Rattle.pictures.specs.Pictures.{printed, past, past_all, sheets_tokens}
+use Rattle.pictures.specs.Pictures.{printed_sheets, past, past_all, sheets_tokens}
 use Rattle.pictures.specs.Sheets.{run_of, Numbers, Shown, closing_tokens, placed_tokens, LeavesAsItWas, page_picture, place_in}
 use Rattle.pictures.specs.Documents.{started, PreambleRuns, FirstHas, OnSheetsFrom, all_sheets}
 use Rattle.pictures.specs.Imposed.{IsQuiet}
@@ -31,7 +31,7 @@ use Rattle.pictures.proofs.Placed.{both_true}
 use Rattle.pictures.specs.Behind.{showpage_tokens}
 use Rattle.pictures.specs.Shelter.{means, all_absent, outline_tokens, sheltered, PaintsSheltered}
 use Rattle.pictures.specs.Lines.{clip_to, asks_userdict, with_asking}
-use Rattle.pictures.specs.Pages.{looked_up, around, placed_at, IsOnPaper, AllShelteredFrom, AllSheetsShelteredFrom, PaintsFrom, shown_at}
+use Rattle.pictures.specs.Pages.{names_looked_up, around, placed_at, IsOnPaper, AllShelteredFrom, AllSheetsShelteredFrom, PaintsFrom, state_after_sheets}
 use Rattle.pictures.specs.OwnShowpage.{HasItsOwn, OwnPageIsPlaced, asking, OwnSheetsArePrinted, OwnShowpageIsShown}
 use Rattle.pictures.proofs.Absent.{known_below}
 use Rattle.pictures.proofs.Asking.{asks_userdict_there, asking_shows}
@@ -59,7 +59,7 @@ all_sheets_place at g f (xs ∷ all) k h = (all_place at g f xs k h.0, all_sheet
 -- The dictionary's showpage.
 
 -- the entry that is put there
-abbrev asking_entry : ℕ → Entry
+abbrev asking_entry : ℕ → DictionaryEntry
 asking_entry d = record { dictionary = d; key = codes "showpage"; value = asks_userdict }
 
 has_either : (b : Bool) (o : Object) (x : Option Object) → has x ≡ true → has (if b then Some o else x) ≡ true
@@ -67,10 +67,10 @@ has_either true o x e = refl
 has_either false o x e = e
 
 -- it is still the first one
-still_first : (ds : List ℕ) (es : List Entry) (d : ℕ) → holder ds es (codes "showpage") ≡ Some d → holder ds (asking_entry d ∷ es) (codes "showpage") ≡ Some d
+still_first : (ds : List ℕ) (es : List DictionaryEntry) (d : ℕ) → holder ds es (codes "showpage") ≡ Some d → holder ds (asking_entry d ∷ es) (codes "showpage") ≡ Some d
 still_first [] es d e = e
 still_first (c ∷ ds) es d e =
-    let here : Option Object = entry_of c (codes "showpage") es in
+    let here : Option Object = dictionary_entry c (codes "showpage") es in
     let below : Option ℕ = holder ds (asking_entry d ∷ es) (codes "showpage") in
     by_test (has here)
     (λ t. ap (λ b. if b then Some c else below) (has_either (d == c) asks_userdict here t) ∙ (sym (ap (λ b. if b then Some c else holder ds es (codes "showpage")) t) ∙ e))
@@ -81,24 +81,24 @@ still_first (c ∷ ds) es d e =
     ∙ ap (λ b. if b then Some c else below) f ∙ still_first ds es d later))
 
 -- and asks userdict
-asks_now : (ds : List ℕ) (es : List Entry) (d : ℕ) → holder ds es (codes "showpage") ≡ Some d → meaning ds (asking_entry d ∷ es) (codes "showpage") ≡ Some asks_userdict
+asks_now : (ds : List ℕ) (es : List DictionaryEntry) (d : ℕ) → holder ds es (codes "showpage") ≡ Some d → meaning ds (asking_entry d ∷ es) (codes "showpage") ≡ Some asks_userdict
 asks_now ds es d e =
     first_means ds (asking_entry d ∷ es) (codes "showpage") d (still_first ds es d e)
-    ∙ ap (λ b. if b then Some asks_userdict else entry_of d (codes "showpage") es) (eq-eqb d d refl)
+    ∙ ap (λ b. if b then Some asks_userdict else dictionary_entry d (codes "showpage") es) (eq-eqb d d refl)
 
 -- The state stays one of this kind.
 
 still_own : (d : ℕ) (s : State) → HasItsOwn d s → HasItsOwn d (with_asking d s)
 still_own d s h =
     let ds : List ℕ = s.work.dictionaries in
-    let es : List Entry = s.work.entries in
-    let e : Entry = asking_entry d in
+    let es : List DictionaryEntry = s.work.entries in
+    let e : DictionaryEntry = asking_entry d in
     record {
       guard = guard_stays_there s.work s.level e (differ_all e guard_names refl) h.guard;
       own_first = still_first ds es d h.own_first;
       other = h.other;
       writable = has_other d read_only e es refl ∙ h.writable;
-      showpage_is = ap (λ b. if b then Some asks_userdict else entry_of 0 (codes "showpage") es) h.other ∙ h.showpage_is;
+      showpage_is = ap (λ b. if b then Some asks_userdict else dictionary_entry 0 (codes "showpage") es) h.other ∙ h.showpage_is;
       flag_is = means_other ds (codes "PStoPSenablepage") e es refl ∙ h.flag_is;
       show_is = means_other ds (codes "ImposeShow") e es refl ∙ h.show_is;
       graphics = h.graphics;
@@ -147,7 +147,7 @@ own_page_runs R m d s end x rest h runs leaves paints =
     let bears : Bears [] t = record { guard = here.guard; found = d; found_is = here.own_first; encloses = here.flag_is; numbers = same_chain d s h } in
     placed_from R m [] s t end x rest here.guard
     (m.free (run_of (middle_tokens n x.placed.body rest) s) (placed_at (around more n t) (sheltered [] t (outline_tokens n) x.placed.body))
-    (begins_within [] s t n x.placed.body more bears (known_below looked_up 0 s.work.dictionaries s.work.entries h.guard.names (codes "userdict") refl) h.guard.save_is
+    (begins_within [] s t n x.placed.body more bears (known_below names_looked_up 0 s.work.dictionaries s.work.entries h.guard.names (codes "userdict") refl) h.guard.save_is
     (λ l. asks_userdict_there s h.guard.number d l h.own_first h.other h.writable h.guard.guard_is alone h.guard.few_operands)))
     runs leaves paints
 
@@ -190,12 +190,12 @@ own_prints R m d s h k le ps sheets rest =
     let end : State = fresh u rest [] (ps ∷ sheets) in
     m.free (run_of (Name (codes "showpage") ∷ rest) full) end
     (runs_join false (run_of (Name (codes "showpage") ∷ rest) full) (run_of (showpage_tokens ++ rest) full) end
-    (asking_shows full showpage_tokens rest (asks_then d s k h le) (known_below looked_up 0 u.work.dictionaries u.work.entries g.guard.names (codes "userdict") refl) g.showpage_is)
+    (asking_shows full showpage_tokens rest (asks_then d s k h le) (known_below names_looked_up 0 u.work.dictionaries u.work.entries g.guard.names (codes "userdict") refl) g.showpage_is)
     (subst (λ z. Runs false (run_of (showpage_tokens ++ rest) full) (record end { graphics = z })) g.graphics (prints full rest g.flag_is g.show_is)))
 
 pub own_sheets_are_printed : OwnSheetsArePrinted
 own_sheets_are_printed d s xs rest h e b k =
-    subst (λ ps. Runs false (record s { left = sheets_tokens xs ++ rest; painted = ps }) (fresh (asking d s (past_all 0 xs)) rest [] (printed s.graphics xs s.sheets))) (sym e)
+    subst (λ ps. Runs false (record s { left = sheets_tokens xs ++ rest; painted = ps }) (fresh (asking d s (past_all 0 xs)) rest [] (printed_sheets s.graphics xs s.sheets))) (sym e)
     (all_sheets_run (Runs false) free_are_runs (asking d s) s.graphics 1 (own_prints (Runs false) free_are_runs d s h) xs 0 rest s.sheets b (all_sheets_place (asking d s) s.graphics (own_places d s h) xs 0 k))
 
 -- Documents.
@@ -203,7 +203,7 @@ own_sheets_are_printed d s xs rest h e b k =
 pub own_is_shown : (sheet : Option Paper) (border : Option Border) (dress : Dress) (all : List MadeSheet) (text : List ℕ) (us : List NestedUnit) (picture : ℕ → List Painting) (d : ℕ) (s : State)
     → IsQuiet dress → document_of text ≡ Ok us → length (guarded sheet text) ≤ most_input_bytes → comments_apart_with dress.header (units_of (guarded sheet text)) ≡ true
     → PreambleRuns (HasItsOwn d) (bytes_of (preamble (units_of (guarded sheet text)))) s → FirstHas 1 all → OnSheetsFrom (PaintsFrom border us picture (asking d s)) 0 all
-    → Runs false (started (tokens (made_output border dress all (units_of (guarded sheet text))))) (shown_at (asking d s) border (units_of (guarded sheet text)) picture all)
+    → Runs false (started (tokens (made_output border dress all (units_of (guarded sheet text))))) (state_after_sheets (asking d s) border (units_of (guarded sheet text)) picture all)
 own_is_shown sheet border dress all text us picture d s quiet doc few apart (complete, run, left, painted, none_printed, own) has h =
     states_are_shown (asking d s) 1 sheet border dress all text us picture (own_places d s own) (own_prints (Runs false) free_are_runs d s own) quiet doc few apart complete run left painted has h
 

@@ -4,9 +4,9 @@ use Rattle.std.proofs.Common.{◌≡◌, ℕ, refl, ap, ap₂, ◌∙◌, sym, s
 use Rattle.pictures.specs.Objects.{Token, Name, Object, Saved}
 use Rattle.pictures.specs.Dictionaries.{system}
 use Rattle.pictures.specs.Operators.{all_old, all_are_old}
-use Rattle.pictures.specs.Machine.{State, Painting, Snapshot, push, Runs, back, save_of}
+use Rattle.pictures.specs.Machine.{State, Painting, Snapshot, push, Runs, back_to, save_of}
 use Rattle.pictures.specs.Placing.{Place, Around, state_at, snapshot_at, picture_at}
-use Rattle.pictures.specs.Sheets.{run_of, IsGround, Numbers, Placed, Shown, saving_tokens, placing_tokens, closing_tokens, placed_tokens, alone, LeavesAsItWas, page_picture, among, placing_names, place_in, border_in}
+use Rattle.pictures.specs.Sheets.{run_of, IsGround, Numbers, Placed, Shown, saving_tokens, placing_tokens, closing_tokens, placed_tokens, running_alone, LeavesAsItWas, page_picture, among, placing_names, place_in, border_in}
 use Rattle.pictures.specs.Pictures.{PageIsPlaced}
 use Rattle.pictures.proofs.Runs.{runs_one, runs_join, runs_none, name_step}
 use Rattle.pictures.proofs.Commutes.{placing_commutes}
@@ -43,14 +43,14 @@ passed_over p level (shot ∷ shots) more e =
     (passed_over p level shots more) e
 
 restoring : (s t : State) (n : Numbers) (rest more : List Token) → IsGround s → LeavesAsItWas s t
-    → back t.work.operands (save_of s.level (state_at (around more n s) t).saves) (run_of rest (push (Saved s.level) (state_at (around more n s) t)))
+    → back_to t.work.operands (save_of s.level (state_at (around more n s) t).saves) (run_of rest (push (Saved s.level) (state_at (around more n s) t)))
     ≡ Some (behind rest n s t.painted)
 restoring s t n rest more g l =
     let x : State = run_of rest (push (Saved s.level) (state_at (around more n s) t)) in
     let may : (all_are_old s.work.made s.level t.work.operands && all_old s.work.made t.work.dictionaries) ≡ true =
     ap₂ (λ os ds. all_are_old s.work.made s.level os && all_old s.work.made ds) l.operands l.dictionaries ∙ both_true _ _ g.operands g.dictionaries in
-    ap (λ found. back t.work.operands found x) (passed_over (place_in s.graphics n) s.level t.saves (snapshot_of s ∷ s.saves) l.saves)
-    ∙ ap (λ b. back t.work.operands (if b then Some (snapshot_of s, s.saves) else save_of s.level s.saves) x) (eq-eqb s.level s.level refl)
+    ap (λ found. back_to t.work.operands found x) (passed_over (place_in s.graphics n) s.level t.saves (snapshot_of s ∷ s.saves) l.saves)
+    ∙ ap (λ b. back_to t.work.operands (if b then Some (snapshot_of s, s.saves) else save_of s.level s.saves) x) (eq-eqb s.level s.level refl)
     ∙ ap (λ b. if b then Some (gone_back rest n s t.painted t.work.operands t.work.dictionaries) else None) may
     ∙ ap₂ (λ os ds. Some (gone_back rest n s t.painted os ds)) l.operands l.dictionaries
 
@@ -88,8 +88,8 @@ page_is_placed s x rest g p =
     ap (behind rest n s) p.picture_is ∙ assembled s x rest in
     subst (λ ts. Runs false (run_of ts s) (record s { left = rest; painted = page_picture s.graphics x ++ s.painted })) (sym (bracketed x.placed rest))
     (subst (Runs false before) ends
-    (runs_join false before (state_at (around l n s) (alone s x.placed.body)) (behind rest n s p.end.painted)
+    (runs_join false before (state_at (around l n s) (running_alone s x.placed.body)) (behind rest n s p.end.painted)
     (opening s n x.placed.body l (known_ground s g))
-    (runs_join false (state_at (around l n s) (alone s x.placed.body)) (state_at (around l n s) p.end) (behind rest n s p.end.painted)
-    (placing_commutes (around l n s) (alone s x.placed.body) p.end p.run)
+    (runs_join false (state_at (around l n s) (running_alone s x.placed.body)) (state_at (around l n s) p.end) (behind rest n s p.end.painted)
+    (placing_commutes (around l n s) (running_alone s x.placed.body) p.end p.run)
     (closing s p.end n rest g p.leaves))))

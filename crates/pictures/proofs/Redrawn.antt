@@ -12,7 +12,7 @@ use Rattle.pictures.proofs.Runs.{runs_none, runs_join}
 use Rattle.pictures.proofs.Straight.{Known, straight_runs}
 use Rattle.pictures.proofs.Placed.{both_true}
 use Rattle.pictures.proofs.Tests.{first, second, by_test}
-use Rattle.pictures.specs.Shelter.{are_so_many, is_element, is_drawn_anew, is_empty, outline_names}
+use Rattle.pictures.specs.Shelter.{are_so_many, is_element, is_drawn_anew, is_empty_list, outline_names}
 
 -- What an element is.
 
@@ -101,13 +101,13 @@ told (x ∷ xs) later = told xs (numbers_before x.call.operands (Literal x.call.
 -- the tests of a path's last element
 abbrev Tests : List Call → Segment → List Segment → List ℕ → Type 0
 Tests chain x xs next =
-    (is_element x.call.name x.call.operands ≡ true) × (is_empty x.settings ≡ true) × (is_same_chain x.chain chain ≡ true)
+    (is_element x.call.name x.call.operands ≡ true) × (is_empty_list x.settings ≡ true) × (is_same_chain x.chain chain ≡ true)
     × (may_precede x.call.name next ≡ true) × (is_drawn_anew chain xs x.call.name ≡ true)
 
 tests : (chain : List Call) (x : Segment) (xs : List Segment) (next : List ℕ) → is_drawn_anew chain (x ∷ xs) next ≡ true → Tests chain x xs next
 tests chain x xs next e =
     let a : Bool = is_element x.call.name x.call.operands in
-    let b : Bool = is_empty x.settings in
+    let b : Bool = is_empty_list x.settings in
     let c : Bool = is_same_chain x.chain chain in
     let d : Bool = may_precede x.call.name next in
     let f : Bool = is_drawn_anew chain xs x.call.name in
@@ -232,7 +232,7 @@ chain_same (c ∷ cs) (d ∷ ds) e =
     (chain_same cs ds (second here (is_same_chain cs ds) e))
 chain_same cs ds e = absurd (true≢false (sym e))
 
-nothing_set : (cs : List Call) → is_empty cs ≡ true → cs ≡ []
+nothing_set : (cs : List Call) → is_empty_list cs ≡ true → cs ≡ []
 nothing_set [] e = refl
 nothing_set (c ∷ cs) e = absurd (true≢false (sym e))
 

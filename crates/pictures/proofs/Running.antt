@@ -6,12 +6,12 @@ use Rattle.rules.specs.Numbers.{points_text}
 use Rattle.rules.specs.Papers.{Paper}
 use Rattle.guard.specs.Guard.{first_lines, other_lines, page_size_line}
 use Rattle.pictures.specs.Objects.{Token, Name, Literal, Number, Opens, Closes, Plain, Truth, Procedure, Dictionary}
-use Rattle.pictures.specs.Dictionaries.{system, entry_of, has}
-use Rattle.pictures.specs.Operators.{Work, bound}
-use Rattle.pictures.specs.Machine.{State, Kept, Runs, push, body_of, opened}
+use Rattle.pictures.specs.Dictionaries.{system, dictionary_entry, has}
+use Rattle.pictures.specs.Operators.{Work, bound_token}
+use Rattle.pictures.specs.Machine.{State, KeptMatrix, Runs, push, body_of, opened}
 use Rattle.pictures.specs.Sheets.{run_of}
 use Rattle.pictures.proofs.Runs.{runs_one, runs_none}
-use Rattle.pictures.specs.Scanner.{Between, ended, tokens, IsComplete}
+use Rattle.pictures.specs.Scanner.{Between, ended_token, tokens, EndsBetweenTokens}
 use Rattle.pictures.specs.Documents.{started}
 use Rattle.pictures.proofs.More.{runs_with_more}
 use Rattle.pictures.proofs.NumberTokens.{IsWord, Reads, reads_join, points_word}
@@ -75,18 +75,18 @@ guard_read (Some paper) =
     (reads_join Between Between Between (line (page_size_line paper)) other_text (size_tokens w h) (tokens other_text)
     (size_read w h (points_word paper.width) (points_word paper.height)) (complete_read other_text refl))
 
-pub guard_is_cut : (sheet : Option Paper) → (tokens (guard_text sheet) ≡ guard_tokens sheet) × IsComplete (guard_text sheet)
+pub guard_is_cut : (sheet : Option Paper) → (tokens (guard_text sheet) ≡ guard_tokens sheet) × EndsBetweenTokens (guard_text sheet)
 guard_is_cut sheet =
     let e = guard_read sheet in
-    (ap (λ x. x.0 ++ ended x.1) e ∙ append-nil (guard_tokens sheet), ap (λ x. x.1) e)
+    (ap (λ x. x.0 ++ ended_token x.1) e ∙ append-nil (guard_tokens sheet), ap (λ x. x.1) e)
 
 -- The machine.
 
-abbrev left_with : List Token → Work → List Kept → State
+abbrev left_with : List Token → Work → List KeptMatrix → State
 left_with rest w kept = record (started rest) { work = w; kept = kept }
 
 -- over any text, so that the guard's isn't cut into tokens again
-with_rest : (ts rest : List Token) (w : Work) (kept : List Kept) → Runs false (started ts) (left_with [] w kept)
+with_rest : (ts rest : List Token) (w : Work) (kept : List KeptMatrix) → Runs false (started ts) (left_with [] w kept)
     → Runs false (started (ts ++ rest)) (left_with rest w kept)
 with_rest ts rest w kept run = runs_with_more rest (started ts) (left_with [] w kept) run
 
@@ -106,7 +106,7 @@ guard_defines sheet = (
 
 -- the outermost line: a test, and a procedure that isn't run
 twice : (after body rest : List Token) (s : State) → body_of after 0 ≡ Some (body, Name (codes "bind") ∷ Name (codes "if") ∷ rest)
-    → all_absent guard_line_names s.work.dictionaries s.work.entries ≡ true → has (entry_of 0 (codes "ImposeGuard") s.work.entries) ≡ true
+    → all_absent guard_line_names s.work.dictionaries s.work.entries ≡ true → has (dictionary_entry 0 (codes "ImposeGuard") s.work.entries) ≡ true
     → Runs false (run_of (Name (codes "userdict") ∷ Literal (codes "ImposeGuard") ∷ Name (codes "known") ∷ Name (codes "not") ∷ Opens ∷ after) s) (run_of rest s)
 twice after body rest s cut a h =
     let names = known guard_line_names s.work.dictionaries s.work.entries a in
@@ -128,7 +128,7 @@ twice after body rest s cut a h =
     (by_name (codes "if") rest (with_bound body no) (run_of rest s) end (system (codes "if")) (names (codes "if") refl) refl (runs_none false end)))))))
   where
     with_bound : List Token → State → State
-    with_bound body s = push (Procedure (map (bound (push (Procedure body) s).work) body)) s
+    with_bound body s = push (Procedure (map (bound_token (push (Procedure body) s).work) body)) s
 
 abbrev body_in : List Token → List Token
 body_in ts = the_body (body_of (drop 5 ts) 0)
@@ -138,7 +138,7 @@ body_in ts = the_body (body_of (drop 5 ts) 0)
     the_body (Some (body, rest)) = body
 
 twice_on : (sheet : Option Paper) (s : State) (rest : List Token) → all_absent guard_line_names s.work.dictionaries s.work.entries ≡ true
-    → has (entry_of 0 (codes "ImposeGuard") s.work.entries) ≡ true → Runs false (run_of (guard_tokens sheet ++ rest) s) (run_of rest s)
+    → has (dictionary_entry 0 (codes "ImposeGuard") s.work.entries) ≡ true → Runs false (run_of (guard_tokens sheet ++ rest) s) (run_of rest s)
 twice_on None s rest a h = twice (drop 5 (guard_tokens None ++ rest)) (body_in (guard_tokens None)) rest s refl a h
 twice_on (Some paper) s rest a h = twice (drop 5 (guard_tokens (Some paper) ++ rest)) (body_in (guard_tokens (Some paper))) rest s refl a h
 

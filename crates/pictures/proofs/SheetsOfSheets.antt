@@ -5,9 +5,9 @@ use Rattle.std.proofs.lemmas.Bool.{ne_eqb, lt-ltb, ltb-true}
 use Rattle.std.proofs.lemmas.Slice.Eq.{bytes_eq-Decides}
 use Rattle.std.proofs.lemmas.List.{map-append}
 use Rattle.pictures.specs.Objects.{Token, Name, Object, Plain, Truth, Array, Procedure, Dictionary, Matrix, Saved, Call, Text, Hexadecimal, Font}
-use Rattle.pictures.specs.Dictionaries.{Entry, meaning, entry_of}
+use Rattle.pictures.specs.Dictionaries.{DictionaryEntry, meaning, dictionary_entry}
 use Rattle.pictures.specs.Operators.{holder, is_old, all_old, all_are_old}
-use Rattle.pictures.specs.Machine.{State, Graphics, Painting, Kept, Runs, chain_of}
+use Rattle.pictures.specs.Machine.{State, Graphics, Painting, KeptMatrix, Runs, chain_of}
 use Rattle.pictures.specs.Placing.{Place, graphics_at, painting_at, picture_at}
 use Rattle.pictures.specs.Sheets.{among, BorderNumbers, Numbers, Shown, AllOf, in_userdict, closing_tokens, sheet_tokens, LeavesAsItWas, page_picture, sheet_picture, place_in, border_in}
 use Rattle.pictures.proofs.Runs.{free_are_runs, runs_join}
@@ -18,7 +18,7 @@ use Rattle.pictures.proofs.Placed.{both_true}
 use Rattle.pictures.proofs.Twice.{places_compose}
 use Rattle.pictures.specs.Shelter.{Outer, outer_is, outer_entries, outer_made, page_matrix, beginning, sheltered, outline_tokens, page_save, all_absent, PaintsSheltered}
 use Rattle.pictures.specs.Lines.{clip_to}
-use Rattle.pictures.specs.Pages.{TakesPages, Encloses, AllHeld, AllSheltered, has_nothing, looked_up, looked_up_first}
+use Rattle.pictures.specs.Pages.{TakesPages, Encloses, AllHeld, AllSheltered, has_nothing, names_looked_up, looked_up_first}
 use Rattle.pictures.specs.SheetsOfSheets.{page_round, page_begun, sheet_as_page, none_newer, none_above, none_above_of, put_there, AllOlder, TakesSheets, SheetIsPlaced, SheetIsComposed, as_pages, AllWithin, SheetsOfSheetsArePrinted}
 use Rattle.pictures.proofs.Lines.{page_is_left}
 use Rattle.pictures.proofs.Begins.{all_apart, page_begins, same_place}
@@ -55,26 +55,26 @@ upon g (x ∷ xs) ps before =
 -- The state where the page begins.
 
 -- the entries that the sheet's text puts, and those of the guard above them
-abbrev pub two : State → List Entry
+abbrev pub two : State → List DictionaryEntry
 two s = in_userdict (codes "showpage") (Procedure []) ∷ in_userdict (codes "ImposeSave") (Saved s.level) ∷ []
 
-abbrev pub matrix_entry : List Outer → State → Entry
+abbrev pub matrix_entry : List Outer → State → DictionaryEntry
 matrix_entry outers s = in_userdict (codes "PStoPSmatrix") (Matrix (page_matrix outers s))
 
-abbrev pub outline_entry : Numbers → Entry
+abbrev pub outline_entry : Numbers → DictionaryEntry
 outline_entry n = in_userdict (codes "PStoPSclip") (Procedure (outline_tokens n))
 
-abbrev pub flag_entry : Entry
+abbrev pub flag_entry : DictionaryEntry
 flag_entry = in_userdict (codes "PStoPSenablepage") (Truth false)
 
-abbrev pub three : List Outer → State → Numbers → List Entry
+abbrev pub three : List Outer → State → Numbers → List DictionaryEntry
 three outers s n = flag_entry ∷ outline_entry n ∷ matrix_entry outers s ∷ []
 
-abbrev pub all_entries : List Outer → State → Numbers → List Entry
+abbrev pub all_entries : List Outer → State → Numbers → List DictionaryEntry
 all_entries outers s n = three outers s n ++ (outer_entries outers ++ (two s ++ s.work.entries))
 
 -- what asks for none of the names that are put finds what it found
-pub unput : {X : Type 0} (f : List Entry → X) (names : List (List ℕ)) → ((e : Entry) (es : List Entry) → apart e.key names ≡ true → f (e ∷ es) ≡ f es)
+pub unput : {X : Type 0} (f : List DictionaryEntry → X) (names : List (List ℕ)) → ((e : DictionaryEntry) (es : List DictionaryEntry) → apart e.key names ≡ true → f (e ∷ es) ≡ f es)
     → (outers : List Outer) (s : State) (n : Numbers) → all_apart (three outers s n) names ≡ true → are_apart put_there names ≡ true → all_apart (two s) names ≡ true
     → f (all_entries outers s n) ≡ f s.work.entries
 unput f names step outers s n a h b =
@@ -83,7 +83,7 @@ unput f names step outers s n a h b =
     ∙ over f names step (two s) s.work.entries b
 
 -- above userdict nothing has these names
-pub above_name : (names : List (List ℕ)) (ds : List ℕ) (es : List Entry) → none_above_of names ds es ≡ true → (name : List ℕ) → among name names ≡ true → none_above name ds es ≡ true
+pub above_name : (names : List (List ℕ)) (ds : List ℕ) (es : List DictionaryEntry) → none_above_of names ds es ≡ true → (name : List ℕ) → among name names ≡ true → none_above name ds es ≡ true
 above_name [] ds es h name k = absurd (true≢false (sym k))
 above_name (other ∷ others) ds es h name k = by_test (bytes_eq name other)
     (λ same. subst (λ z. none_above z ds es ≡ true) (sym ((bytes_eq-Decides name other).0 same)) (first (none_above other ds es) (none_above_of others ds es) h))
@@ -102,7 +102,7 @@ flag_there : (outers : List Outer) (s : State) (n : Numbers) → TakesSheets out
 flag_there outers s n t =
     let ds : List ℕ = s.work.dictionaries in
     let name : List ℕ = codes "PStoPSenablepage" in
-    let rest : List Entry = outer_entries outers ++ (two s ++ s.work.entries) in
+    let rest : List DictionaryEntry = outer_entries outers ++ (two s ++ s.work.entries) in
     latest ds (outline_entry n ∷ matrix_entry outers s ∷ rest) name (Truth false)
     (over (λ x. none_above name ds x) (name ∷ []) (above_other ds name) (outline_entry n ∷ matrix_entry outers s ∷ []) rest refl
     ∙ above_outers outers ds name s.work.made (two s ++ s.work.entries) (are_new outers s t.takes.encloses) t.takes.guard.dictionaries refl
@@ -112,7 +112,7 @@ outline_there : (outers : List Outer) (s : State) (n : Numbers) → TakesSheets 
 outline_there outers s n t =
     let ds : List ℕ = s.work.dictionaries in
     let name : List ℕ = codes "PStoPSclip" in
-    let rest : List Entry = outer_entries outers ++ (two s ++ s.work.entries) in
+    let rest : List DictionaryEntry = outer_entries outers ++ (two s ++ s.work.entries) in
     means_other ds name flag_entry (outline_entry n ∷ matrix_entry outers s ∷ rest) refl
     ∙ latest ds (matrix_entry outers s ∷ rest) name (Procedure (outline_tokens n))
     (above_other ds name (matrix_entry outers s) rest refl
@@ -123,7 +123,7 @@ matrix_there : (outers : List Outer) (s : State) (n : Numbers) → TakesSheets o
 matrix_there outers s n t =
     let ds : List ℕ = s.work.dictionaries in
     let name : List ℕ = codes "PStoPSmatrix" in
-    let rest : List Entry = outer_entries outers ++ (two s ++ s.work.entries) in
+    let rest : List DictionaryEntry = outer_entries outers ++ (two s ++ s.work.entries) in
     over (λ x. meaning ds x name) (name ∷ []) (means_other ds name) (flag_entry ∷ outline_entry n ∷ []) (matrix_entry outers s ∷ rest) refl
     ∙ latest ds rest name (Matrix (page_matrix outers s))
     (above_outers outers ds name s.work.made (two s ++ s.work.entries) (are_new outers s t.takes.encloses) t.takes.guard.dictionaries refl
@@ -137,14 +137,14 @@ outer_there [] s n t =
 outer_there (o ∷ os) s n t =
     let ds : List ℕ = s.work.dictionaries in
     let name : List ℕ = codes "ImposeOuter" in
-    let rest : List Entry = two s ++ s.work.entries in
+    let rest : List DictionaryEntry = two s ++ s.work.entries in
     over (λ x. meaning ds x name) (name ∷ []) (means_other ds name) (three (o ∷ os) s n) (in_userdict name (Dictionary o.dictionary) ∷ (outer_kept o os ++ rest)) refl
     ∙ latest ds (outer_kept o os ++ rest) name (Dictionary o.dictionary)
     (above_kept o os ds name s.work.made rest t.takes.encloses.4 t.takes.guard.dictionaries
     ∙ above_two ds name s refl ∙ above_name put_there ds s.work.entries t.above name refl)
 
 -- `showpage` does nothing there, and ImposeSave is the sheet's save
-abbrev showpage_above : State → List Entry
+abbrev showpage_above : State → List DictionaryEntry
 showpage_above s = in_userdict (codes "ImposeSave") (Saved s.level) ∷ s.work.entries
 
 no_other_showpage : (outers : List Outer) (s : State) → TakesSheets outers s → none_above (codes "showpage") s.work.dictionaries (showpage_above s) ≡ true
@@ -211,25 +211,25 @@ more_made (o ∷ os) made = omega arith
 
 -- The dictionary that is made next is new.
 
-pub still_new : (d : ℕ) (e : Entry) (es : List Entry) → e.dictionary < d → has_nothing d es ≡ true → has_nothing d (e ∷ es) ≡ true
+pub still_new : (d : ℕ) (e : DictionaryEntry) (es : List DictionaryEntry) → e.dictionary < d → has_nothing d es ≡ true → has_nothing d (e ∷ es) ≡ true
 still_new d e es less h =
     both_true (not (e.dictionary == d)) (has_nothing d es) (ap not (ne_eqb e.dictionary d (λ k. omega (arith, less, k)))) h
 
 -- one that hasn't been made has nothing
-nothing_newer : (made d : ℕ) (es : List Entry) → made < d → none_newer made es ≡ true → has_nothing d es ≡ true
+nothing_newer : (made d : ℕ) (es : List DictionaryEntry) → made < d → none_newer made es ≡ true → has_nothing d es ≡ true
 nothing_newer made d [] less h = refl
 nothing_newer made d (e ∷ es) less h =
     let old = ltb-true e.dictionary (made + 1) (first (nat_lt e.dictionary (made + 1)) (none_newer made es) h) in
     still_new d e es (omega (arith, old, less)) (nothing_newer made d es less (second (nat_lt e.dictionary (made + 1)) (none_newer made es) h))
 
-outers_new : (outers : List Outer) (made : ℕ) (es : List Entry) → AreNew outers made → has_nothing (outer_made outers made + 1 + 1) es ≡ true
+outers_new : (outers : List Outer) (made : ℕ) (es : List DictionaryEntry) → AreNew outers made → has_nothing (outer_made outers made + 1 + 1) es ≡ true
     → has_nothing (outer_made outers made + 1 + 1) (outer_entries outers ++ es) ≡ true
 outers_new [] made es n h = h
 outers_new (o ∷ os) made es n h =
     let d : ℕ = made + 1 + 1 + 1 in
-    let matrix : Entry = record { dictionary = o.dictionary; key = codes "PStoPSmatrix"; value = Matrix o.matrix } in
-    let clip : Entry = record { dictionary = o.dictionary; key = codes "PStoPSclip"; value = Procedure (outline_tokens o.numbers) } in
-    let outer : Entry = record { dictionary = o.dictionary; key = codes "ImposeOuter"; value = outer_is os } in
+    let matrix : DictionaryEntry = record { dictionary = o.dictionary; key = codes "PStoPSmatrix"; value = Matrix o.matrix } in
+    let clip : DictionaryEntry = record { dictionary = o.dictionary; key = codes "PStoPSclip"; value = Procedure (outline_tokens o.numbers) } in
+    let outer : DictionaryEntry = record { dictionary = o.dictionary; key = codes "ImposeOuter"; value = outer_is os } in
     let less : o.dictionary < d = omega (arith, n) in
     still_new d (in_userdict (codes "ImposeOuter") (Dictionary o.dictionary)) (outer ∷ clip ∷ matrix ∷ es) (omega arith)
     (still_new d outer (clip ∷ matrix ∷ es) less (still_new d clip (matrix ∷ es) less (still_new d matrix es less h)))
@@ -237,20 +237,20 @@ outers_new (o ∷ os) made es n h =
 new_there : (outers : List Outer) (s : State) (n : Numbers) → TakesSheets outers s → has_nothing (page_matrix outers s + 1) (all_entries outers s n) ≡ true
 new_there outers s n t =
     let d : ℕ = page_matrix outers s + 1 in
-    let es : List Entry = s.work.entries in
+    let es : List DictionaryEntry = s.work.entries in
     let less : 0 < d = omega arith in
     let made = more_made outers s.work.made in
     let new = nothing_newer s.work.made d es (omega (arith, made)) t.new in
-    let save : Entry = in_userdict (codes "ImposeSave") (Saved s.level) in
-    let show : Entry = in_userdict (codes "showpage") (Procedure []) in
-    let below : List Entry = outer_entries outers ++ (two s ++ es) in
+    let save : DictionaryEntry = in_userdict (codes "ImposeSave") (Saved s.level) in
+    let show : DictionaryEntry = in_userdict (codes "showpage") (Procedure []) in
+    let below : List DictionaryEntry = outer_entries outers ++ (two s ++ es) in
     still_new d flag_entry (outline_entry n ∷ matrix_entry outers s ∷ below) less
     (still_new d (outline_entry n) (matrix_entry outers s ∷ below) less
     (still_new d (matrix_entry outers s) below less
     (outers_new outers s.work.made (two s ++ es) (are_new outers s t.takes.encloses)
     (still_new d show (save ∷ es) less (still_new d save es less new)))))
 
-held_over : (outers : List Outer) (made number : ℕ) (chain : List Call) (ks : List Kept) → made < number → AllOlder outers made → AllHeld outers ks
+held_over : (outers : List Outer) (made number : ℕ) (chain : List Call) (ks : List KeptMatrix) → made < number → AllOlder outers made → AllHeld outers ks
     → AllHeld outers (record { number = number; chain = chain } ∷ ks)
 held_over [] made number chain ks less a h = tt
 held_over (o ∷ os) made number chain ks less a h = (
@@ -271,10 +271,10 @@ takes_there outers s n t =
         number = g.guard.number;
         save_is = unput (λ x. meaning ds x (codes "save")) (codes "save" ∷ []) (means_other ds (codes "save")) outers s n refl refl refl ∙ g.guard.save_is;
         guard_is = unput (λ x. meaning ds x (codes "ImposeGuard")) (codes "ImposeGuard" ∷ []) (means_other ds (codes "ImposeGuard")) outers s n refl refl refl ∙ g.guard.guard_is;
-        clip_is = unput (λ x. entry_of g.guard.number (codes "clip") x) (codes "clip" ∷ []) (has_other g.guard.number (codes "clip")) outers s n refl refl refl ∙ g.guard.clip_is;
+        clip_is = unput (λ x. dictionary_entry g.guard.number (codes "clip") x) (codes "clip" ∷ []) (has_other g.guard.number (codes "clip")) outers s n refl refl refl ∙ g.guard.clip_is;
         clip_alone = unput (λ x. all_absent looked_up_first (g.guard.number ∷ ds) x) looked_up_first (absent_others (g.guard.number ∷ ds) looked_up_first) outers s n refl refl refl ∙ g.guard.clip_alone;
-        path_is = unput (λ x. entry_of 0 (codes "ImposePath") x) (codes "ImposePath" ∷ []) (has_other 0 (codes "ImposePath")) outers s n refl refl refl ∙ g.guard.path_is;
-        names = unput (λ x. all_absent looked_up (0 ∷ ds) x) looked_up (absent_others (0 ∷ ds) looked_up) outers s n refl refl refl ∙ g.guard.names;
+        path_is = unput (λ x. dictionary_entry 0 (codes "ImposePath") x) (codes "ImposePath" ∷ []) (has_other 0 (codes "ImposePath")) outers s n refl refl refl ∙ g.guard.path_is;
+        names = unput (λ x. all_absent names_looked_up (0 ∷ ds) x) names_looked_up (absent_others (0 ∷ ds) names_looked_up) outers s n refl refl refl ∙ g.guard.names;
         few_operands = g.guard.few_operands;
         operands = operands_old s.work.made (page_matrix outers s) s.level (s.level + 1 + 1) s.work.operands (omega (arith, made)) (omega arith) g.guard.operands;
         dictionaries = dictionaries_old s.work.made (page_matrix outers s) ds (omega (arith, made)) g.guard.dictionaries;

@@ -3,10 +3,10 @@ use Rattle.std.specs.Prelude.{Option, Some, None, if◌then◌else◌, bytes_eq,
 use Rattle.std.proofs.Common.{◌≡◌, ℕ, zero, suc, ◌+◌, refl, ap, ap₂, ◌∙◌, sym, Bool, true, false, not, ◌&&◌, ◌==◌, List, [], ◌∷◌, true≢false, arith}
 use Rattle.pictures.specs.Objects.{Token, Text, Hexadecimal, Object, Plain, Mark}
 use Rattle.pictures.specs.Objects.{Saved, Want, ANumber, AText, AnArray, AMatrix, AFont, AName, ATruth}
-use Rattle.pictures.specs.Dictionaries.{Entry, system, entry_of, systemdict}
+use Rattle.pictures.specs.Dictionaries.{DictionaryEntry, system, dictionary_entry, systemdict}
 use Rattle.pictures.specs.Operators.{taken, fits, also, collected, onto, below_mark, nth, all_are_old, is_old}
 use Rattle.pictures.specs.Unaware.{is_saved, no_saved, no_saved_in}
-use Rattle.pictures.specs.Shifted.{up, ups}
+use Rattle.pictures.specs.Shifted.{one_save_more, ups}
 use Rattle.std.proofs.lemmas.Bool.{lt-ltb, ltb-true, le-ltb, ltb-false}
 use Rattle.pictures.proofs.Tests.{first, second, by_test}
 
@@ -59,7 +59,7 @@ below_mark_up [] = refl
 below_mark_up (Mark ∷ os) = refl
 below_mark_up (o ∷ os) = below_mark_up os
 
-pub nth_up : (n : ℕ) (os : List Object) → nth n (ups os) ≡ option_map up (nth n os)
+pub nth_up : (n : ℕ) (os : List Object) → nth n (ups os) ≡ option_map one_save_more (nth n os)
 nth_up n [] = refl
 nth_up zero (o ∷ os) = refl
 nth_up (suc n) (o ∷ os) = nth_up n os
@@ -69,7 +69,7 @@ same_order a b = by_test (nat_lt a b)
     (λ t. lt-ltb (a + 1) (b + 1) (omega (arith, ltb-true a b t)) ∙ sym t)
     (λ f. le-ltb (a + 1) (b + 1) (omega (arith, ltb-false a b f)) ∙ sym f)
 
-is_old_up : (made level : ℕ) (o : Object) → is_old made (level + 1) (up o) ≡ is_old made level o
+is_old_up : (made level : ℕ) (o : Object) → is_old made (level + 1) (one_save_more o) ≡ is_old made level o
 is_old_up made level (Saved l) = same_order l level
 is_old_up made level (Plain (Text bytes)) = refl
 is_old_up made level (Plain (Hexadecimal digits)) = refl
@@ -79,7 +79,7 @@ pub all_are_old_up : (made level : ℕ) (os : List Object) → all_are_old made 
 all_are_old_up made level [] = refl
 all_are_old_up made level (o ∷ os) = ap₂ (λ a b. a && b) (is_old_up made level o) (all_are_old_up made level os)
 
-up_same : (o : Object) → not (is_saved o) ≡ true → up o ≡ o
+up_same : (o : Object) → not (is_saved o) ≡ true → one_save_more o ≡ o
 up_same (Saved level) e = absurd (true≢false (sym e))
 up_same o e = refl
 
@@ -87,14 +87,14 @@ pub ups_same : (os : List Object) → no_saved os ≡ true → ups os ≡ os
 ups_same [] e = refl
 ups_same (o ∷ os) e = ap₂ (λ x xs. x ∷ xs) (up_same o (first (not (is_saved o)) (no_saved os) e)) (ups_same os (second (not (is_saved o)) (no_saved os) e))
 
-found_same : (b : Bool) (o : Object) (x : Option Object) → up o ≡ o → option_map up x ≡ x → option_map up (if b then Some o else x) ≡ (if b then Some o else x)
+found_same : (b : Bool) (o : Object) (x : Option Object) → one_save_more o ≡ o → option_map one_save_more x ≡ x → option_map one_save_more (if b then Some o else x) ≡ (if b then Some o else x)
 found_same true o x e f = ap Some e
 found_same false o x e f = f
 
-pub entry_same : (d : ℕ) (k : List ℕ) (es : List Entry) → no_saved_in es ≡ true → option_map up (entry_of d k es) ≡ entry_of d k es
+pub entry_same : (d : ℕ) (k : List ℕ) (es : List DictionaryEntry) → no_saved_in es ≡ true → option_map one_save_more (dictionary_entry d k es) ≡ dictionary_entry d k es
 entry_same d k [] e = refl
 entry_same d k (x ∷ es) e =
-    found_same (bytes_eq x.key k && (x.dictionary == d)) x.value (entry_of d k es) (up_same x.value (first (not (is_saved x.value)) (no_saved_in es) e)) (entry_same d k es (second (not (is_saved x.value)) (no_saved_in es) e))
+    found_same (bytes_eq x.key k && (x.dictionary == d)) x.value (dictionary_entry d k es) (up_same x.value (first (not (is_saved x.value)) (no_saved_in es) e)) (entry_same d k es (second (not (is_saved x.value)) (no_saved_in es) e))
 
-pub system_same : (k : List ℕ) → option_map up (system k) ≡ system k
+pub system_same : (k : List ℕ) → option_map one_save_more (system k) ≡ system k
 system_same k = entry_same 0 k systemdict refl

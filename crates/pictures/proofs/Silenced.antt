@@ -14,13 +14,13 @@ use Rattle.dsc.specs.Units.{units_of}
 use Rattle.guard.specs.Guard.{guarded}
 use Rattle.guard.proofs.TheGuard.{guard_stays}
 use Rattle.pictures.specs.Objects.{Token, Number, Name, Literal, Bound, Opens, Closes, Object, Plain, Truth, Procedure, Dictionary, Equal}
-use Rattle.pictures.specs.Dictionaries.{Entry, system, entry_of, has}
+use Rattle.pictures.specs.Dictionaries.{DictionaryEntry, system, dictionary_entry, has}
 use Rattle.pictures.specs.Operators.{holder, with_operands, judged}
 use Rattle.pictures.specs.Calculations.{compared}
 use Rattle.pictures.specs.Machine.{State, Painting, Runs, push, worked}
 use Rattle.pictures.specs.Scanner.{tokens}
 use Rattle.pictures.specs.Kept.{comments_apart_with}
-use Rattle.pictures.specs.Pictures.{printed, past_all, sheets_tokens}
+use Rattle.pictures.specs.Pictures.{printed_sheets, past_all, sheets_tokens}
 use Rattle.pictures.specs.Sheets.{run_of, in_userdict, Numbers, Shown, closing_tokens, placed_tokens, LeavesAsItWas, page_picture}
 use Rattle.pictures.specs.Documents.{started, PreambleRuns, FirstHas, OnSheetsFrom, all_sheets}
 use Rattle.pictures.specs.Imposed.{IsQuiet}
@@ -31,8 +31,8 @@ use Rattle.pictures.proofs.Tests.{by_test}
 use Rattle.pictures.proofs.Opening.{apart}
 use Rattle.pictures.specs.Behind.{save_tokens, showpage_tokens}
 use Rattle.pictures.specs.Shelter.{means, outline_tokens, sheltered, PaintsSheltered}
-use Rattle.pictures.specs.Pages.{looked_up, looked_up_first, around, placed_at, PaintsFrom, shown_at}
-use Rattle.pictures.specs.Silenced.{IsSilenced, with_showpage, showing, ShowpageIsPutBack, SilencedPageIsPlaced, SilencedSheetsArePrinted, SilencedDocumentIsShown}
+use Rattle.pictures.specs.Pages.{names_looked_up, looked_up_first, around, placed_at, PaintsFrom, state_after_sheets}
+use Rattle.pictures.specs.Silenced.{IsSilenced, with_showpage, after_pages, ShowpageIsPutBack, SilencedPageIsPlaced, SilencedSheetsArePrinted, SilencedDocumentIsShown}
 use Rattle.pictures.proofs.Absent.{known, known_below}
 use Rattle.pictures.proofs.Steps.{some, by_name}
 use Rattle.pictures.proofs.Begins.{Bears, before, for_save, saved_state, looking, filling, measuring, looked, finding, up_to_test, marks_page, begins_within}
@@ -68,19 +68,19 @@ puts_back s l flag is show user =
 -- The dictionaries.
 
 -- the entry that is put there
-abbrev shows : Entry
+abbrev shows : DictionaryEntry
 shows = in_userdict (codes "showpage") (Procedure showpage_tokens)
 
 -- userdict is the first one with a showpage, as it is with the guard's
-still_first : (ds : List ℕ) (es : List Entry) → holder ds (shows ∷ es) (codes "showpage") ≡ Some 0 → has (entry_of 0 (codes "showpage") es) ≡ true
+still_first : (ds : List ℕ) (es : List DictionaryEntry) → holder ds (shows ∷ es) (codes "showpage") ≡ Some 0 → has (dictionary_entry 0 (codes "showpage") es) ≡ true
     → holder ds es (codes "showpage") ≡ Some 0
 still_first [] es e h = e
 still_first (c ∷ ds) es e h =
-    let here : Option Object = entry_of c (codes "showpage") es in
+    let here : Option Object = dictionary_entry c (codes "showpage") es in
     let below : Option ℕ = holder ds es (codes "showpage") in
     let with_it : Option ℕ = holder ds (shows ∷ es) (codes "showpage") in
     by_test (0 == c)
-    (λ same. subst (λ n. (if has (entry_of n (codes "showpage") es) then Some n else below) ≡ Some 0) (eqb-true 0 c same) (ap (λ b. if b then Some 0 else below) h))
+    (λ same. subst (λ n. (if has (dictionary_entry n (codes "showpage") es) then Some n else below) ≡ Some 0) (eqb-true 0 c same) (ap (λ b. if b then Some 0 else below) h))
     (λ differ. let e2 : (if has here then Some c else with_it) ≡ Some 0 =
     sym (ap (λ b. if has (if b then Some (Procedure showpage_tokens) else here) then Some c else with_it) differ) ∙ e in
     by_test (has here)
@@ -93,7 +93,7 @@ as_with s name o other e = sym (means_other s.work.dictionaries name shows s.wor
 
 user_is : (s : State) → IsSilenced s → means s (codes "userdict") ≡ system (codes "userdict")
 user_is s h =
-    as_with s (codes "userdict") (system (codes "userdict")) refl (known_below looked_up 0 s.work.dictionaries (shows ∷ s.work.entries) h.guarded.guard.names (codes "userdict") refl)
+    as_with s (codes "userdict") (system (codes "userdict")) refl (known_below names_looked_up 0 s.work.dictionaries (shows ∷ s.work.entries) h.guarded.guard.names (codes "userdict") refl)
 
 first_is : (s : State) → IsSilenced s → holder s.work.dictionaries s.work.entries (codes "showpage") ≡ Some 0
 first_is s h = still_first s.work.dictionaries s.work.entries h.guarded.userdict_first (ap has h.empty)
@@ -101,7 +101,7 @@ first_is s h = still_first s.work.dictionaries s.work.entries h.guarded.userdict
 pub showpage_is_put_back : ShowpageIsPutBack
 showpage_is_put_back s rest h =
     let ds : List ℕ = s.work.dictionaries in
-    let es : List Entry = s.work.entries in
+    let es : List DictionaryEntry = s.work.entries in
     let t : State = with_showpage s in
     let g = h.guarded in
     let os : List Object = for_save s in
@@ -149,31 +149,31 @@ silenced_page_is_placed s x rest h p =
 pub silenced_anyway : (s : State) (ps : List Painting) (sheets : List (List Painting)) → IsSilenced s → IsSilenced (record s { painted = ps; sheets = sheets })
 silenced_anyway s ps sheets h = record { empty = h.empty; guarded = still_guarded (with_showpage s) ps sheets h.guarded }
 
-silenced_places : (s : State) → IsSilenced s → (k : ℕ) (x : Shown) → PaintsSheltered [] (showing s (suc k)) (outline_tokens x.placed.numbers) x.placed.body x.picture → Places (Runs false) (showing s) s.graphics k x
+silenced_places : (s : State) → IsSilenced s → (k : ℕ) (x : Shown) → PaintsSheltered [] (after_pages s (suc k)) (outline_tokens x.placed.numbers) x.placed.body x.picture → Places (Runs false) (after_pages s) s.graphics k x
 silenced_places s h zero x p =
     λ ps sheets rest. silenced_page_is_placed (record s { painted = ps; sheets = sheets }) x rest (silenced_anyway s ps sheets h)
     (still_paints [] (with_showpage s) ps sheets (outline_tokens x.placed.numbers) x.placed.body x.picture p)
 silenced_places s h (suc k) x p = page_places [] (with_showpage s) x (takes_pages (with_showpage s) h.guarded) p
 
-pub silenced_prints : (R : State → State → Type 0) → AreRuns R → (s : State) → IsSilenced s → (k : ℕ) → 1 ≤ k → Prints R (showing s k)
+pub silenced_prints : (R : State → State → Type 0) → AreRuns R → (s : State) → IsSilenced s → (k : ℕ) → 1 ≤ k → Prints R (after_pages s k)
 silenced_prints R m s h zero le = absurd (omega (arith, le))
 silenced_prints R m s h (suc k) le = guarded_prints R m (with_showpage s) h.guarded
 
 pub silenced_sheets_are_printed : SilencedSheetsArePrinted
 silenced_sheets_are_printed s xs rest h e b k =
-    subst (λ ps. Runs false (record s { left = sheets_tokens xs ++ rest; painted = ps }) (fresh (showing s (past_all 0 xs)) rest [] (printed s.graphics xs s.sheets))) (sym e)
-    (all_sheets_run (Runs false) free_are_runs (showing s) s.graphics 1 (silenced_prints (Runs false) free_are_runs s h) xs 0 rest s.sheets b (all_sheets_place (showing s) s.graphics (silenced_places s h) xs 0 k))
+    subst (λ ps. Runs false (record s { left = sheets_tokens xs ++ rest; painted = ps }) (fresh (after_pages s (past_all 0 xs)) rest [] (printed_sheets s.graphics xs s.sheets))) (sym e)
+    (all_sheets_run (Runs false) free_are_runs (after_pages s) s.graphics 1 (silenced_prints (Runs false) free_are_runs s h) xs 0 rest s.sheets b (all_sheets_place (after_pages s) s.graphics (silenced_places s h) xs 0 k))
 
 -- Documents.
 
 pub silenced_is_shown : (sheet : Option Paper) (border : Option Border) (dress : Dress) (all : List MadeSheet) (text : List ℕ) (us : List NestedUnit) (picture : ℕ → List Painting) (s : State)
     → IsQuiet dress → document_of text ≡ Ok us → length (guarded sheet text) ≤ most_input_bytes → comments_apart_with dress.header (units_of (guarded sheet text)) ≡ true
-    → PreambleRuns IsSilenced (bytes_of (preamble (units_of (guarded sheet text)))) s → FirstHas 1 all → OnSheetsFrom (PaintsFrom border us picture (showing s)) 0 all
-    → Runs false (started (tokens (made_output border dress all (units_of (guarded sheet text))))) (shown_at (showing s) border (units_of (guarded sheet text)) picture all)
+    → PreambleRuns IsSilenced (bytes_of (preamble (units_of (guarded sheet text)))) s → FirstHas 1 all → OnSheetsFrom (PaintsFrom border us picture (after_pages s)) 0 all
+    → Runs false (started (tokens (made_output border dress all (units_of (guarded sheet text))))) (state_after_sheets (after_pages s) border (units_of (guarded sheet text)) picture all)
 silenced_is_shown sheet border dress all text us picture s quiet doc few comments (complete, run, left, painted, none_printed, silenced) has h =
-    states_are_shown (showing s) 1 sheet border dress all text us picture (silenced_places s silenced) (silenced_prints (Runs false) free_are_runs s silenced) quiet doc few comments complete run left painted has h
+    states_are_shown (after_pages s) 1 sheet border dress all text us picture (silenced_places s silenced) (silenced_prints (Runs false) free_are_runs s silenced) quiet doc few comments complete run left painted has h
 
 pub silenced_document_is_shown : SilencedDocumentIsShown
 silenced_document_is_shown sheet frame sides spec text us picture s doc few comments run has h =
-    by_specification_shown (showing s) frame sides spec us (units_of (guarded sheet text)) picture (guard_stays sheet text us doc few).1.same_pages
+    by_specification_shown (after_pages s) frame sides spec us (units_of (guarded sheet text)) picture (guard_stays sheet text us doc few).1.same_pages
     (silenced_is_shown sheet frame.border undressed (all_sheets frame sides spec us) text us picture s undressed_is_quiet doc few comments run has h)

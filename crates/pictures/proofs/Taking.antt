@@ -2,7 +2,7 @@
 use Rattle.std.specs.Prelude.{Some, None, codes, bytes_eq, nat_lt}
 use Rattle.std.proofs.lemmas.Bool.{lt-ltb}
 use Rattle.std.proofs.Common.{◌≡◌, ℕ, ◌+◌, refl, ap, ap₂, ◌∙◌, true, false, not, ◌&&◌, List, [], ◌∷◌}
-use Rattle.pictures.specs.Dictionaries.{Entry}
+use Rattle.pictures.specs.Dictionaries.{DictionaryEntry}
 use Rattle.pictures.specs.Sheets.{among}
 use Rattle.pictures.proofs.Opening.{name_other, apart}
 use Rattle.pictures.proofs.Tests.{first, second}
@@ -21,7 +21,7 @@ guard_takes_sheets (Some paper) rest =
 is_apart : (key name : List ℕ) → bytes_eq key name ≡ false → apart key (name ∷ []) ≡ true
 is_apart key name e = ap (λ b. not b && true) e
 
-all_above : (names : List (List ℕ)) (ds : List ℕ) (e : Entry) (es : List Entry) → among e.key taken_names ≡ false → all_among names taken_names ≡ true
+all_above : (names : List (List ℕ)) (ds : List ℕ) (e : DictionaryEntry) (es : List DictionaryEntry) → among e.key taken_names ≡ false → all_among names taken_names ≡ true
     → none_above_of names ds (e ∷ es) ≡ none_above_of names ds es
 all_above [] ds e es a h = refl
 all_above (name ∷ names) ds e es a h =
@@ -31,7 +31,7 @@ all_above (name ∷ names) ds e es a h =
 pub stays_taking_sheets : StaysTakingSheets
 stays_taking_sheets s e t a made =
     let ds : List ℕ = s.work.dictionaries in
-    let es : List Entry = s.work.entries in
+    let es : List DictionaryEntry = s.work.entries in
     let g = t.takes in
     let other : (name : List ℕ) → among name taken_names ≡ true → bytes_eq e.key name ≡ false = λ name h. differs e.key name taken_names a h in
     record {

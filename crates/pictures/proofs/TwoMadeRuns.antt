@@ -24,10 +24,10 @@ use Rattle.guard.specs.Guard.{guarded}
 use Rattle.guard.proofs.TheGuard.{guard_stays}
 use Rattle.pictures.specs.Objects.{Token}
 use Rattle.pictures.specs.Machine.{State, Painting, Runs}
-use Rattle.pictures.specs.Scanner.{Between, ended, tokens, IsComplete}
+use Rattle.pictures.specs.Scanner.{Between, ended_token, tokens, EndsBetweenTokens}
 use Rattle.pictures.specs.Sheets.{Numbers, Shown, sheet_picture, sheet_tokens}
 use Rattle.pictures.specs.Kept.{page_comments_apart, comments_apart_with}
-use Rattle.pictures.specs.Documents.{started, numbers_of, frame_of, page_of, body_of_page, shown_slot, shown_sheet, pages_past, OnSlotsFrom, OnSheetsFrom, OnSlots, OnSheets, PreambleRuns, all_sheets}
+use Rattle.pictures.specs.Documents.{started, numbers_of, page_frame, document_page, body_of_page, shown_slot, shown_sheet, pages_past, OnSlotsFrom, OnSheetsFrom, OnSlots, OnSheets, PreambleRuns, all_sheets}
 use Rattle.pictures.specs.Imposed.{IsQuiet, MadeIsPrinted}
 use Rattle.pictures.proofs.DocumentRun.{everywhere_on}
 use Rattle.pictures.proofs.Kept.{kept_runs_alike}
@@ -60,16 +60,16 @@ on_sheet P k (sheet ∷ all) (suc p) h = on_sheet P (pages_past k sheet.slots) a
 -- what is kept of a page within
 abbrev Within : Option Border → List NestedUnit → (ℕ → List Painting) → Frame → State → ℕ → Paper → ℕ → Type 0
 Within border us picture outer s k own p =
-    IsComplete (body_of_page us p)
+    EndsBetweenTokens (body_of_page us p)
     × ((item : Item)
-    → PaintsSheltered (page_round [] s (numbers_of outer item) ∷ []) (page_begun [] s (numbers_of outer item)) (outline_of (frame_of border own)) (tokens (body_of_page us p)) (picture p))
+    → PaintsSheltered (page_round [] s (numbers_of outer item) ∷ []) (page_begun [] s (numbers_of outer item)) (outline_of (page_frame border own)) (tokens (body_of_page us p)) (picture p))
 
 body_paints : (border : Option Border) (us : List NestedUnit) (picture : ℕ → List Painting) (outer : Frame) (s : State) (k : ℕ) (own : Paper) (p : ℕ)
-    → PagePaintsWithin (frame_of border own) us outer s p (picture p) → Within border us picture outer s k own p
+    → PagePaintsWithin (page_frame border own) us outer s p (picture p) → Within border us picture outer s k own p
 body_paints border us picture outer s k own p (complete, apart, h) =
-    let alike = kept_runs_alike (page_of us p) apart complete in (
+    let alike = kept_runs_alike (document_page us p) apart complete in (
       alike.1,
-      λ item. subst (λ ts. PaintsSheltered (page_round [] s (numbers_of outer item) ∷ []) (page_begun [] s (numbers_of outer item)) (outline_of (frame_of border own)) ts (picture p)) (sym alike.0) (h item),
+      λ item. subst (λ ts. PaintsSheltered (page_round [] s (numbers_of outer item) ∷ []) (page_begun [] s (numbers_of outer item)) (outline_of (page_frame border own)) ts (picture p)) (sym alike.0) (h item),
     )
 
 slots_within : (border : Option Border) (us : List NestedUnit) (outer : Frame) (picture : ℕ → List Painting) (s : State) (at : Item) (k : ℕ) (slots : List MadeSlot)
@@ -91,8 +91,8 @@ made_texts_counted : (border : Option Border) (dress : Dress) (texts : List (Lis
 made_texts_counted border dress texts all = length-map (enumerate_from 0 all) (λ (k, sheet). made_sheet_text border dress texts k sheet) ∙ length-enumerate_from 0 all
 
 -- a text that is read to its end has these tokens
-read_is : (text : List ℕ) (ts : List Token) → Reads Between text ts Between → (tokens text ≡ ts) × IsComplete text
-read_is text ts e = (ap (λ x. x.0 ++ ended x.1) e ∙ append-nil ts, ap (λ x. x.1) e)
+read_is : (text : List ℕ) (ts : List Token) → Reads Between text ts Between → (tokens text ≡ ts) × EndsBetweenTokens text
+read_is text ts e = (ap (λ x. x.0 ++ ended_token x.1) e ∙ append-nil ts, ap (λ x. x.1) e)
 
 -- Each page of the second document is placed.
 
@@ -104,15 +104,15 @@ empty_places s n t =
 
 sheet_again : (border : Option Border) (dress : Dress) (us : List NestedUnit) (outer : Frame) (picture : ℕ → List Painting) (s : State) (all : List MadeSheet) (again : List NestedUnit) (k p : ℕ)
     → IsQuiet dress → TakesSheets [] s → OnSlotsFrom (Within border us picture outer s) 0 (sheet_at all p).slots → pages again ≡ made_texts border dress (pages us) all
-    → page_comments_apart (page_of again p) ≡ true → p < length all
+    → page_comments_apart (document_page again p) ≡ true → p < length all
     → BodyPlaces (Runs false) (still s) outer again k p (made_run_picture border us picture s all p)
 sheet_again border dress us outer picture s all again k p q t here same apart less =
     let sheet : MadeSheet = sheet_at all p in
     let xs : List Shown = shown_sheet border us picture sheet in
     let whole : OnSlotsFrom (AreComplete us) 0 sheet.slots = on_slots (Within border us picture outer s) (AreComplete us) (λ i own n x. x.0) 0 sheet.slots here in
-    let text : page_of again p ≡ made_sheet_text border dress (pages us) p sheet = ap (λ ps. slice_index_or ps p []) same ∙ made_sheet_of border dress (pages us) all p less in
+    let text : document_page again p ≡ made_sheet_text border dress (pages us) p sheet = ap (λ ps. slice_index_or ps p []) same ∙ made_sheet_of border dress (pages us) all p less in
     let read = read_is (made_sheet_text border dress (pages us) p sheet) (sheet_tokens (map (λ x. x.placed) xs)) (sheet_read border dress us picture q p 0 sheet whole) in
-    let alike = kept_runs_alike (page_of again p) apart (subst (λ b. IsComplete b) (sym text) read.1) in
+    let alike = kept_runs_alike (document_page again p) apart (subst (λ b. EndsBetweenTokens b) (sym text) read.1) in
     let body : tokens (body_of_page again p) ≡ sheet_tokens (map (λ x. x.placed) xs) = alike.0 ∙ ap tokens text ∙ read.0 in (
       alike.1,
       λ item. subst (λ ts. Stays (Runs false) s (record { placed = record { numbers = numbers_of outer item; body = ts }; picture = made_run_picture border us picture s all p })) (sym body)
@@ -122,18 +122,18 @@ sheet_again border dress us outer picture s all again k p q t here same apart le
 no_sheet : (border : Option Border) (dress : Dress) (us : List NestedUnit) (outer : Frame) (picture : ℕ → List Painting) (s : State) (all : List MadeSheet) (again : List NestedUnit) (k p : ℕ)
     → TakesSheets [] s → pages again ≡ made_texts border dress (pages us) all → length all ≤ p → BodyPlaces (Runs false) (still s) outer again k p (made_run_picture border us picture s all p)
 no_sheet border dress us outer picture s all again k p t same past =
-    let text : page_of again p ≡ [] = ap (λ ps. slice_index_or ps p []) same ∙ get_or_past (made_texts border dress (pages us) all) p [] (subst (λ n. n ≤ p) (sym (made_texts_counted border dress (pages us) all)) past) in
+    let text : document_page again p ≡ [] = ap (λ ps. slice_index_or ps p []) same ∙ get_or_past (made_texts border dress (pages us) all) p [] (subst (λ n. n ≤ p) (sym (made_texts_counted border dress (pages us) all)) past) in
     let none : sheet_at all p ≡ empty_sheet = get_or_past all p empty_sheet past in
-    let at : List ℕ → MadeSheet → Type 0 = λ page here. IsComplete (body_text (prepared page))
+    let at : List ℕ → MadeSheet → Type 0 = λ page here. EndsBetweenTokens (body_text (prepared page))
     × ((item : Item) → Stays (Runs false) s (record { placed = record { numbers = numbers_of outer item; body = tokens (body_text (prepared page)) }; picture = sheet_picture (beginning s) (shown_sheet border us picture here) [] })) in
     subst (λ page. at page (sheet_at all p)) (sym text) (subst (λ here. at [] here) (sym none) (refl, λ item. empty_places s (numbers_of outer item) t))
 
 each_again : (border : Option Border) (dress : Dress) (us : List NestedUnit) (outer : Frame) (picture : ℕ → List Painting) (s : State) (all : List MadeSheet) (again : List NestedUnit) (k p : ℕ)
-    → IsQuiet dress → TakesSheets [] s → OnSlots (λ own n. PagePaintsWithin (frame_of border own) us outer s n (picture n)) (sheet_at all p).slots → pages again ≡ made_texts border dress (pages us) all
-    → page_comments_apart (page_of again p) ≡ true → BodyPlaces (Runs false) (still s) outer again k p (made_run_picture border us picture s all p)
+    → IsQuiet dress → TakesSheets [] s → OnSlots (λ own n. PagePaintsWithin (page_frame border own) us outer s n (picture n)) (sheet_at all p).slots → pages again ≡ made_texts border dress (pages us) all
+    → page_comments_apart (document_page again p) ≡ true → BodyPlaces (Runs false) (still s) outer again k p (made_run_picture border us picture s all p)
 each_again border dress us outer picture s all again k p q t h same apart = by_test (nat_lt p (length all))
     (λ less. sheet_again border dress us outer picture s all again k p q t
-    (on_slots (λ i own n. PagePaintsWithin (frame_of border own) us outer s n (picture n)) (Within border us picture outer s) (λ i own n x. body_paints border us picture outer s i own n x) 0 (sheet_at all p).slots h)
+    (on_slots (λ i own n. PagePaintsWithin (page_frame border own) us outer s n (picture n)) (Within border us picture outer s) (λ i own n x. body_paints border us picture outer s i own n x) 0 (sheet_at all p).slots h)
     same apart (ltb-true p (length all) less))
     (λ past. no_sheet border dress us outer picture s all again k p t same (ltb-false p (length all) past))
 
@@ -150,7 +150,7 @@ both_sheets P Q k (sheet ∷ all) h j = (both_slots P Q k sheet.slots h.0 j.0, b
 -- The second run.
 
 abbrev Apart : List NestedUnit → Paper → ℕ → Type 0
-Apart again own p = page_comments_apart (page_of again p) ≡ true
+Apart again own p = page_comments_apart (document_page again p) ≡ true
 
 again_is_shown : (border outer_border : Option Border) (dress outer_dress : Dress) (all outer_all : List MadeSheet) (text : List ℕ) (us again : List NestedUnit) (picture : ℕ → List Painting) (s : State)
     → IsQuiet dress → IsQuiet outer_dress → document_of text ≡ Ok again → pages again ≡ made_texts border dress (pages us) all
@@ -161,7 +161,7 @@ again_is_shown border outer_border dress outer_dress all outer_all text us again
     let Paints : Paper → ℕ → Type 0 = SheetPaintsWithin border all us picture outer_border s in
     guarded_is_shown outer_border outer_dress outer_all text again (made_run_picture border us picture s all) s outer_quiet d apart run
     (on_sheets (λ k own p. Apart again own p × Paints own p) (Bodies (Runs false) (still s) outer_border again (made_run_picture border us picture s all))
-    (λ k own p x. each_again border dress us (frame_of outer_border own) picture s all again k p quiet t x.1 same x.0)
+    (λ k own p x. each_again border dress us (page_frame outer_border own) picture s all again k p quiet t x.1 same x.0)
     0 outer_all (both_sheets (Apart again) Paints 0 outer_all kept h))
 
 -- what a run wrote, with the guard put in, is a document with its sheets as pages
@@ -199,4 +199,4 @@ two_runs_are_shown sheet inner outer sides outer_sides spec outer_spec text us p
     by_specification (Runs false) started outer outer_sides outer_spec again _
     (again_is_shown inner.border outer.border undressed undressed all outer_all (guarded sheet out) us again picture s undressed_is_quiet undressed_is_quiet z.0 z.1 apart run t kept
     (everywhere_on (SheetPaintsWithin inner.border all us picture outer.border s) outer.paper
-    (λ p. on_sheet (λ own n. PagePaintsWithin (frame_of inner.border own) us outer s n (picture n)) 0 all p h) (sheets_in outer_sides outer_spec (length (pages again)))))
+    (λ p. on_sheet (λ own n. PagePaintsWithin (page_frame inner.border own) us outer s n (picture n)) 0 all p h) (sheets_in outer_sides outer_spec (length (pages again)))))

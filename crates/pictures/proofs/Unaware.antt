@@ -6,12 +6,12 @@ use Rattle.std.proofs.lemmas.Bool.Decides.{eqb_tells}
 use Rattle.std.proofs.Common.{◌≡◌, ℕ, zero, suc, ◌+◌, refl, ap, ◌∙◌, sym, subst, Bool, true, false, not, ◌&&◌, ◌==◌, List, [], ◌∷◌, eq-eqb, arith, ⊎_elim}
 use Rattle.pictures.specs.Objects.{Token, Name, Opens, Closes, Bound, Unknown, Object, Procedure, Plain}
 use Rattle.pictures.specs.Objects.{Saved, Operator, Kind, Effect, Computes, Controls, Draws, PushesGraphics, PopsGraphics, PopsAllGraphics, Looks, Saves, Restores, Ships, Resets, Copies, CopyOperands, Matrix, Call}
-use Rattle.pictures.specs.Dictionaries.{Entry, meaning, system}
+use Rattle.pictures.specs.Dictionaries.{DictionaryEntry, meaning, system}
 use Rattle.pictures.specs.Operators.{Work, taken, computed_on, controlled_on, all_old}
-use Rattle.pictures.specs.Machine.{State, Graphics, Snapshot, body_of, opened, drawn, worked, running, popped, popped_all, save_of, back, returned, restored, chain_of, filled_from, copied, perform, done, meant, act, step_on, step, steps, and_then, may_go_back}
+use Rattle.pictures.specs.Machine.{State, Graphics, Snapshot, body_of, opened, drawn, worked, running, popped, popped_all, save_of, back_to, returned, restored, chain_of, filled_from, copied, perform, effect_of_value, meant, act, step_on, step, steps, and_then, may_go_back}
 use Rattle.pictures.specs.Sheets.{among}
-use Rattle.pictures.specs.Unaware.{put_names, none_among, asked_by, asked_on, unaware_step}
-use Rattle.pictures.specs.Shifted.{up, ups, Agree, AllAgree, up_work, up_shot, up_shots, up_state}
+use Rattle.pictures.specs.Unaware.{put_names, none_among, names_asked, asked_on, unaware_step}
+use Rattle.pictures.specs.Shifted.{one_save_more, ups, AgreeShifted, AllAgree, up_work, up_shot, up_shots, up_state}
 use Rattle.pictures.proofs.Tests.{first, second}
 use Rattle.pictures.proofs.Runs.{nothing, some_is}
 use Rattle.pictures.proofs.Shifted.{up_taken, taken_up, all_are_old_up, system_same}
@@ -33,9 +33,9 @@ performs_free name Resets s = tt
 performs_free name (Looks v) s = tt
 performs_free name k s = stays (perform true name k s)
 
-does_free : (o : Object) (s : State) → Stays (done true o s) (done false o s)
+does_free : (o : Object) (s : State) → Stays (effect_of_value true o s) (effect_of_value false o s)
 does_free (Operator name k) s = performs_free name k s
-does_free o s = stays (done true o s)
+does_free o s = stays (effect_of_value true o s)
 
 means_free : (x : Option Object) (s : State) → Stays (meant true x s) (meant false x s)
 means_free None s = tt
@@ -61,34 +61,34 @@ unaware_free s t e = free_if (none_among (asked_on s.left s) put_names) (step tr
 
 abbrev pub Goes : ℕ → Option State → Option State → Type 0
 Goes n None r = Unit {0}
-Goes n (Some t) r = (es : List Entry) × (ess : List (List Entry)) × (r ≡ Some (up_state es ess t)) × Agree n es t.work.entries × AllAgree n ess t.saves
+Goes n (Some t) r = (es : List DictionaryEntry) × (ess : List (List DictionaryEntry)) × (r ≡ Some (up_state es ess t)) × AgreeShifted n es t.work.entries × AllAgree n ess t.saves
 
-worked_goes : (n : ℕ) (x y : Option Work) (s : State) (es : List Entry) (ess : List (List Entry)) → WorkGoes n x y → AllAgree n ess s.saves → Goes n (worked x s) (worked y (up_state es ess s))
+worked_goes : (n : ℕ) (x y : Option Work) (s : State) (es : List DictionaryEntry) (ess : List (List DictionaryEntry)) → WorkGoes n x y → AllAgree n ess s.saves → Goes n (worked x s) (worked y (up_state es ess s))
 worked_goes n None y s es ess g h = tt
 worked_goes n (Some w) y s es ess g h = (g.0, ess, ap (λ r. worked r (up_state es ess s)) g.1, g.2, h)
 
-running_goes : (n : ℕ) (x y : Option (List Token × Work)) (s : State) (es : List Entry) (ess : List (List Entry)) → ControlGoes n x y → AllAgree n ess s.saves → Goes n (running x s) (running y (up_state es ess s))
+running_goes : (n : ℕ) (x y : Option (List Token × Work)) (s : State) (es : List DictionaryEntry) (ess : List (List DictionaryEntry)) → ControlGoes n x y → AllAgree n ess s.saves → Goes n (running x s) (running y (up_state es ess s))
 running_goes n None y s es ess g h = tt
 running_goes n (Some (ts, w)) y s es ess g h = (g.0, ess, ap (λ r. running r (up_state es ess s)) g.1, g.2, h)
 
-drawn_goes : (n : ℕ) (e : Effect) (name : List ℕ) (x : Option (List Object × List Object)) (s : State) (es : List Entry) (ess : List (List Entry)) → Agree n es s.work.entries → AllAgree n ess s.saves
+drawn_goes : (n : ℕ) (e : Effect) (name : List ℕ) (x : Option (List Object × List Object)) (s : State) (es : List DictionaryEntry) (ess : List (List DictionaryEntry)) → AgreeShifted n es s.work.entries → AllAgree n ess s.saves
     → Goes n (drawn e name x s) (drawn e name (up_taken x) (up_state es ess s))
 drawn_goes n e name None s es ess a h = tt
 drawn_goes n e name (Some (os, rest)) s es ess a h = (es, ess, refl, a, h)
 
-opened_goes : (n : ℕ) (x : Option (List Token × List Token)) (s : State) (es : List Entry) (ess : List (List Entry)) → Agree n es s.work.entries → AllAgree n ess s.saves
+opened_goes : (n : ℕ) (x : Option (List Token × List Token)) (s : State) (es : List DictionaryEntry) (ess : List (List DictionaryEntry)) → AgreeShifted n es s.work.entries → AllAgree n ess s.saves
     → Goes n (opened x s) (opened x (up_state es ess s))
 opened_goes n None s es ess a h = tt
 opened_goes n (Some (ts, rest)) s es ess a h = (es, ess, refl, a, h)
 
-popped_goes : (n : ℕ) (gs : List Graphics) (shots : List Snapshot) (s : State) (es : List Entry) (ess : List (List Entry)) → Agree n es s.work.entries → AllAgree n ess shots
+popped_goes : (n : ℕ) (gs : List Graphics) (shots : List Snapshot) (s : State) (es : List DictionaryEntry) (ess : List (List DictionaryEntry)) → AgreeShifted n es s.work.entries → AllAgree n ess shots
     → Goes n (popped gs (record s { saves = shots })) (popped gs (up_state es ess (record s { saves = shots })))
 popped_goes n (g ∷ gs) shots s es ess a h = (es, ess, refl, a, h)
 popped_goes n [] [] s es ess a h = tt
 popped_goes n [] (b ∷ bs) s es [] a h = absurd h
 popped_goes n [] (b ∷ bs) s es (fs ∷ ess) a h = (es, fs ∷ ess, refl, a, h)
 
-popped_all_goes : (n : ℕ) (shots : List Snapshot) (s : State) (es : List Entry) (ess : List (List Entry)) → Agree n es s.work.entries → AllAgree n ess shots
+popped_all_goes : (n : ℕ) (shots : List Snapshot) (s : State) (es : List DictionaryEntry) (ess : List (List DictionaryEntry)) → AgreeShifted n es s.work.entries → AllAgree n ess shots
     → Goes n (popped_all shots (record s { saves = shots })) (popped_all (up_shots ess shots) (up_state es ess (record s { saves = shots })))
 popped_all_goes n [] s es ess a h = tt
 popped_all_goes n (b ∷ bs) s es [] a h = absurd h
@@ -102,15 +102,15 @@ same_next a b = ⊎_elim
 
 abbrev Found : ℕ → Option (Snapshot × List Snapshot) → Option (Snapshot × List Snapshot) → Type 0
 Found n None y = Unit {0}
-Found n (Some (shot, rest)) y = (es : List Entry) × (ess : List (List Entry)) × (y ≡ Some (up_shot es shot, up_shots ess rest)) × Agree n es shot.entries × AllAgree n ess rest
+Found n (Some (shot, rest)) y = (es : List DictionaryEntry) × (ess : List (List DictionaryEntry)) × (y ≡ Some (up_shot es shot, up_shots ess rest)) × AgreeShifted n es shot.entries × AllAgree n ess rest
 
-found_if : (n : ℕ) (here : Bool) (shot : Snapshot) (rest : List Snapshot) (x y : Option (Snapshot × List Snapshot)) (es : List Entry) (ess : List (List Entry))
-    → Agree n es shot.entries → AllAgree n ess rest → Found n x y
+found_if : (n : ℕ) (here : Bool) (shot : Snapshot) (rest : List Snapshot) (x y : Option (Snapshot × List Snapshot)) (es : List DictionaryEntry) (ess : List (List DictionaryEntry))
+    → AgreeShifted n es shot.entries → AllAgree n ess rest → Found n x y
     → Found n (if here then Some (shot, rest) else x) (if here then Some (up_shot es shot, up_shots ess rest) else y)
 found_if n true shot rest x y es ess a h f = (es, ess, refl, a, h)
 found_if n false shot rest x y es ess a h f = f
 
-finds : (n level : ℕ) (shots : List Snapshot) (ess : List (List Entry)) → AllAgree n ess shots → Found n (save_of level shots) (save_of (level + 1) (up_shots ess shots))
+finds : (n level : ℕ) (shots : List Snapshot) (ess : List (List DictionaryEntry)) → AllAgree n ess shots → Found n (save_of level shots) (save_of (level + 1) (up_shots ess shots))
 finds n level [] [] h = tt
 finds n level [] (es ∷ ess) h = absurd h
 finds n level (b ∷ bs) [] h = absurd h
@@ -118,38 +118,38 @@ finds n level (b ∷ bs) (es ∷ ess) h =
     subst (λ t. Found n (save_of level (b ∷ bs)) (if t then Some (up_shot es b, up_shots ess bs) else save_of (level + 1) (up_shots ess bs))) (sym (same_next b.level level))
     (found_if n (b.level == level) b bs (save_of level bs) (save_of (level + 1) (up_shots ess bs)) es ess h.0 h.1 (finds n level bs ess h.1))
 
-back_if : (n : ℕ) (b c : Bool) (t u : State) (es : List Entry) (ess : List (List Entry)) → c ≡ b → u ≡ up_state es ess t → Agree n es t.work.entries → AllAgree n ess t.saves
+back_if : (n : ℕ) (b c : Bool) (t u : State) (es : List DictionaryEntry) (ess : List (List DictionaryEntry)) → c ≡ b → u ≡ up_state es ess t → AgreeShifted n es t.work.entries → AllAgree n ess t.saves
     → Goes n (if b then Some t else None) (if c then Some u else None)
 back_if n true c t u es ess e f a h = (es, ess, ap (λ x. if x then Some u else None) e ∙ ap Some f, a, h)
 back_if n false c t u es ess e f a h = tt
 
-back_goes : (n : ℕ) (os : List Object) (x y : Option (Snapshot × List Snapshot)) (s : State) (es : List Entry) (ess : List (List Entry)) → Found n x y
-    → Goes n (back os x s) (back (ups os) y (up_state es ess s))
+back_goes : (n : ℕ) (os : List Object) (x y : Option (Snapshot × List Snapshot)) (s : State) (es : List DictionaryEntry) (ess : List (List DictionaryEntry)) → Found n x y
+    → Goes n (back_to os x s) (back_to (ups os) y (up_state es ess s))
 back_goes n os None y s es ess f = tt
 back_goes n os (Some (shot, rest)) y s es ess f =
     let t : State = returned os shot rest s in
-    subst (λ z. Goes n (back os (Some (shot, rest)) s) (back (ups os) z (up_state es ess s))) (sym f.2)
+    subst (λ z. Goes n (back_to os (Some (shot, rest)) s) (back_to (ups os) z (up_state es ess s))) (sym f.2)
     (back_if n (may_go_back shot os s.work) (may_go_back (up_shot f.0 shot) (ups os) (up_work es s.work)) t (up_state f.0 f.1 t) f.0 f.1
     (ap (λ b. b && all_old shot.made s.work.dictionaries) (all_are_old_up shot.made shot.level os)) refl f.3 f.4)
 
-restores_goes : (n : ℕ) (os : List Object) (s : State) (es : List Entry) (ess : List (List Entry)) → AllAgree n ess s.saves → Goes n (restored os s) (restored (ups os) (up_state es ess s))
+restores_goes : (n : ℕ) (os : List Object) (s : State) (es : List DictionaryEntry) (ess : List (List DictionaryEntry)) → AllAgree n ess s.saves → Goes n (restored os s) (restored (ups os) (up_state es ess s))
 restores_goes n (Saved level ∷ os) s es ess h = back_goes n os (save_of level s.saves) (save_of (level + 1) (up_shots ess s.saves)) s es ess (finds n level s.saves ess h)
 restores_goes n os s es ess h = tt
 
-filled_goes : (n : ℕ) (x : Option (List Call)) (m : ℕ) (os : List Object) (s : State) (es : List Entry) (ess : List (List Entry)) → Agree n es s.work.entries → AllAgree n ess s.saves
+filled_goes : (n : ℕ) (x : Option (List Call)) (m : ℕ) (os : List Object) (s : State) (es : List DictionaryEntry) (ess : List (List DictionaryEntry)) → AgreeShifted n es s.work.entries → AllAgree n ess s.saves
     → Goes n (filled_from x m os s) (filled_from x m (ups os) (up_state es ess s))
 filled_goes n None m os s es ess a h = tt
 filled_goes n (Some chain) m os s es ess a h = (es, ess, refl, a, h)
 
-copied_goes : (n : ℕ) (os : List Object) (s : State) (es : List Entry) (ess : List (List Entry)) → Agree n es s.work.entries → AllAgree n ess s.saves
+copied_goes : (n : ℕ) (os : List Object) (s : State) (es : List DictionaryEntry) (ess : List (List DictionaryEntry)) → AgreeShifted n es s.work.entries → AllAgree n ess s.saves
     → Goes n (copied os s) (copied (ups os) (up_state es ess s))
 copied_goes n (Matrix l ∷ Matrix m ∷ os) s es ess a h = filled_goes n (chain_of m s.kept) l os s es ess a h
 copied_goes n (Plain t ∷ os) s es ess a h =
     worked_goes n (computed_on CopyOperands (Plain t ∷ os) s.work) (computed_on CopyOperands (Plain t ∷ ups os) (up_work es s.work)) s es ess (works_on n (codes "copy") CopyOperands (Plain t ∷ os) s.work es a refl) h
 copied_goes n os s es ess a h = tt
 
-performs_goes : (n : ℕ) (name : List ℕ) (k : Kind) (s : State) (es : List Entry) (ess : List (List Entry)) → Agree n es s.work.entries → AllAgree n ess s.saves
-    → none_among (asked_by (Some (Operator name k)) s.work.operands) put_names ≡ true → Goes n (perform true name k s) (perform true name k (up_state es ess s))
+performs_goes : (n : ℕ) (name : List ℕ) (k : Kind) (s : State) (es : List DictionaryEntry) (ess : List (List DictionaryEntry)) → AgreeShifted n es s.work.entries → AllAgree n ess s.saves
+    → none_among (names_asked (Some (Operator name k)) s.work.operands) put_names ≡ true → Goes n (perform true name k s) (perform true name k (up_state es ess s))
 performs_goes n name (Computes c) s es ess a h q =
     worked_goes n (computed_on c s.work.operands s.work) (computed_on c (ups s.work.operands) (up_work es s.work)) s es ess (works_on n name c s.work.operands s.work es a q) h
 performs_goes n name (Controls c) s es ess a h q =
@@ -167,26 +167,26 @@ performs_goes n name Ships s es ess a h q = tt
 performs_goes n name Resets s es ess a h q = tt
 performs_goes n name Copies s es ess a h q = copied_goes n s.work.operands s es ess a h
 
-does_goes : (n : ℕ) (o : Object) (s : State) (es : List Entry) (ess : List (List Entry)) → Agree n es s.work.entries → AllAgree n ess s.saves
-    → none_among (asked_by (Some o) s.work.operands) put_names ≡ true → Goes n (done true o s) (done true (up o) (up_state es ess s))
+does_goes : (n : ℕ) (o : Object) (s : State) (es : List DictionaryEntry) (ess : List (List DictionaryEntry)) → AgreeShifted n es s.work.entries → AllAgree n ess s.saves
+    → none_among (names_asked (Some o) s.work.operands) put_names ≡ true → Goes n (effect_of_value true o s) (effect_of_value true (one_save_more o) (up_state es ess s))
 does_goes n (Operator name k) s es ess a h q = performs_goes n name k s es ess a h q
 does_goes n (Procedure ts) s es ess a h q = (es, ess, refl, a, h)
 does_goes n (Plain (Name name)) s es ess a h q = (es, ess, refl, a, h)
 does_goes n (Saved level) s es ess a h q = (es, ess, refl, a, h)
 does_goes n o s es ess a h q = (es, ess, refl, a, h)
 
-means_goes : (n : ℕ) (x : Option Object) (s : State) (es : List Entry) (ess : List (List Entry)) → Agree n es s.work.entries → AllAgree n ess s.saves
-    → none_among (asked_by x s.work.operands) put_names ≡ true → Goes n (meant true x s) (meant true (option_map up x) (up_state es ess s))
+means_goes : (n : ℕ) (x : Option Object) (s : State) (es : List DictionaryEntry) (ess : List (List DictionaryEntry)) → AgreeShifted n es s.work.entries → AllAgree n ess s.saves
+    → none_among (names_asked x s.work.operands) put_names ≡ true → Goes n (meant true x s) (meant true (option_map one_save_more x) (up_state es ess s))
 means_goes n None s es ess a h q = tt
 means_goes n (Some o) s es ess a h q = does_goes n o s es ess a h q
 
-acts_goes : (n : ℕ) (t : Token) (ts : List Token) (s : State) (es : List Entry) (ess : List (List Entry)) → Agree n es s.work.entries → AllAgree n ess s.saves
+acts_goes : (n : ℕ) (t : Token) (ts : List Token) (s : State) (es : List DictionaryEntry) (ess : List (List DictionaryEntry)) → AgreeShifted n es s.work.entries → AllAgree n ess s.saves
     → none_among (asked_on (t ∷ ts) s) put_names ≡ true → Goes n (act true t (record s { left = ts })) (act true t (up_state es ess (record s { left = ts })))
 acts_goes n (Name name) ts s es ess a h q =
     let x : Option Object = meaning s.work.dictionaries s.work.entries name in
-    let here = first (not (among name put_names)) (none_among (asked_by x s.work.operands) put_names) q in
+    let here = first (not (among name put_names)) (none_among (names_asked x s.work.operands) put_names) q in
     subst (λ y. Goes n (meant true x (record s { left = ts })) (meant true y (up_state es ess (record s { left = ts })))) (sym (meaning_agrees n es s.work.entries s.work.dictionaries name a (not_true (among name put_names) here)))
-    (means_goes n x (record s { left = ts }) es ess a h (second (not (among name put_names)) (none_among (asked_by x s.work.operands) put_names) q))
+    (means_goes n x (record s { left = ts }) es ess a h (second (not (among name put_names)) (none_among (names_asked x s.work.operands) put_names) q))
 acts_goes n (Bound name) ts s es ess a h q =
     subst (λ y. Goes n (meant true (system name) (record s { left = ts })) (meant true y (up_state es ess (record s { left = ts })))) (system_same name)
     (means_goes n (system name) (record s { left = ts }) es ess a h q)
@@ -195,7 +195,7 @@ acts_goes n Closes ts s es ess a h q = tt
 acts_goes n Unknown ts s es ess a h q = tt
 acts_goes n t ts s es ess a h q = (es, ess, refl, a, h)
 
-steps_on_goes : (n : ℕ) (ts : List Token) (s : State) (es : List Entry) (ess : List (List Entry)) → Agree n es s.work.entries → AllAgree n ess s.saves
+steps_on_goes : (n : ℕ) (ts : List Token) (s : State) (es : List DictionaryEntry) (ess : List (List DictionaryEntry)) → AgreeShifted n es s.work.entries → AllAgree n ess s.saves
     → none_among (asked_on ts s) put_names ≡ true → Goes n (step_on true ts s) (step_on true ts (up_state es ess s))
 steps_on_goes n [] s es ess a h q = tt
 steps_on_goes n (t ∷ ts) s es ess a h q = acts_goes n t ts s es ess a h q
@@ -203,14 +203,14 @@ steps_on_goes n (t ∷ ts) s es ess a h q = acts_goes n t ts s es ess a h q
 -- Any machine that at each step goes on with the names as without.
 
 abbrev pub GoesOn : (State → Option State) → ℕ → State → State → Type 0
-GoesOn held n r t = (es : List Entry) × (ess : List (List Entry)) × (held r ≡ Some (up_state es ess t)) × Agree n es t.work.entries × AllAgree n ess t.saves
+GoesOn held n r t = (es : List DictionaryEntry) × (ess : List (List DictionaryEntry)) × (held r ≡ Some (up_state es ess t)) × AgreeShifted n es t.work.entries × AllAgree n ess t.saves
 
 abbrev pub AlwaysGoesOn : (held unaware : State → Option State) → Type 0
 AlwaysGoesOn held unaware =
-    (n : ℕ) (s t : State) (es : List Entry) (ess : List (List Entry)) → Agree n es s.work.entries → AllAgree n ess s.saves → unaware s ≡ Some t → GoesOn held n (up_state es ess s) t
+    (n : ℕ) (s t : State) (es : List DictionaryEntry) (ess : List (List DictionaryEntry)) → AgreeShifted n es s.work.entries → AllAgree n ess s.saves → unaware s ≡ Some t → GoesOn held n (up_state es ess s) t
 
-then_on : (held unaware : State → Option State) (n k : ℕ) (s t : State) (es : List Entry) (ess : List (List Entry)) (x : Option State) → AlwaysGoesOn held unaware → Agree n es s.work.entries → AllAgree n ess s.saves → unaware s ≡ x
-    → ((u : State) (fs : List Entry) (fss : List (List Entry)) → Agree n fs u.work.entries → AllAgree n fss u.saves → steps unaware k u ≡ Some t → GoesOn (steps held k) n (up_state fs fss u) t)
+then_on : (held unaware : State → Option State) (n k : ℕ) (s t : State) (es : List DictionaryEntry) (ess : List (List DictionaryEntry)) (x : Option State) → AlwaysGoesOn held unaware → AgreeShifted n es s.work.entries → AllAgree n ess s.saves → unaware s ≡ x
+    → ((u : State) (fs : List DictionaryEntry) (fss : List (List DictionaryEntry)) → AgreeShifted n fs u.work.entries → AllAgree n fss u.saves → steps unaware k u ≡ Some t → GoesOn (steps held k) n (up_state fs fss u) t)
     → and_then (steps unaware k) x ≡ Some t → GoesOn (steps held (suc k)) n (up_state es ess s) t
 then_on held unaware n k s t es ess None one a h is f e = absurd (nothing (and_then (steps unaware k) None) t refl e)
 then_on held unaware n k s t es ess (Some u) one a h is f e =
@@ -218,7 +218,7 @@ then_on held unaware n k s t es ess (Some u) one a h is f e =
     let z = f u g.0 g.1 g.3 g.4 e in
     (z.0, z.1, ap (and_then (steps held k)) g.2 ∙ z.2, z.3, z.4)
 
-pub all_go : (held unaware : State → Option State) → AlwaysGoesOn held unaware → (n k : ℕ) (s t : State) (es : List Entry) (ess : List (List Entry)) → Agree n es s.work.entries → AllAgree n ess s.saves → steps unaware k s ≡ Some t
+pub all_go : (held unaware : State → Option State) → AlwaysGoesOn held unaware → (n k : ℕ) (s t : State) (es : List DictionaryEntry) (ess : List (List DictionaryEntry)) → AgreeShifted n es s.work.entries → AllAgree n ess s.saves → steps unaware k s ≡ Some t
     → GoesOn (steps held k) n (up_state es ess s) t
 all_go held unaware one n zero s t es ess a h e =
     subst (λ z. GoesOn (steps held zero) n (up_state es ess s) z) (some_is s t e) (es, ess, refl, a, h)

@@ -7,9 +7,9 @@ use Rattle.guard.specs.Guard.{guard_lines}
 use Rattle.pictures.specs.Objects.{Token, Number, Name, Literal, Bound, Opens, Closes, Object, Plain, Truth, Array}
 use Rattle.pictures.specs.Objects.{Procedure}
 use Rattle.pictures.specs.Objects.{Dictionary, Matrix}
-use Rattle.pictures.specs.Dictionaries.{Entry, userdict, system}
+use Rattle.pictures.specs.Dictionaries.{DictionaryEntry, userdict, system}
 use Rattle.pictures.specs.Machine.{State, Runs}
-use Rattle.pictures.specs.Scanner.{tokens, IsComplete}
+use Rattle.pictures.specs.Scanner.{tokens, EndsBetweenTokens}
 use Rattle.pictures.specs.Sheets.{in_userdict}
 use Rattle.pictures.specs.Documents.{started}
 
@@ -52,14 +52,14 @@ abbrev pub sheet_outline_tokens : List Token
 sheet_outline_tokens = Bound (codes "clippath") ∷ []
 
 -- `{/moveto cvx}` and the like
-abbrev pub element_tokens : List ℕ → List Token
-element_tokens name = Opens ∷ Literal name ∷ Bound (codes "cvx") ∷ Closes ∷ []
+abbrev pub cvx_tokens : List ℕ → List Token
+cvx_tokens name = Opens ∷ Literal name ∷ Bound (codes "cvx") ∷ Closes ∷ []
 
 -- `{[{/moveto cvx} {/lineto cvx} {/curveto cvx} {/closepath cvx} pathforall] cvx}`
-abbrev pub path_tokens : List Token
-path_tokens =
-    Bound (codes "[") ∷ (element_tokens (codes "moveto") ++ (element_tokens (codes "lineto")
-    ++ (element_tokens (codes "curveto") ++ (element_tokens (codes "closepath")
+abbrev pub pathforall_tokens : List Token
+pathforall_tokens =
+    Bound (codes "[") ∷ (cvx_tokens (codes "moveto") ++ (cvx_tokens (codes "lineto")
+    ++ (cvx_tokens (codes "curveto") ++ (cvx_tokens (codes "closepath")
     ++ (Bound (codes "pathforall") ∷ Bound (codes "]") ∷ Bound (codes "cvx") ∷ [])))))
 
 -- `{PStoPSmatrix exch copy}`
@@ -169,7 +169,7 @@ abbrev pub for_paper : Option Paper → ℕ
 for_paper None = 0
 for_paper (Some paper) = 1
 
-abbrev pub paper_entries : Option Paper → List Entry
+abbrev pub paper_entries : Option Paper → List DictionaryEntry
 paper_entries None = []
 paper_entries (Some paper) = record {
   dictionary = 1;
@@ -191,7 +191,7 @@ operator None = Procedure []
 operator (Some o) = o
 
 -- what the guard has defined, the latest first
-abbrev pub guard_entries : Option Paper → List Entry
+abbrev pub guard_entries : Option Paper → List DictionaryEntry
 guard_entries sheet =
     in_userdict (codes "save") (Procedure save_tokens)
     ∷ record { dictionary = page_dictionary sheet; key = codes "clip"; value = Procedure clip_tokens }
@@ -200,7 +200,7 @@ guard_entries sheet =
     ∷ in_userdict (codes "initclip") (Procedure initclip_tokens)
     ∷ in_userdict (codes "initmatrix") (Procedure initmatrix_tokens)
     ∷ in_userdict (codes "defaultmatrix") (Procedure defaultmatrix_tokens)
-    ∷ in_userdict (codes "ImposePath") (Procedure path_tokens)
+    ∷ in_userdict (codes "ImposePath") (Procedure pathforall_tokens)
     ∷ in_userdict (codes "ImposeClip") (Procedure clips_tokens)
     ∷ in_userdict (codes "ImposeOuter") (Plain (Number (codes "0")))
     ∷ in_userdict (codes "PStoPSclip") (Procedure sheet_outline_tokens)
@@ -230,5 +230,5 @@ behind_guard sheet rest = record (started rest) {
 -- left all else as it was: a law
 abbrev pub GuardDefines : Type 0
 GuardDefines =
-    (sheet : Option Paper) → IsComplete (guard_text sheet)
+    (sheet : Option Paper) → EndsBetweenTokens (guard_text sheet)
     × ((rest : List Token) → Runs false (started (tokens (guard_text sheet) ++ rest)) (behind_guard sheet rest))

@@ -25,8 +25,8 @@ whole_of (b ∷ bs) =
     else if b == plus_sign then digits_value false bs
     else digits_value false (b ∷ bs)
 
-abbrev pub whole_text : ℤ → List ℕ
-whole_text z = if is_negative z then minus_sign ∷ decimal (nat_abs z) else decimal (nat_abs z)
+abbrev pub whole_number_text : ℤ → List ℕ
+whole_number_text z = if is_negative z then minus_sign ∷ decimal (nat_abs z) else decimal (nat_abs z)
 
 abbrev pub name_of : Calculation → List ℕ
 name_of Add = codes "add"
@@ -40,9 +40,9 @@ term c a b = a ++ codes " " ++ b ++ codes " " ++ name_of c
 
 -- `add`, `sub` and `mul` of whole numbers are whole; `div` gives no whole number
 abbrev pub calculated_on : Calculation → (a b : List ℕ) → Option ℤ → Option ℤ → List ℕ
-calculated_on Add a b (Some m) (Some n) = whole_text (m +ℤ n)
-calculated_on Subtract a b (Some m) (Some n) = whole_text (m -ℤ n)
-calculated_on Multiply a b (Some m) (Some n) = whole_text (m *ℤ n)
+calculated_on Add a b (Some m) (Some n) = whole_number_text (m +ℤ n)
+calculated_on Subtract a b (Some m) (Some n) = whole_number_text (m -ℤ n)
+calculated_on Multiply a b (Some m) (Some n) = whole_number_text (m *ℤ n)
 calculated_on c a b x y = term c a b
 
 abbrev pub calculated : Calculation → List ℕ → List ℕ → List ℕ
@@ -50,7 +50,7 @@ calculated c a b = calculated_on c a b (whole_of a) (whole_of b)
 
 -- `neg`
 abbrev pub negated_on : List ℕ → Option ℤ → List ℕ
-negated_on a (Some m) = whole_text (neg_ℤ m)
+negated_on a (Some m) = whole_number_text (neg_ℤ m)
 negated_on a None = a ++ codes " neg"
 
 abbrev pub negated : List ℕ → List ℕ

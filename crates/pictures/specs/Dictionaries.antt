@@ -20,7 +20,7 @@ use Rattle.pictures.specs.Objects.{AMatrix, AFont, AName, ATruth, Effect, Segmen
 use Rattle.pictures.specs.Objects.{Shows, Clips, Forgets}
 
 -- what one dictionary has for one key; dictionaries are identified by number
-pub record Entry : Type 0 where
+pub record DictionaryEntry : Type 0 where
   pub dictionary : ℕ
   pub key : List ℕ
   pub value : Object
@@ -30,18 +30,18 @@ abbrev pub userdict : ℕ
 userdict = 0
 
 -- a graphics operator, with the operands that it takes and its effect
-abbrev pub draws : List ℕ → List Want → Effect → Entry
+abbrev pub draws : List ℕ → List Want → Effect → DictionaryEntry
 draws name wants effect = record { dictionary = userdict; key = name; value = Operator name (Draws wants effect) }
 
-abbrev pub is : List ℕ → Kind → Entry
+abbrev pub is : List ℕ → Kind → DictionaryEntry
 is name kind = record { dictionary = userdict; key = name; value = Operator name kind }
 
-abbrev pub constant : List ℕ → Object → Entry
+abbrev pub constant : List ℕ → Object → DictionaryEntry
 constant name object = record { dictionary = userdict; key = name; value = object }
 
 -- each by its name in 8.2, 'Operator details', with its operands there, the topmost first. userdict, systemdict,
 -- true and false are values, not operators. If an operator takes operands of several kinds, only one kind is here
-abbrev pub systemdict : List Entry
+abbrev pub systemdict : List DictionaryEntry
 systemdict =
     constant (codes "userdict") (Dictionary userdict) ∷ constant (codes "systemdict") SystemDictionary
     ∷ constant (codes "true") (Truth true) ∷ constant (codes "false") (Truth false)
@@ -109,9 +109,9 @@ systemdict =
     ∷ []
 
 -- what a dictionary has for a key
-abbrev pub entry_of : ℕ → List ℕ → List Entry → Option Object
-entry_of d key [] = None
-entry_of d key (e ∷ es) = if bytes_eq e.key key && (e.dictionary == d) then Some e.value else entry_of d key es
+abbrev pub dictionary_entry : ℕ → List ℕ → List DictionaryEntry → Option Object
+dictionary_entry d key [] = None
+dictionary_entry d key (e ∷ es) = if bytes_eq e.key key && (e.dictionary == d) then Some e.value else dictionary_entry d key es
 
 abbrev pub has : Option Object → Bool
 has None = false
@@ -119,7 +119,7 @@ has (Some o) = true
 
 -- what systemdict has
 abbrev pub system : List ℕ → Option Object
-system key = entry_of userdict key systemdict
+system key = dictionary_entry userdict key systemdict
 
 abbrev pub or : Option Object → Option Object → Option Object
 or None next = next
@@ -130,9 +130,9 @@ abbrev pub read_only : List ℕ
 read_only = 256 ∷ []
 
 -- the meaning of a name (3.3.8) if these dictionaries are on the stack, the topmost first
-abbrev pub meaning : List ℕ → List Entry → List ℕ → Option Object
+abbrev pub meaning : List ℕ → List DictionaryEntry → List ℕ → Option Object
 meaning [] es key = system key
-meaning (d ∷ ds) es key = or (entry_of d key es) (meaning ds es key)
+meaning (d ∷ ds) es key = or (dictionary_entry d key es) (meaning ds es key)
 
 -- the names of all other operators and values in an interpreter's systemdict (8.1, 'Operator Summary', and 8.2), which this
 -- machine lacks

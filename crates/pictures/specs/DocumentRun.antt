@@ -5,9 +5,9 @@ use Rattle.rules.specs.Parts.{NestedUnit, preamble, pages, trailer, bytes_of}
 use Rattle.rules.specs.Run.{document_of}
 use Rattle.pictures.specs.Objects.{Token}
 use Rattle.pictures.specs.Machine.{State, Painting, Runs}
-use Rattle.pictures.specs.Scanner.{tokens, IsComplete}
+use Rattle.pictures.specs.Scanner.{tokens, EndsBetweenTokens}
 use Rattle.pictures.specs.Sheets.{run_of}
-use Rattle.pictures.specs.Documents.{started, page_of}
+use Rattle.pictures.specs.Documents.{started, document_page}
 
 -- from the state s a machine whose runs are these runs these tokens to their end, and is then in the state t
 abbrev pub ComesBy : (State → State → Type 0) → State → List Token → State → Type 0
@@ -32,7 +32,7 @@ pages_before us p = flat_map tokens (take p (pages us))
 abbrev pub AreIndependentBy : (State → State → Type 0) → List NestedUnit → State → Type 0
 AreIndependentBy R us s =
     (p : ℕ) (u : State) (picture : List Painting) → p < length (pages us) → ComesBy R s (pages_before us p) u
-    → PrintsSheetBy R s (tokens (page_of us p)) picture → PrintsSheetBy R u (tokens (page_of us p)) picture
+    → PrintsSheetBy R s (tokens (document_page us p)) picture → PrintsSheetBy R u (tokens (document_page us p)) picture
 
 abbrev pub PagesAreIndependent : List NestedUnit → State → Type 0
 PagesAreIndependent us s = AreIndependentBy (Runs false) us s
@@ -44,7 +44,7 @@ OnPages P us = (p : ℕ) → p < length (pages us) → P p
 -- the preamble ends between tokens; then the machine is in the state s, with nothing painted or printed
 abbrev pub PreambleComesTo : List ℕ → State → Type 0
 PreambleComesTo text s =
-    IsComplete text × ComesTo (started []) (tokens text) s × (s.painted ≡ []) × (s.sheets ≡ [])
+    EndsBetweenTokens text × ComesTo (started []) (tokens text) s × (s.painted ≡ []) × (s.sheets ≡ [])
 
 -- the pictures of this many pages, the latest first
 abbrev pub page_pictures : (ℕ → List Painting) → ℕ → List (List Painting)
@@ -68,5 +68,5 @@ abbrev pub PagesArePrinted : Type 0
 PagesArePrinted =
     (text : List ℕ) (us : List NestedUnit) (picture : ℕ → List Painting) (s : State)
     → document_of text ≡ Ok us → PreambleComesTo (bytes_of (preamble us)) s
-    → OnPages (λ p. IsComplete (page_of us p) × PrintsSheet s (tokens (page_of us p)) (picture p)) us
+    → OnPages (λ p. EndsBetweenTokens (document_page us p) × PrintsSheet s (tokens (document_page us p)) (picture p)) us
     → PagesAreIndependent us s → DocumentPrints text us picture

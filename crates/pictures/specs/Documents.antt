@@ -13,9 +13,9 @@ use Rattle.rules.specs.Made.{MadeSlot, Blank, Placed, MadeSheet, made_of}
 use Rattle.pictures.specs.Objects.{Token}
 use Rattle.pictures.specs.Dictionaries.{userdict}
 use Rattle.pictures.specs.Machine.{State, Painting, Runs}
-use Rattle.pictures.specs.Scanner.{tokens, IsComplete}
+use Rattle.pictures.specs.Scanner.{tokens, EndsBetweenTokens}
 use Rattle.pictures.specs.Sheets.{BorderNumbers, Numbers, Shown, PaintsAlone, IsGround, saving_tokens, placing_tokens}
-use Rattle.pictures.specs.Pictures.{printed}
+use Rattle.pictures.specs.Pictures.{printed_sheets}
 
 -- the numbers that the output has for an item
 -- a border within a paper
@@ -47,7 +47,7 @@ abbrev pub OpeningIsCut : Type 0
 OpeningIsCut =
     (frame : Frame) (item : Item)
     → (tokens (opening_text frame item) ≡ saving_tokens ++ placing_tokens (numbers_of frame item))
-    × IsComplete (opening_text frame item)
+    × EndsBetweenTokens (opening_text frame item)
 
 -- A document.
 
@@ -66,23 +66,23 @@ started ts = record {
 }
 
 -- a page of the document, from its page line on
-abbrev pub page_of : List NestedUnit → ℕ → List ℕ
-page_of us p = slice_index_or (pages us) p []
+abbrev pub document_page : List NestedUnit → ℕ → List ℕ
+document_page us p = slice_index_or (pages us) p []
 
 -- the part of a page that the output keeps
 abbrev pub body_of_page : List NestedUnit → ℕ → List ℕ
-body_of_page us p = body_text (prepared (page_of us p))
+body_of_page us p = body_text (prepared (document_page us p))
 
 -- the frame of a page: its own paper, and the border, which is the same for all pages
-abbrev pub frame_of : Option Border → Paper → Frame
-frame_of border paper = record { paper = paper; border = border }
+abbrev pub page_frame : Option Border → Paper → Frame
+page_frame border paper = record { paper = paper; border = border }
 
 -- a slot with the page's own picture, placed by its item, on its own paper; a blank one has none
 abbrev pub shown_slot : Option Border → List NestedUnit → (ℕ → List Painting) → MadeSlot → List Shown
 shown_slot border us picture Blank = []
 shown_slot border us picture (Placed p item paper) =
     record {
-      placed = record { numbers = numbers_of (frame_of border paper) item; body = tokens (body_of_page us p) };
+      placed = record { numbers = numbers_of (page_frame border paper) item; body = tokens (body_of_page us p) };
       picture = picture p;
     } ∷ []
 
@@ -92,7 +92,7 @@ shown_sheet border us picture sheet = flat_map (shown_slot border us picture) sh
 -- the picture that each sheet should have, the latest sheet first: the pictures of its slots, in order
 abbrev pub sheet_pictures :
     Option Border → List NestedUnit → (ℕ → List Painting) → State → List MadeSheet → List (List Painting)
-sheet_pictures border us picture s all = printed s.graphics (map (shown_sheet border us picture) all) s.sheets
+sheet_pictures border us picture s all = printed_sheets s.graphics (map (shown_sheet border us picture) all) s.sheets
 
 -- What is so of the pages on sheets.
 
@@ -132,12 +132,12 @@ OnSheets P all = OnSheetsFrom (λ k. P) 0 all
 
 -- the page paints this by itself, after the preamble; and its text ends between tokens
 abbrev pub PagePaints : List NestedUnit → State → ℕ → List Painting → Type 0
-PagePaints us s p picture = IsComplete (body_of_page us p) × PaintsAlone s (tokens (body_of_page us p)) picture
+PagePaints us s p picture = EndsBetweenTokens (body_of_page us p) × PaintsAlone s (tokens (body_of_page us p)) picture
 
 -- the preamble ends between tokens; then the machine is in a state of which this is so, with nothing painted or printed
 abbrev pub PreambleRuns : (State → Type 0) → List ℕ → State → Type 0
 PreambleRuns P text s =
-    IsComplete text × Runs false (started (tokens text)) s × (s.left ≡ []) × (s.painted ≡ []) × (s.sheets ≡ [])
+    EndsBetweenTokens text × Runs false (started (tokens text)) s × (s.left ≡ []) × (s.painted ≡ []) × (s.sheets ≡ [])
     × P s
 
 -- the sheets of a specification, in signatures or not, as made ones
@@ -145,9 +145,9 @@ abbrev pub all_sheets : Frame → Option ℕ → Spec → List NestedUnit → Li
 all_sheets frame sides spec us = made_of frame.paper (sheets_in sides spec (length (pages us)))
 
 -- a machine runs the output up to the trailer, and has then printed these pictures
-abbrev pub IsPrinted :
+abbrev pub IsPrintedSheets :
     Frame → Option ℕ → Spec → List NestedUnit → (ℕ → List Painting) → State → Type 0
-IsPrinted frame sides spec us picture s =
+IsPrintedSheets frame sides spec us picture s =
     Runs false (started (tokens (output frame sides spec us)))
     (record s {
       left = tokens (trailer_text us);
@@ -161,4 +161,4 @@ OutputIsPrinted =
     (frame : Frame) (sides : Option ℕ) (spec : Spec) (us : List NestedUnit) (picture : ℕ → List Painting) (s : State)
     → PreambleRuns IsGround (preamble_text (length (all_sheets frame sides spec us)) us) s
     → OnSheets (λ paper p. PagePaints us s p (picture p)) (all_sheets frame sides spec us)
-    → IsPrinted frame sides spec us picture s
+    → IsPrintedSheets frame sides spec us picture s

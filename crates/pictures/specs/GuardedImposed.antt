@@ -12,11 +12,11 @@ use Rattle.papers.specs.Told.{papers_told, telling}
 use Rattle.pictures.specs.Machine.{State, Painting, Runs}
 use Rattle.pictures.specs.Scanner.{tokens}
 use Rattle.pictures.specs.Kept.{comments_apart_with}
-use Rattle.pictures.specs.Documents.{started, frame_of, PreambleRuns, FirstHas, OnSheets, OnSheetsFrom}
+use Rattle.pictures.specs.Documents.{started, page_frame, PreambleRuns, FirstHas, OnSheets, OnSheetsFrom}
 use Rattle.pictures.specs.Imposed.{IsQuiet, MadeIsPrinted}
-use Rattle.pictures.specs.Pages.{IsGuarded, GuardedPagePaints, PaintsFrom, shown_at}
+use Rattle.pictures.specs.Pages.{IsGuarded, GuardedPagePaints, PaintsFrom, state_after_sheets}
 use Rattle.pictures.specs.OwnShowpage.{HasItsOwn, asking}
-use Rattle.pictures.specs.Silenced.{IsSilenced, showing}
+use Rattle.pictures.specs.Silenced.{IsSilenced, after_pages}
 
 -- all sheets have this paper
 abbrev pub AreOn : Paper → List MadeSheet → Type 0
@@ -44,7 +44,7 @@ MadeDocumentIsShown =
     → AreToldAsOne all → document_of text ≡ Ok us → length (guarded sheet text) ≤ most_input_bytes
     → comments_apart_with (telling all).header (units_of (guarded sheet text)) ≡ true
     → PreambleRuns IsGuarded (bytes_of (preamble (units_of (guarded sheet text)))) s
-    → OnSheets (λ own p. GuardedPagePaints (frame_of border own) us s p (picture p)) all
+    → OnSheets (λ own p. GuardedPagePaints (page_frame border own) us s p (picture p)) all
     → MadeIsPrinted border (telling all) all (units_of (guarded sheet text)) picture s
 
 -- the same of a document with a showpage of its own, if the first sheet has a page: a law
@@ -57,7 +57,7 @@ OwnMadeDocumentIsShown =
     → PreambleRuns (HasItsOwn d) (bytes_of (preamble (units_of (guarded sheet text)))) s
     → FirstHas 1 all → OnSheetsFrom (PaintsFrom border us picture (asking d s)) 0 all
     → Runs false (started (tokens (made_output border (telling all) all (units_of (guarded sheet text)))))
-    (shown_at (asking d s) border (units_of (guarded sheet text)) picture all)
+    (state_after_sheets (asking d s) border (units_of (guarded sheet text)) picture all)
 
 -- and of one that leaves userdict's showpage empty: a law
 abbrev pub SilencedMadeDocumentIsShown : Type 0
@@ -67,6 +67,6 @@ SilencedMadeDocumentIsShown =
     → AreToldAsOne all → document_of text ≡ Ok us → length (guarded sheet text) ≤ most_input_bytes
     → comments_apart_with (telling all).header (units_of (guarded sheet text)) ≡ true
     → PreambleRuns IsSilenced (bytes_of (preamble (units_of (guarded sheet text)))) s
-    → FirstHas 1 all → OnSheetsFrom (PaintsFrom border us picture (showing s)) 0 all
+    → FirstHas 1 all → OnSheetsFrom (PaintsFrom border us picture (after_pages s)) 0 all
     → Runs false (started (tokens (made_output border (telling all) all (units_of (guarded sheet text)))))
-    (shown_at (showing s) border (units_of (guarded sheet text)) picture all)
+    (state_after_sheets (after_pages s) border (units_of (guarded sheet text)) picture all)

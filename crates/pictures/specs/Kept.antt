@@ -7,7 +7,7 @@ use Rattle.rules.specs.Run.{document_of}
 use Rattle.rules.specs.Filters.{continues, drops_in_page, kept, prepared, preamble_text}
 use Rattle.rules.specs.Output.{body_text}
 use Rattle.rules.specs.MadeOutput.{drops_with}
-use Rattle.pictures.specs.Scanner.{Reading, Between, form_feed, scan_from, tokens, IsComplete}
+use Rattle.pictures.specs.Scanner.{Reading, Between, form_feed, scan_from, tokens, EndsBetweenTokens}
 
 -- the reader's state after a text
 abbrev pub reading_behind : Reading → List ℕ → Reading
@@ -61,12 +61,12 @@ preamble_comments_apart us = comments_apart_with [] us
 -- a law: the tokens of what is kept of such a page are the page's
 abbrev pub KeptRunsAlike : Type 0
 KeptRunsAlike =
-    (page : List ℕ) → page_comments_apart page ≡ true → IsComplete page
-    → (tokens (body_text (prepared page)) ≡ tokens page) × IsComplete (body_text (prepared page))
+    (page : List ℕ) → page_comments_apart page ≡ true → EndsBetweenTokens page
+    → (tokens (body_text (prepared page)) ≡ tokens page) × EndsBetweenTokens (body_text (prepared page))
 
 -- a law: the tokens of the output's preamble are those of the document's
 abbrev pub PreambleRunsAlike : Type 0
 PreambleRunsAlike =
     (sheets : ℕ) (text : List ℕ) (us : List NestedUnit) → document_of text ≡ Ok us → preamble_comments_apart us ≡ true
-    → IsComplete (bytes_of (preamble us))
-    → (tokens (preamble_text sheets us) ≡ tokens (bytes_of (preamble us))) × IsComplete (preamble_text sheets us)
+    → EndsBetweenTokens (bytes_of (preamble us))
+    → (tokens (preamble_text sheets us) ≡ tokens (bytes_of (preamble us))) × EndsBetweenTokens (preamble_text sheets us)

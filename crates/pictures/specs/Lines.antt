@@ -4,13 +4,13 @@ use Rattle.std.specs.Prelude.{Option, Some, None, length}
 use Rattle.rules.specs.Papers.{Paper}
 use Rattle.pictures.specs.Objects.{Token, Name, Literal, Bound, Dictionary, Object, Plain, Truth, Procedure}
 use Rattle.pictures.specs.Objects.{Matrix, Call, Equal}
-use Rattle.pictures.specs.Dictionaries.{Entry, userdict, system, entry_of, has, meaning, read_only}
-use Rattle.pictures.specs.Operators.{Work, bound, holder, objects_compared}
-use Rattle.pictures.specs.Machine.{State, Clip, Kept, Runs, push, saved, reset, shipped, chain_of, filled_with}
+use Rattle.pictures.specs.Dictionaries.{DictionaryEntry, userdict, system, dictionary_entry, has, meaning, read_only}
+use Rattle.pictures.specs.Operators.{Work, bound_token, holder, objects_compared}
+use Rattle.pictures.specs.Machine.{State, Clip, KeptMatrix, Runs, push, saved, reset, shipped, chain_of, filled_with}
 use Rattle.pictures.specs.Machine.{fonts}
 use Rattle.pictures.specs.Scanner.{tokens}
 use Rattle.pictures.specs.Sheets.{run_of, Numbers, edge}
-use Rattle.pictures.specs.Behind.{guard_text, printer_keys, setpagedevice_tokens, showpage_tokens, path_tokens}
+use Rattle.pictures.specs.Behind.{guard_text, printer_keys, setpagedevice_tokens, showpage_tokens, pathforall_tokens}
 use Rattle.pictures.specs.Behind.{defaultmatrix_tokens, initmatrix_tokens, initclip_tokens}
 use Rattle.pictures.specs.Behind.{clips_tokens, initgraphics_tokens, save_tokens}
 use Rattle.pictures.specs.Shelter.{Outer, outer_is, means, all_absent, outline_tokens, outline_names}
@@ -24,7 +24,7 @@ abbrev pub GuardedTwice : Type 0
 GuardedTwice =
     (sheet : Option Paper) (s : State) (rest : List Token)
     → all_absent guard_line_names s.work.dictionaries s.work.entries ≡ true
-    → has (entry_of userdict (codes "ImposeGuard") s.work.entries) ≡ true
+    → has (dictionary_entry userdict (codes "ImposeGuard") s.work.entries) ≡ true
     → Runs false (run_of (tokens (guard_text sheet) ++ rest) s) (run_of rest s)
 
 -- `copypage` and `erasepage` leave the sheet as it is: a law
@@ -55,7 +55,7 @@ with_setting (Some o) key s = record (reset s) {
 -- for each of these keys, with what the dictionary has for it, if it has it
 abbrev pub handed : (dictionary : ℕ) → List (List ℕ) → State → State
 handed d [] s = s
-handed d (key ∷ keys) s = handed d keys (with_setting (entry_of d key s.work.entries) key s)
+handed d (key ∷ keys) s = handed d keys (with_setting (dictionary_entry d key s.work.entries) key s)
 
 -- elsewhere it hands to the operator what its dictionary has for the keys that say how a printer treats its paper, and
 -- nothing else of it: a law
@@ -72,7 +72,7 @@ DeviceIsHanded =
 abbrev pub ShowpageStaysAName : Type 0
 ShowpageStaysAName =
     (w : Work) → meaning w.dictionaries w.entries (codes "showpage") ≡ Some (Procedure showpage_tokens)
-    → bound w (Name (codes "showpage")) ≡ Name (codes "showpage")
+    → bound_token w (Name (codes "showpage")) ≡ Name (codes "showpage")
 
 -- the guard's showpage, by its own name or by one that it was loaded into, does nothing in a placed page, where the
 -- flag is cleared; and elsewhere it prints the sheet: a law
@@ -88,7 +88,7 @@ LoadedShowpage =
 -- what the guard has noted of a page, under these dictionaries, where so many were made: the matrix that holds its
 -- transformation, and its outline
 pub record Noted
-    (ds : List ℕ) (made : ℕ) (es : List Entry) (ks : List Kept) (matrix : ℕ) (n : Numbers) (chain : List Call) : Type 0 where
+    (ds : List ℕ) (made : ℕ) (es : List DictionaryEntry) (ks : List KeptMatrix) (matrix : ℕ) (n : Numbers) (chain : List Call) : Type 0 where
   pub older : matrix < made + 1
   pub matrix_is : meaning ds es (codes "PStoPSmatrix") ≡ Some (Matrix matrix)
   pub holds : chain_of matrix ks ≡ Some chain
@@ -97,7 +97,7 @@ pub record Noted
   pub names : all_absent outline_names ds es ≡ true
 
 -- and of the pages round it, of which there may be any number, each in a dictionary of its own
-abbrev pub AreNoted : List ℕ → ℕ → List Entry → List Kept → List Outer → Type 0
+abbrev pub AreNoted : List ℕ → ℕ → List DictionaryEntry → List KeptMatrix → List Outer → Type 0
 AreNoted ds made es ks [] = meaning ds es (codes "ImposeOuter") ≡ Some (outer_is [])
 AreNoted ds made es ks (o ∷ os) =
     (meaning ds es (codes "ImposeOuter") ≡ Some (Dictionary o.dictionary))
@@ -109,7 +109,7 @@ pub record Notes (s : State) (n : Numbers) (chain : List Call) (outers : List Ou
   pub number : ℕ
   pub page : Noted s.work.dictionaries s.work.made s.work.entries s.kept number n chain
   pub round : AreNoted s.work.dictionaries s.work.made s.work.entries s.kept outers
-  pub path_is : means s (codes "ImposePath") ≡ Some (Procedure path_tokens)
+  pub path_is : means s (codes "ImposePath") ≡ Some (Procedure pathforall_tokens)
 
 -- `initmatrix`, and what psutils writes in its place, `PStoPSmatrix setmatrix`, set the page's own transformation: a
 -- law
@@ -138,8 +138,8 @@ clips_to (o ∷ os) before = clip_to o.numbers o.chain ∷ clips_to os before
 
 -- what ImposeClip leaves: the page's transformation, no path, and besides the clips before it those to the page's edge
 -- and to the edges round it
-abbrev pub clipped : State → Numbers → List Call → List Outer → List Token → State
-clipped s n chain outers rest = record s {
+abbrev pub after_clip : State → Numbers → List Call → List Outer → List Token → State
+after_clip s n chain outers rest = record s {
   left = rest;
   graphics = record {
     chain = chain;
@@ -153,7 +153,7 @@ clipped s n chain outers rest = record s {
 abbrev pub OuterIsKept : Type 0
 OuterIsKept =
     (s : State) (n : Numbers) (chain : List Call) (outers : List Outer) (rest : List Token) → Notes s n chain outers
-    → Runs false (run_of (clips_tokens ++ rest) s) (clipped s n chain outers rest)
+    → Runs false (run_of (clips_tokens ++ rest) s) (after_clip s n chain outers rest)
 
 -- `initclip` leaves the clips to the outlines of the page and of those round it, and no other, and keeps the
 -- transformation and the path, if that is drawn anew by its elements; the guard has made a matrix, in which it noted the
@@ -213,24 +213,24 @@ with_asking d s = record s {
   };
 }
 
-abbrev pub marked : (number : ℕ) → State → State
-marked number s = record s { work = record s.work { dictionaries = number ∷ s.work.dictionaries } }
+abbrev pub with_dictionary : (number : ℕ) → State → State
+with_dictionary number s = record s { work = record s.work { dictionaries = number ∷ s.work.dictionaries } }
 
 abbrev pub AsksUserdict : Type 0
 AsksUserdict =
     (s : State) (number d : ℕ) (rest : List Token)
     → holder s.work.dictionaries s.work.entries (codes "showpage") ≡ Some d → (d == userdict) ≡ false
-    → entry_of d read_only s.work.entries ≡ None
+    → dictionary_entry d read_only s.work.entries ≡ None
     → means s (codes "ImposeGuard") ≡ Some (Dictionary number)
     → all_absent (codes "userdict" ∷ codes "systemdict" ∷ []) (number ∷ s.work.dictionaries) s.work.entries ≡ true
     → length s.work.operands + 2 < 10 ^ 64
     → Runs false (run_of (save_tokens ++ rest) (at_sheet_save s))
-    (saved (run_of rest (marked number (with_asking d (at_sheet_save s)))))
+    (saved (run_of rest (with_dictionary number (with_asking d (at_sheet_save s)))))
 
 -- and that one does what userdict's does: a law
 abbrev pub AskingShows : Type 0
 AskingShows =
     (s : State) (ts rest : List Token) → means s (codes "showpage") ≡ Some asks_userdict
     → means s (codes "userdict") ≡ system (codes "userdict")
-    → entry_of userdict (codes "showpage") s.work.entries ≡ Some (Procedure ts)
+    → dictionary_entry userdict (codes "showpage") s.work.entries ≡ Some (Procedure ts)
     → Runs false (run_of (Name (codes "showpage") ∷ rest) s) (run_of (ts ++ rest) s)

@@ -13,7 +13,7 @@ use Rattle.pictures.specs.Objects.{Effect, Segments, Transforms, Sets, Paints, P
 use Rattle.pictures.specs.Objects.{Kind, Computes, Controls, Draws}
 use Rattle.pictures.specs.Objects.{PushesGraphics, PopsGraphics, PopsAllGraphics, Saves, Restores, Ships, Resets, Copies, Looks, CopyOperands}
 use Rattle.pictures.specs.Chains.{is_same_chain}
-use Rattle.pictures.specs.Dictionaries.{Entry, meaning, system}
+use Rattle.pictures.specs.Dictionaries.{DictionaryEntry, meaning, system}
 use Rattle.pictures.specs.Operators.{Work, with_operands, taken, computed, computed_on, controlled, all_old, all_are_old}
 
 -- a segment of a path: the operator with its operands, and the transformation at the time. After `show` the current
@@ -42,16 +42,16 @@ pub record Painting : Type 0 where
   pub graphics : Graphics
 
 -- the transformation that a matrix holds, by its number
-pub record Kept : Type 0 where
+pub record KeptMatrix : Type 0 where
   pub number : ℕ
   pub chain : List Call
 
 -- what a save keeps (3.7.3)
 pub record Snapshot : Type 0 where
   pub level : ℕ
-  pub entries : List Entry
+  pub entries : List DictionaryEntry
   pub made : ℕ
-  pub kept : List Kept
+  pub kept : List KeptMatrix
   pub graphics : Graphics
   pub stacked : List Graphics
 
@@ -61,7 +61,7 @@ pub record Snapshot : Type 0 where
 pub record State : Type 0 where
   pub left : List Token
   pub work : Work
-  pub kept : List Kept
+  pub kept : List KeptMatrix
   pub level : ℕ
   pub graphics : Graphics
   pub stacked : List Graphics
@@ -177,12 +177,12 @@ returned os shot shots s = record s {
   saves = shots;
 }
 
-abbrev pub back : List Object → Option (Snapshot × List Snapshot) → State → Option State
-back os None s = None
-back os (Some (shot, shots)) s = if may_go_back shot os s.work then Some (returned os shot shots s) else None
+abbrev pub back_to : List Object → Option (Snapshot × List Snapshot) → State → Option State
+back_to os None s = None
+back_to os (Some (shot, shots)) s = if may_go_back shot os s.work then Some (returned os shot shots s) else None
 
 abbrev pub restored : List Object → State → Option State
-restored (Saved level ∷ os) s = back os (save_of level s.saves) s
+restored (Saved level ∷ os) s = back_to os (save_of level s.saves) s
 restored os s = None
 
 -- the settings that `initgraphics` of 8.2 leaves alone
@@ -202,7 +202,7 @@ abbrev pub shipped : State → State
 shipped s = record (reset s) { painted = []; sheets = s.painted ∷ s.sheets }
 
 -- what a matrix holds. A matrix that was never filled holds no transformation of the machine, so it stops there
-abbrev pub chain_of : ℕ → List Kept → Option (List Call)
+abbrev pub chain_of : ℕ → List KeptMatrix → Option (List Call)
 chain_of number [] = None
 chain_of number (k ∷ ks) = if k.number == number then Some k.chain else chain_of number ks
 
@@ -312,15 +312,15 @@ perform held name (Looks v) s = if held then None else viewed v name s.work.oper
 
 -- the effect of a name's value (3.5.5): a procedure is run, an operator performed, an executable name looked up,
 -- all else pushed
-abbrev pub done : Bool → Object → State → Option State
-done held (Procedure ts) s = Some (record s { left = ts ++ s.left })
-done held (Operator name kind) s = perform held name kind s
-done held (Plain (Name name)) s = Some (record s { left = Name name ∷ s.left })
-done held o s = Some (push o s)
+abbrev pub effect_of_value : Bool → Object → State → Option State
+effect_of_value held (Procedure ts) s = Some (record s { left = ts ++ s.left })
+effect_of_value held (Operator name kind) s = perform held name kind s
+effect_of_value held (Plain (Name name)) s = Some (record s { left = Name name ∷ s.left })
+effect_of_value held o s = Some (push o s)
 
 abbrev pub meant : Bool → Option Object → State → Option State
 meant held None s = None
-meant held (Some o) s = done held o s
+meant held (Some o) s = effect_of_value held o s
 
 -- a name is looked up when it is run (3.3.8); a bound name is systemdict's
 abbrev pub act : Bool → Token → State → Option State

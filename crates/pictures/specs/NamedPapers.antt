@@ -3,8 +3,8 @@ use Rattle.std.specs.Prelude.{◌≡◌, ℕ, List, [], ◌∷◌, ◌++◌, map
 use Rattle.rules.specs.Bytes.{line}
 use Rattle.guard.specs.Guard.{other_lines}
 use Rattle.pictures.specs.Objects.{Token, Literal, Name, Bound, Opens, Closes, Procedure}
-use Rattle.pictures.specs.Dictionaries.{Entry, userdict}
-use Rattle.pictures.specs.Operators.{bound, holder}
+use Rattle.pictures.specs.Dictionaries.{DictionaryEntry, userdict}
+use Rattle.pictures.specs.Operators.{bound_token, holder}
 use Rattle.pictures.specs.Machine.{State, Runs}
 use Rattle.pictures.specs.Scanner.{tokens}
 use Rattle.pictures.specs.Sheets.{run_of, among, in_userdict}
@@ -36,11 +36,11 @@ abbrev pub papers_lines : List (List ℕ)
 papers_lines = take 3 (drop 9 other_lines)
 
 -- a name that is there is defined to do nothing
-abbrev pub left_if : Option ℕ → List ℕ → List Entry → List Entry
+abbrev pub left_if : Option ℕ → List ℕ → List DictionaryEntry → List DictionaryEntry
 left_if None name es = es
 left_if (Some d) name es = in_userdict name (Procedure []) ∷ es
 
-abbrev pub papers_left : List (List ℕ) → List ℕ → List Entry → List Entry
+abbrev pub papers_left : List (List ℕ) → List ℕ → List DictionaryEntry → List DictionaryEntry
 papers_left [] ds es = es
 papers_left (name ∷ names) ds es = papers_left names ds (left_if (holder ds es name) name es)
 
@@ -54,7 +54,7 @@ behind_papers s rest = record s {
 -- that was there means a procedure that does nothing, and one that wasn't isn't there
 abbrev pub PapersAreLeft : Type 0
 PapersAreLeft =
-    (map (bound (started []).work) (tokens (flat_map line papers_lines)) ≡ papers_tokens)
+    (map (bound_token (started []).work) (tokens (flat_map line papers_lines)) ≡ papers_tokens)
     × ((s : State) (ds : List ℕ) (rest : List Token) → s.work.dictionaries ≡ userdict ∷ ds
     → Runs false (run_of (papers_tokens ++ rest) s) (behind_papers s rest)
     × ((name : List ℕ) (d : ℕ) → among name paper_names ≡ true

@@ -19,15 +19,15 @@ use Rattle.pictures.specs.Objects.{MakeMatrix}
 use Rattle.pictures.specs.Objects.{Comparison, Equal, NotEqual}
 use Rattle.pictures.specs.Objects.{Execute, If, IfElse, Repeat, For, ForAll, Want, ANumber, AText, AnArray}
 use Rattle.pictures.specs.Objects.{AMatrix, AFont, AName, ATruth}
-use Rattle.pictures.specs.Calculations.{whole_of, whole_text, calculated, negated, compared, names_compared, turns}
-use Rattle.pictures.specs.Dictionaries.{Entry, meaning, system, entry_of, has, is_lacked, read_only}
+use Rattle.pictures.specs.Calculations.{whole_of, whole_number_text, calculated, negated, compared, names_compared, turns}
+use Rattle.pictures.specs.Dictionaries.{DictionaryEntry, meaning, system, dictionary_entry, has, is_lacked, read_only}
 
 -- the operands and the dictionaries on their stacks, the topmost first (3.4); all entries; the numbers of
 -- dictionaries and matrices that have been made
 pub record Work : Type 0 where
   pub operands : List Object
   pub dictionaries : List ℕ
-  pub entries : List Entry
+  pub entries : List DictionaryEntry
   pub made : ℕ
 
 abbrev pub with_operands : Work → List Object → Work
@@ -72,9 +72,9 @@ abbrev pub bound_to : Option Object → Token → Token
 bound_to (Some (Operator name kind)) t = Bound name
 bound_to o t = t
 
-abbrev pub bound : Work → Token → Token
-bound w (Name name) = bound_to (meaning w.dictionaries w.entries name) (Name name)
-bound w t = t
+abbrev pub bound_token : Work → Token → Token
+bound_token w (Name name) = bound_to (meaning w.dictionaries w.entries name) (Name name)
+bound_token w t = t
 
 abbrev pub loaded : Option Object → Work → Option Work
 loaded None w = None
@@ -91,10 +91,10 @@ abbrev pub define : List ℕ → List ℕ → Object → Work → Option Work
 define [] name o w = None
 define (d ∷ ds) name o w = Some (put_entry d name o w)
 
-abbrev pub ended : List ℕ → Work → Option Work
-ended [] w = None
-ended (d ∷ []) w = None
-ended (d ∷ e ∷ ds) w = Some (record w { dictionaries = e ∷ ds })
+abbrev pub scope_ended : List ℕ → Work → Option Work
+scope_ended [] w = None
+scope_ended (d ∷ []) w = None
+scope_ended (d ∷ e ∷ ds) w = Some (record w { dictionaries = e ∷ ds })
 
 -- the operands below the topmost mark
 abbrev pub below_mark : List Object → Option (List Object)
@@ -111,9 +111,9 @@ nth n [] = None
 nth zero (o ∷ os) = Some o
 nth (suc n) (o ∷ os) = nth n os
 
-abbrev pub times : ℕ → List Token → List Token
-times zero ts = []
-times (suc n) ts = ts ++ times n ts
+abbrev pub repeated_tokens : ℕ → List Token → List Token
+repeated_tokens zero ts = []
+repeated_tokens (suc n) ts = ts ++ repeated_tokens n ts
 
 -- the result of a comparison
 abbrev pub judged : Option Bool → Work → Option Work
@@ -121,9 +121,9 @@ judged None w = None
 judged (Some test) w = Some (with_operands w (Truth test ∷ w.operands))
 
 -- the topmost dictionary on the stack that has the key
-abbrev pub holder : List ℕ → List Entry → List ℕ → Option ℕ
+abbrev pub holder : List ℕ → List DictionaryEntry → List ℕ → Option ℕ
 holder [] es key = None
-holder (d ∷ ds) es key = if has (entry_of d key es) then Some d else holder ds es key
+holder (d ∷ ds) es key = if has (dictionary_entry d key es) then Some d else holder ds es key
 
 -- `where`: that dictionary and true, or systemdict and true, or false; it stops at a name that this machine lacks
 abbrev pub located : Option ℕ → (in_system lacks : Bool) → Work → Option Work
@@ -193,15 +193,15 @@ onto (t ∷ ts) os = onto ts (Plain t ∷ os)
 
 -- the keys and values down to the mark, put into a dictionary as by `def`, the topmost first: so of equal keys the
 -- first one that was written counts
-abbrev pub filled : ℕ → List Object → List Entry → Option (List Entry × List Object)
-filled d (Mark ∷ os) es = Some (es, os)
-filled d (o ∷ Plain (Literal name) ∷ os) es =
-    filled d os (record { dictionary = d; key = name; value = o } ∷ es)
-filled d os es = None
+abbrev pub dictionary_filled : ℕ → List Object → List DictionaryEntry → Option (List DictionaryEntry × List Object)
+dictionary_filled d (Mark ∷ os) es = Some (es, os)
+dictionary_filled d (o ∷ Plain (Literal name) ∷ os) es =
+    dictionary_filled d os (record { dictionary = d; key = name; value = o } ∷ es)
+dictionary_filled d os es = None
 
-abbrev pub made_of : Option (List Entry × List Object) → Work → Option Work
-made_of None w = None
-made_of (Some (es, os)) w =
+abbrev pub dictionary_made : Option (List DictionaryEntry × List Object) → Work → Option Work
+dictionary_made None w = None
+dictionary_made (Some (es, os)) w =
     Some (record w { operands = Dictionary (w.made + 1) ∷ os; entries = es; made = w.made + 1 })
 
 -- there are this many operands
@@ -231,14 +231,14 @@ computed_on CloseArray os w = gathered (collected [] os) w
 computed_on Put (o ∷ Plain (Literal name) ∷ Dictionary d ∷ os) w = Some (put_entry d name o (with_operands w os))
 computed_on Define (o ∷ Plain (Literal name) ∷ os) w = define w.dictionaries name o (with_operands w os)
 computed_on Begin (Dictionary d ∷ os) w = Some (record w { operands = os; dictionaries = d ∷ w.dictionaries })
-computed_on End os w = ended w.dictionaries w
+computed_on End os w = scope_ended w.dictionaries w
 computed_on MakeDictionary (Plain (Number text) ∷ os) w =
     if list_all is_ascii_digit text then Some (record w { operands = Dictionary (w.made + 1) ∷ os; made = w.made + 1 })
     else None
 computed_on Load (Plain (Literal name) ∷ os) w = loaded (meaning w.dictionaries w.entries name) (with_operands w os)
-computed_on Bind (Procedure ts ∷ os) w = Some (with_operands w (Procedure (map (bound w) ts) ∷ os))
+computed_on Bind (Procedure ts ∷ os) w = Some (with_operands w (Procedure (map (bound_token w) ts) ∷ os))
 computed_on Known (Plain (Literal name) ∷ Dictionary d ∷ os) w =
-    Some (with_operands w (Truth (has (entry_of d name w.entries)) ∷ os))
+    Some (with_operands w (Truth (has (dictionary_entry d name w.entries)) ∷ os))
 computed_on Known (Plain (Literal name) ∷ SystemDictionary ∷ os) w =
     judged (known_there (has (system name)) (is_lacked name)) (with_operands w os)
 computed_on Index (Plain (Number text) ∷ os) w =
@@ -256,14 +256,14 @@ computed_on Not (Truth a ∷ os) w = Some (with_operands w (Truth (not a) ∷ os
 computed_on Where (Plain (Literal name) ∷ os) w =
     located (holder w.dictionaries w.entries name) (has (system name)) (is_lacked name) (with_operands w os)
 computed_on Get (Plain (Literal name) ∷ Dictionary d ∷ os) w =
-    loaded (entry_of d name w.entries) (with_operands w os)
+    loaded (dictionary_entry d name w.entries) (with_operands w os)
 computed_on Get (Plain (Literal name) ∷ SystemDictionary ∷ os) w = loaded (system name) (with_operands w os)
 computed_on Get (Plain (Number text) ∷ Array ts ∷ os) w =
     if list_all is_ascii_digit text then element (number_of text) ts (with_operands w os) else None
 computed_on Length (Array ts ∷ os) w = Some (with_operands w (Plain (Number (decimal (length ts))) ∷ os))
 computed_on Length (Procedure ts ∷ os) w = Some (with_operands w (Plain (Number (decimal (elements_in ts 0))) ∷ os))
 computed_on LoadArray (Array ts ∷ os) w = Some (with_operands w (Array ts ∷ onto ts os))
-computed_on CloseDictionary os w = made_of (filled (w.made + 1) os w.entries) w
+computed_on CloseDictionary os w = dictionary_made (dictionary_filled (w.made + 1) os w.entries) w
 computed_on CopyOperands (Plain (Number text) ∷ os) w =
     if are_there text os then Some (with_operands w (take (number_of text) os ++ os)) else None
 computed_on Roll (Plain (Number j) ∷ Plain (Number text) ∷ os) w =
@@ -273,7 +273,7 @@ computed_on MakeExecutable (Plain (Literal name) ∷ os) w = Some (with_operands
 computed_on MakeExecutable (Array ts ∷ os) w = Some (with_operands w (Procedure ts ∷ os))
 computed_on MakeExecutable (Procedure ts ∷ os) w = Some (with_operands w (Procedure ts ∷ os))
 computed_on IsWritable (Dictionary d ∷ os) w =
-    Some (with_operands w (Truth (not (has (entry_of d read_only w.entries))) ∷ os))
+    Some (with_operands w (Truth (not (has (dictionary_entry d read_only w.entries))) ∷ os))
 computed_on IsWritable (SystemDictionary ∷ os) w = Some (with_operands w (Truth false ∷ os))
 computed_on MakeReadOnly (Dictionary d ∷ os) w =
     Some (put_entry d read_only (Truth true) (with_operands w (Dictionary d ∷ os)))
@@ -284,13 +284,13 @@ abbrev pub computed : Computation → Work → Option Work
 computed c w = computed_on c w.operands w
 
 -- `for`: in each turn its number, and the procedure
-abbrev pub turned : Option ℕ → (first step : ℤ) → List Token → Work → Option (List Token × Work)
-turned None first step ts w = None
-turned (Some n) first step ts w =
-    Some (flat_map (λ i. Number (whole_text (first +ℤ step *ℤ pos i)) ∷ ts) (range_with_len 0 n), w)
+abbrev pub loop_turned : Option ℕ → (first step : ℤ) → List Token → Work → Option (List Token × Work)
+loop_turned None first step ts w = None
+loop_turned (Some n) first step ts w =
+    Some (flat_map (λ i. Number (whole_number_text (first +ℤ step *ℤ pos i)) ∷ ts) (range_with_len 0 n), w)
 
 abbrev pub counting : (first step limit : Option ℤ) → List Token → Work → Option (List Token × Work)
-counting (Some first) (Some step) (Some limit) ts w = turned (turns first step limit) first step ts w
+counting (Some first) (Some step) (Some limit) ts w = loop_turned (turns first step limit) first step ts w
 counting first step limit ts w = None
 
 -- no element is an executable name, which `forall` pushes and a procedure runs
@@ -308,7 +308,7 @@ controlled_on If (Procedure ts ∷ Truth test ∷ os) w = Some (if test then ts 
 controlled_on IfElse (Procedure us ∷ Procedure ts ∷ Truth test ∷ os) w =
     Some (if test then ts else us, with_operands w os)
 controlled_on Repeat (Procedure ts ∷ Plain (Number text) ∷ os) w =
-    if list_all is_ascii_digit text then Some (times (number_of text) ts, with_operands w os) else None
+    if list_all is_ascii_digit text then Some (repeated_tokens (number_of text) ts, with_operands w os) else None
 controlled_on For (Procedure ts ∷ Plain (Number limit) ∷ Plain (Number step) ∷ Plain (Number first) ∷ os) w =
     counting (whole_of first) (whole_of step) (whole_of limit) ts (with_operands w os)
 controlled_on ForAll (Procedure ts ∷ Array es ∷ os) w =

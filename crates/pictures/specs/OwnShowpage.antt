@@ -9,18 +9,18 @@ use Rattle.rules.specs.Output.{Frame, output}
 use Rattle.dsc.specs.Units.{units_of}
 use Rattle.guard.specs.Guard.{guarded}
 use Rattle.pictures.specs.Objects.{Token, Truth, Procedure}
-use Rattle.pictures.specs.Dictionaries.{userdict, system, entry_of, read_only}
+use Rattle.pictures.specs.Dictionaries.{userdict, system, dictionary_entry, read_only}
 use Rattle.pictures.specs.Operators.{holder}
 use Rattle.pictures.specs.Machine.{State, Painting, initial, Runs}
 use Rattle.pictures.specs.Scanner.{tokens}
 use Rattle.pictures.specs.Sheets.{Shown, run_of, placed_tokens, page_picture}
-use Rattle.pictures.specs.Pictures.{printed, past_all, Begins, sheets_tokens}
+use Rattle.pictures.specs.Pictures.{printed_sheets, past_all, BeginsAt, sheets_tokens}
 use Rattle.pictures.specs.Documents.{started, PreambleRuns, FirstHas, OnSheetsFrom, all_sheets}
 use Rattle.pictures.specs.Kept.{preamble_comments_apart}
 use Rattle.pictures.specs.Behind.{showpage_tokens}
 use Rattle.pictures.specs.Shelter.{means, outline_tokens, PaintsSheltered}
 use Rattle.pictures.specs.Lines.{with_asking}
-use Rattle.pictures.specs.Pages.{HasGuard, AllSheetsShelteredFrom, PaintsFrom, shown_at}
+use Rattle.pictures.specs.Pages.{HasGuard, AllSheetsShelteredFrom, PaintsFrom, state_after_sheets}
 
 -- The state after such a preamble: as a guarded one, but that this dictionary is the first one with a showpage. It can be
 -- written, and isn't userdict, whose showpage is the guard's
@@ -28,8 +28,8 @@ pub record HasItsOwn (d : ℕ) (s : State) : Type 0 where
   pub guard : HasGuard s.work s.level
   pub own_first : holder s.work.dictionaries s.work.entries (codes "showpage") ≡ Some d
   pub other : (d == userdict) ≡ false
-  pub writable : entry_of d read_only s.work.entries ≡ None
-  pub showpage_is : entry_of userdict (codes "showpage") s.work.entries ≡ Some (Procedure showpage_tokens)
+  pub writable : dictionary_entry d read_only s.work.entries ≡ None
+  pub showpage_is : dictionary_entry userdict (codes "showpage") s.work.entries ≡ Some (Procedure showpage_tokens)
   pub flag_is : means s (codes "PStoPSenablepage") ≡ Some (Truth true)
   pub show_is : means s (codes "ImposeShow") ≡ system (codes "showpage")
   pub graphics : initial s.graphics ≡ s.graphics
@@ -54,9 +54,9 @@ asking d s (suc k) = with_asking d (asking d s k)
 abbrev pub OwnSheetsArePrinted : Type 0
 OwnSheetsArePrinted =
     (d : ℕ) (s : State) (xs : List (List Shown)) (rest : List Token) → HasItsOwn d s → s.painted ≡ []
-    → Begins 1 0 xs → AllSheetsShelteredFrom (asking d s) 0 xs
+    → BeginsAt 1 0 xs → AllSheetsShelteredFrom (asking d s) 0 xs
     → Runs false (run_of (sheets_tokens xs ++ rest) s)
-    (record (asking d s (past_all 0 xs)) { left = rest; painted = []; sheets = printed s.graphics xs s.sheets })
+    (record (asking d s (past_all 0 xs)) { left = rest; painted = []; sheets = printed_sheets s.graphics xs s.sheets })
 
 -- Of what impose makes of such a document, with the guard put in: a machine prints, sheet by sheet, the pictures of the
 -- document's pages, placed, if the first sheet has a page: a law
@@ -70,4 +70,4 @@ OwnShowpageIsShown =
     → FirstHas 1 (all_sheets frame sides spec us)
     → OnSheetsFrom (PaintsFrom frame.border us picture (asking d s)) 0 (all_sheets frame sides spec us)
     → Runs false (started (tokens (output frame sides spec (units_of (guarded sheet text)))))
-    (shown_at (asking d s) frame.border (units_of (guarded sheet text)) picture (all_sheets frame sides spec us))
+    (state_after_sheets (asking d s) frame.border (units_of (guarded sheet text)) picture (all_sheets frame sides spec us))

@@ -110,9 +110,9 @@ whole_from some [] = some
 whole_from some (b ∷ bs) = is_ascii_digit b && whole_from true bs
 
 -- a sign or none, and digits
-abbrev pub is_whole : List ℕ → Bool
-is_whole [] = false
-is_whole (b ∷ bs) = if is_sign b then whole_from false bs else whole_from false (b ∷ bs)
+abbrev pub is_whole_number : List ℕ → Bool
+is_whole_number [] = false
+is_whole_number (b ∷ bs) = if is_sign b then whole_from false bs else whole_from false (b ∷ bs)
 
 -- E or e
 abbrev pub begins_exponent : ℕ → Bool
@@ -121,19 +121,19 @@ begins_exponent b = (b == 69) || (b == 101)
 abbrev pub decimals_from : (some : Bool) → List ℕ → Bool
 decimals_from some [] = some
 decimals_from some (b ∷ bs) =
-    if begins_exponent b then some && is_whole bs else is_ascii_digit b && decimals_from true bs
+    if begins_exponent b then some && is_whole_number bs else is_ascii_digit b && decimals_from true bs
 
 -- digits, at least one, with at most one dot among them, and an exponent or none
 abbrev pub digits_from : (some : Bool) → List ℕ → Bool
 digits_from some [] = some
 digits_from some (b ∷ bs) =
     if b == dot then decimals_from some bs
-    else if begins_exponent b then some && is_whole bs
+    else if begins_exponent b then some && is_whole_number bs
     else is_ascii_digit b && digits_from true bs
 
-abbrev pub is_number : List ℕ → Bool
-is_number [] = false
-is_number (b ∷ bs) = if is_sign b then digits_from false bs else digits_from false (b ∷ bs)
+abbrev pub is_number_text : List ℕ → Bool
+is_number_text [] = false
+is_number_text (b ∷ bs) = if is_sign b then digits_from false bs else digits_from false (b ∷ bs)
 
 -- digits and a number sign: it may be a number with a radix
 abbrev pub has_radix : (some : Bool) → List ℕ → Bool
@@ -142,22 +142,22 @@ has_radix some (b ∷ bs) = if b == number_sign then some else is_ascii_digit b 
 
 -- a word is a number or a name
 abbrev pub word : List ℕ → Token
-word text = if is_number text then Number text else if has_radix false text then Unknown else Name text
+word text = if is_number_text text then Number text else if has_radix false text then Unknown else Name text
 
 -- the token that is complete
-abbrev pub ended : Reading → List Token
-ended Between = []
-ended InComment = []
-ended (InWord bs) = word (reverse bs) ∷ []
-ended (InLiteral bs) = Literal (reverse bs) ∷ []
-ended (InText depth bs) = Unknown ∷ []
-ended (Escaped depth bs) = Unknown ∷ []
-ended InAngle = Unknown ∷ []
-ended (InHexadecimal bs) = Unknown ∷ []
-ended InClosingAngle = Unknown ∷ []
+abbrev pub ended_token : Reading → List Token
+ended_token Between = []
+ended_token InComment = []
+ended_token (InWord bs) = word (reverse bs) ∷ []
+ended_token (InLiteral bs) = Literal (reverse bs) ∷ []
+ended_token (InText depth bs) = Unknown ∷ []
+ended_token (Escaped depth bs) = Unknown ∷ []
+ended_token InAngle = Unknown ∷ []
+ended_token (InHexadecimal bs) = Unknown ∷ []
+ended_token InClosingAngle = Unknown ∷ []
 
-abbrev pub behind : List Token → List Token × Reading → List Token × Reading
-behind ts (us, r) = (ts ++ us, r)
+abbrev pub after_tokens : List Token → List Token × Reading → List Token × Reading
+after_tokens ts (us, r) = (ts ++ us, r)
 
 -- a byte between tokens: what it is by itself, and what the reader is in after it
 abbrev pub begun : Class → ℕ → List Token × Reading
@@ -176,13 +176,13 @@ begun Regular b = ([], InWord (b ∷ []))
 -- a byte after the first ones of a word
 abbrev pub in_word : Class → List ℕ → ℕ → List Token × Reading
 in_word Regular bs b = ([], InWord (b ∷ bs))
-in_word class bs b = behind (word (reverse bs) ∷ []) (begun class b)
+in_word class bs b = after_tokens (word (reverse bs) ∷ []) (begun class b)
 
 -- after a slash
 abbrev pub in_literal : Class → List ℕ → ℕ → List Token × Reading
 in_literal Regular bs b = ([], InLiteral (b ∷ bs))
 in_literal Slash [] b = (Unknown ∷ [], InLiteral [])
-in_literal class bs b = behind (Literal (reverse bs) ∷ []) (begun class b)
+in_literal class bs b = after_tokens (Literal (reverse bs) ∷ []) (begun class b)
 
 -- in parentheses, which may be nested
 abbrev pub in_text : ℕ → List ℕ → ℕ → List Token × Reading
@@ -215,7 +215,7 @@ in_angle b = if b == less_than then (Name (less_than ∷ less_than ∷ []) ∷ [
 abbrev pub in_closing_angle : ℕ → List Token × Reading
 in_closing_angle b =
     if b == greater_than then (Name (greater_than ∷ greater_than ∷ []) ∷ [], Between)
-    else behind (Unknown ∷ []) (begun (class_of b) b)
+    else after_tokens (Unknown ∷ []) (begun (class_of b) b)
 
 -- the next byte: the tokens that it completes, and what the reader is in then
 abbrev pub next : Reading → ℕ → List Token × Reading
@@ -231,16 +231,16 @@ next InClosingAngle b = in_closing_angle b
 
 abbrev pub scan_from : Reading → List ℕ → List Token × Reading
 scan_from r [] = ([], r)
-scan_from r (b ∷ bs) = behind (next r b).0 (scan_from (next r b).1 bs)
+scan_from r (b ∷ bs) = after_tokens (next r b).0 (scan_from (next r b).1 bs)
 
 -- the tokens of a text
 abbrev pub tokens : List ℕ → List Token
-tokens text = (scan_from Between text).0 ++ ended (scan_from Between text).1
+tokens text = (scan_from Between text).0 ++ ended_token (scan_from Between text).1
 
 -- the text ends between tokens
-abbrev pub IsComplete : List ℕ → Type 0
-IsComplete text = (scan_from Between text).1 ≡ Between
+abbrev pub EndsBetweenTokens : List ℕ → Type 0
+EndsBetweenTokens text = (scan_from Between text).1 ≡ Between
 
 -- a law: the tokens of a complete text followed by another are those of the first and then those of the second
 abbrev pub TokensJoin : Type 0
-TokensJoin = (a b : List ℕ) → IsComplete a → tokens (a ++ b) ≡ tokens a ++ tokens b
+TokensJoin = (a b : List ℕ) → EndsBetweenTokens a → tokens (a ++ b) ≡ tokens a ++ tokens b

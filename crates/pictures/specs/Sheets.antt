@@ -5,7 +5,7 @@ use Rattle.std.specs.Prelude.{◌≡◌, ℕ, ◌+◌, List, [], ◌∷◌, ◌+
 use Rattle.std.specs.Prelude.{codes, bytes_eq}
 use Rattle.pictures.specs.Objects.{Token, Number, Name, Literal, Opens, Closes, Object, Plain, Array, Procedure, Saved}
 use Rattle.pictures.specs.Objects.{Call}
-use Rattle.pictures.specs.Dictionaries.{Entry, userdict, meaning, system}
+use Rattle.pictures.specs.Dictionaries.{DictionaryEntry, userdict, meaning, system}
 use Rattle.pictures.specs.Operators.{all_old, all_are_old}
 use Rattle.pictures.specs.Machine.{Segment, Graphics, Painting, State, save_of, initial, step, RunsBy}
 use Rattle.pictures.specs.Placing.{Place, picture_at}
@@ -80,14 +80,14 @@ sheet_tokens ps = flat_map placed_tokens ps ++ (Name (codes "showpage") ∷ [])
 
 -- The picture.
 
-abbrev pub matrix_of : Numbers → Call
-matrix_of n = record {
+abbrev pub matrix_call : Numbers → Call
+matrix_call n = record {
   name = codes "concat";
   operands = Array (Number n.a ∷ Number n.b ∷ Number n.c ∷ Number n.d ∷ Number n.x ∷ Number n.y ∷ []) ∷ [];
 }
 
-abbrev pub point : List ℕ → List ℕ → List ℕ → List Call → Segment
-point name x y chain = record {
+abbrev pub path_point : List ℕ → List ℕ → List ℕ → List Call → Segment
+path_point name x y chain = record {
   call = record { name = name; operands = Plain (Number y) ∷ Plain (Number x) ∷ [] };
   chain = chain;
   settings = [];
@@ -96,8 +96,8 @@ point name x y chain = record {
 abbrev pub rectangle : (low right top : List ℕ) → List Call → List Segment
 rectangle low right top chain =
     record { call = record { name = codes "closepath"; operands = [] }; chain = chain; settings = [] }
-    ∷ point (codes "lineto") low top chain ∷ point (codes "lineto") right top chain
-    ∷ point (codes "lineto") right low chain ∷ point (codes "moveto") low low chain ∷ []
+    ∷ path_point (codes "lineto") low top chain ∷ path_point (codes "lineto") right top chain
+    ∷ path_point (codes "lineto") right low chain ∷ path_point (codes "moveto") low low chain ∷ []
 
 -- around the paper
 abbrev pub edge : Numbers → List Call → List Segment
@@ -107,8 +107,8 @@ edge n chain = rectangle zero_text n.width n.height chain
 -- within those that were there, and so is its paper
 abbrev pub place_in : Graphics → Numbers → Place
 place_in g n = record {
-  chain = matrix_of n ∷ g.chain;
-  clip = record { name = codes "clip"; path = edge n (matrix_of n ∷ g.chain) } ∷ g.clip;
+  chain = matrix_call n ∷ g.chain;
+  clip = record { name = codes "clip"; path = edge n (matrix_call n ∷ g.chain) } ∷ g.clip;
 }
 
 -- the border, which is painted before the page, at its place and under its clip
@@ -126,18 +126,18 @@ border_in g n (Some b) = record {
 
 -- The page by itself.
 
-abbrev pub in_userdict : List ℕ → Object → Entry
+abbrev pub in_userdict : List ℕ → Object → DictionaryEntry
 in_userdict name o = record { dictionary = userdict; key = name; value = o }
 
 -- what the sheet's text has defined before a page
-abbrev pub entries_before : State → List Entry
+abbrev pub entries_before : State → List DictionaryEntry
 entries_before s =
     in_userdict (codes "showpage") (Procedure []) ∷ in_userdict (codes "ImposeSave") (Saved s.level) ∷ s.work.entries
 
 -- a page by itself: with the names that the sheet's text defines, no place, and nothing below it to which it could
 -- return
-abbrev pub alone : State → List Token → State
-alone s body = record {
+abbrev pub running_alone : State → List Token → State
+running_alone s body = record {
   left = body;
   work = record s.work { entries = entries_before s };
   kept = s.kept;
@@ -161,7 +161,7 @@ pub record LeavesAsItWas (s t : State) : Type 0 where
 -- from a state after the preamble the page, by these steps, paints this by itself
 pub record PaintsBy (held : State → Option State) (s : State) (body : List Token) (picture : List Painting) : Type 0 where
   pub end : State
-  pub run : RunsBy held (alone s body) end
+  pub run : RunsBy held (running_alone s body) end
   pub leaves : LeavesAsItWas s end
   pub picture_is : end.painted ≡ picture
 

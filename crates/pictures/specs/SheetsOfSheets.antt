@@ -6,14 +6,14 @@ use Rattle.rules.specs.Specification.{Item}
 use Rattle.rules.specs.Parts.{NestedUnit}
 use Rattle.rules.specs.Output.{Frame}
 use Rattle.rules.specs.Papers.{Paper}
-use Rattle.pictures.specs.Dictionaries.{Entry, userdict, system, entry_of, has}
+use Rattle.pictures.specs.Dictionaries.{DictionaryEntry, userdict, system, dictionary_entry, has}
 use Rattle.pictures.specs.Objects.{Token}
 use Rattle.pictures.specs.Machine.{State, Painting, Graphics, Runs}
 use Rattle.pictures.specs.Placing.{Place, graphics_at, picture_at}
-use Rattle.pictures.specs.Scanner.{tokens, IsComplete}
+use Rattle.pictures.specs.Scanner.{tokens, EndsBetweenTokens}
 use Rattle.pictures.specs.Sheets.{Numbers, among, Shown, AllOf, run_of, placed_tokens, place_in, page_picture, sheet_picture, sheet_tokens}
-use Rattle.pictures.specs.Pictures.{printed, sheets_tokens}
-use Rattle.pictures.specs.Documents.{numbers_of, page_of}
+use Rattle.pictures.specs.Pictures.{printed_sheets, sheets_tokens}
+use Rattle.pictures.specs.Documents.{numbers_of, document_page}
 use Rattle.pictures.specs.Kept.{page_comments_apart}
 use Rattle.pictures.specs.Shelter.{Outer, outer_is, means, outline_tokens, page_matrix, beginning, sheltered}
 use Rattle.pictures.specs.Shelter.{PaintsSheltered}
@@ -46,11 +46,11 @@ sheet_as_page s n xs = record {
 -- What is asked of the state in which it is placed.
 
 -- no dictionary above userdict on the stack has the name
-abbrev pub none_above : List ℕ → List ℕ → List Entry → Bool
+abbrev pub none_above : List ℕ → List ℕ → List DictionaryEntry → Bool
 none_above name [] es = false
-none_above name (d ∷ ds) es = (userdict == d) || (not (has (entry_of d name es)) && none_above name ds es)
+none_above name (d ∷ ds) es = (userdict == d) || (not (has (dictionary_entry d name es)) && none_above name ds es)
 
-abbrev pub none_above_of : List (List ℕ) → List ℕ → List Entry → Bool
+abbrev pub none_above_of : List (List ℕ) → List ℕ → List DictionaryEntry → Bool
 none_above_of [] ds es = true
 none_above_of (name ∷ names) ds es = none_above name ds es && none_above_of names ds es
 
@@ -71,7 +71,7 @@ AllOlder [] made = Unit {0}
 AllOlder (o ∷ os) made = (o.matrix < made + 1) × AllOlder os made
 
 -- no dictionary has anything that hasn't been made
-abbrev pub none_newer : ℕ → List Entry → Bool
+abbrev pub none_newer : ℕ → List DictionaryEntry → Bool
 none_newer made [] = true
 none_newer made (e ∷ es) = nat_lt e.dictionary (made + 1) && none_newer made es
 
@@ -99,7 +99,7 @@ taken_names =
 -- where any other name is defined, in any dictionary that has been made, it stays so: a law
 abbrev pub StaysTakingSheets : Type 0
 StaysTakingSheets =
-    (s : State) (e : Entry) → TakesSheets [] s → among e.key taken_names ≡ false → e.dictionary < s.work.made + 1
+    (s : State) (e : DictionaryEntry) → TakesSheets [] s → among e.key taken_names ≡ false → e.dictionary < s.work.made + 1
     → TakesSheets [] (defined e s)
 
 -- The laws.
@@ -138,7 +138,7 @@ SheetsOfSheetsArePrinted =
     (s : State) (xs : List (List Inner)) (rest : List Token) → IsGuarded s → TakesSheets [] s → s.painted ≡ []
     → AllOf (AllOf (AllWithin s)) xs
     → Runs false (run_of (sheets_tokens (map (as_pages s) xs) ++ rest) s)
-    (record s { left = rest; sheets = printed s.graphics (map (as_pages s) xs) s.sheets })
+    (record s { left = rest; sheets = printed_sheets s.graphics (map (as_pages s) xs) s.sheets })
 
 -- Any number of runs.
 
@@ -172,7 +172,7 @@ NestsArePrinted =
     (depth : ℕ) (s : State) (xs : List (List (Nest depth))) (rest : List Token) → IsGuarded s → TakesSheets [] s
     → s.painted ≡ [] → AllOf (AllOf (PaintsNested depth [] s)) xs
     → Runs false (run_of (sheets_tokens (map (map (nest_as_page depth (beginning s))) xs) ++ rest) s)
-    (record s { left = rest; sheets = printed s.graphics (map (map (nest_as_page depth (beginning s))) xs) s.sheets })
+    (record s { left = rest; sheets = printed_sheets s.graphics (map (map (nest_as_page depth (beginning s))) xs) s.sheets })
 
 -- Two runs: impose puts the guard into what a run wrote, and imposes it.
 
@@ -180,7 +180,7 @@ NestsArePrinted =
 -- between tokens, and so does what comes before each of its lines that is dropped
 abbrev pub PagePaintsWithin : (inner : Frame) → List NestedUnit → (outer : Frame) → State → ℕ → List Painting → Type 0
 PagePaintsWithin inner us outer s p picture =
-    IsComplete (page_of us p) × (page_comments_apart (page_of us p) ≡ true)
+    EndsBetweenTokens (document_page us p) × (page_comments_apart (document_page us p) ≡ true)
     × ((item : Item)
     → PaintsSheltered (page_round [] s (numbers_of outer item) ∷ []) (page_begun [] s (numbers_of outer item))
-    (outline_of inner) (tokens (page_of us p)) picture)
+    (outline_of inner) (tokens (document_page us p)) picture)

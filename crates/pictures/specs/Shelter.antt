@@ -7,13 +7,13 @@ use Rattle.std.specs.Prelude.{◌≡◌, ℕ, zero, suc, ◌+◌, List, [], ◌�
 use Rattle.std.specs.Prelude.{Option, Some, None, codes, bytes_eq, nat_lt, ◌==◌}
 use Rattle.pictures.specs.Objects.{Token, Number, Name, Literal, Bound, Opens, Closes, Unknown, Object, Plain, Truth}
 use Rattle.pictures.specs.Objects.{Procedure, Dictionary, Matrix, Saved, Operator, Kind, Looks, TakesMatrix, SetsMatrix, Call}
-use Rattle.pictures.specs.Dictionaries.{Entry, meaning, system}
+use Rattle.pictures.specs.Dictionaries.{DictionaryEntry, meaning, system}
 use Rattle.pictures.specs.Chains.{is_same_chain}
-use Rattle.pictures.specs.Machine.{State, Graphics, Segment, Snapshot, Kept, Painting, push, body_of, opened, chain_of}
+use Rattle.pictures.specs.Machine.{State, Graphics, Segment, Snapshot, KeptMatrix, Painting, push, body_of, opened, chain_of}
 use Rattle.pictures.specs.Machine.{viewed, reset, perform, may_precede, RunsBy}
 use Rattle.pictures.specs.Sheets.{Numbers, zero_text, in_userdict, LeavesAsItWas}
 use Rattle.pictures.specs.Unaware.{absent}
-use Rattle.pictures.specs.Behind.{path_tokens, clips_tokens, initclip_tokens, initgraphics_tokens}
+use Rattle.pictures.specs.Behind.{pathforall_tokens, clips_tokens, initclip_tokens, initgraphics_tokens}
 
 -- What is there.
 
@@ -43,7 +43,7 @@ outer_is [] = Plain (Number zero_text)
 outer_is (o ∷ os) = Dictionary o.dictionary
 
 -- what the guard puts to keep the page that another one begins in
-abbrev pub outer_entries : List Outer → List Entry
+abbrev pub outer_entries : List Outer → List DictionaryEntry
 outer_entries [] = []
 outer_entries (o ∷ os) =
     in_userdict (codes "ImposeOuter") (Dictionary o.dictionary)
@@ -61,12 +61,12 @@ abbrev pub page_matrix : List Outer → State → ℕ
 page_matrix outers s = outer_made outers s.work.made + 1
 
 -- what the sheet's text has put before a page, the latest first
-abbrev pub entries_put : State → List Entry
+abbrev pub entries_put : State → List DictionaryEntry
 entries_put s =
     in_userdict (codes "showpage") (Procedure []) ∷ in_userdict (codes "ImposeSave") (Saved s.level) ∷ s.work.entries
 
 -- and the guard
-abbrev pub page_entries : List Outer → State → List Token → List Entry
+abbrev pub page_entries : List Outer → State → List Token → List DictionaryEntry
 page_entries outers s outline =
     in_userdict (codes "PStoPSenablepage") (Truth false)
     ∷ in_userdict (codes "PStoPSclip") (Procedure outline)
@@ -77,7 +77,7 @@ page_entries outers s outline =
 abbrev pub beginning : State → Graphics
 beginning s = record { chain = []; path = []; clip = []; settings = s.graphics.settings }
 
-abbrev pub no_place : List Outer → State → List Kept
+abbrev pub no_place : List Outer → State → List KeptMatrix
 no_place outers s = record { number = page_matrix outers s; chain = [] } ∷ []
 
 -- the save that the guard makes within a page: to it `grestoreall` falls back
@@ -131,11 +131,11 @@ is_no_chain (Some []) = true
 is_no_chain x = false
 
 -- a matrix that has been made holds the page's place: by itself, no matrix at all
-abbrev pub holds_the_place : Option Object → (made : ℕ) → List Kept → Bool
+abbrev pub holds_the_place : Option Object → (made : ℕ) → List KeptMatrix → Bool
 holds_the_place (Some (Matrix number)) made ks = nat_lt number (made + 1) && is_no_chain (chain_of number ks)
 holds_the_place o made ks = false
 
-abbrev pub all_absent : List (List ℕ) → List ℕ → List Entry → Bool
+abbrev pub all_absent : List (List ℕ) → List ℕ → List DictionaryEntry → Bool
 all_absent [] ds es = true
 all_absent (name ∷ names) ds es = absent ds es name && all_absent names ds es
 
@@ -147,9 +147,9 @@ abbrev pub outline_names : List (List ℕ)
 outline_names =
     codes "systemdict" ∷ codes "moveto" ∷ codes "lineto" ∷ codes "curveto" ∷ codes "closepath" ∷ []
 
-abbrev pub is_zero : Option Object → Bool
-is_zero (Some (Plain (Number text))) = bytes_eq text zero_text
-is_zero o = false
+abbrev pub is_zero_object : Option Object → Bool
+is_zero_object (Some (Plain (Number text))) = bytes_eq text zero_text
+is_zero_object o = false
 
 abbrev pub is_dictionary : ℕ → Option Object → Bool
 is_dictionary d (Some (Dictionary e)) = e == d
@@ -165,7 +165,7 @@ is_unknown None = true
 is_unknown (Some chain) = false
 
 -- what the guard has kept of a page round this one is there, under these dictionaries
-abbrev pub keeps_outer : Outer → List ℕ → ℕ → List Entry → List Kept → Bool
+abbrev pub keeps_outer : Outer → List ℕ → ℕ → List DictionaryEntry → List KeptMatrix → Bool
 keeps_outer o ds made es ks =
     is_matrix o.matrix (meaning ds es (codes "PStoPSmatrix"))
     && (nat_lt o.matrix (made + 1)
@@ -174,8 +174,8 @@ keeps_outer o ds made es ks =
     && (is_procedure (meaning ds es (codes "ImposeClip")) clips_tokens && all_absent outline_names ds es))))
 
 -- and of all of them
-abbrev pub keeps_outers : List Outer → List ℕ → ℕ → List Entry → List Kept → Bool
-keeps_outers [] ds made es ks = is_zero (meaning ds es (codes "ImposeOuter"))
+abbrev pub keeps_outers : List Outer → List ℕ → ℕ → List DictionaryEntry → List KeptMatrix → Bool
+keeps_outers [] ds made es ks = is_zero_object (meaning ds es (codes "ImposeOuter"))
 keeps_outers (o ∷ os) ds made es ks =
     is_dictionary o.dictionary (meaning ds es (codes "ImposeOuter"))
     && (keeps_outer o (o.dictionary ∷ ds) made es ks && keeps_outers os (o.dictionary ∷ ds) made es ks)
@@ -186,13 +186,13 @@ keeps_the_page outers outline s =
     holds_the_place (means s (codes "PStoPSmatrix")) s.work.made s.kept
     && (is_procedure (means s (codes "PStoPSclip")) outline
     && (is_procedure (means s (codes "ImposeClip")) clips_tokens
-    && (is_procedure (means s (codes "ImposePath")) path_tokens
+    && (is_procedure (means s (codes "ImposePath")) pathforall_tokens
     && (all_absent outline_names s.work.dictionaries s.work.entries
     && keeps_outers outers s.work.dictionaries s.work.made s.work.entries s.kept))))
 
-abbrev pub is_empty : {A : Type 0} → List A → Bool
-is_empty [] = true
-is_empty (x ∷ xs) = false
+abbrev pub is_empty_list : {A : Type 0} → List A → Bool
+is_empty_list [] = true
+is_empty_list (x ∷ xs) = false
 
 -- the guard notes the transformation in a matrix that it makes for it
 abbrev pub noting : State → State
@@ -217,11 +217,11 @@ is_element name os =
     else false
 
 -- the path is drawn anew by its elements: each was made under this transformation, and `pathforall` lists it
--- (`path_tokens` in Machine)
+-- (`pathforall_tokens` in Machine)
 abbrev pub is_drawn_anew : List Call → List Segment → (next : List ℕ) → Bool
 is_drawn_anew chain [] next = true
 is_drawn_anew chain (x ∷ xs) next =
-    (is_element x.call.name x.call.operands && is_empty x.settings)
+    (is_element x.call.name x.call.operands && is_empty_list x.settings)
     && ((is_same_chain x.chain chain && may_precede x.call.name next) && is_drawn_anew chain xs x.call.name)
 
 -- `initclip`: no clip is left, and the path stays
@@ -255,24 +255,24 @@ did outers outline (Plain (Name name)) s = Some (record s { left = Name name ∷
 did outers outline (Operator name k) s = performed name k s
 did outers outline o s = Some (push o s)
 
-abbrev pub meant : List Outer → List Token → Option Object → State → Option State
-meant outers outline None s = None
-meant outers outline (Some o) s = did outers outline o s
+abbrev pub meant_sheltered : List Outer → List Token → Option Object → State → Option State
+meant_sheltered outers outline None s = None
+meant_sheltered outers outline (Some o) s = did outers outline o s
 
-abbrev pub act : List Outer → List Token → Token → State → Option State
-act outers outline (Name name) s = meant outers outline (means s name) s
-act outers outline (Bound name) s = meant outers outline (system name) s
-act outers outline Opens s = opened (body_of s.left 0) s
-act outers outline Closes s = None
-act outers outline Unknown s = None
-act outers outline t s = Some (push (Plain t) s)
+abbrev pub act_sheltered : List Outer → List Token → Token → State → Option State
+act_sheltered outers outline (Name name) s = meant_sheltered outers outline (means s name) s
+act_sheltered outers outline (Bound name) s = meant_sheltered outers outline (system name) s
+act_sheltered outers outline Opens s = opened (body_of s.left 0) s
+act_sheltered outers outline Closes s = None
+act_sheltered outers outline Unknown s = None
+act_sheltered outers outline t s = Some (push (Plain t) s)
 
-abbrev pub step_on : List Outer → List Token → List Token → State → Option State
-step_on outers outline [] s = None
-step_on outers outline (t ∷ ts) s = act outers outline t (record s { left = ts })
+abbrev pub step_sheltered : List Outer → List Token → List Token → State → Option State
+step_sheltered outers outline [] s = None
+step_sheltered outers outline (t ∷ ts) s = act_sheltered outers outline t (record s { left = ts })
 
 abbrev pub shelter_step : List Outer → List Token → State → Option State
-shelter_step outers outline s = step_on outers outline s.left s
+shelter_step outers outline s = step_sheltered outers outline s.left s
 
 abbrev pub RunsSheltered : List Outer → List Token → State → State → Type 0
 RunsSheltered outers outline s t = RunsBy (shelter_step outers outline) s t

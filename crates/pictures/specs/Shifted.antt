@@ -2,31 +2,31 @@
 -- placed, which has the names that the sheet's text puts, and one save more in force.
 use Rattle.std.specs.Prelude.{◌≡◌, ℕ, ◌+◌, List, [], ◌∷◌, map, option_map, codes}
 use Rattle.pictures.specs.Objects.{Object, Procedure, Saved}
-use Rattle.pictures.specs.Dictionaries.{Entry, entry_of, or}
+use Rattle.pictures.specs.Dictionaries.{DictionaryEntry, dictionary_entry, or}
 use Rattle.pictures.specs.Operators.{Work}
 use Rattle.pictures.specs.Machine.{State, Snapshot}
 use Rattle.pictures.specs.Sheets.{in_userdict}
 
 -- a save is of one level more
-abbrev pub up : Object → Object
-up (Saved level) = Saved (level + 1)
-up o = o
+abbrev pub one_save_more : Object → Object
+one_save_more (Saved level) = Saved (level + 1)
+one_save_more o = o
 
 abbrev pub ups : List Object → List Object
-ups os = map up os
+ups os = map one_save_more os
 
 -- the entries that the sheet's text puts
-abbrev pub two : ℕ → List Entry
+abbrev pub two : ℕ → List DictionaryEntry
 two level = in_userdict (codes "showpage") (Procedure []) ∷ in_userdict (codes "ImposeSave") (Saved level) ∷ []
 
 -- what the first entries have is what the others have, with such saves, and those that are put besides
-abbrev pub Agree : ℕ → List Entry → List Entry → Type 0
-Agree n es fs = (d : ℕ) (k : List ℕ) → entry_of d k es ≡ or (option_map up (entry_of d k fs)) (entry_of d k (two n))
+abbrev pub AgreeShifted : ℕ → List DictionaryEntry → List DictionaryEntry → Type 0
+AgreeShifted n es fs = (d : ℕ) (k : List ℕ) → dictionary_entry d k es ≡ or (option_map one_save_more (dictionary_entry d k fs)) (dictionary_entry d k (two n))
 
-abbrev pub up_work : List Entry → Work → Work
+abbrev pub up_work : List DictionaryEntry → Work → Work
 up_work es w = record { operands = ups w.operands; dictionaries = w.dictionaries; entries = es; made = w.made }
 
-abbrev pub up_shot : List Entry → Snapshot → Snapshot
+abbrev pub up_shot : List DictionaryEntry → Snapshot → Snapshot
 up_shot es b = record {
   level = b.level + 1;
   entries = es;
@@ -36,20 +36,20 @@ up_shot es b = record {
   stacked = b.stacked;
 }
 
-abbrev pub up_shots : List (List Entry) → List Snapshot → List Snapshot
+abbrev pub up_shots : List (List DictionaryEntry) → List Snapshot → List Snapshot
 up_shots [] bs = []
 up_shots (es ∷ ess) [] = []
 up_shots (es ∷ ess) (b ∷ bs) = up_shot es b ∷ up_shots ess bs
 
 -- there are entries for each save, which agree with its own
-abbrev pub AllAgree : ℕ → List (List Entry) → List Snapshot → Type 0
+abbrev pub AllAgree : ℕ → List (List DictionaryEntry) → List Snapshot → Type 0
 AllAgree n [] [] = Unit {0}
 AllAgree n [] (b ∷ bs) = ⊥
 AllAgree n (es ∷ ess) [] = ⊥
-AllAgree n (es ∷ ess) (b ∷ bs) = Agree n es b.entries × AllAgree n ess bs
+AllAgree n (es ∷ ess) (b ∷ bs) = AgreeShifted n es b.entries × AllAgree n ess bs
 
 -- the state with these entries, and its saves with those, all one level further in; nothing has been printed there
-abbrev pub up_state : List Entry → List (List Entry) → State → State
+abbrev pub up_state : List DictionaryEntry → List (List DictionaryEntry) → State → State
 up_state es ess s = record {
   left = s.left;
   work = up_work es s.work;

@@ -14,7 +14,7 @@ use Rattle.imposed_again.specs.MadeAgain.{IsTameDress}
 use Rattle.guard.specs.Guard.{guarded}
 use Rattle.pictures.specs.Machine.{State, Painting}
 use Rattle.pictures.specs.Sheets.{sheet_picture}
-use Rattle.pictures.specs.Documents.{frame_of, page_of, shown_sheet, PreambleRuns, OnSlots, OnSheets, all_sheets, IsPrinted}
+use Rattle.pictures.specs.Documents.{page_frame, document_page, shown_sheet, PreambleRuns, OnSlots, OnSheets, all_sheets, IsPrintedSheets}
 use Rattle.pictures.specs.Kept.{comments_apart_with, page_comments_apart, preamble_comments_apart}
 use Rattle.pictures.specs.Imposed.{IsQuiet, MadeIsPrinted}
 use Rattle.pictures.specs.Shelter.{beginning}
@@ -40,7 +40,7 @@ made_run_picture border us picture s all p = sheet_picture (beginning s) (shown_
 abbrev pub SheetPaintsWithin :
     Option Border → List MadeSheet → List NestedUnit → (ℕ → List Painting) → Option Border → State → Paper → ℕ → Type 0
 SheetPaintsWithin border all us picture outer_border s paper q =
-    OnSlots (λ own p. PagePaintsWithin (frame_of border own) us (frame_of outer_border paper) s p (picture p))
+    OnSlots (λ own p. PagePaintsWithin (page_frame border own) us (page_frame outer_border paper) s p (picture p))
     (sheet_at all q).slots
 
 -- Of an accepted document whose last page leaves no embedded document open, and of runs that add no lines but comments,
@@ -57,7 +57,7 @@ TwoMadeRunsAreShown =
     → length (guarded sheet (made_output border dress all us)) ≤ most_input_bytes
     → comments_apart_with outer_dress.header (written_again sheet border dress all us) ≡ true
     → PreambleRuns IsGuarded (bytes_of (preamble (written_again sheet border dress all us))) s → TakesSheets [] s
-    → OnSheets (λ paper q. page_comments_apart (page_of (written_again sheet border dress all us) q) ≡ true) outer_all
+    → OnSheets (λ paper q. page_comments_apart (document_page (written_again sheet border dress all us) q) ≡ true) outer_all
     → OnSheets (SheetPaintsWithin border all us picture outer_border s) outer_all
     → MadeIsPrinted outer_border outer_dress outer_all (written_again sheet border dress all us)
     (made_run_picture border us picture s all) s
@@ -76,8 +76,8 @@ TwoRunsAreShown =
     → length (guarded sheet (output inner sides spec us)) ≤ most_input_bytes
     → preamble_comments_apart (units_again sheet inner sides spec us) ≡ true
     → PreambleRuns IsGuarded (bytes_of (preamble (units_again sheet inner sides spec us))) s → TakesSheets [] s
-    → OnSheets (λ own p. PagePaintsWithin (frame_of inner.border own) us outer s p (picture p)) (all_sheets inner sides spec us)
-    → OnSheets (λ own p. page_comments_apart (page_of (units_again sheet inner sides spec us) p) ≡ true)
+    → OnSheets (λ own p. PagePaintsWithin (page_frame inner.border own) us outer s p (picture p)) (all_sheets inner sides spec us)
+    → OnSheets (λ own p. page_comments_apart (document_page (units_again sheet inner sides spec us) p) ≡ true)
     (all_sheets outer outer_sides outer_spec (units_again sheet inner sides spec us))
-    → IsPrinted outer outer_sides outer_spec (units_again sheet inner sides spec us)
+    → IsPrintedSheets outer outer_sides outer_spec (units_again sheet inner sides spec us)
     (made_run_picture inner.border us picture s (all_sheets inner sides spec us)) s

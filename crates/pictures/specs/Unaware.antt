@@ -5,13 +5,13 @@ use Rattle.rules.specs.Specification.{Spec}
 use Rattle.rules.specs.Parts.{NestedUnit, preamble, bytes_of}
 use Rattle.rules.specs.Run.{document_of}
 use Rattle.rules.specs.Output.{Frame}
-use Rattle.pictures.specs.Scanner.{tokens, IsComplete}
-use Rattle.pictures.specs.Documents.{page_of, PreambleRuns, OnSheets, all_sheets, IsPrinted}
+use Rattle.pictures.specs.Scanner.{tokens, EndsBetweenTokens}
+use Rattle.pictures.specs.Documents.{document_page, PreambleRuns, OnSheets, all_sheets, IsPrintedSheets}
 use Rattle.pictures.specs.DocumentRun.{PrintsSheet, OnPages, PagesAreIndependent, DocumentPrints}
 use Rattle.pictures.specs.Kept.{page_comments_apart, preamble_comments_apart}
 use Rattle.pictures.specs.Objects.{Token, Name, Literal, Bound, Object, Plain, Procedure, Saved, Operator, Computes}
 use Rattle.pictures.specs.Objects.{Load, Known, Where, Get, Bind}
-use Rattle.pictures.specs.Dictionaries.{Entry, userdict, meaning, system, entry_of, has}
+use Rattle.pictures.specs.Dictionaries.{DictionaryEntry, userdict, meaning, system, dictionary_entry, has}
 use Rattle.pictures.specs.Machine.{State, Painting, Snapshot, shipped, step, steps, RunsBy}
 use Rattle.pictures.specs.Sheets.{among, run_of, IsGround, PaintsAlone}
 
@@ -26,19 +26,19 @@ names_in (Name name ∷ ts) = name ∷ names_in ts
 names_in (t ∷ ts) = names_in ts
 
 -- the names that an operator looks up: `load`, `known`, `where`, `get`, `bind`
-abbrev pub asked_by : Option Object → List Object → List (List ℕ)
-asked_by (Some (Operator name (Computes Load))) (Plain (Literal k) ∷ os) = k ∷ []
-asked_by (Some (Operator name (Computes Known))) (Plain (Literal k) ∷ os) = k ∷ []
-asked_by (Some (Operator name (Computes Where))) (Plain (Literal k) ∷ os) = k ∷ []
-asked_by (Some (Operator name (Computes Get))) (Plain (Literal k) ∷ os) = k ∷ []
-asked_by (Some (Operator name (Computes Bind))) (Procedure ts ∷ os) = names_in ts
-asked_by o os = []
+abbrev pub names_asked : Option Object → List Object → List (List ℕ)
+names_asked (Some (Operator name (Computes Load))) (Plain (Literal k) ∷ os) = k ∷ []
+names_asked (Some (Operator name (Computes Known))) (Plain (Literal k) ∷ os) = k ∷ []
+names_asked (Some (Operator name (Computes Where))) (Plain (Literal k) ∷ os) = k ∷ []
+names_asked (Some (Operator name (Computes Get))) (Plain (Literal k) ∷ os) = k ∷ []
+names_asked (Some (Operator name (Computes Bind))) (Procedure ts ∷ os) = names_in ts
+names_asked o os = []
 
 -- the names whose meaning the next step needs
 abbrev pub asked_on : List Token → State → List (List ℕ)
 asked_on [] s = []
-asked_on (Name name ∷ ts) s = name ∷ asked_by (meaning s.work.dictionaries s.work.entries name) s.work.operands
-asked_on (Bound name ∷ ts) s = asked_by (system name) s.work.operands
+asked_on (Name name ∷ ts) s = name ∷ names_asked (meaning s.work.dictionaries s.work.entries name) s.work.operands
+asked_on (Bound name ∷ ts) s = names_asked (system name) s.work.operands
 asked_on (t ∷ ts) s = []
 
 abbrev pub none_among : List (List ℕ) → List (List ℕ) → Bool
@@ -50,9 +50,9 @@ abbrev pub unaware_step : State → Option State
 unaware_step s = if none_among (asked_on s.left s) put_names then step true s else None
 
 -- no dictionary on the stack has the name
-abbrev pub absent : List ℕ → List Entry → List ℕ → Bool
+abbrev pub absent : List ℕ → List DictionaryEntry → List ℕ → Bool
 absent [] es name = true
-absent (d ∷ ds) es name = not (has (entry_of d name es)) && absent ds es name
+absent (d ∷ ds) es name = not (has (dictionary_entry d name es)) && absent ds es name
 
 abbrev pub is_in : ℕ → List ℕ → Bool
 is_in n [] = false
@@ -66,7 +66,7 @@ abbrev pub no_saved : List Object → Bool
 no_saved [] = true
 no_saved (o ∷ os) = not (is_saved o) && no_saved os
 
-abbrev pub no_saved_in : List Entry → Bool
+abbrev pub no_saved_in : List DictionaryEntry → Bool
 no_saved_in [] = true
 no_saved_in (e ∷ es) = not (is_saved e.value) && no_saved_in es
 
@@ -80,8 +80,8 @@ pub record IsPlainGround (s : State) : Type 0 where
   pub operands : no_saved s.work.operands ≡ true
   pub entries : no_saved_in s.work.entries ≡ true
   pub has_userdict : is_in userdict s.work.dictionaries ≡ true
-  pub no_showpage : entry_of userdict (codes "showpage") s.work.entries ≡ None
-  pub no_save : entry_of userdict (codes "ImposeSave") s.work.entries ≡ None
+  pub no_showpage : dictionary_entry userdict (codes "showpage") s.work.entries ≡ None
+  pub no_save : dictionary_entry userdict (codes "ImposeSave") s.work.entries ≡ None
 
 -- each of these saves was made when this many were in force, or later
 abbrev pub none_before : ℕ → List Snapshot → Bool
@@ -134,8 +134,8 @@ OwnPicture =
 -- before each dropped line
 abbrev pub PagePrintsBy : (free unaware : State → Option State) → List NestedUnit → State → ℕ → List Painting → Type 0
 PagePrintsBy free unaware us s p picture =
-    IsComplete (page_of us p) × (page_comments_apart (page_of us p) ≡ true)
-    × PrintsBy free unaware s (tokens (page_of us p)) picture
+    EndsBetweenTokens (document_page us p) × (page_comments_apart (document_page us p) ≡ true)
+    × PrintsBy free unaware s (tokens (document_page us p)) picture
 
 abbrev pub PagePrints : List NestedUnit → State → ℕ → List Painting → Type 0
 PagePrints us s p picture = PagePrintsBy (step false) unaware_step us s p picture
@@ -149,7 +149,7 @@ SheetsShowThePages =
     → document_of text ≡ Ok us
     → preamble_comments_apart us ≡ true → PreambleRuns IsGround (bytes_of (preamble us)) s → IsPlainGround s
     → OnSheets (λ paper p. PagePrints us s p (picture p)) (all_sheets frame sides spec us)
-    → IsPrinted frame sides spec us picture s
+    → IsPrintedSheets frame sides spec us picture s
 
 -- A law about an accepted document whose pages are independent: the document prints a picture for each page, and
 -- its output shows these, sheet by sheet, placed
@@ -160,4 +160,4 @@ SheetsShowTheDocument =
     → document_of text ≡ Ok us
     → preamble_comments_apart us ≡ true → PreambleRuns IsGround (bytes_of (preamble us)) s → IsPlainGround s
     → OnPages (λ p. PagePrints us s p (picture p)) us → PagesAreIndependent us s
-    → DocumentPrints text us picture × IsPrinted frame sides spec us picture s
+    → DocumentPrints text us picture × IsPrintedSheets frame sides spec us picture s

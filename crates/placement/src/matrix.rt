@@ -19,14 +19,14 @@ pub struct Matrix {
 }
 
 impl Matrix {
-    ghost use Rattle.placement.specs.Matrices.{numbers_of, point};
+    ghost use Rattle.placement.specs.Matrices.{matrix_value, point};
 
     /// Where the matrix sends a whole point, in grains.
     pub fn apply(&self, x: i32, y: i32) -> (i128, i128)
-        ensures sent { point result.0 result.1 ≡ applied (numbers_of self.now) (point x y) }
+        ensures sent { point result.0 result.1 ≡ applied (matrix_value self.now) (point x y) }
 
         // The matrix of an item scales, then turns, then moves.
-        ensures put { (paper : Size) (item : Taken) → numbers_of self.now ≡ matrix_of paper item →
+        ensures put { (paper : Size) (item : Taken) → matrix_value self.now ≡ matrix_of paper item →
             point result.0 result.1 ≡ put paper item (point x y) }
     {
         (

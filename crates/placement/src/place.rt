@@ -2,7 +2,7 @@
 ghost use Rattle.std.specs.Prelude.{◌≡◌};
 ghost use Rattle.rules.specs.Placement.{Point, put, applied, matrix_of as matrix_for};
 ghost use Rattle.pagespec.specs.Items.{item_of};
-ghost use Rattle.placement.specs.Matrices.{numbers_of};
+ghost use Rattle.placement.specs.Matrices.{matrix_value};
 
 use super::matrix::Matrix;
 use lengths::{Number, Paper, to_grains};
@@ -11,8 +11,8 @@ use pagespec::{Item, Turn};
 /// The matrix that places an item's page on this paper. The page is scaled from its lower left corner, then turned
 /// about it, then moved (pstops manual, page specifications).
 pub fn matrix_of(item: &Item, paper: &Paper) -> Matrix
-    ensures numbers { numbers_of result ≡ matrix_for paper.now (item_of item.now) }
-    ensures put { (p : Point) → applied (numbers_of result) p ≡ put paper.now (item_of item.now) p }
+    ensures numbers { matrix_value result ≡ matrix_for paper.now (item_of item.now) }
+    ensures put { (p : Point) → applied (matrix_value result) p ≡ put paper.now (item_of item.now) p }
 {
     let scale = item.scale;
     let zero = Number::ZERO;

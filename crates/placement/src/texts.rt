@@ -7,7 +7,7 @@ ghost use Rattle.rules.specs.Output.{Frame, framed, border_within, point_text, p
 ghost use Rattle.rules.specs.Output.{opening_text as opening, closing_text as closing};
 ghost use Rattle.pagespec.specs.Items.{item_of};
 ghost use Rattle.placement.specs.Kept.{Keeps};
-ghost use Rattle.placement.specs.Matrices.{numbers_of};
+ghost use Rattle.placement.specs.Matrices.{matrix_value};
 ghost use Rattle.placement.specs.Fronts.{scales_text, placing_text};
 
 use super::matrix::Matrix;
@@ -57,9 +57,9 @@ impl Coordinate {
 /// Appends the six numbers of a matrix in brackets: the first four in full, the shift in points, rounded to five
 /// decimals. If memory is refused, nothing is appended.
 pub fn matrix_text(matrix: &Matrix, out: &mut Vec<u8>) -> Result<(), AllocError>
-    ensures appended { OnOk result (out.new.items ≡ out.old.items ++ text_of (numbers_of matrix.now)) }
+    ensures appended { OnOk result (out.new.items ≡ out.old.items ++ text_of (matrix_value matrix.now)) }
     ensures unchanged { OnErr result (out.new.items ≡ out.old.items) }
-    ensures full { OnErr result (vec_capacity out.old < vec_len out.old + length (text_of (numbers_of matrix.now))) }
+    ensures full { OnErr result (vec_capacity out.old < vec_len out.old + length (text_of (matrix_value matrix.now))) }
     ensures capacity { vec_capacity out.old ≤ vec_capacity out.new }
 {
     let len = out.len();
@@ -148,7 +148,7 @@ fn append_opening(
 {
     append_placing(item, paper, out)?;
     append_edge(paper, out)?;
-    append_text(b" clip newpath\n", out)?;
+    append_plain_text(b" clip newpath\n", out)?;
     append_border(paper, border, inset, out)
 }
 
@@ -160,32 +160,32 @@ fn append_placing(item: &Item, paper: &Paper, out: &mut Vec<u8>) -> Result<(), A
         + length (placing_text paper.now (item_of item.now))) }
     ensures kept { Keeps out.old out.new }
 {
-    append_text(
+    append_plain_text(
         b"userdict /ImposeSave save put\nuserdict /showpage {} put\n",
         out,
     )?;
     append_matrix(&matrix_of(item, paper), out)?;
-    append_text(b" concat\n", out)
+    append_plain_text(b" concat\n", out)
 }
 
 #[tactic(auto, using(crate::proofs::Keeping::keeps_more))]
 fn append_matrix(matrix: &Matrix, out: &mut Vec<u8>) -> Result<(), AllocError>
-    ensures appended { OnOk result (out.new.items ≡ out.old.items ++ text_of (numbers_of matrix.now)) }
-    ensures full { OnErr result (vec_capacity out.old < vec_len out.old + length (text_of (numbers_of matrix.now))) }
+    ensures appended { OnOk result (out.new.items ≡ out.old.items ++ text_of (matrix_value matrix.now)) }
+    ensures full { OnErr result (vec_capacity out.old < vec_len out.old + length (text_of (matrix_value matrix.now))) }
     ensures kept { Keeps out.old out.new }
 {
     append_scales(matrix, out)?;
-    append_points(b" ", matrix.tx, out)?;
-    append_points(b" ", matrix.ty, out)?;
-    append_text(b"]", out)
+    append_length(b" ", matrix.tx, out)?;
+    append_length(b" ", matrix.ty, out)?;
+    append_plain_text(b"]", out)
 }
 
 /// The opening bracket and the first four numbers.
 #[tactic(auto, using(crate::proofs::Keeping::keeps_more))]
 fn append_scales(matrix: &Matrix, out: &mut Vec<u8>) -> Result<(), AllocError>
-    ensures appended { OnOk result (out.new.items ≡ out.old.items ++ scales_text (numbers_of matrix.now)) }
+    ensures appended { OnOk result (out.new.items ≡ out.old.items ++ scales_text (matrix_value matrix.now)) }
     ensures full { OnErr result (vec_capacity out.old < vec_len out.old
-        + length (scales_text (numbers_of matrix.now))) }
+        + length (scales_text (matrix_value matrix.now))) }
     ensures kept { Keeps out.old out.new }
 {
     append_scale(b"[", matrix.a, out)?;
@@ -210,10 +210,10 @@ fn append_border(
     let Some(width) = border else {
         return Ok(());
     };
-    append_points(b"gsave ", width, out)?;
-    append_text(b" setlinewidth ", out)?;
+    append_length(b"gsave ", width, out)?;
+    append_plain_text(b" setlinewidth ", out)?;
     append_inner(paper, inset, out)?;
-    append_text(b" stroke grestore\n", out)
+    append_plain_text(b" stroke grestore\n", out)
 }
 
 /// The path so far within the paper's edges.
@@ -260,7 +260,7 @@ fn append_path(
     append_corner(b" moveto ", right, low, out)?;
     append_corner(b" lineto ", right, top, out)?;
     append_corner(b" lineto ", low, top, out)?;
-    append_text(b" lineto closepath", out)
+    append_plain_text(b" lineto closepath", out)
 }
 
 /// A text followed by a corner of a path.
@@ -286,18 +286,18 @@ fn append_scale(text: &[u8], scale: Number, out: &mut Vec<u8>) -> Result<(), All
     ensures full { OnErr result (vec_capacity out.old < vec_len out.old + length (text.now ++ scale_text scale)) }
     ensures kept { Keeps out.old out.new }
 {
-    append_text(text, out)?;
+    append_plain_text(text, out)?;
     print_scale(scale, out)
 }
 
 /// A text followed by a length in points.
 #[tactic(auto, using(crate::proofs::Keeping::keeps_more))]
-fn append_points(text: &[u8], grains: Grains, out: &mut Vec<u8>) -> Result<(), AllocError>
+fn append_length(text: &[u8], grains: Grains, out: &mut Vec<u8>) -> Result<(), AllocError>
     ensures appended { OnOk result (out.new.items ≡ out.old.items ++ (text.now ++ points_text grains)) }
     ensures full { OnErr result (vec_capacity out.old < vec_len out.old + length (text.now ++ points_text grains)) }
     ensures kept { Keeps out.old out.new }
 {
-    append_text(text, out)?;
+    append_plain_text(text, out)?;
     print_points(grains, out)
 }
 
@@ -308,12 +308,12 @@ fn append_coordinate(text: &[u8], x: Coordinate, out: &mut Vec<u8>) -> Result<()
     ensures full { OnErr result (vec_capacity out.old < vec_len out.old + length (text.now ++ points_text x)) }
     ensures kept { Keeps out.old out.new }
 {
-    append_text(text, out)?;
+    append_plain_text(text, out)?;
     print_grains(x.grains, out)
 }
 
 /// A text.
-fn append_text(text: &[u8], out: &mut Vec<u8>) -> Result<(), AllocError>
+fn append_plain_text(text: &[u8], out: &mut Vec<u8>) -> Result<(), AllocError>
     ensures appended { OnOk result (out.new.items ≡ out.old.items ++ text.now) }
     ensures full { OnErr result (vec_capacity out.old < vec_len out.old + length text.now) }
     ensures kept { Keeps out.old out.new }

@@ -4,7 +4,7 @@ use Rattle.std.specs.Prelude.{nat_le, if◌then◌else◌}
 use Rattle.std.proofs.lemmas.Bool.Decides.{nat_tests}
 use Rattle.rules.specs.Made.{MadeSheet}
 use Rattle.preview.specs.Naming.{each}
-use Rattle.preview.specs.Drawing.{first_drawn, left_out, drawn}
+use Rattle.preview.specs.Drawing.{first_drawn, left_out, drawn_sheets}
 use Rattle.preview.specs.declared.guides.Guide.{Guide}
 use Rattle.preview.specs.declared.naming.Sides.{Sides}
 use Rattle.preview.proofs.Chains.{joined}
@@ -16,7 +16,7 @@ that_one false x y e = refl
 
 -- ---- the first sheets are drawn
 pub some_drawn : (sides : Sides) (guides : List Guide) (all : List MadeSheet) (count most more : ℕ) (o one two : List ℕ) → count ≡ length all → most < count → more ≡ count - most
-    → one ≡ o ++ first_drawn sides guides most (take most all) → two ≡ one ++ left_out most more → two ≡ o ++ drawn sides guides most all
+    → one ≡ o ++ first_drawn sides guides most (take most all) → two ≡ one ++ left_out most more → two ≡ o ++ drawn_sheets sides guides most all
 some_drawn sides guides all count most more o one two is lt gap first second =
     let n = length all in
     let many : nat_le n most ≡ false = grind (arith, nat_tests, is, lt) in

@@ -7,7 +7,7 @@ use Rattle.rules.specs.Specification.{Item, Left}
 use Rattle.rules.specs.Made.{MadeSheet, MadeSlot, Blank, Placed}
 use Rattle.layouts.specs.Cells.{Grid}
 use Rattle.layouts.specs.Grids.{beside, plain_order}
-use Rattle.layouts.specs.declared.arrangement.Run.TheVariants.{Rows, Columns}
+use Rattle.layouts.specs.declared.arrangement.FillOrder.TheVariants.{Rows, Columns}
 use Rattle.layouts.specs.declared.arrangement.Turned.TheVariants as sideways
 use Rattle.preview.specs.declared.naming.Edge.TheVariants.{Short}
 use Rattle.preview.specs.declared.naming.Sides.TheVariants.{One, Both}

@@ -1,8 +1,8 @@
 -- Each place is in the row and the column that the order gives it.
 use Rattle.std.proofs.Common.{arith, ◌≡◌, ℕ, ◌+◌, ◌-◌, ◌*◌, ◌/◌, ◌%◌, ◌<◌, Bool, true, false, ap, ◌∙◌}
 use Rattle.std.proofs.lemmas.Nat.{div-add-mod'}
-use Rattle.layouts.specs.declared.arrangement.Run.{Run}
-use Rattle.layouts.specs.declared.arrangement.Run.TheVariants.{Rows, Columns}
+use Rattle.layouts.specs.declared.arrangement.FillOrder.{FillOrder}
+use Rattle.layouts.specs.declared.arrangement.FillOrder.TheVariants.{Rows, Columns}
 use Rattle.layouts.specs.declared.arrangement.Turned.{Turned}
 use Rattle.layouts.specs.declared.arrangement.Turned.TheVariants as sideways
 use Rattle.layouts.specs.Cells.{Grid, size, read_columns, read_rows, read_row, read_column, held_row, held_column}
@@ -23,12 +23,12 @@ by_columns : (right_to_left : Bool) (r c k : ℕ) → k < r * c
 by_columns false r c k h = div-add-mod' k r
 by_columns true r c k h = ap (λ m. m * r + k % r) (again (k / r) c (along_columns r c k h).1) ∙ div-add-mod' k r
 
-read_back : (run : Run) (right_to_left : Bool) (t : Turned) (g : Grid) (k : ℕ) → k < read_rows t g * read_columns t g
+read_back : (run : FillOrder) (right_to_left : Bool) (t : Turned) (g : Grid) (k : ℕ) → k < read_rows t g * read_columns t g
     → along run (read_rows t g) (read_columns t g) (read_row run t g k) (from_start right_to_left (read_columns t g) (read_column run right_to_left t g k)) ≡ k
 read_back Rows right_to_left t g k h = by_rows right_to_left (read_rows t g) (read_columns t g) k h
 read_back Columns right_to_left t g k h = by_columns right_to_left (read_rows t g) (read_columns t g) k h
 
-by_turn : (run : Run) (right_to_left : Bool) (t : Turned) (g : Grid) (k : ℕ) → k < size g
+by_turn : (run : FillOrder) (right_to_left : Bool) (t : Turned) (g : Grid) (k : ℕ) → k < size g
     → (let row = held_row t g (read_row run t g k) (read_column run right_to_left t g k) in
     let column = held_column t g (read_row run t g k) (read_column run right_to_left t g k) in
     along run (read_rows t g) (read_columns t g) (row_read t g row column) (from_start right_to_left (read_columns t g) (column_read t g row column)) ≡ k)

@@ -8,7 +8,7 @@ use Rattle.rules.specs.Numbers.{points_text, scale_text}
 use Rattle.rules.specs.Papers.{Paper}
 use Rattle.rules.specs.Placement.{Matrix, matrix_of}
 use Rattle.rules.specs.Made.{MadeSheet, MadeSlot, Blank, Placed}
-use Rattle.preview.specs.Naming.{numbered, side_name, size_text}
+use Rattle.preview.specs.Naming.{numbered, side_name, size_in_points}
 use Rattle.preview.specs.Guides.{guides_picture}
 use Rattle.preview.specs.declared.guides.Guide.{Guide}
 use Rattle.preview.specs.declared.naming.Sides.{Sides}
@@ -38,13 +38,13 @@ head paper number =
     ++ codes " viewBox='0 0 100 100' preserveAspectRatio='xMidYMin'><path d='M50 3 57 15H43Z'/><text x='50' y='62'>"
     ++ decimal number ++ codes "</text></svg>"
 
-abbrev pub page_picture : Paper → (number : ℕ) → List ℕ
-page_picture paper number = outline (codes "page") paper ++ flipped paper ++ head paper number ++ codes "</g>"
+abbrev pub page_drawing : Paper → (number : ℕ) → List ℕ
+page_drawing paper number = outline (codes "page") paper ++ flipped paper ++ head paper number ++ codes "</g>"
 
 -- what is in a slot; a blank one isn't drawn
 abbrev pub slot_picture : MadeSlot → List ℕ
 slot_picture Blank = []
-slot_picture (Placed p item paper) = line (under (matrix_of paper item) ++ page_picture paper (p + 1) ++ codes "</g>")
+slot_picture (Placed p item paper) = line (under (matrix_of paper item) ++ page_drawing paper (p + 1) ++ codes "</g>")
 
 -- ---- sheets, four in a row
 
@@ -57,8 +57,8 @@ abbrev pub clipped : Paper → List ℕ
 clipped paper = codes "<svg" ++ as_large paper ++ codes ">"
 
 -- a sheet without its pages, as large as its square allows; what goes over its edges isn't drawn
-abbrev pub viewed : Paper → List ℕ
-viewed paper =
+abbrev pub empty_sheet : Paper → List ℕ
+empty_sheet paper =
     line (codes "<svg width='200' height='200' viewBox='0 0 " ++ points_text paper.width ++ codes " "
     ++ points_text paper.height ++ codes "'>" ++ outline (codes "sheet") paper ++ clipped paper ++ flipped paper)
 
@@ -66,11 +66,11 @@ viewed paper =
 abbrev pub caption : Sides → (s : ℕ) → Paper → List ℕ
 caption sides s paper =
     line (codes "<text class='name' x='100' y='216'>" ++ side_name sides s
-    ++ codes "</text><text class='name' x='100' y='232'>" ++ size_text paper ++ codes "</text></g>")
+    ++ codes "</text><text class='name' x='100' y='232'>" ++ size_in_points paper ++ codes "</text></g>")
 
-abbrev pub sheet_picture : Sides → List Guide → (s : ℕ) → MadeSheet → List ℕ
-sheet_picture sides guides s sheet =
-    square_at s ++ viewed sheet.paper ++ flat_map slot_picture sheet.slots ++ guides_picture guides ++ codes "</g></svg></svg>"
+abbrev pub sheet_drawing : Sides → List Guide → (s : ℕ) → MadeSheet → List ℕ
+sheet_drawing sides guides s sheet =
+    square_at s ++ empty_sheet sheet.paper ++ flat_map slot_picture sheet.slots ++ guides_picture guides ++ codes "</g></svg></svg>"
     ++ caption sides s sheet.paper
 
 abbrev pub style : List ℕ
@@ -81,8 +81,8 @@ abbrev pub ground : List ℕ
 ground = codes "<rect width='100%' height='100%' fill='white'/>"
 
 -- the beginning of a picture with so many sheets
-abbrev pub opening : (sheets : ℕ) → List ℕ
-opening n =
+abbrev pub picture_start : (sheets : ℕ) → List ℕ
+picture_start n =
     line (codes "<svg xmlns='http://www.w3.org/2000/svg' viewBox='0 0 900 " ++ decimal (40 + (n + 3) / 4 * 260) ++ codes "'>")
     ++ line style ++ line ground
 
@@ -94,13 +94,13 @@ left_out n more =
 
 -- the beginning of a picture with so many sheets, and these sheets
 abbrev pub first_drawn : Sides → List Guide → (sheets : ℕ) → List MadeSheet → List ℕ
-first_drawn sides guides n some = opening n ++ numbered (sheet_picture sides guides) 0 some
+first_drawn sides guides n some = picture_start n ++ numbered (sheet_drawing sides guides) 0 some
 
 -- all sheets, or the first of them if there are more than so many
-abbrev pub drawn : Sides → List Guide → (most : ℕ) → List MadeSheet → List ℕ
-drawn sides guides most all =
+abbrev pub drawn_sheets : Sides → List Guide → (most : ℕ) → List MadeSheet → List ℕ
+drawn_sheets sides guides most all =
     if nat_le (length all) most then first_drawn sides guides (length all) all else
     first_drawn sides guides most (take most all) ++ left_out most (length all - most)
 
 abbrev pub preview_text : Sides → List Guide → (most : ℕ) → List MadeSheet → List ℕ
-preview_text sides guides most all = drawn sides guides most all ++ line (codes "</svg>")
+preview_text sides guides most all = drawn_sheets sides guides most all ++ line (codes "</svg>")

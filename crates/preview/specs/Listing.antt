@@ -9,7 +9,7 @@ use Rattle.sheet_plan.specs.OfSheets.{slots_at}
 use Rattle.layouts.specs.Cells.{Grid}
 use Rattle.layouts.specs.declared.arrangement.Order.{Order}
 use Rattle.preview.specs.Naming.{each}
-use Rattle.preview.specs.Reading.{place_at}
+use Rattle.preview.specs.Reading.{place_number_at}
 use Rattle.preview.specs.declared.naming.Edge.{Edge}
 use Rattle.preview.specs.declared.naming.Edge.TheVariants.{Short, Long}
 use Rattle.preview.specs.declared.naming.Sides.{Sides}
@@ -35,18 +35,18 @@ cell_text (Some slot) = place_text slot
 abbrev pub bar : (column : ℕ) → List ℕ
 bar column = if column == 0 then [] else codes " | "
 
-abbrev pub slash : (row : ℕ) → List ℕ
-slash row = if row == 0 then [] else codes " / "
+abbrev pub row_slash : (row : ℕ) → List ℕ
+row_slash row = if row == 0 then [] else codes " / "
 
-abbrev pub cell_at : List MadeSlot → Order → Grid → (row column : ℕ) → List ℕ
-cell_at slots o g row column = bar column ++ cell_text (slice_get slots (place_at o g row column))
+abbrev pub cell_text_at : List MadeSlot → Order → Grid → (row column : ℕ) → List ℕ
+cell_text_at slots o g row column = bar column ++ cell_text (slice_get slots (place_number_at o g row column))
 
-abbrev pub cells_in : List MadeSlot → Order → Grid → (row : ℕ) → List ℕ
-cells_in slots o g row = slash row ++ each (cell_at slots o g row) 0 g.columns
+abbrev pub row_cells_text : List MadeSlot → Order → Grid → (row : ℕ) → List ℕ
+row_cells_text slots o g row = row_slash row ++ each (cell_text_at slots o g row) 0 g.columns
 
 -- the cells of a sheet, row by row
 abbrev pub cells_text : List MadeSlot → Order → Grid → List ℕ
-cells_text slots o g = each (cells_in slots o g) 0 g.rows
+cells_text slots o g = each (row_cells_text slots o g) 0 g.rows
 
 -- which tile of its page sheet s is
 abbrev pub tile_name : Grid → (s : ℕ) → List ℕ
@@ -59,23 +59,23 @@ places_text (Tiles g) all s = cell_text (slice_get (slots_at all s) 0) ++ tile_n
 -- ---- lines
 
 -- the back of a leaf, which the last one may lack
-abbrev pub back : Places → List MadeSheet → (s : ℕ) → List ℕ
-back p all s = if nat_lt s (length all) then codes "    back  " ++ places_text p all s else []
+abbrev pub back_text : Places → List MadeSheet → (s : ℕ) → List ℕ
+back_text p all s = if nat_lt s (length all) then codes "    back  " ++ places_text p all s else []
 
 abbrev pub sheet_line : Places → List MadeSheet → (s : ℕ) → List ℕ
 sheet_line p all s = line (codes "sheet " ++ decimal (s + 1) ++ codes "  " ++ places_text p all s)
 
 abbrev pub leaf_line : Places → List MadeSheet → (k : ℕ) → List ℕ
 leaf_line p all k =
-    line (codes "leaf " ++ decimal (k + 1) ++ codes "  front  " ++ places_text p all (2 * k) ++ back p all (2 * k + 1))
+    line (codes "leaf " ++ decimal (k + 1) ++ codes "  front  " ++ places_text p all (2 * k) ++ back_text p all (2 * k + 1))
 
 -- the line of sheet k, or of leaf k
-abbrev pub row_by : Sides → Places → List MadeSheet → (k : ℕ) → List ℕ
-row_by One p all k = sheet_line p all k
-row_by (Both flip) p all k = leaf_line p all k
+abbrev pub line_by : Sides → Places → List MadeSheet → (k : ℕ) → List ℕ
+line_by One p all k = sheet_line p all k
+line_by (Both flip) p all k = leaf_line p all k
 
 abbrev pub row_text : Reading → List MadeSheet → (k : ℕ) → List ℕ
-row_text r all k = row_by r.sides r.places all k
+row_text r all k = line_by r.sides r.places all k
 
 -- so many lines from the one with this number on
 abbrev pub rows_text : Reading → List MadeSheet → (first count : ℕ) → List ℕ

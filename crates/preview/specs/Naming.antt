@@ -16,14 +16,14 @@ each text first zero = []
 each text first (suc n) = text first ++ each text (suc first) n
 
 -- which face of its leaf sheet s is
-abbrev pub face : (s : ℕ) → List ℕ
-face s = if s % 2 == 0 then codes " front" else codes " back"
+abbrev pub face_text : (s : ℕ) → List ℕ
+face_text s = if s % 2 == 0 then codes " front" else codes " back"
 
 -- sheet s, counted from 0: printed alone, or as the front or the back of a leaf
 abbrev pub side_name : Sides → (s : ℕ) → List ℕ
 side_name One s = codes "sheet " ++ decimal (s + 1)
-side_name (Both flip) s = codes "leaf " ++ decimal (s / 2 + 1) ++ face s
+side_name (Both flip) s = codes "leaf " ++ decimal (s / 2 + 1) ++ face_text s
 
 -- the sides of a paper
-abbrev pub size_text : Paper → List ℕ
-size_text paper = points_text paper.width ++ codes " x " ++ points_text paper.height ++ codes " pt"
+abbrev pub size_in_points : Paper → List ℕ
+size_in_points paper = points_text paper.width ++ codes " x " ++ points_text paper.height ++ codes " pt"

@@ -6,7 +6,7 @@ use Rattle.rules.specs.Bytes.{line}
 use Rattle.rules.specs.Numbers.{scale_text}
 use Rattle.rules.specs.Papers.{Paper}
 use Rattle.rules.specs.Made.{MadeSheet, MadeSlot, Blank, Placed}
-use Rattle.preview.specs.Naming.{numbered, size_text}
+use Rattle.preview.specs.Naming.{numbered, size_in_points}
 use Rattle.preview.specs.declared.ways.Way.{Way}
 
 abbrev pub is_same_paper : (a b : Paper) → Bool
@@ -16,12 +16,12 @@ abbrev pub is_same_way : (a b : Way) → Bool
 is_same_way a b = is_same_paper a.page b.page && is_same_paper a.sheet b.sheet && int_eq a.scale b.scale
 
 -- how many ways are listed
-abbrev pub most_told : ℕ
-most_told = 16
+abbrev pub most_ways : ℕ
+most_ways = 16
 
 -- this way after these, if it is none of them; after one more than are listed none is kept
 abbrev pub with_way : List Way → Way → List Way
-with_way ways way = if nat_lt most_told (length ways) || list_any (is_same_way way) ways then ways else ways ++ way ∷ []
+with_way ways way = if nat_lt most_ways (length ways) || list_any (is_same_way way) ways then ways else ways ++ way ∷ []
 
 -- how a slot's page lies on a sheet with this paper
 abbrev pub with_slot : (sheet : Paper) → List Way → MadeSlot → List Way
@@ -36,11 +36,11 @@ abbrev pub ways_of : List MadeSheet → List Way
 ways_of all = fold with_sheet [] all
 
 abbrev pub way_text : Way → List ℕ
-way_text way = codes "pages of " ++ size_text way.page ++ codes " on sheets of " ++ size_text way.sheet ++ codes ", scale " ++ scale_text way.scale
+way_text way = codes "pages of " ++ size_in_points way.page ++ codes " on sheets of " ++ size_in_points way.sheet ++ codes ", scale " ++ scale_text way.scale
 
 -- what the line says of the way with this number: in place of the first that isn't listed, that there are others
 abbrev pub way_told : (k : ℕ) → Way → List ℕ
-way_told k way = if nat_lt k most_told then way_text way else codes "and in other ways"
+way_told k way = if nat_lt k most_ways then way_text way else codes "and in other ways"
 
 abbrev pub way_line : (k : ℕ) → Way → List ℕ
 way_line k way = line (way_told k way)

@@ -2,15 +2,15 @@
 ghost use Rattle.std.specs.Prelude.{◌≡◌, ◌+◌, ◌*◌, ◌/◌, ◌<◌, ◌≤◌, ◌++◌, flat_map, length, take, OnOk, IfOk, Some, slice_get};
 ghost use Rattle.rules.specs.Made.{MadeSheet, Placed};
 ghost use Rattle.pagespec.specs.Items.{item_of};
-ghost use Rattle.placement.specs.Matrices.{numbers_of};
+ghost use Rattle.placement.specs.Matrices.{matrix_value};
 ghost use Rattle.sheet_plan.specs.OfSheets.{placed_of, slots_at};
 ghost use Rattle.preview.specs.Naming.{numbered};
-ghost use Rattle.preview.specs.Drawing.{as_large, caption, clipped, drawn, first_drawn, flipped, ground, head, left_out, opening, outline};
-ghost use Rattle.preview.specs.Drawing.{page_picture, preview_text as text_of_preview, sheet_picture, slot_picture};
-ghost use Rattle.preview.specs.Drawing.{square_at, style, under, viewed};
+ghost use Rattle.preview.specs.Drawing.{as_large, caption, clipped, drawn_sheets, first_drawn, flipped, ground, head, left_out, picture_start, outline};
+ghost use Rattle.preview.specs.Drawing.{page_drawing, preview_text as text_of_preview, sheet_drawing, slot_picture};
+ghost use Rattle.preview.specs.Drawing.{square_at, style, under, empty_sheet};
 
 use crate::guides::{Guide, append_guides};
-use crate::naming::{Sides, append_name, append_number, append_size, count_of};
+use crate::naming::{Sides, append_number, append_sheet_name, append_size, number_of_sheets};
 use lengths::{Paper, print_points, print_scale};
 use pagespec::Item;
 use placement::{Matrix, matrix_of};
@@ -29,7 +29,7 @@ pub fn preview_text(
 ) -> Result<Vec<u8>, AllocError>
     ensures { IfOk result (λ text. text.items ≡ text_of_preview sides guides.now most sheets.now) }
 {
-    let count = count_of(sheets)?;
+    let count = number_of_sheets(sheets)?;
     let mut text = Vec::new(alloc);
     append_all(sheets, sides, guides, count, most, &mut text)?;
     text.extend_from_slice(b"</svg>")?;
@@ -47,7 +47,7 @@ fn append_all(
     out: &mut Vec<u8>,
 ) -> Result<(), AllocError>
     requires { count ≡ length sheets.now }
-    ensures { OnOk result (out.new.items ≡ out.old.items ++ drawn sides guides.now most sheets.now) }
+    ensures { OnOk result (out.new.items ≡ out.old.items ++ drawn_sheets sides guides.now most sheets.now) }
 {
     if count <= most {
         append_first(sheets, sides, guides, count, out)?;
@@ -69,7 +69,7 @@ fn append_first(
     requires { count ≤ length sheets.now }
     ensures { OnOk result (out.new.items ≡ out.old.items ++ first_drawn sides guides.now count (take count sheets.now)) }
 {
-    append_opening(count, out)?;
+    append_picture_start(count, out)?;
     append_sheets(sheets, sides, guides, count, out)?;
     Ok(())
 }
@@ -82,8 +82,8 @@ fn height_of(count: u32) -> u64
 }
 
 /// The beginning of a drawing of `count` sheets.
-fn append_opening(count: u32, out: &mut Vec<u8>) -> Result<(), AllocError>
-    ensures { OnOk result (out.new.items ≡ out.old.items ++ opening count) }
+fn append_picture_start(count: u32, out: &mut Vec<u8>) -> Result<(), AllocError>
+    ensures { OnOk result (out.new.items ≡ out.old.items ++ picture_start count) }
 {
     out.extend_from_slice(b"<svg xmlns='http://www.w3.org/2000/svg' viewBox='0 0 900 ")?;
     append_number(40 + height_of(count), out)?;
@@ -122,7 +122,7 @@ fn append_sheets(
     out: &mut Vec<u8>,
 ) -> Result<(), AllocError>
     requires { count ≤ length sheets.now }
-    ensures { OnOk result (out.new.items ≡ out.old.items ++ numbered (sheet_picture sides guides.now) 0 (take count sheets.now)) }
+    ensures { OnOk result (out.new.items ≡ out.old.items ++ numbered (sheet_drawing sides guides.now) 0 (take count sheets.now)) }
 {
     for sheet in 0..count {
         append_sheet(sheets, sides, guides, sheet, out)?;
@@ -140,12 +140,12 @@ fn append_sheet(
 ) -> Result<(), AllocError>
     requires { sheet < length sheets.now }
     ensures { OnOk result ((it : MadeSheet) → slice_get sheets.now sheet ≡ Some it →
-        out.new.items ≡ out.old.items ++ sheet_picture sides guides.now sheet it) }
+        out.new.items ≡ out.old.items ++ sheet_drawing sides guides.now sheet it) }
 {
     let paper = sheets.paper(sheet);
     append_square(sheet, out)?;
     append_view(paper, out)?;
-    append_slots(sheets, sheet, out)?;
+    append_pages(sheets, sheet, out)?;
     append_guides(guides, out)?;
     out.extend_from_slice(b"</g></svg></svg>")?;
     append_caption(sides, sheet, paper, out)?;
@@ -166,7 +166,7 @@ fn append_square(sheet: u32, out: &mut Vec<u8>) -> Result<(), AllocError>
 
 /// A sheet without its pages.
 fn append_view(paper: &Paper, out: &mut Vec<u8>) -> Result<(), AllocError>
-    ensures { OnOk result (out.new.items ≡ out.old.items ++ viewed paper.now) }
+    ensures { OnOk result (out.new.items ≡ out.old.items ++ empty_sheet paper.now) }
 {
     out.extend_from_slice(b"<svg width='200' height='200' viewBox='0 0 ")?;
     print_points(paper.width(), out)?;
@@ -181,28 +181,33 @@ fn append_view(paper: &Paper, out: &mut Vec<u8>) -> Result<(), AllocError>
 }
 
 /// The pages of a sheet.
-fn append_slots(sheets: &MadeSheets, sheet: u32, out: &mut Vec<u8>) -> Result<(), AllocError>
+fn append_pages(sheets: &MadeSheets, sheet: u32, out: &mut Vec<u8>) -> Result<(), AllocError>
     requires { sheet < length sheets.now }
     ensures { OnOk result (out.new.items ≡ out.old.items ++ flat_map slot_picture (slots_at sheets.now sheet)) }
 {
     for slot in 0..sheets.slots(sheet) {
-        append_slot(sheets.placed(sheet, slot), out)?;
+        append_page_in_slot(sheets.placed(sheet, slot), out)?;
     }
     Ok(())
 }
 
 /// The page in a slot. A blank one isn't drawn.
-fn append_slot(placed: Option<PlacedSlot<'_>>, out: &mut Vec<u8>) -> Result<(), AllocError>
+fn append_page_in_slot(placed: Option<PlacedSlot<'_>>, out: &mut Vec<u8>) -> Result<(), AllocError>
     ensures { OnOk result (out.new.items ≡ out.old.items ++ slot_picture (placed_of placed.entry)) }
 {
     match placed {
         None => Ok(()),
-        Some(placed) => append_placed(placed.page, placed.item, placed.paper, out),
+        Some(placed) => append_placed_page(placed.page, placed.item, placed.paper, out),
     }
 }
 
 /// A page where an item places it.
-fn append_placed(page: u32, item: &Item, paper: &Paper, out: &mut Vec<u8>) -> Result<(), AllocError>
+fn append_placed_page(
+    page: u32,
+    item: &Item,
+    paper: &Paper,
+    out: &mut Vec<u8>,
+) -> Result<(), AllocError>
     ensures { OnOk result (out.new.items
         ≡ out.old.items ++ slot_picture (Placed page (item_of item.now) paper.now)) }
 {
@@ -215,7 +220,7 @@ fn append_placed(page: u32, item: &Item, paper: &Paper, out: &mut Vec<u8>) -> Re
 
 /// A group that a matrix sends where it sends points in PostScript.
 fn append_under(matrix: &Matrix, out: &mut Vec<u8>) -> Result<(), AllocError>
-    ensures { OnOk result (out.new.items ≡ out.old.items ++ under (numbers_of matrix.now)) }
+    ensures { OnOk result (out.new.items ≡ out.old.items ++ under (matrix_value matrix.now)) }
 {
     out.extend_from_slice(b"<g transform='matrix(")?;
     print_scale(matrix.a, out)?;
@@ -235,7 +240,7 @@ fn append_under(matrix: &Matrix, out: &mut Vec<u8>) -> Result<(), AllocError>
 
 /// A page with its number and the way to its head.
 fn append_page(paper: &Paper, number: u64, out: &mut Vec<u8>) -> Result<(), AllocError>
-    ensures { OnOk result (out.new.items ≡ out.old.items ++ page_picture paper.now number) }
+    ensures { OnOk result (out.new.items ≡ out.old.items ++ page_drawing paper.now number) }
 {
     append_outline(b"page", paper, out)?;
     append_flip(paper, out)?;
@@ -312,7 +317,7 @@ fn append_caption(
     ensures { OnOk result (out.new.items ≡ out.old.items ++ caption sides sheet paper.now) }
 {
     out.extend_from_slice(b"<text class='name' x='100' y='216'>")?;
-    append_name(sides, sheet, out)?;
+    append_sheet_name(sides, sheet, out)?;
     out.extend_from_slice(b"</text><text class='name' x='100' y='232'>")?;
     append_size(paper, out)?;
     out.extend_from_slice(b"</text></g>")?;

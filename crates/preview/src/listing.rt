@@ -1,12 +1,12 @@
 //! The text of a plan.
 ghost use Rattle.std.specs.Prelude.{◌≡◌, ◌+◌, ◌*◌, ◌/◌, ◌%◌, ◌<◌, ◌≤◌, ◌-◌, ◌++◌, length, OnOk, IfOk};
 ghost use Rattle.sheet_plan.specs.OfSheets.{placed_of, slots_at};
-ghost use Rattle.preview.specs.Listing.{back, blank_in, blanks_of, blanks_on, edge_line, edge_name as name_of_edge, flip_text};
+ghost use Rattle.preview.specs.Listing.{back_text, blank_in, blanks_of, blanks_on, edge_line, edge_name as name_of_edge, flip_text};
 ghost use Rattle.preview.specs.Listing.{leaf_line, leaves_text, left_out_line, plan_text as text_of_plan};
 ghost use Rattle.preview.specs.Listing.{row_count as row_count_of, row_text, rows_text, sheet_line, shortened, totals};
 ghost use Rattle.preview.specs.Listing.{places_text};
 
-use crate::naming::{Edge, Sides, append_number, count_of};
+use crate::naming::{Edge, Sides, append_number, number_of_sheets};
 use crate::reading::{Places, Reading, append_places};
 use crate::ways::append_ways;
 use sheet_plan::{MadeSheets, PlacedSlot};
@@ -26,7 +26,7 @@ pub fn plan_text(
 ) -> Result<Vec<u8>, AllocError>
     ensures { IfOk result (λ text. text.items ≡ text_of_plan reading.now most sheets.now) }
 {
-    let count = count_of(sheets)?;
+    let count = number_of_sheets(sheets)?;
     let mut text = Vec::new(alloc);
     append_shortened(sheets, reading, count, most, &mut text)?;
     append_totals(sheets, reading.sides, count, &mut text)?;
@@ -156,7 +156,7 @@ fn append_back(
     out: &mut Vec<u8>,
 ) -> Result<(), AllocError>
     requires { count ≡ length sheets.now }
-    ensures { OnOk result (out.new.items ≡ out.old.items ++ back places.now sheets.now sheet) }
+    ensures { OnOk result (out.new.items ≡ out.old.items ++ back_text places.now sheets.now sheet) }
 {
     if count <= sheet {
         return Ok(());
@@ -215,12 +215,12 @@ fn append_flip(sides: Sides, out: &mut Vec<u8>) -> Result<(), AllocError>
 {
     match sides {
         Sides::One => Ok(()),
-        Sides::Both { flip } => append_edge(flip, out),
+        Sides::Both { flip } => append_flip_edge(flip, out),
     }
 }
 
 /// That it is this edge.
-fn append_edge(flip: Edge, out: &mut Vec<u8>) -> Result<(), AllocError>
+fn append_flip_edge(flip: Edge, out: &mut Vec<u8>) -> Result<(), AllocError>
     ensures { OnOk result (out.new.items ≡ out.old.items ++ edge_line flip) }
 {
     out.extend_from_slice(b"print on both sides, flip on the ")?;

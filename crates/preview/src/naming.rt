@@ -1,6 +1,6 @@
 //! How sheets are numbered and named.
 ghost use Rattle.std.specs.Prelude.{◌≡◌, ◌<◌, ◌++◌, OnErr, OnOk, IfOk, decimal, length, vec_len, vec_capacity, ◌+◌};
-ghost use Rattle.preview.specs.Naming.{face, side_name, size_text};
+ghost use Rattle.preview.specs.Naming.{face_text, side_name, size_in_points};
 
 use itoa::Buffer;
 use lengths::{Paper, print_points};
@@ -23,7 +23,7 @@ pub enum Sides {
 }
 
 /// The number of sheets. More than a `u32` can count are reported as out of memory, as are their lines.
-pub(crate) fn count_of(sheets: &MadeSheets) -> Result<u32, AllocError>
+pub(crate) fn number_of_sheets(sheets: &MadeSheets) -> Result<u32, AllocError>
     ensures value { IfOk result (λ count. count ≡ length sheets.now) }
     ensures many { OnErr result (u32.MAX < length sheets.now) }
 {
@@ -34,7 +34,11 @@ pub(crate) fn count_of(sheets: &MadeSheets) -> Result<u32, AllocError>
 }
 
 /// The name of a sheet, counted from 0.
-pub(crate) fn append_name(sides: Sides, sheet: u32, out: &mut Vec<u8>) -> Result<(), AllocError>
+pub(crate) fn append_sheet_name(
+    sides: Sides,
+    sheet: u32,
+    out: &mut Vec<u8>,
+) -> Result<(), AllocError>
     ensures { OnOk result (out.new.items ≡ out.old.items ++ side_name sides sheet) }
 {
     match sides {
@@ -53,7 +57,7 @@ pub(crate) fn append_name(sides: Sides, sheet: u32, out: &mut Vec<u8>) -> Result
 
 /// Which face of a leaf a sheet is.
 fn face_of(sheet: u32) -> &'static [u8]
-    ensures { result.now ≡ face sheet }
+    ensures { result.now ≡ face_text sheet }
 {
     if sheet % 2 == 0 { b" front" } else { b" back" }
 }
@@ -69,8 +73,8 @@ pub(crate) fn append_number(number: u64, out: &mut Vec<u8>) -> Result<(), AllocE
 
 /// The sides of a paper.
 pub(crate) fn append_size(paper: &Paper, out: &mut Vec<u8>) -> Result<(), AllocError>
-    ensures ok { OnOk result (out.new.items ≡ out.old.items ++ size_text paper.now) }
-    ensures full { OnErr result (vec_capacity out.old < vec_len out.old + length (size_text paper.now)) }
+    ensures ok { OnOk result (out.new.items ≡ out.old.items ++ size_in_points paper.now) }
+    ensures full { OnErr result (vec_capacity out.old < vec_len out.old + length (size_in_points paper.now)) }
 {
     print_points(paper.width(), out)?;
     out.extend_from_slice(b" x ")?;

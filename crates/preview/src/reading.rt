@@ -2,13 +2,13 @@
 ghost use Rattle.std.specs.Prelude.{◌≡◌, ◌*◌, ◌<◌, ◌++◌, slice_get, length, OnOk};
 ghost use Rattle.layouts.specs.Cells.{read_columns};
 ghost use Rattle.sheet_plan.specs.OfSheets.{placed_of, slots_at};
-ghost use Rattle.preview.specs.Listing.{bar as bar_of, cell_at, cell_text, cells_in, cells_text, place_text, places_text, slash as slash_of};
+ghost use Rattle.preview.specs.Listing.{bar as bar_of, cell_text_at, cell_text, row_cells_text, cells_text, place_text, places_text, row_slash as slash_of};
 ghost use Rattle.preview.specs.Listing.{tile_name};
 ghost use Rattle.preview.specs.Naming.{each};
-ghost use Rattle.preview.specs.Reading.{column_read, place_at as place_in_cells, row_read};
+ghost use Rattle.preview.specs.Reading.{column_read, place_number_at as place_in_cells, row_read};
 
 use crate::naming::{Sides, append_number};
-use layouts::{Grid, Order, Run, Turned, read_sides};
+use layouts::{FillOrder, Grid, Order, Turned, read_sides};
 use sheet_plan::{MadeSheets, PlacedSlot};
 use std::alloc::AllocError;
 
@@ -79,7 +79,7 @@ impl<'s> CellSheet<'s> {
         requires number { self.now.number < length self.now.sheets.now }
         requires row { row < self.now.grid.rows }
         ensures { OnOk result (out.new.items ≡ out.old.items
-            ++ cells_in (slots_at self.now.sheets.now self.now.number) self.now.order self.now.grid row) }
+            ++ row_cells_text (slots_at self.now.sheets.now self.now.number) self.now.order self.now.grid row) }
     {
         out.extend_from_slice(slash(row))?;
         self.append_columns(row, out)?;
@@ -91,7 +91,7 @@ impl<'s> CellSheet<'s> {
         requires number { self.now.number < length self.now.sheets.now }
         requires row { row < self.now.grid.rows }
         ensures { OnOk result (out.new.items ≡ out.old.items
-            ++ each (cell_at (slots_at self.now.sheets.now self.now.number) self.now.order self.now.grid row) 0
+            ++ each (cell_text_at (slots_at self.now.sheets.now self.now.number) self.now.order self.now.grid row) 0
             self.now.grid.columns) }
     {
         for column in 0..self.grid.columns {
@@ -106,11 +106,11 @@ impl<'s> CellSheet<'s> {
         requires row { row < self.now.grid.rows }
         requires column { column < self.now.grid.columns }
         ensures { OnOk result (out.new.items ≡ out.old.items
-            ++ cell_at (slots_at self.now.sheets.now self.now.number) self.now.order self.now.grid row column) }
+            ++ cell_text_at (slots_at self.now.sheets.now self.now.number) self.now.order self.now.grid row column) }
     {
         let place = place_at(&self.order, self.grid, row, column);
         out.extend_from_slice(bar(column))?;
-        append_slot(self.sheets, self.number, place, out)?;
+        append_numbered_place(self.sheets, self.number, place, out)?;
         Ok(())
     }
 }
@@ -158,13 +158,13 @@ fn place_at(order: &Order, grid: Grid, row: u32, column: u32) -> u64
         read_column
     };
     match order.run {
-        Run::Rows => u64::from(read_row) * u64::from(columns) + u64::from(nth),
-        Run::Columns => u64::from(nth) * u64::from(rows) + u64::from(read_row),
+        FillOrder::Rows => u64::from(read_row) * u64::from(columns) + u64::from(nth),
+        FillOrder::Columns => u64::from(nth) * u64::from(rows) + u64::from(read_row),
     }
 }
 
 /// The text of the place with this number, which the sheet may not have.
-fn append_slot(
+fn append_numbered_place(
     sheets: &MadeSheets,
     sheet: u32,
     number: u64,
@@ -204,7 +204,7 @@ fn append_tile(
     ensures { OnOk result (out.new.items
         ≡ out.old.items ++ (cell_text (slice_get (slots_at sheets.now sheet) 0) ++ tile_name grid sheet)) }
 {
-    append_slot(sheets, sheet, 0, out)?;
+    append_numbered_place(sheets, sheet, 0, out)?;
     append_tile_name(grid, sheet, out)?;
     Ok(())
 }

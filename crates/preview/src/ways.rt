@@ -4,7 +4,7 @@ ghost use Rattle.std.specs.List.{fold, list_any};
 ghost use Rattle.rules.specs.Made.{MadeSheet};
 ghost use Rattle.sheet_plan.specs.OfSheets.{placed_of, slots_at};
 ghost use Rattle.preview.specs.Naming.{numbered};
-ghost use Rattle.preview.specs.Ways.{is_same_way, most_told, way_line, way_text, way_told, ways_of, ways_text};
+ghost use Rattle.preview.specs.Ways.{is_same_way, most_ways, way_line, way_text, way_told, ways_of, ways_text};
 ghost use Rattle.preview.specs.Ways.{with_sheet, with_slot, with_way};
 
 use crate::naming::append_size;
@@ -43,7 +43,7 @@ fn append_lines(ways: &[Way], out: &mut Vec<u8>) -> Result<(), AllocError>
     ensures { OnOk result (out.new.items ≡ out.old.items ++ numbered way_line 0 ways.now) }
 {
     for number in 0..ways.len() {
-        append_line(number, way_at(ways, number), out)?;
+        append_way_line(number, way_at(ways, number), out)?;
     }
     Ok(())
 }
@@ -57,16 +57,16 @@ fn way_at(ways: &[Way], number: usize) -> &Way
 }
 
 /// The line of a way; in place of the first that isn't listed, one for all others.
-fn append_line(number: usize, way: &Way, out: &mut Vec<u8>) -> Result<(), AllocError>
+fn append_way_line(number: usize, way: &Way, out: &mut Vec<u8>) -> Result<(), AllocError>
     ensures { OnOk result (out.new.items ≡ out.old.items ++ way_line number way.now) }
 {
-    append_told(number, way, out)?;
+    append_way_text(number, way, out)?;
     out.extend_from_slice(b"\n")?;
     Ok(())
 }
 
 /// The text of the line of the way with this number.
-fn append_told(number: usize, way: &Way, out: &mut Vec<u8>) -> Result<(), AllocError>
+fn append_way_text(number: usize, way: &Way, out: &mut Vec<u8>) -> Result<(), AllocError>
     ensures { OnOk result (out.new.items ≡ out.old.items ++ way_told number way.now) }
 {
     if number < MOST_TOLD {
@@ -136,7 +136,7 @@ fn note_slot(
 {
     match placed {
         None => Ok(()),
-        Some(placed) => note(
+        Some(placed) => add_way(
             Way {
                 page: *placed.paper,
                 sheet: *sheet,
@@ -148,7 +148,7 @@ fn note_slot(
 }
 
 /// Adds a way, if it is none of these and fewer are kept than may be.
-fn note(way: Way, ways: &mut Vec<Way>) -> Result<(), AllocError>
+fn add_way(way: Way, ways: &mut Vec<Way>) -> Result<(), AllocError>
     ensures { OnOk result (ways.new.items ≡ with_way ways.old.items way) }
 {
     if is_full_or_there(ways.as_slice(), &way) {
@@ -160,7 +160,7 @@ fn note(way: Way, ways: &mut Vec<Way>) -> Result<(), AllocError>
 
 /// Whether as many are kept as may be, or one of them is the same.
 fn is_full_or_there(ways: &[Way], way: &Way) -> bool
-    ensures { result ≡ (nat_lt most_told (length ways.now) || list_any (is_same_way way.now) ways.now) }
+    ensures { result ≡ (nat_lt most_ways (length ways.now) || list_any (is_same_way way.now) ways.now) }
 {
     MOST_TOLD < ways.len() || ways.contains(way)
 }

@@ -18,7 +18,7 @@ fn main(rt: HostRuntime) -> ExitCode {
             let ended = pstops(&rt, alloc, after_name(words.as_slice()), world);
             (ended.status, ended.line)
         }
-        Err(fault) => ending_of(alloc, fault),
+        Err(fault) => status_and_line(alloc, fault),
     };
     ExitCode::from(tell(&mut rt.stderr(), line.as_slice(), status))
 }
@@ -39,7 +39,7 @@ fn after_name(words: &[String]) -> &[String] {
     }
 }
 
-fn ending_of(alloc: Global, fault: CommandFault) -> (u8, Vec<u8>) {
+fn status_and_line(alloc: Global, fault: CommandFault) -> (u8, Vec<u8>) {
     match fault_line(alloc, &Fault::Command(fault)) {
         Ok(ending) => ending,
         // Not even the line found memory.

@@ -6,7 +6,7 @@ use Rattle.clap.specs.declared.error.kind.ErrorKind.TheVariants.{ArgumentConflic
 use Rattle.lengths.specs.Reading.{number_at}
 use Rattle.rules.specs.Papers.{points}
 use Rattle.clap.proofs.OnLiterals.{clap_on_literals}
-use Rattle.pstops_cli.specs.Command.{Takes, options_found, pstops, sides_found, workers_found}
+use Rattle.pstops_cli.specs.Command.{TakesWords, options_found, pstops, sides_found, workers_found}
 use Rattle.pstops_cli.specs.Values.{letter_d, letter_h, letter_w, options_named, paper_or_a4}
 use Rattle.pstops_cli.specs.declared.command.CommandFault.TheVariants.{BadLength, UnknownPaper}
 
@@ -14,7 +14,7 @@ pub no_words : fault_of pstops [] ≡ MissingRequiredArgument ∷ []
 unfolding clap_on_literals pstops
 no_words = refl
 
-pub specification_alone : Takes (codes "0" ∷ [])
+pub specification_alone : TakesWords (codes "0" ∷ [])
 unfolding clap_on_literals pstops
 specification_alone = refl
 
@@ -85,7 +85,7 @@ pub sixteen_and_one : workers_found (matches_of pstops (codes "-j16" ∷ codes "
 unfolding clap_on_literals pstops
 sixteen_and_one = refl
 
-pub sixteen_taken : Takes (codes "-j16" ∷ codes "-k" ∷ codes "1" ∷ codes "0" ∷ [])
+pub sixteen_taken : TakesWords (codes "-j16" ∷ codes "-k" ∷ codes "1" ∷ codes "0" ∷ [])
 unfolding clap_on_literals pstops
 sixteen_taken = refl
 
@@ -109,7 +109,7 @@ pub plus_before : workers_found (matches_of pstops (codes "-j" ∷ codes "+3" �
 unfolding clap_on_literals pstops
 plus_before = refl
 
-pub plus_taken : Takes (codes "-j" ∷ codes "+3" ∷ codes "0" ∷ [])
+pub plus_taken : TakesWords (codes "-j" ∷ codes "+3" ∷ codes "0" ∷ [])
 unfolding clap_on_literals pstops
 plus_taken = refl
 
@@ -132,11 +132,11 @@ pub six_sides : sides_found (matches_of pstops (codes "-s6" ∷ codes "0" ∷ []
 unfolding clap_on_literals pstops
 six_sides = refl
 
-pub six_taken : Takes (codes "-s6" ∷ codes "0" ∷ [])
+pub six_taken : TakesWords (codes "-s6" ∷ codes "0" ∷ [])
 unfolding clap_on_literals pstops
 six_taken = refl
 
-pub million_taken : Takes (codes "-s" ∷ codes "1000000" ∷ codes "0" ∷ [])
+pub million_taken : TakesWords (codes "-s" ∷ codes "1000000" ∷ codes "0" ∷ [])
 unfolding clap_on_literals pstops
 million_taken = refl
 

@@ -11,9 +11,9 @@ use Rattle.imposer.specs.declared.outcome.RunError.TheVariants as run
 use Rattle.world.specs.Outputs.{IsFrontOf, told_if}
 use Rattle.imposer.specs.Outcomes.{FailedIn}
 use Rattle.imposer.specs.Runs as runs
-use Rattle.pstops_cli.specs.Messages.{fault_status}
+use Rattle.pstops_cli.specs.Messages.{fault_exit_status}
 use Rattle.sheet_writer.specs.Sinks.{SinkView}
-use Rattle.pstops_cli.specs.RequestRuns.{Ends, IsSaidOf, asked_by, outcome_status}
+use Rattle.pstops_cli.specs.RequestRuns.{EndsRun, IsLineOf, asked_by, outcome_status}
 use Rattle.world.specs.declared.rest.Rest.{Rest}
 use Rattle.std.specs.declared.io.ErrorKind.{ErrorKind}
 use Rattle.std.specs.declared.io.ErrorKind.TheVariants.{OutOfMemory}
@@ -29,13 +29,13 @@ not_zero : (n : ℕ) → n ≡ 3 → n ≡ 0 → ⊥
 not_zero n three zero = omega (arith, three, zero)
 
 -- a fault of three is said with three
-three_is_said : (f : Fault) (status : ℕ) (line : List ℕ) → fault_status f ≡ 3 → IsSaid f status line → status ≡ 3
+three_is_said : (f : Fault) (status : ℕ) (line : List ℕ) → fault_exit_status f ≡ 3 → IsSaid f status line → status ≡ 3
 three_is_said f status line three (inl of_run) = of_run.0 ∙ three
 three_is_said f status line three (inr none) = none.0
 
-creating_is_three : {W : Type 0} (seen : W → WorldView) (name : Option (List ℕ)) (old new : W) (f : Fault) → IsCreating seen name old new f → fault_status f ≡ 3
+creating_is_three : {W : Type 0} (seen : W → WorldView) (name : Option (List ℕ)) (old new : W) (f : Fault) → IsCreating seen name old new f → fault_exit_status f ≡ 3
 creating_is_three seen name old new fault.Create why = refl
-creating_is_three seen name old new (fault.Run e) why = ap (λ e. fault_status (fault.Run e)) why.0
+creating_is_three seen name old new (fault.Run e) why = ap (λ e. fault_exit_status (fault.Run e)) why.0
 creating_is_three seen name old new (fault.Command e) why = absurd why
 creating_is_three seen name old new (fault.Read e) why = absurd why
 
@@ -55,7 +55,7 @@ not_created seen name old new kind f (inr refused) (inr other) =
 
 -- at status 0 the outcome's own status is 0
 said_zero : (quiet : Bool) (ended : Result Report RunError) (status : ℕ) (line : List ℕ) → status ≡ 0
-    → IsSaidOf quiet ended status line → outcome_status ended ≡ 0
+    → IsLineOf quiet ended status line → outcome_status ended ≡ 0
 said_zero quiet ended status line zero (inl of_run) = sym of_run.0 ∙ zero
 said_zero quiet ended status line zero (inr none) = absurd (not_zero status none.1 zero)
 
@@ -77,21 +77,21 @@ once : (ended : Result Report RunError) (old new : SinkView) → OnOk ended (new
 once (Ok report) old new steady failed = omega (arith, steady)
 once (Err e) old new steady failed = once_in e old new failed
 
-pub few_failures : (a : runs.Request) (old new : SinkView) (ended : Result Report RunError) → Ends a old new ended → old.failures ≡ 0 → new.failures ≤ 1
+pub few_failures : (a : runs.Request) (old new : SinkView) (ended : Result Report RunError) → EndsRun a old new ended → old.failures ≡ 0 → new.failures ≤ 1
 few_failures a old new ended ends fresh = let few = once ended old new ends.steady ends.failed in omega (arith, few, fresh)
 
 -- the run ended, and its output has what was written out
 pub ran : (r : Request) (input : List ℕ) (tells : Bool) (start sink : SinkView) (failures : ℕ) (written : Option (List ℕ))
     (ended : Result Report RunError) (status : ℕ) (line : List ℕ)
     → start.bytes ≡ told_if tells (option_map string_bytes r.outfile) [] → start.failures ≡ 0
-    → Ends (asked_by r input) start sink ended → IsFrontOf written sink.bytes
+    → EndsRun (asked_by r input) start sink ended → IsFrontOf written sink.bytes
     → (status ≡ 0 → Keeps sink.bytes written) → (status ≡ 0 → failures ≡ sink.failures) → sink.failures ≤ failures
-    → IsSaidOf r.quiet ended status line ⊎ (IsOk ended × (0 < failures) × IsSaid (fault.Run (run.Write 0)) status line)
+    → IsLineOf r.quiet ended status line ⊎ (IsOk ended × (0 < failures) × IsSaid (fault.Run (run.Write 0)) status line)
     → Ran r input tells written failures status line
 ran r input tells start sink failures written ended status line began fresh ends part whole steady counted said = record {
   ended = ended;
   sink = sink;
-  ends = subst (λ (s : SinkView). Ends (asked_by r input) s sink ended) (λ i. record { bytes = began i; failures = fresh i }) ends;
+  ends = subst (λ (s : SinkView). EndsRun (asked_by r input) s sink ended) (λ i. record { bytes = began i; failures = fresh i }) ends;
   part = part;
   whole = whole;
   steady = steady;
@@ -103,7 +103,7 @@ ran r input tells start sink failures written ended status line began fresh ends
 pub cut : (r : Request) (input : List ℕ) (tells : Bool) (start sink : SinkView) (failures : ℕ) (written : Option (List ℕ))
     (ended : Result Report RunError) (answered status : ℕ) (line line' : List ℕ)
     → start.bytes ≡ told_if tells (option_map string_bytes r.outfile) [] → start.failures ≡ 0
-    → Ends (asked_by r input) start sink ended → IsSaidOf r.quiet ended answered line → answered ≡ 0
+    → EndsRun (asked_by r input) start sink ended → IsLineOf r.quiet ended answered line → answered ≡ 0
     → IsFrontOf written sink.bytes → failures ≡ sink.failures + 1 → IsSaid (fault.Run (run.Write 0)) status line'
     → Ran r input tells written failures status line'
 cut r input tells start sink failures written ended answered status line line' began fresh ends of_run zero part failed said =
@@ -114,7 +114,7 @@ cut r input tells start sink failures written ended answered status line line' b
 
 carried : (r : Request) (input : List ℕ) (tells : Bool) (written : Option (List ℕ)) (failures status : ℕ) (line : List ℕ)
     → status ≡ 0 → (h : Ran r input tells written failures status line)
-    → IsSaidOf r.quiet h.ended status line
+    → IsLineOf r.quiet h.ended status line
     → Accepted (asked_by r input) (λ spec us. Appends (told_if tells (option_map string_bytes r.outfile) []) written
     (output (frame_of r.options) r.options.sides spec us))
 carried r input tells written failures status line zero h of_run =
@@ -123,7 +123,7 @@ carried r input tells written failures status line zero h of_run =
 
 ran_carried : (r : Request) (input : List ℕ) (tells : Bool) (written : Option (List ℕ)) (failures status : ℕ) (line : List ℕ)
     → status ≡ 0 → (h : Ran r input tells written failures status line)
-    → IsSaidOf r.quiet h.ended status line ⊎ (IsOk h.ended × (0 < failures) × IsSaid (fault.Run (run.Write 0)) status line)
+    → IsLineOf r.quiet h.ended status line ⊎ (IsOk h.ended × (0 < failures) × IsSaid (fault.Run (run.Write 0)) status line)
     → Accepted (asked_by r input) (λ spec us. Appends (told_if tells (option_map string_bytes r.outfile) []) written
     (output (frame_of r.options) r.options.sides spec us))
 ran_carried r input tells written failures status line zero h (inl of_run) = carried r input tells written failures status line zero h of_run

@@ -5,8 +5,8 @@ use Rattle.std.specs.List.{fold, list_all}
 use Rattle.clap.specs.Words.{is_simple, new_app, with_rule}
 use Rattle.clap.specs.Simple.{on_top}
 use Rattle.clap.specs.Faults.{is_simple_and_free}
-use Rattle.command_words.specs.Arguments.{are_distinct, fits}
-use Rattle.pstops_cli.specs.Command.{bare, pstops, rules}
+use Rattle.command_words.specs.Arguments.{are_distinct, stands_by_itself}
+use Rattle.pstops_cli.specs.Command.{bare_shape, pstops, rules}
 
 pub pstops_is_simple : is_simple pstops ≡ true
 unfolding pstops
@@ -25,11 +25,11 @@ unfolding pstops
 pstops_has_rules = refl
 
 -- it is the bare command with its rules added in turn
-pub pstops_is_made : fold with_rule (on_top bare (new_app (codes "pstops"))) rules ≡ pstops
+pub pstops_is_made : fold with_rule (on_top bare_shape (new_app (codes "pstops"))) rules ≡ pstops
 unfolding pstops
 pstops_is_made = refl
 
-pub each_rule_fits : list_all fits rules ≡ true
+pub each_rule_fits : list_all stands_by_itself rules ≡ true
 each_rule_fits = refl
 
 pub rules_are_distinct : are_distinct rules ≡ true

@@ -7,8 +7,8 @@ use Rattle.imposer.specs.declared.worker_counts.Workers.{Workers}
 use Rattle.command_words.specs.Borders.{border_named}
 use Rattle.pstops_cli.specs.declared.command.CommandFault.{CommandFault}
 use Rattle.pstops_cli.specs.declared.command.CommandFault.TheVariants.{BadLength, BadWords, NoMemory, UnknownPaper}
-use Rattle.pstops_cli.specs.Values.{and_then, letter_d, letter_h, letter_w, options_named, paper_or_a4, with_height, with_width}
-use Rattle.pstops_cli.specs.Command.{Refuses, RefusesFound, Takes, options_found, pstops, sides_found, workers_found}
+use Rattle.pstops_cli.specs.Values.{result_and_then, letter_d, letter_h, letter_w, options_named, paper_or_a4, with_height, with_width}
+use Rattle.pstops_cli.specs.Command.{RefusesWords, RefusesValues, TakesWords, options_found, pstops, sides_found, workers_found}
 
 abbrev IsOfValue : CommandFault → Type 0
 IsOfValue BadWords = ⊥
@@ -17,7 +17,7 @@ IsOfValue (BadLength letter) = ⊤
 IsOfValue NoMemory = ⊥
 
 step : {X : Type 0} (o : Option X) (e f : CommandFault) (k : X → Result Options CommandFault) → IsOfValue e
-    → ((x : X) → k x ≡ Err f → IsOfValue f) → and_then (ok_or o e) k ≡ Err f → IsOfValue f
+    → ((x : X) → k x ≡ Err f → IsOfValue f) → result_and_then (ok_or o e) k ≡ Err f → IsOfValue f
 step None e f k he hk h = let same : e ≡ f = cc in subst IsOfValue same he
 step (Some x) e f k he hk h = hk x h
 
@@ -30,18 +30,18 @@ of_value p w h d signature workers f =
     step (with_height wide h) (BadLength letter_h) f _ tt (λ paper.
     step (border_named paper d) (BadLength letter_d) f _ tt (λ border e. cc))))
 
-refused_as : (found : List Row) (f : CommandFault) → IsOfValue f → options_found found ≡ Err f → RefusesFound found f
+refused_as : (found : List Row) (f : CommandFault) → IsOfValue f → options_found found ≡ Err f → RefusesValues found f
 refused_as found BadWords is e = is
 refused_as found UnknownPaper is e = e
 refused_as found (BadLength letter) is e = e
 refused_as found NoMemory is e = absurd is
 
-pub refuses_found : (found : List Row) (f : CommandFault) → options_found found ≡ Err f → RefusesFound found f
+pub refuses_found : (found : List Row) (f : CommandFault) → options_found found ≡ Err f → RefusesValues found f
 refuses_found found f e =
     refused_as found f (of_value (first_of (codes "paper") found) (first_of (codes "width") found) (first_of (codes "height") found) (first_of (codes "border") found) (sides_found found) (workers_found found) f e) e
 
 -- what was found is that of words which are taken
-pub refuses_words : (words : List Text) (found : List Row) (f : CommandFault) → Takes words → found ≡ matches_of pstops words → RefusesFound found f → Refuses words f
+pub refuses_words : (words : List Text) (found : List Row) (f : CommandFault) → TakesWords words → found ≡ matches_of pstops words → RefusesValues found f → RefusesWords words f
 refuses_words words found NoMemory taken is h = tt
 refuses_words words found UnknownPaper taken is h = (taken, ap options_found (sym is) ∙ h)
 refuses_words words found (BadLength letter) taken is h = (taken, ap options_found (sym is) ∙ h)
@@ -55,7 +55,7 @@ handed_on (Err g) f h = ap Err h
 -- ---- the workers and the sides
 
 last_step : {X : Type 0} (o : Option X) (e : CommandFault) (k : X → Result Options CommandFault) (named : Options) (P : Type 0)
-    → ((x : X) → k x ≡ Ok named → P) → and_then (ok_or o e) k ≡ Ok named → P
+    → ((x : X) → k x ≡ Ok named → P) → result_and_then (ok_or o e) k ≡ Ok named → P
 last_step None e k named P go h = cc
 last_step (Some x) e k named P go h = go x h
 

@@ -29,8 +29,8 @@ use Rattle.clap.proofs.CallerReads.{signed_reads}
 use Rattle.clap.proofs.SimpleLemmas.{plain_fields}
 use Rattle.clap.proofs.WalkLemmas.{one_text-rows}
 use Rattle.imposer.specs.Workers.{AreWorkers}
-use Rattle.command_words.specs.Arguments.{are_distinct, fits}
-use Rattle.command_words.specs.Matches.{number_named, number_of}
+use Rattle.command_words.specs.Arguments.{are_distinct, stands_by_itself}
+use Rattle.command_words.specs.Matches.{number_named, u32_of}
 use Rattle.command_words.proofs.Chain.{distinct, each_fits}
 use Rattle.command_words.proofs.Numerals.{reads_number}
 use Rattle.pstops_cli.specs.Command.{counted_rule, pstops, ranged_rule, rules, sides_found, workers_found}
@@ -39,9 +39,9 @@ use Rattle.pstops_cli.proofs.SimpleCommand.{each_rule_fits, pstops_has_rules, ps
 
 -- ---- a text as a number
 
-in_range : (low high : ℕ) (text : List ℕ) → high < 2 ^ 32 → IsSignedIn (pos low) (pos high) text → (n : ℕ) × (number_of (without_minus text) ≡ Some n) × (low ≤ n) × (n ≤ high)
-in_range low high text fits passed =
-    signed_reads ⊤ (λ bs r. ParsesUnsigned 32 10 bs r) 32 low high text (number_of (without_minus text)) (reads_number (without_minus text)) (λ u x g. g) fits passed
+in_range : (low high : ℕ) (text : List ℕ) → high < 2 ^ 32 → IsSignedIn (pos low) (pos high) text → (n : ℕ) × (u32_of (without_minus text) ≡ Some n) × (low ≤ n) × (n ≤ high)
+in_range low high text stands_by_itself passed =
+    signed_reads ⊤ (λ bs r. ParsesUnsigned 32 10 bs r) 32 low high text (u32_of (without_minus text)) (reads_number (without_minus text)) (λ u x g. g) stands_by_itself passed
 
 -- ---- an argument of the program by its place
 
@@ -111,7 +111,7 @@ module _ (c : Command) (m : ArgMatches) (is : app_of c ≡ pstops) (p : IsParsed
   rules_are = ap (λ a. a.top.rules) is ∙ pstops_has_rules
 
   each : All FitsChain (args_of c)
-  each = each_fits (args_of c) (ap (list_all fits) rules_are ∙ each_rule_fits)
+  each = each_fits (args_of c) (ap (list_all stands_by_itself) rules_are ∙ each_rule_fits)
 
   apart : HasDistinctIds (args_of c)
   apart = distinct (args_of c) (ap are_distinct rules_are ∙ rules_are_distinct)
@@ -142,18 +142,18 @@ module _ (c : Command) (m : ArgMatches) (is : app_of c ≡ pstops) (p : IsParsed
       id_text p.built (found_of m) (get_or (args_of c) k d).id.now (IsSignedIn (pos least) (pos most)) WithoutMinus t parsed.values no_groups
       (each k d lt).2 read_so accepted
 
-  number_found : (t : List ℕ) → one_text (found_of m) (get_or (args_of c) k d).id.now ≡ Some t → (n : ℕ) × (number_of t ≡ Some n) × (least ≤ n) × (n ≤ most)
+  number_found : (t : List ℕ) → one_text (found_of m) (get_or (args_of c) k d).id.now ≡ Some t → (n : ℕ) × (u32_of t ≡ Some n) × (least ≤ n) × (n ≤ most)
   number_found t e =
       let text = found_text t e in
       let n = in_range least most text.0 few text.2 in
-      (n.0, ap number_of text.1 ∙ n.1, n.2, n.3)
+      (n.0, ap u32_of text.1 ∙ n.1, n.2, n.3)
 
 -- ---- the numbers of workers
 
 -- an argument with a range: the number that is found of it lies in the range
 ranged : (c : Command) (m : ArgMatches) → app_of c ≡ pstops → IsParsedFrom c m → (k low high letter : ℕ) (id : Text) → k < 11 → high < 2 ^ 32
     → get_or rules k (ranged_rule low high id letter) ≡ ranged_rule low high id letter
-    → (t : List ℕ) → one_of id (rows_of (found_of m)) ≡ Some t → (n : ℕ) × (number_of t ≡ Some n) × (low ≤ n) × (n ≤ high)
+    → (t : List ℕ) → one_of id (rows_of (found_of m)) ≡ Some t → (n : ℕ) × (u32_of t ≡ Some n) × (low ≤ n) × (n ≤ high)
 ranged c m is p k low high letter id under few at t found =
     let all : map rule_of (args_of c) ≡ rules = ap (λ a. a.top.rules) is ∙ pstops_has_rules in
     let d = some_arg (args_of c) all in

@@ -24,11 +24,11 @@ use Rattle.pstops_cli.specs.Values.{options_named, workers_named}
 
 -- ---- the command
 
-abbrev pub positional_rule : Text → Rule
-positional_rule id = record (new_rule id) { action = Some Set }
+abbrev pub word_rule : Text → Rule
+word_rule id = record (new_rule id) { action = Some Set }
 
-abbrev pub flag_rule : Text → (letter : ℕ) → Rule
-flag_rule id letter = record (new_rule id) { short = Some letter; action = Some SetTrue }
+abbrev pub letter_flag_rule : Text → (letter : ℕ) → Rule
+letter_flag_rule id letter = record (new_rule id) { short = Some letter; action = Some SetTrue }
 
 -- an option with a value
 abbrev pub valued_rule : Text → (letter : ℕ) → Rule
@@ -48,10 +48,10 @@ letter_q = 113
 -- the arguments: SPECS, which is required, INFILE and OUTFILE, and the options
 abbrev pub rules : List Rule
 rules =
-    record (positional_rule (codes "specs")) { required = true }
-    ∷ positional_rule (codes "infile")
-    ∷ positional_rule (codes "outfile")
-    ∷ flag_rule (codes "quiet") letter_q
+    record (word_rule (codes "specs")) { required = true }
+    ∷ word_rule (codes "infile")
+    ∷ word_rule (codes "outfile")
+    ∷ letter_flag_rule (codes "quiet") letter_q
     ∷ valued_rule (codes "paper") letter_p
     ∷ valued_rule (codes "width") letter_w
     ∷ valued_rule (codes "height") letter_h
@@ -62,16 +62,16 @@ rules =
     ∷ []
 
 -- no word is the program's name, and -h, --help, -V and --version aren't added
-abbrev pub bare : Shape → Shape
-bare s = record s { no_binary_name = true; disable_help_flag = true; disable_version_flag = true }
+abbrev pub bare_shape : Shape → Shape
+bare_shape s = record s { no_binary_name = true; disable_help_flag = true; disable_version_flag = true }
 
 -- opaque, so that what a clause says of it stays short
 unfoldable pub pstops : App
-pstops = on_top (λ s. record (bare s) { rules = rules }) (new_app (codes "pstops"))
+pstops = on_top (λ s. record (bare_shape s) { rules = rules }) (new_app (codes "pstops"))
 
 -- the command takes the words
-abbrev pub Takes : (words : List Text) → Type 0
-Takes words = fault_of pstops words ≡ []
+abbrev pub TakesWords : (words : List Text) → Type 0
+TakesWords words = fault_of pstops words ≡ []
 
 -- ---- the request
 
@@ -99,27 +99,27 @@ pub record Reads (found : List Row) (r : Request) : Type 0 where
   pub quiet : has_true (first_of (codes "quiet") found) ≡ r.quiet
 
 -- what a refusal says of what was found: a value that names nothing, the first of them
-abbrev pub RefusesFound : (found : List Row) → CommandFault → Type 0
-RefusesFound found BadWords = ⊥
-RefusesFound found UnknownPaper = options_found found ≡ Err UnknownPaper
-RefusesFound found (BadLength letter) = options_found found ≡ Err (BadLength letter)
-RefusesFound found NoMemory = ⊤
+abbrev pub RefusesValues : (found : List Row) → CommandFault → Type 0
+RefusesValues found BadWords = ⊥
+RefusesValues found UnknownPaper = options_found found ≡ Err UnknownPaper
+RefusesValues found (BadLength letter) = options_found found ≡ Err (BadLength letter)
+RefusesValues found NoMemory = ⊤
 
 -- what a refusal says of the words: they aren't taken, or they are and a value names nothing
-abbrev pub Refuses : (words : List Text) → CommandFault → Type 0
-Refuses words BadWords = fault_of pstops words ≢ []
-Refuses words UnknownPaper = Takes words × (options_found (matches_of pstops words) ≡ Err UnknownPaper)
-Refuses words (BadLength letter) = Takes words × (options_found (matches_of pstops words) ≡ Err (BadLength letter))
-Refuses words NoMemory = ⊤
+abbrev pub RefusesWords : (words : List Text) → CommandFault → Type 0
+RefusesWords words BadWords = fault_of pstops words ≢ []
+RefusesWords words UnknownPaper = TakesWords words × (options_found (matches_of pstops words) ≡ Err UnknownPaper)
+RefusesWords words (BadLength letter) = TakesWords words × (options_found (matches_of pstops words) ≡ Err (BadLength letter))
+RefusesWords words NoMemory = ⊤
 
 -- ---- how the command is made
 
 -- what a refusal says of the words before their values are looked at
-abbrev pub ParseRefuses : (words : List Text) → CommandFault → Type 0
-ParseRefuses words BadWords = fault_of pstops words ≢ []
-ParseRefuses words UnknownPaper = ⊥
-ParseRefuses words (BadLength letter) = ⊥
-ParseRefuses words NoMemory = ⊤
+abbrev pub RefusesParse : (words : List Text) → CommandFault → Type 0
+RefusesParse words BadWords = fault_of pstops words ≢ []
+RefusesParse words UnknownPaper = ⊥
+RefusesParse words (BadLength letter) = ⊥
+RefusesParse words NoMemory = ⊤
 
 -- these are the words' matches, SPECS is among them, the numbers of workers lie from 1 to 16, and that of sides from 4
 -- to 1,000,000
@@ -134,7 +134,7 @@ pub record IsChain (c : Command) : Type 0 where
   pub start : Command
   pub args : List Arg
   pub chain : AddsInTurn AddsArg start args c
-  pub app : app_of start ≡ on_top bare (new_app (codes "pstops"))
+  pub app : app_of start ≡ on_top bare_shape (new_app (codes "pstops"))
   pub no_args : args_of start ≡ []
   pub no_groups : groups_of start ≡ []
   pub no_globals : (out-Command start).has_globals ≡ false

@@ -17,9 +17,9 @@ use Rattle.world.specs.Rests.{has_output}
 use Rattle.world.specs.Worlds.{HasGranted, HasRefused, WasAsked, WorldView, creating, opening}
 use Rattle.world.specs.declared.rest.Rest.{Rest}
 use Rattle.world.specs.declared.rest.Rest.TheVariants.{World}
-use Rattle.pstops_cli.specs.Command.{Reads, Refuses, Takes, pstops}
-use Rattle.pstops_cli.specs.Messages.{fault_status, fault_text, said}
-use Rattle.pstops_cli.specs.RequestRuns.{Ends, IsSaidOf, asked_by}
+use Rattle.pstops_cli.specs.Command.{Reads, RefusesWords, TakesWords, pstops}
+use Rattle.pstops_cli.specs.Messages.{fault_exit_status, fault_message, program_line}
+use Rattle.pstops_cli.specs.RequestRuns.{EndsRun, IsLineOf, asked_by}
 use Rattle.world.specs.declared.read.ReadFault.{ReadFault}
 use Rattle.world.specs.declared.read.ReadFault.TheVariants as read
 use Rattle.pstops_cli.specs.declared.command.Request.{Request}
@@ -33,39 +33,39 @@ Gives = Option (List ℕ) → Option (List ℕ)
 -- ---- before the run
 
 -- the words make this request
-abbrev pub Makes : (words : List Text) → Request → Type 0
-Makes words r = Takes words × Reads (matches_of pstops words) r
+abbrev pub MakesRequest : (words : List Text) → Request → Type 0
+MakesRequest words r = TakesWords words × Reads (matches_of pstops words) r
 
 -- the words make this request, and this is what its input gives
 abbrev pub HasRead : (words : List Text) → Gives → Request → (input : List ℕ) → Type 0
-HasRead words gives r input = Makes words r × IsFirst most_bytes (gives (option_map string_bytes r.infile)) input
+HasRead words gives r input = MakesRequest words r × IsFirst most_bytes (gives (option_map string_bytes r.infile)) input
 
 -- A world after an input that couldn't be opened or read: it failed once more. For want of memory it failed for that, or memory ran
 -- out outside it.
-abbrev pub IsUnread : ReadFault → (old new : WorldView) → Type 0
-IsUnread read.Device old new = new.failures ≡ old.failures + 1
-IsUnread read.NoMemory old new =
+abbrev pub IsUnreadInput : ReadFault → (old new : WorldView) → Type 0
+IsUnreadInput read.Device old new = new.failures ≡ old.failures + 1
+IsUnreadInput read.NoMemory old new =
     (new.failures ≡ old.failures) ⊎ ((new.failures ≡ old.failures + 1) × (new.cause ≡ Some OutOfMemory))
 
 -- The faults before anything is created: the words are refused, and the world wasn't asked for anything; or they make a
 -- request, whose input alone was asked for and couldn't be opened or read.
 abbrev pub StopsBefore : {W : Type 0} → (seen : W → WorldView) → (words : List Text) → (old new : W) → Fault → Type 0
-StopsBefore seen words old new (fault.Command f) = Refuses words f × (new ≡ old)
+StopsBefore seen words old new (fault.Command f) = RefusesWords words f × (new ≡ old)
 StopsBefore seen words old new (fault.Read f) =
-    (r : Request) × Makes words r × WasAsked (opening (option_map string_bytes r.infile)) (seen old) (seen new)
-    × IsUnread f (seen old) (seen new)
+    (r : Request) × MakesRequest words r × WasAsked (opening (option_map string_bytes r.infile)) (seen old) (seen new)
+    × IsUnreadInput f (seen old) (seen new)
 StopsBefore seen words old new fault.Create = ⊥
 StopsBefore seen words old new (fault.Run e) = ⊥
 
 -- the world was asked for this request's input, which was read without a failure
-abbrev pub HasGiven : {W : Type 0} → (seen : W → WorldView) → Request → (old new : W) → Type 0
-HasGiven seen r old new = HasGranted (opening (option_map string_bytes r.infile)) (seen old) (seen new)
+abbrev pub HasGivenInput : {W : Type 0} → (seen : W → WorldView) → Request → (old new : W) → Type 0
+HasGivenInput seen r old new = HasGranted (opening (option_map string_bytes r.infile)) (seen old) (seen new)
 
 -- ---- what is said
 
 -- the fault's status and line; or 3 and no line, if it found no memory
 abbrev pub IsSaid : Fault → (status : ℕ) → (line : List ℕ) → Type 0
-IsSaid f status line = ((status ≡ fault_status f) × (line ≡ said (fault_text f))) ⊎ ((status ≡ 3) × (line ≡ []))
+IsSaid f status line = ((status ≡ fault_exit_status f) × (line ≡ program_line (fault_message f))) ⊎ ((status ≡ 3) × (line ≡ []))
 
 -- An output of this name couldn't be created: there was no memory for its buffer, and the very world is back; or the world
 -- was asked for it, and refused, for want of memory or not.
@@ -86,12 +86,12 @@ pub record Ran (r : Request) (input : List ℕ) (tells : Bool) (written : Option
     (line : List ℕ) : Type 0 where
   pub ended : Result Report RunError
   pub sink : SinkView
-  pub ends : Ends (asked_by r input) (fresh_sink (told_if tells (option_map string_bytes r.outfile) [])) sink ended
+  pub ends : EndsRun (asked_by r input) (fresh_sink (told_if tells (option_map string_bytes r.outfile) [])) sink ended
   pub part : IsFrontOf written sink.bytes
   pub whole : status ≡ 0 → Keeps sink.bytes written
   pub steady : status ≡ 0 → failures ≡ sink.failures
   pub counted : sink.failures ≤ failures
-  pub said : IsSaidOf r.quiet ended status line
+  pub said : IsLineOf r.quiet ended status line
       ⊎ (IsOk ended × (0 < failures) × IsSaid (fault.Run (run.Write 0)) status line)
 
 -- no output could be created, with its buffer; or one was, and the request was run into it
@@ -105,17 +105,17 @@ CreatesAndRuns {W} seen r input tells world rest written failures status line =
 
 -- How the program ends. It stopped before anything was created, and the world is back; or it read a request and its
 -- input, and either its output couldn't be created, or one was and the request was run.
-abbrev pub EndsProgram : {W O : Type 0} → (seen : W → WorldView) → (words : List Text) → Gives → (tells : Bool) → (world : W) → (rest : Rest W O)
+abbrev pub EndsPstops : {W O : Type 0} → (seen : W → WorldView) → (words : List Text) → Gives → (tells : Bool) → (world : W) → (rest : Rest W O)
     → (written : Option (List ℕ)) → (failures status : ℕ) → (line : List ℕ) → Type 0
-EndsProgram {W} seen words gives tells world rest written failures status line =
+EndsPstops {W} seen words gives tells world rest written failures status line =
     ((f : Fault) × (left : W) × StopsBefore seen words world left f × IsSaid f status line × (rest ≡ World left))
-    ⊎ ((r : Request) × (input : List ℕ) × HasRead words gives r input × (read : W) × HasGiven seen r world read
+    ⊎ ((r : Request) × (input : List ℕ) × HasRead words gives r input × (read : W) × HasGivenInput seen r world read
     × CreatesAndRuns seen r input tells read rest written failures status line)
 
 -- The request that the words make was carried out: the output reports its name and exactly the output defined for the
 -- input.
-abbrev pub CarriesOut : (words : List Text) → Gives → (tells : Bool) → (written : Option (List ℕ)) → Type 0
-CarriesOut words gives tells written =
+abbrev pub CarriesOutWords : (words : List Text) → Gives → (tells : Bool) → (written : Option (List ℕ)) → Type 0
+CarriesOutWords words gives tells written =
     (r : Request) × (input : List ℕ) × HasRead words gives r input
     × Accepted (asked_by r input) (λ spec us. Appends (told_if tells (option_map string_bytes r.outfile) []) written
     (output (frame_of r.options) r.options.sides spec us))

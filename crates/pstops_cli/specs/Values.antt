@@ -2,7 +2,7 @@
 use Rattle.std.specs.Prelude.{⊤, ◌≤◌, ℕ, unwrap_or, ok_or, option_and_then, if◌then◌else◌}
 use Rattle.std.specs.Prelude.{List, Option, Some, None, Result, Ok, Err, codes}
 use Rattle.rules.specs.Signatures.{most_sides}
-use Rattle.rules.specs.Papers.{Paper, is_side, paper_named}
+use Rattle.rules.specs.Papers.{Paper, is_side, paper_with_name}
 use Rattle.lengths.specs.Lengths.{length_named}
 use Rattle.imposer.specs.declared.options.Options.{Options}
 use Rattle.imposer.specs.declared.worker_counts.Workers.{Workers}
@@ -15,7 +15,7 @@ use Rattle.pstops_cli.specs.declared.command.CommandFault.TheVariants.{BadLength
 
 -- a paper by its name, a4 if there is none
 abbrev pub paper_or_a4 : Option (List ℕ) → Option Paper
-paper_or_a4 name = paper_named (unwrap_or name (codes "a4"))
+paper_or_a4 name = paper_with_name (unwrap_or name (codes "a4"))
 
 -- the paper with another width, which is above zero and no more than a paper's may be
 abbrev pub with_width : Paper → Option (List ℕ) → Option Paper
@@ -47,9 +47,9 @@ workers_named preparers imposers = record { preparers = count_named preparers; i
 
 -- ---- all of them
 
-abbrev pub and_then : {T U E : Type 0} → Result T E → (T → Result U E) → Result U E
-and_then (Ok x) f = f x
-and_then (Err e) f = Err e
+abbrev pub result_and_then : {T U E : Type 0} → Result T E → (T → Result U E) → Result U E
+result_and_then (Ok x) f = f x
+result_and_then (Err e) f = Err e
 
 -- the letters of the options that take a value
 abbrev pub letter_p : ℕ
@@ -78,8 +78,8 @@ letter_s = 115
 unfoldable pub options_named : (paper width height border : Option (List ℕ)) → (signature : Option ℕ) → Workers
     → Result Options CommandFault
 options_named paper width height border signature workers =
-    and_then (ok_or (paper_or_a4 paper) UnknownPaper) (λ named.
-    and_then (ok_or (with_width named width) (BadLength letter_w)) (λ wide.
-    and_then (ok_or (with_height wide height) (BadLength letter_h)) (λ paper.
-    and_then (ok_or (border_named paper border) (BadLength letter_d)) (λ around.
+    result_and_then (ok_or (paper_or_a4 paper) UnknownPaper) (λ named.
+    result_and_then (ok_or (with_width named width) (BadLength letter_w)) (λ wide.
+    result_and_then (ok_or (with_height wide height) (BadLength letter_h)) (λ paper.
+    result_and_then (ok_or (border_named paper border) (BadLength letter_d)) (λ around.
     Ok (record { paper = paper; border = around; sides = signature; workers = workers })))))

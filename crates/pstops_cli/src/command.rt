@@ -3,8 +3,8 @@ ghost use Rattle.std.specs.Prelude.{◌≡◌, IfOk, IfErr, codes, is_some, map,
 ghost use Rattle.clap.specs.Words.{first_value, found_of, matches_of, one_of, rows_of, rule_of};
 ghost use Rattle.imposer.specs.Workers.{AreWorkers};
 ghost use Rattle.rules.specs.Signatures.{most_sides};
-ghost use Rattle.pstops_cli.specs.Command.{Finds, IsChain, ParseRefuses, Reads, RefusesFound, Refuses, Takes};
-ghost use Rattle.pstops_cli.specs.Command.{counted_rule, flag_rule, options_found, positional_rule, pstops};
+ghost use Rattle.pstops_cli.specs.Command.{Finds, IsChain, RefusesParse, Reads, RefusesValues, RefusesWords, TakesWords};
+ghost use Rattle.pstops_cli.specs.Command.{counted_rule, letter_flag_rule, options_found, word_rule, pstops};
 ghost use Rattle.pstops_cli.specs.Command.{ranged_rule, rules, sides_found, valued_rule, workers_found};
 ghost use Rattle.pstops_cli.specs.Values.{AreInRange};
 ghost use Rattle.pstops_cli.specs.Values as meaning;
@@ -69,13 +69,13 @@ impl From<AllocError> for CommandFault {
 /// which are lengths above zero, and of `-d`, which isn't below zero, whatever their order.
 #[tactic(auto, using(crate::proofs::SimpleCommand::pstops_is_simple))]
 pub fn read_command(alloc: Global, words: &[String]) -> Result<Request, CommandFault>
-    ensures taken { IfOk result (λ _. Takes (map string_bytes words.now)) }
+    ensures taken { IfOk result (λ _. TakesWords (map string_bytes words.now)) }
     ensures read { IfOk result (Reads (matches_of pstops (map string_bytes words.now))) }
     ensures workers { IfOk result (λ request. AreWorkers request.options.workers) }
     ensures sides { IfOk result (λ request. AreInRange request.options.sides) }
     // BadWords comes only if the command doesn't take the words, and another refusal only if a value is no paper or
     // no length.
-    ensures refused { IfErr result (Refuses (map string_bytes words.now)) }
+    ensures refused { IfErr result (RefusesWords (map string_bytes words.now)) }
 {
     let matches = parse(alloc, words)?;
     request_of(alloc, &matches)
@@ -83,11 +83,11 @@ pub fn read_command(alloc: Global, words: &[String]) -> Result<Request, CommandF
 
 /// The values that the command finds among the words.
 fn parse<'a>(alloc: Global, words: &'a [String]) -> Result<ArgMatches<'a>, CommandFault>
-    ensures taken { IfOk result (λ _. Takes (map string_bytes words.entry.now)) }
+    ensures taken { IfOk result (λ _. TakesWords (map string_bytes words.entry.now)) }
     ensures found { IfOk result (Finds (map string_bytes words.entry.now)) }
-    ensures refused { IfErr result (ParseRefuses (map string_bytes words.entry.now)) }
+    ensures refused { IfErr result (RefusesParse (map string_bytes words.entry.now)) }
 {
-    let command = command(alloc)?;
+    let command = pstops_command(alloc)?;
     match command.try_get_matches_from(words) {
         Ok(matches) => Ok(matches),
         Err(error) => {
@@ -104,7 +104,7 @@ fn parse<'a>(alloc: Global, words: &'a [String]) -> Result<ArgMatches<'a>, Comma
 fn request_of(alloc: Global, matches: &ArgMatches<'_>) -> Result<Request, CommandFault>
     requires { is_some (first_value (found_of matches.now) (codes "specs")) ≡ true }
     ensures read { IfOk result (Reads (rows_of (found_of matches.now))) }
-    ensures refused { IfErr result (RefusesFound (rows_of (found_of matches.now))) }
+    ensures refused { IfErr result (RefusesValues (rows_of (found_of matches.now))) }
 {
     let options = options_of(matches)?;
     let quiet = is_set(matches, "quiet");
@@ -129,7 +129,7 @@ fn options_of(matches: &ArgMatches<'_>) -> Result<Options, CommandFault>
         text_of(matches, "width"),
         text_of(matches, "height"),
         text_of(matches, "border"),
-        sides_of(matches),
+        sides_option(matches),
         workers_of(matches),
     )
 }
@@ -139,27 +139,27 @@ fn workers_of(matches: &ArgMatches<'_>) -> Workers
     ensures { result ≡ workers_found (rows_of (found_of matches.now)) }
 {
     Workers {
-        preparers: count_of(matches, "preparers"),
-        imposers: count_of(matches, "imposers"),
+        preparers: worker_count(matches, "preparers"),
+        imposers: worker_count(matches, "imposers"),
     }
 }
 
 /// The number of sides that `-s` names.
-fn sides_of(matches: &ArgMatches<'_>) -> Option<u32>
+fn sides_option(matches: &ArgMatches<'_>) -> Option<u32>
     ensures { result ≡ sides_found (rows_of (found_of matches.now)) }
 {
     number_of(matches, "sides")
 }
 
 /// The number of workers that an argument names, 2 if it isn't there.
-fn count_of(matches: &ArgMatches<'_>, id: &str) -> u32
+fn worker_count(matches: &ArgMatches<'_>, id: &str) -> u32
     ensures { result ≡ meaning.count_named (one_of id.now (rows_of (found_of matches.now))) }
 {
     number_of(matches, id).unwrap_or(2)
 }
 
 /// The command. Its own help and version options are switched off, so that their letters are free.
-fn command<'a>(alloc: Global) -> Result<Command<'a>, AllocError>
+fn pstops_command<'a>(alloc: Global) -> Result<Command<'a>, AllocError>
     ensures { IfOk result IsChain }
 {
     let args = args(alloc)?;
@@ -175,29 +175,29 @@ fn args<'a>(alloc: Global) -> Result<Vec<Arg<'a>>, AllocError>
     ensures { IfOk result (λ v. map rule_of v.items ≡ rules) }
 {
     let args = vec![in alloc;
-        positional(alloc, "specs").required(true),
-        positional(alloc, "infile"),
-        positional(alloc, "outfile"),
-        flag(alloc, "quiet", 'q'),
+        positional_argument(alloc, "specs").required(true),
+        positional_argument(alloc, "infile"),
+        positional_argument(alloc, "outfile"),
+        letter_flag(alloc, "quiet", 'q'),
         valued(alloc, "paper", 'p'),
         valued(alloc, "width", 'w'),
         valued(alloc, "height", 'h'),
         valued(alloc, "border", 'd'),
-        counted(alloc, "preparers", 'j'),
-        counted(alloc, "imposers", 'k'),
+        worker_option(alloc, "preparers", 'j'),
+        worker_option(alloc, "imposers", 'k'),
         sided(alloc, "sides", 's'),
     ]?;
     Ok(args)
 }
 
-fn positional<'a>(alloc: Global, id: &'a str) -> Arg<'a>
-    ensures { rule_of result ≡ positional_rule id.entry.now }
+fn positional_argument<'a>(alloc: Global, id: &'a str) -> Arg<'a>
+    ensures { rule_of result ≡ word_rule id.entry.now }
 {
     Arg::new(alloc, id).action(ArgAction::Set)
 }
 
-fn flag<'a>(alloc: Global, id: &'a str, short: char) -> Arg<'a>
-    ensures { rule_of result ≡ flag_rule id.entry.now short }
+fn letter_flag<'a>(alloc: Global, id: &'a str, short: char) -> Arg<'a>
+    ensures { rule_of result ≡ letter_flag_rule id.entry.now short }
 {
     Arg::new(alloc, id).short(short).action(ArgAction::SetTrue)
 }
@@ -210,7 +210,7 @@ fn valued<'a>(alloc: Global, id: &'a str, short: char) -> Arg<'a>
 }
 
 /// An option with a whole number from 1 to 16.
-fn counted<'a>(alloc: Global, id: &'a str, short: char) -> Arg<'a>
+fn worker_option<'a>(alloc: Global, id: &'a str, short: char) -> Arg<'a>
     ensures { rule_of result ≡ counted_rule id.entry.now short }
 {
     valued(alloc, id, short).value_parser(value_parser!(u32).range(1..=16))

@@ -1,10 +1,10 @@
 //! What is said on standard error, and with which exit status the program ends.
 ghost use Rattle.std.specs.Prelude.{◌≡◌, IfOk, string_bytes};
-ghost use Rattle.pstops_cli.specs.Messages.{command_text as text_of_command, document_text as text_of_document};
-ghost use Rattle.pstops_cli.specs.Messages.{fault_status as status_of_fault, fault_text as text_of_fault};
-ghost use Rattle.pstops_cli.specs.Messages.{plan_text as text_of_plan, read_text as text_of_read};
-ghost use Rattle.pstops_cli.specs.Messages.{report_text as text_of_report};
-ghost use Rattle.pstops_cli.specs.Messages.{run_text as text_of_run, said, spec_text as text_of_spec};
+ghost use Rattle.pstops_cli.specs.Messages.{command_message as text_of_command, document_message as text_of_document};
+ghost use Rattle.pstops_cli.specs.Messages.{fault_exit_status as status_of_fault, fault_message as text_of_fault};
+ghost use Rattle.pstops_cli.specs.Messages.{plan_message as text_of_plan, read_message as text_of_read};
+ghost use Rattle.pstops_cli.specs.Messages.{report_message as text_of_report};
+ghost use Rattle.pstops_cli.specs.Messages.{run_message as text_of_run, program_line, spec_message as text_of_spec};
 
 use crate::command::CommandFault;
 use dsc::DscError;
@@ -33,15 +33,15 @@ pub enum Fault {
 /// memory, reading or writing failed.
 pub fn fault_line(alloc: Global, fault: &Fault) -> Result<(u8, Vec<u8>), AllocError>
     ensures status { IfOk result (λ answer. answer.0 ≡ status_of_fault fault.now) }
-    ensures line { IfOk result (λ answer. answer.1.items ≡ said (text_of_fault fault.now)) }
+    ensures line { IfOk result (λ answer. answer.1.items ≡ program_line (text_of_fault fault.now)) }
 {
-    let text = fault_text(alloc, fault)?;
-    Ok((fault_status(fault), line_of(alloc, text.as_str())?))
+    let text = fault_message(alloc, fault)?;
+    Ok((fault_exit_status(fault), line_of(alloc, text.as_str())?))
 }
 
 /// The line of a run that finished.
 pub(crate) fn report_line(alloc: Global, report: &Report) -> Result<Vec<u8>, AllocError>
-    ensures { IfOk result (λ line. line.items ≡ said (text_of_report report.now)) }
+    ensures { IfOk result (λ line. line.items ≡ program_line (text_of_report report.now)) }
 {
     let pages = report.pages;
     let sheets = report.sheets;
@@ -51,13 +51,13 @@ pub(crate) fn report_line(alloc: Global, report: &Report) -> Result<Vec<u8>, All
 }
 
 fn line_of(alloc: Global, text: &str) -> Result<Vec<u8>, AllocError>
-    ensures { IfOk result (λ line. line.items ≡ said text.now) }
+    ensures { IfOk result (λ line. line.items ≡ program_line text.now) }
 {
     let line = format!(in alloc; "pstops: {text}\n")?;
     Ok(line.into_bytes())
 }
 
-fn fault_status(fault: &Fault) -> u8
+fn fault_exit_status(fault: &Fault) -> u8
     ensures { result ≡ status_of_fault fault.now }
 {
     match fault {
@@ -68,18 +68,18 @@ fn fault_status(fault: &Fault) -> u8
     }
 }
 
-fn fault_text(alloc: Global, fault: &Fault) -> Result<String, AllocError>
+fn fault_message(alloc: Global, fault: &Fault) -> Result<String, AllocError>
     ensures { IfOk result (λ text. string_bytes text ≡ text_of_fault fault.now) }
 {
     match fault {
-        Fault::Command(fault) => command_text(alloc, *fault),
-        Fault::Read(fault) => read_text(alloc, *fault),
+        Fault::Command(fault) => command_message(alloc, *fault),
+        Fault::Read(fault) => read_message(alloc, *fault),
         Fault::Create => String::from_str(alloc, "cannot write output"),
-        Fault::Run(error) => run_text(alloc, error),
+        Fault::Run(error) => run_message(alloc, error),
     }
 }
 
-fn command_text(alloc: Global, fault: CommandFault) -> Result<String, AllocError>
+fn command_message(alloc: Global, fault: CommandFault) -> Result<String, AllocError>
     ensures { IfOk result (λ text. string_bytes text ≡ text_of_command fault) }
 {
     match fault {
@@ -90,7 +90,7 @@ fn command_text(alloc: Global, fault: CommandFault) -> Result<String, AllocError
     }
 }
 
-fn read_text(alloc: Global, fault: ReadFault) -> Result<String, AllocError>
+fn read_message(alloc: Global, fault: ReadFault) -> Result<String, AllocError>
     ensures { IfOk result (λ text. string_bytes text ≡ text_of_read fault) }
 {
     match fault {
@@ -99,20 +99,20 @@ fn read_text(alloc: Global, fault: ReadFault) -> Result<String, AllocError>
     }
 }
 
-fn run_text(alloc: Global, error: &RunError) -> Result<String, AllocError>
+fn run_message(alloc: Global, error: &RunError) -> Result<String, AllocError>
     ensures { IfOk result (λ text. string_bytes text ≡ text_of_run error.now) }
 {
     match error {
         RunError::Options => String::from_str(alloc, "bad options"),
-        RunError::Spec(error) => spec_text(alloc, error),
-        RunError::Document(error) => document_text(alloc, error),
-        RunError::Plan(error) => plan_text(alloc, error),
+        RunError::Spec(error) => spec_message(alloc, error),
+        RunError::Document(error) => document_message(alloc, error),
+        RunError::Plan(error) => plan_message(alloc, error),
         RunError::NoMemory { .. } => String::from_str(alloc, "out of memory"),
         RunError::Write { .. } => String::from_str(alloc, "cannot write output"),
     }
 }
 
-fn spec_text(alloc: Global, error: &SpecError) -> Result<String, AllocError>
+fn spec_message(alloc: Global, error: &SpecError) -> Result<String, AllocError>
     ensures { IfOk result (λ text. string_bytes text ≡ text_of_spec error.now) }
 {
     match error {
@@ -137,7 +137,7 @@ fn spec_text(alloc: Global, error: &SpecError) -> Result<String, AllocError>
     }
 }
 
-fn document_text(alloc: Global, error: &DscError) -> Result<String, AllocError>
+fn document_message(alloc: Global, error: &DscError) -> Result<String, AllocError>
     ensures { IfOk result (λ text. string_bytes text ≡ text_of_document error.now) }
 {
     match error {
@@ -151,7 +151,7 @@ fn document_text(alloc: Global, error: &DscError) -> Result<String, AllocError>
     }
 }
 
-fn plan_text(alloc: Global, error: &PlanError) -> Result<String, AllocError>
+fn plan_message(alloc: Global, error: &PlanError) -> Result<String, AllocError>
     ensures { IfOk result (λ text. string_bytes text ≡ text_of_plan error.now) }
 {
     match error {

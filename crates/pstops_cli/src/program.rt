@@ -4,8 +4,8 @@ ghost use Rattle.std.specs.IoError.{error_kind};
 ghost use Rattle.std.specs.declared.io.ErrorKind.TheVariants.{OutOfMemory};
 ghost use Rattle.imposer.specs.declared.outcome.RunError.TheVariants as runs;
 ghost use Rattle.pstops_cli.specs.declared.messages.Fault.TheVariants as faults;
-ghost use Rattle.pstops_cli.specs.Programs.{CarriesOut, CreatesAndRuns, EndsProgram, HasGiven, HasRead, IsSaid};
-ghost use Rattle.pstops_cli.specs.Programs.{IsUnread, StopsBefore};
+ghost use Rattle.pstops_cli.specs.Programs.{CarriesOutWords, CreatesAndRuns, EndsPstops, HasGivenInput, HasRead, IsSaid};
+ghost use Rattle.pstops_cli.specs.Programs.{IsUnreadInput, StopsBefore};
 ghost use Rattle.world.specs.Input.{IsFirst, most_bytes};
 ghost use Rattle.world.specs.Rests.{failures_in, shown};
 ghost use Rattle.world.specs.Worlds.{HasGranted, WasAsked, opening};
@@ -45,15 +45,15 @@ pub fn pstops<R: Threads + Wait + Sync, W: World>(
 ) -> ExitReport<W>
     requires countable { (W.seen world).failures < u64.MAX }
     // It stopped before anything was created; or one output was created, and the request that the words make was run.
-    ensures ended { EndsProgram W.seen (map string_bytes words.now) (W.gives world) (W.tells world) world result.rest
+    ensures ended { EndsPstops W.seen (map string_bytes words.now) (W.gives world) (W.tells world) world result.rest
         (shown W.Output.seen result.rest) (failures_in W.Output.seen result.rest) result.status result.line.items }
     // Status 0 comes only if exactly the output was written.
-    ensures finished { result.status ≡ 0 → CarriesOut (map string_bytes words.now) (W.gives world) (W.tells world)
+    ensures finished { result.status ≡ 0 → CarriesOutWords (map string_bytes words.now) (W.gives world) (W.tells world)
         (shown W.Output.seen result.rest) }
 {
     match read(alloc, words, &mut world) {
         Ok((request, input)) => run_in(rt, alloc, &request, input.as_slice(), world),
-        Err(fault) => stop(alloc, &fault, Rest::World(world)),
+        Err(fault) => ended_with(alloc, &fault, Rest::World(world)),
     }
 }
 
@@ -65,7 +65,7 @@ fn read<W: World>(
 ) -> Result<(Request, Vec<u8>), Fault>
     requires countable { (W.seen world.old).failures < u64.MAX }
     ensures read { IfOk result (λ read. HasRead (map string_bytes words.now) (W.gives world.old) read.0 read.1.items) }
-    ensures given { IfOk result (λ read. HasGiven W.seen read.0 world.old world.new) }
+    ensures given { IfOk result (λ read. HasGivenInput W.seen read.0 world.old world.new) }
     ensures refused { IfErr result (StopsBefore W.seen (map string_bytes words.now) world.old world.new) }
     ensures tells { W.tells world.new ≡ W.tells world.old }
 {
@@ -90,7 +90,7 @@ fn input_of<W: World>(
         IsFirst most_bytes (W.gives world.old (option_map (λ n. n.now) name.entry)) input.items) }
     ensures given { IfOk result (λ _. HasGranted (opening (option_map (λ n. n.now) name.entry)) (W.seen world.old) (W.seen world.new)) }
     ensures asked { IfErr result (λ _. WasAsked (opening (option_map (λ n. n.now) name.entry)) (W.seen world.old) (W.seen world.new)) }
-    ensures unread { IfErr result (λ fault. IsUnread fault (W.seen world.old) (W.seen world.new)) }
+    ensures unread { IfErr result (λ fault. IsUnreadInput fault (W.seen world.old) (W.seen world.new)) }
     ensures tells { W.tells world.new ≡ W.tells world.old }
 {
     match world.open(name) {
@@ -106,7 +106,7 @@ fn input_of<W: World>(
 }
 
 /// Ends with a fault.
-fn stop<W: World>(alloc: Global, fault: &Fault, rest: Rest<W, W::Output>) -> ExitReport<W>
+fn ended_with<W: World>(alloc: Global, fault: &Fault, rest: Rest<W, W::Output>) -> ExitReport<W>
     ensures said { IsSaid fault.now result.status result.line.items }
     ensures rest { result.rest ≡ rest }
 {
@@ -138,7 +138,7 @@ fn run_in<R: Threads + Wait + Sync, W: World>(
         Ok(sink) => sink,
         Err(refused) => {
             let fault = fault_of_creating(&refused.cause);
-            return stop(alloc, &fault, Rest::World(refused.world));
+            return ended_with(alloc, &fault, Rest::World(refused.world));
         }
     };
     let (status, line) = run_request(rt, alloc, request, input, &mut sink);
@@ -147,7 +147,7 @@ fn run_in<R: Threads + Wait + Sync, W: World>(
     if status == 0 && !is_whole {
         // A failed flush is a failed write, whose line doesn't say how much was written.
         let fault = Fault::Run(RunError::Write { written: 0 });
-        return stop(alloc, &fault, rest);
+        return ended_with(alloc, &fault, rest);
     }
     ExitReport { status, line, rest }
 }

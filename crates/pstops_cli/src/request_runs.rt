@@ -6,7 +6,7 @@ ghost use Rattle.sheet_writer.specs.Sinks.{IsCountable};
 ghost use Rattle.imposer.specs.Runs.{Accepted, frame_of};
 ghost use Rattle.imposer.specs.declared.outcome.Report.{Report as ReportValue};
 ghost use Rattle.imposer.specs.declared.outcome.RunError.{RunError as RunErrorValue};
-ghost use Rattle.pstops_cli.specs.RequestRuns.{Ends, IsSaidOf, asked_by, is_silent, outcome_line, outcome_status};
+ghost use Rattle.pstops_cli.specs.RequestRuns.{EndsRun, IsLineOf, asked_by, is_silent, outcome_line, outcome_status};
 
 use crate::command::Request;
 use crate::messages::{Fault, fault_line, report_line};
@@ -30,8 +30,8 @@ pub fn run_request<R: Threads + Wait + Sync, S: Sink>(
     requires countable { IsCountable (S.seen sink.old) }
     // The run ended in some way, with all that a run promises of it, and that way has this status and this line.
     ensures ended { (ended : Result ReportValue RunErrorValue)
-        × Ends (asked_by request.now input.now) (S.seen sink.old) (S.seen sink.new) ended
-        × IsSaidOf request.now.quiet ended result.0 result.1.items }
+        × EndsRun (asked_by request.now input.now) (S.seen sink.old) (S.seen sink.new) ended
+        × IsLineOf request.now.quiet ended result.0 result.1.items }
     // Status 0 comes only if exactly the output was written.
     ensures finished { result.0 ≡ 0 → Accepted (asked_by request.now input.now) (λ spec us.
         Appends (S.seen sink.old).bytes (S.seen sink.new).bytes

@@ -9,7 +9,7 @@ use Rattle.rules.specs.Rows.{Row}
 use Rattle.layouts.specs.Placed.{IsInside, bare}
 use Rattle.row_sheets.specs.RowSheets.{as_it_is, selected, selected_sheet}
 use Rattle.row_sheets.specs.Filled.{SlotIsInside, SlotsAreApart}
-use Rattle.row_runs.specs.Standing.{StandsAlone}
+use Rattle.row_runs.specs.Standing.{HoldsOnePage}
 
 inside : (paper : Paper) → IsInside (bare paper) paper as_it_is
 inside paper p of =
@@ -31,7 +31,7 @@ no_two R slot i j d before less = absurd (few i j before less)
     few : (i j : ℕ) → i < j → j < 1 → ⊥
     few i j before less = omega (arith, before, less)
 
-entry_alone : (papers : List Paper) (blank : Paper) (entry : Option ℕ) → StandsAlone (selected_sheet papers blank entry)
+entry_alone : (papers : List Paper) (blank : Paper) (entry : Option ℕ) → HoldsOnePage (selected_sheet papers blank entry)
 entry_alone papers blank None = record {
   slot = _;
   alone = refl;
@@ -55,6 +55,6 @@ entry_alone papers blank (Some page) =
       };
     }
 
-pub selected_alone : (papers : List Paper) (blank : Paper) (row : Row) → All StandsAlone (selected papers blank row)
+pub selected_alone : (papers : List Paper) (blank : Paper) (row : Row) → All HoldsOnePage (selected papers blank row)
 selected_alone papers blank row =
-    All-map StandsAlone (selected_sheet papers blank) row (λ k d less. entry_alone papers blank (slice_index_or row k d))
+    All-map HoldsOnePage (selected_sheet papers blank) row (λ k d less. entry_alone papers blank (slice_index_or row k d))

@@ -8,10 +8,10 @@ use Rattle.std.proofs.lemmas.Int.{ints}
 use Rattle.rules.specs.Papers.{Paper}
 use Rattle.rules.specs.Placement.{Point, moved, turned}
 use Rattle.rules.specs.Specification.{Item, Measure, Turn, Upright, Left, Half, Right}
-use Rattle.layouts.specs.Placed.{IsOfPage, Room, fine, stands, times}
-use Rattle.layouts.specs.Cells.{in_points, kept}
+use Rattle.layouts.specs.Placed.{IsOfPage, Room, fine, stands, multiplied}
+use Rattle.layouts.specs.Cells.{in_points, kept_length}
 use Rattle.layouts.specs.Laws.{Cell, IsInCell, LiesInCell}
-use Rattle.row_runs.specs.Turning.{corner, excess, long, on_turned, turned_item, turned_paper}
+use Rattle.row_runs.specs.Turning.{turned_corner, excess, scaled_length, on_turned, turned_item, turned_paper}
 use Rattle.row_runs.specs.Written.{TurnedStaysInCell}
 use Rattle.row_runs.proofs.Turns.{turned_stands}
 
@@ -38,11 +38,11 @@ abbrev pub from_start : (t : Turn) → (x y : ℤ) → Point → Point
 from_start t x y q = moved (point (far x) (far y)) (turned t q)
 
 pub starts_at : (t : Turn) (n : ℕ) (from_end : Bool) (page : Paper) (s : ℕ) (x y : ℤ) (q : Point)
-    → stands page (item_at n from_end t s x y) q ≡ from_start t x y (times (pos s) q)
+    → stands page (item_at n from_end t s x y) q ≡ from_start t x y (multiplied (pos s) q)
 starts_at t n from_end page s x y q =
     let a : pos 1_000_000_000 *ℤ ((pos 10_000 *ℤ x) *ℤ pos 127) ≡ far x = omega (arith, ints) in
     let b : pos 1_000_000_000 *ℤ ((pos 10_000 *ℤ y) *ℤ pos 127) ≡ far y = omega (arith, ints) in
-    ap₂ (λ c d. moved (point c d) (turned t (times (pos s) q))) a b
+    ap₂ (λ c d. moved (point c d) (turned t (multiplied (pos s) q))) a b
 
 -- moved before it is turned
 pub moved_first : (t : Turn) (x y : ℤ) (c q : Point) → moved (turned t c) (from_start t x y q) ≡ from_start t x y (moved c q)
@@ -108,13 +108,13 @@ pub scaled_within : (s w : ℕ) (a : ℤ) → pos 0 ≤ℤ a → a ≤ℤ pos w 
 scaled_within s w (pos a) some most =
     let is = pos-*ℤ-pos s a in
     let within : a ≤ w = omega (arith, ints, most) in
-    let times = mul-le-mul_left s within in
-    (omega (arith, ints, is), omega (arith, ints, is, times))
+    let multiplied = mul-le-mul_left s within in
+    (omega (arith, ints, is), omega (arith, ints, is, multiplied))
 scaled_within s w (negsuc a) some most = absurd (omega (arith, ints, some))
 
 -- how far the corner is from where it would be, in the page's own directions
 pub corner_little : (turn : Turn) (n m : ℕ) (e f : ℤ) → pos 0 ≤ℤ e → (e +ℤ pos 1) ≤ℤ fine 1 → pos 0 ≤ℤ f → (f +ℤ pos 1) ≤ℤ fine 1
-    → (pos 0 ≤ℤ (corner turn e f).x) × (((corner turn e f).x +ℤ pos 1) ≤ℤ fine 1) × (pos 0 ≤ℤ (corner turn e f).y) × (((corner turn e f).y +ℤ pos 1) ≤ℤ fine 1) × ((corner turn e f).x ≤ℤ e) × ((corner turn e f).y ≤ℤ f)
+    → (pos 0 ≤ℤ (turned_corner turn e f).x) × (((turned_corner turn e f).x +ℤ pos 1) ≤ℤ fine 1) × (pos 0 ≤ℤ (turned_corner turn e f).y) × (((turned_corner turn e f).y +ℤ pos 1) ≤ℤ fine 1) × ((turned_corner turn e f).x ≤ℤ e) × ((turned_corner turn e f).y ≤ℤ f)
 corner_little Upright n m e f a b c d = (omega (arith, ints), omega (arith, ints), omega (arith, ints), omega (arith, ints), a, c)
 corner_little Left n m e f a b c d = (a, b, omega (arith, ints), omega (arith, ints), omega (arith, ints), c)
 corner_little Half n m e f a b c d = (a, b, c, d, omega (arith, ints), omega (arith, ints))
@@ -155,7 +155,7 @@ box_at turn t i from_end x y w h s =
     let page = paper_of (pos w) (pos h) in
     let item : Item = record { page = i; from_end = from_end; turn = t; scale = pos s; x = in_points x; y = in_points y } in
     let drawn = turned_stands turn page item w h s refl refl refl refl refl in
-    let c = corner turn (excess s w) (excess s h) in
+    let c = turned_corner turn (excess s w) (excess s h) in
     let few = corner_little turn 0 0 (excess s w) (excess s h) drawn.little.0.some drawn.little.0.less drawn.little.1.some drawn.little.1.less in
     let less = drawn.little.0.less in
     let less' = drawn.little.1.less in
@@ -164,8 +164,8 @@ box_at turn t i from_end x y w h s =
       y = y;
       n = s * w;
       m = s * h;
-      l = long (pos s) (pos w);
-      k = long (pos s) (pos h);
+      l = scaled_length (pos s) (pos w);
+      k = scaled_length (pos s) (pos h);
       wide = omega (arith, ints, less);
       high = omega (arith, ints, less');
       first = (
@@ -186,7 +186,7 @@ box_at turn t i from_end x y w h s =
           record {
             a = (pos s *ℤ q.x) +ℤ c.x;
             b = (pos s *ℤ q.y) +ℤ c.y;
-            is = drawn.stand p ∙ ap (moved (turned t c)) (starts_at t i from_end page s x y q) ∙ moved_first t x y c (times (pos s) q);
+            is = drawn.stand p ∙ ap (moved (turned t c)) (starts_at t i from_end page s x y q) ∙ moved_first t x y c (multiplied (pos s) q);
             left = sum_above _ _ a.0 few.0;
             right = sum_below _ _ _ _ a.1 few.4;
             bottom = sum_above _ _ b.0 few.2;
@@ -221,11 +221,11 @@ trimmed turn t n from_end x y w h s trim cell past inside p of =
     let item = item_at n from_end t s x y in
     let drawn = turned_stands turn page item w h s refl refl refl refl refl in
     let q = on_turned turn page p in
-    let c = corner turn (excess s w) (excess s h) in
+    let c = turned_corner turn (excess s w) (excess s h) in
     let few = corner_little turn 0 0 (excess s w) (excess s h) drawn.little.0.some drawn.little.0.less drawn.little.1.some drawn.little.1.less in
-    let at = drawn.stand p ∙ ap (moved (turned t c)) (starts_at t n from_end page s x y q) ∙ moved_first t x y c (times (pos s) q) in
+    let at = drawn.stand p ∙ ap (moved (turned t c)) (starts_at t n from_end page s x y q) ∙ moved_first t x y c (multiplied (pos s) q) in
     subst (LiesInCell cell (past + 1)) (sym at)
-    (little_past t cell past x y c (times (pos s) q) few.0 few.1 few.2 few.3
+    (little_past t cell past x y c (multiplied (pos s) q) few.0 few.1 few.2 few.3
     (subst (LiesInCell cell past) (starts_at t n from_end page s x y q) (inside q (of_turned turn trim w h p of))))
 
 either : (b : Bool) (turn t : Turn) (n : ℕ) (from_end : Bool) (x y : ℤ) (w h s trim : ℕ) (cell : Cell) (past : ℕ) → (trim == 0) ≡ b
@@ -240,7 +240,7 @@ either true turn t n from_end x y w h s trim cell past is inside =
 either false turn t n from_end x y w h s trim cell past is inside = trimmed turn t n from_end x y w h s trim cell past inside
 
 abbrev StaysIn : Turn → Room → Cell → (past : ℕ) → Paper → Item → Type 0
-StaysIn turn room cell past page item = IsInCell room page cell past item → IsInCell room (turned_paper turn page) cell (kept room.trim past) (turned_item turn page item)
+StaysIn turn room cell past page item = IsInCell room page cell past item → IsInCell room (turned_paper turn page) cell (kept_length room.trim past) (turned_item turn page item)
 
 pub turned_stays_in_cell : TurnedStaysInCell
 turned_stays_in_cell turn room page cell past item w h s x y wide high scaled across up =

@@ -23,11 +23,11 @@ use Rattle.row_sheets.specs.Posters.{entry_tiles, poster_paper, row_tiles, tile_
 use Rattle.row_sheets.specs.Shapes.{filling}
 use Rattle.row_sheets.specs.declared.poster.Poster.{Poster}
 use Rattle.row_sheets.proofs.NoPlan.{even_count, none_from}
-use Rattle.row_runs.specs.declared.asked.Laying.{Laying}
-use Rattle.row_runs.specs.declared.asked.Laying.TheVariants as laying
-use Rattle.row_runs.specs.declared.asked.Scheme.TheVariants as scheme
-use Rattle.row_runs.specs.Evened.{evened_if}
-use Rattle.row_runs.specs.Limits.{AreFew, AreFewAsLaid, limit_in, limit_passed}
+use Rattle.row_runs.specs.declared.sheet_request.Laying.{Laying}
+use Rattle.row_runs.specs.declared.sheet_request.Laying.TheVariants as laying
+use Rattle.row_runs.specs.declared.sheet_request.Scheme.TheVariants as scheme
+use Rattle.row_runs.specs.Evened.{at_common_scale}
+use Rattle.row_runs.specs.Limits.{SheetsAreFew, AreFewAsLaid, limit_in, limit_passed}
 use Rattle.row_runs.specs.Sheets.{MayBeLaid, WhyNoPlan, sheets_laid}
 
 -- ---- sheets with as many places each
@@ -120,7 +120,7 @@ passes pages made k e le some even is =
     too_many_places pages made le (at_most 1_000_000 n few) (all_even k made even some (narrow n k (some_of n k placed) thin)) (subst (λ m. 4_000_000 < m) (sym (sum_even k made even)) placed))
     is
 
-keeps : (made : List MadeSheet) (k : ℕ) → HaveSlots k made → limit_passed (length made) k ≡ None → AreFew made
+keeps : (made : List MadeSheet) (k : ℕ) → HaveSlots k made → limit_passed (length made) k ≡ None → SheetsAreFew made
 keeps made k even is =
     let n = length made in
     let (few, thin, placed) = by_none (nat_lt 1_000_000 n) (nat_lt 0 n && nat_lt 4_096 k) (nat_lt 4_000_000 (n * k)) is in
@@ -200,12 +200,12 @@ few_laid (laying.Poster poster) leaves papers row is =
 few_laid other leaves papers row is = tt
 
 -- also at one scale
-few_evened : (same_scale : Bool) (l : Laying) (papers : List Paper) (row : Row) (made : List MadeSheet) → AreFewAsLaid (evened_if same_scale l papers row) made → AreFewAsLaid l made
+few_evened : (same_scale : Bool) (l : Laying) (papers : List Paper) (row : Row) (made : List MadeSheet) → AreFewAsLaid (at_common_scale same_scale l papers row) made → AreFewAsLaid l made
 few_evened false l papers row made h = h
 few_evened true (laying.InCells t (scheme.Cards cells)) papers row made h = h
 few_evened true other papers row made h = h
 
-pub few_made : (same_scale : Bool) (l even : Laying) (leaves : ℕ) (papers : List Paper) (row : Row) (made : List MadeSheet) → even ≡ evened_if same_scale l papers row → made ≡ sheets_laid even leaves papers row
+pub few_made : (same_scale : Bool) (l even : Laying) (leaves : ℕ) (papers : List Paper) (row : Row) (made : List MadeSheet) → even ≡ at_common_scale same_scale l papers row → made ≡ sheets_laid even leaves papers row
     → limit_in even (length row) ≡ None → AreFewAsLaid l made
 few_made same_scale l even leaves papers row made is laid few =
     few_evened same_scale l papers row made

@@ -20,15 +20,15 @@ use Rattle.dressing.specs.declared.strokes.Marks.{Marks}
 use Rattle.preview.specs.declared.guides.Guide.{Guide}
 use Rattle.preview.specs.declared.guides.GuideKind.{GuideKind}
 use Rattle.preview.specs.declared.guides.GuideKind.TheVariants.{Margin, Fold, Cut}
-use Rattle.row_runs.specs.declared.asked.Laying.TheVariants as laying
-use Rattle.row_runs.specs.declared.asked.Scheme.TheVariants as scheme
-use Rattle.row_runs.specs.Evened.{evened_if}
+use Rattle.row_runs.specs.declared.sheet_request.Laying.TheVariants as laying
+use Rattle.row_runs.specs.declared.sheet_request.Scheme.TheVariants as scheme
+use Rattle.row_runs.specs.Evened.{at_common_scale}
 use Rattle.row_runs.specs.Guides.{guides_in}
 use Rattle.row_runs.specs.Marked.{strokes_in}
-use Rattle.row_runs.specs.Mirrored.{mirrored}
+use Rattle.row_runs.specs.SwappedMargins.{swapped}
 use Rattle.row_runs.specs.Numbers.{below_middle}
 use Rattle.row_runs.specs.Sheets.{leaves_in, sheets_laid}
-use Rattle.row_runs.specs.ToldPages.{told_pages}
+use Rattle.row_runs.specs.DeclaredPages.{declared_page_count}
 
 -- a sheet of 100 by 200 points with a margin of 10 points and a gap of 4, in two columns
 abbrev halves : Setting
@@ -39,8 +39,8 @@ halves = record {
     right = 1_000_000;
     bottom = 1_000_000;
     top = 1_000_000;
-    gap_across = 400_000;
-    gap_up = 400_000;
+    gutter_across = 400_000;
+    gutter_up = 400_000;
     trim = 0;
   };
   grid = record { rows = 1; columns = 2; turned = false };
@@ -78,7 +78,7 @@ leaves_are_cut : map kind_of (guides_in (laying.InCells halves scheme.Leaves)) �
 leaves_are_cut = refl
 
 -- cards have one scale, if that is asked for
-cards_have_one : (papers : List Paper) (row : Row) → evened_if true (laying.InCells halves (scheme.Cards 2)) papers row
+cards_have_one : (papers : List Paper) (row : Row) → at_common_scale true (laying.InCells halves (scheme.Cards 2)) papers row
     ≡ laying.InCells (at_one_scale (filling halves papers) row) (scheme.Cards 2)
 cards_have_one papers row = refl
 
@@ -98,7 +98,7 @@ abbrev across : MadeSlot → ℤ
 across Blank = pos 0
 across (Placed page item paper) = item.x.number
 
-backs_are_moved : map (λ (sheet : MadeSheet). map across sheet.slots) (mirrored (Some bound) (side ∷ side ∷ side ∷ []))
+backs_are_moved : map (λ (sheet : MadeSheet). map across sheet.slots) (swapped (Some bound) (side ∷ side ∷ side ∷ []))
     ≡ (pos 20_000_000_000 ∷ pos 0 ∷ []) ∷ (pos 10_000_000_000 ∷ pos 0 ∷ []) ∷ (pos 20_000_000_000 ∷ pos 0 ∷ []) ∷ []
 backs_are_moved = refl
 
@@ -131,19 +131,19 @@ twenty_pages : leaves_in (Some InOne) (all_pages 20) ≡ 5
 twenty_pages = refl
 
 -- the number of pages that a document says
-told : told_pages (codes "%!\n%%Pages: 4 1\n%%EndComments\n%%Pages: 5\n") ≡ Some 4
+told : declared_page_count (codes "%!\n%%Pages: 4 1\n%%EndComments\n%%Pages: 5\n") ≡ Some 4
 told = refl
 
-told_at_the_end : told_pages (codes "%!\n%%Pages: (atend)\n%%Page: 1 1\n%%Pages: 9\n%%Trailer\n%%Pages: 4\n%%EOF\n") ≡ Some 4
+told_at_the_end : declared_page_count (codes "%!\n%%Pages: (atend)\n%%Page: 1 1\n%%Pages: 9\n%%Trailer\n%%Pages: 4\n%%EOF\n") ≡ Some 4
 told_at_the_end = refl
 
 -- what is embedded in the trailer says nothing of the document
-told_outside : told_pages (codes "%!\n%%Pages: (atend)\n%%Page: 1 1\n%%Trailer\n%%BeginDocument: q\n%%Pages: 8\n%%EndDocument\n%%Pages: 1\n") ≡ Some 1
+told_outside : declared_page_count (codes "%!\n%%Pages: (atend)\n%%Page: 1 1\n%%Trailer\n%%BeginDocument: q\n%%Pages: 8\n%%EndDocument\n%%Pages: 1\n") ≡ Some 1
 told_outside = refl
 
 -- without a trailer nothing is told at the end
-told_at_no_end : told_pages (codes "%!\n%%Pages: (atend)\n%%Page: 1 1\n%%Pages: 9\n") ≡ None
+told_at_no_end : declared_page_count (codes "%!\n%%Pages: (atend)\n%%Page: 1 1\n%%Pages: 9\n") ≡ None
 told_at_no_end = refl
 
-told_by_no_number : map told_pages (codes "%!\n" ∷ codes "%!\n%%Pages:\n" ∷ codes "%!\n%%Pages: -1\n" ∷ codes "%!\n%%Pages: 4x\n" ∷ codes "%!\n\n%%Pages: 4\n" ∷ []) ≡ None ∷ None ∷ None ∷ None ∷ None ∷ []
+told_by_no_number : map declared_page_count (codes "%!\n" ∷ codes "%!\n%%Pages:\n" ∷ codes "%!\n%%Pages: -1\n" ∷ codes "%!\n%%Pages: 4x\n" ∷ codes "%!\n\n%%Pages: 4\n" ∷ []) ≡ None ∷ None ∷ None ∷ None ∷ None ∷ []
 told_by_no_number = refl

@@ -14,23 +14,23 @@ use Rattle.rules.specs.Made.{MadeSlot, Blank, Placed, MadeSheet}
 use Rattle.rules.specs.Rows.{Row}
 use Rattle.layouts.specs.declared.setting.Setting.{Setting}
 use Rattle.layouts.specs.Placed.{Room}
-use Rattle.layouts.specs.Cells.{along_width, column_of, in_points, item_in, kept, part, row_of, size, step, to_right, to_top, whole}
+use Rattle.layouts.specs.Cells.{along_width, column_of, in_points, item_in_cell, kept_length, part, row_of, size, pitch, to_right, to_top, whole_parts}
 use Rattle.layouts.specs.Fitted.{fitted, is_whole, past_cell, scale_on}
-use Rattle.layouts.specs.Grids.{alone}
+use Rattle.layouts.specs.Grids.{page_alone}
 use Rattle.layouts.specs.Laws.{Cell, IsInCell, IsPaper, cell_at}
 use Rattle.layouts.proofs.Fitting.{fitted_stands, one_of_many}
 use Rattle.layouts.proofs.InGrid.{sides_are}
-use Rattle.row_sheets.specs.Filled.{Filling, filled, slot_in, slot_on, zine_entry, zine_place, zine_sheets, zine_slot}
-use Rattle.row_sheets.specs.Standing.{AllFit, EntryFits}
+use Rattle.row_sheets.specs.Filled.{Filling, filled, slot_in_cell, slot_on, zine_entry, zine_place, zine_sheets, zine_slot}
+use Rattle.row_sheets.specs.Standing.{AllEntriesFit, EntryFits}
 use Rattle.row_sheets.specs.Zine.{AreZineCells, past_row, zine_turn}
 use Rattle.row_sheets.specs.Zine as zine
 use Rattle.row_sheets.proofs.OnSheets.{numbered as numbered_in_turn}
 use Rattle.row_sheets.proofs.ZineCells.{zine_lies_in_cells}
-use Rattle.row_runs.specs.Mirrored.{exchanged, mirror_on, mirrored, moved_item, moved_sheet, moved_slot, shift}
-use Rattle.row_runs.specs.Turning.{both, turned_item, turned_paper, turned_sheet, turned_slot, farther}
+use Rattle.row_runs.specs.SwappedMargins.{exchanged, swapped_room_on, swapped, moved_item, moved_sheet, moved_slot, swap_shift}
+use Rattle.row_runs.specs.Turning.{turn_sum, turned_item, turned_paper, turned_sheet, turned_slot, shifted}
 use Rattle.row_runs.specs.Written.{AreInCells, AreInZines, SlotIsInCell, SlotIsInZine, side_room}
 use Rattle.row_runs.proofs.Boxes.{turned_stays_in_cell}
-use Rattle.row_runs.proofs.Backs.{across_moved, at_place, either_way, fused, unmirrored, unmoved}
+use Rattle.row_runs.proofs.Backs.{across_moved, at_place, either_way, fused, unswapped, unmoved}
 use Rattle.row_runs.proofs.Written.{count_is, even_sheets}
 
 -- ---- the page of a cell
@@ -43,7 +43,7 @@ twice_turned Right paper = refl
 
 -- a page in its cell, or as it is, is moved by whole 10^-5 of a point
 pub moved_by : (b : Bool) (t : Setting) (page : Paper) (c s : ℕ)
-    → (x y : ℤ) × ((if b then alone c else item_in page t.room t.grid t.order s c).x ≡ in_points x) × ((if b then alone c else item_in page t.room t.grid t.order s c).y ≡ in_points y)
+    → (x y : ℤ) × ((if b then page_alone c else item_in_cell page t.room t.grid t.order s c).x ≡ in_points x) × ((if b then page_alone c else item_in_cell page t.room t.grid t.order s c).y ≡ in_points y)
 moved_by true t page c s = (pos 0, pos 0, refl, refl)
 moved_by false t page c s = (
   to_right page t.room t.grid s (row_of t.order t.grid c) (column_of t.order t.grid c),
@@ -53,7 +53,7 @@ moved_by false t page c s = (
 )
 
 -- on a front
-on_front : (turn : Turn) (f : Filling) (c : ℕ) (entry : Option ℕ) → c < size f.setting.grid → EntryFits f entry → SlotIsInCell turn f.setting f.setting.room c (turned_slot turn (slot_in f c entry))
+on_front : (turn : Turn) (f : Filling) (c : ℕ) (entry : Option ℕ) → c < size f.setting.grid → EntryFits f entry → SlotIsInCell turn f.setting f.setting.room c (turned_slot turn (slot_in_cell f c entry))
 on_front turn f c None within has = tt
 on_front turn f c (Some page) within has =
     let t = f.setting in
@@ -63,7 +63,7 @@ on_front turn f c (Some page) within has =
     let is = fitted_stands t paper c has.page_is has.sheet_is within has.fits in
     let sides = sides_are paper has.page_is in
     let by = moved_by (is_whole t paper) t paper c (scale_on t paper) in
-    subst (λ (q : Paper). IsInCell t.room (turned_paper turn paper) cell (kept t.room.trim (past_cell t q)) (turned_item turn paper item)) (sym (twice_turned turn paper))
+    subst (λ (q : Paper). IsInCell t.room (turned_paper turn paper) cell (kept_length t.room.trim (past_cell t q)) (turned_item turn paper item)) (sym (twice_turned turn paper))
     (turned_stays_in_cell turn t.room paper cell (past_cell t paper) item (nat_abs paper.width) (nat_abs paper.height) is.scale by.0 by.1
     (ap (λ (p : Paper). p.width) sides) (ap (λ (p : Paper). p.height) sides) is.scale_is by.2 by.3 is.in_cell)
 
@@ -80,10 +80,10 @@ kept_both : (b : Bool) (l r : ℕ) → (if b then r else r + 1) + l ≡ (if b th
 kept_both true l r = omega arith
 kept_both false l r = omega arith
 
-same_step : (room : Room) (side parts : ℕ) → step (along_width (exchanged room)) side parts ≡ step (along_width room) side parts
+same_step : (room : Room) (side parts : ℕ) → pitch (along_width (exchanged room)) side parts ≡ pitch (along_width room) side parts
 same_step room side parts =
-    let same : kept room.trim room.right + kept room.trim room.left ≡ kept room.trim room.left + kept room.trim room.right = omega arith in
-    ap (λ n. part ((side - 1_270_000 * n) + 1_270_000 * kept room.trim room.gap_across) parts) same
+    let same : kept_length room.trim room.right + kept_length room.trim room.left ≡ kept_length room.trim room.left + kept_length room.trim room.right = omega arith in
+    ap (λ n. part ((side - 1_270_000 * n) + 1_270_000 * kept_length room.trim room.gutter_across) parts) same
 
 moved_left : (l r l' r' s : ℕ) → r' + l ≡ l' + r → (r' + s) + l ≡ (l' + s) + r
 moved_left l r l' r' s e = omega (arith, e)
@@ -94,20 +94,20 @@ moved_cell room rows columns false row column =
     let w = nat_abs room.paper.width in
     let same = same_step room w columns in
     record {
-      left = ap (λ n. kept room.trim room.right + column * n + room.left) same
-          ∙ moved_left room.left room.right (kept room.trim room.left) (kept room.trim room.right) (column * step (along_width room) w columns) (kept_both (room.trim == 0) room.left room.right);
+      left = ap (λ n. kept_length room.trim room.right + column * n + room.left) same
+          ∙ moved_left room.left room.right (kept_length room.trim room.left) (kept_length room.trim room.right) (column * pitch (along_width room) w columns) (kept_both (room.trim == 0) room.left room.right);
       bottom = refl;
-      width = ap (λ n. n - kept room.trim room.gap_across) same;
+      width = ap (λ n. n - kept_length room.trim room.gutter_across) same;
       height = refl;
     }
 moved_cell room rows columns true row column =
     let w = nat_abs room.paper.width in
     let same = same_step room w rows in
     record {
-      left = ap (λ n. kept room.trim room.right + row * n + room.left) same
-          ∙ moved_left room.left room.right (kept room.trim room.left) (kept room.trim room.right) (row * step (along_width room) w rows) (kept_both (room.trim == 0) room.left room.right);
+      left = ap (λ n. kept_length room.trim room.right + row * n + room.left) same
+          ∙ moved_left room.left room.right (kept_length room.trim room.left) (kept_length room.trim room.right) (row * pitch (along_width room) w rows) (kept_both (room.trim == 0) room.left room.right);
       bottom = refl;
-      width = ap (λ n. n - kept room.trim room.gap_across) same;
+      width = ap (λ n. n - kept_length room.trim room.gutter_across) same;
       height = refl;
     }
 
@@ -120,13 +120,13 @@ back_in_cell room page c c' past item is points inside p of =
     let left = at.left in let right = at.right in let bottom = at.bottom in let top = at.top in
     record { left = omega (arith, ints, by, l, left); right = omega (arith, ints, by, l, w, right); bottom = omega (arith, ints, b, bottom); top = omega (arith, ints, b, h, top) }
 
-pub moved_too : (x by : ℤ) (m : Measure) → m ≡ in_points x → farther by m ≡ in_points (x +ℤ by)
+pub moved_too : (x by : ℤ) (m : Measure) → m ≡ in_points x → shifted by m ≡ in_points (x +ℤ by)
 moved_too x by m is =
     let n : (pos 10_000 *ℤ x) +ℤ (pos 10_000 *ℤ by) ≡ pos 10_000 *ℤ (x +ℤ by) = omega (arith, ints) in
-    ap (farther by) is ∙ ap (λ z. record { number = z; unit = Pt }) n
+    ap (shifted by) is ∙ ap (λ z. record { number = z; unit = Pt }) n
 
 on_back : (turn : Turn) (f : Filling) (c : ℕ) (entry : Option ℕ) → c < size f.setting.grid → EntryFits f entry
-    → SlotIsInCell turn f.setting (exchanged f.setting.room) c (turned_slot turn (moved_slot (Some f.setting.room) (slot_in f c entry)))
+    → SlotIsInCell turn f.setting (exchanged f.setting.room) c (turned_slot turn (moved_slot (Some f.setting.room) (slot_in_cell f c entry)))
 on_back turn f c None within has = tt
 on_back turn f c (Some page) within has =
     let t = f.setting in
@@ -140,24 +140,24 @@ on_back turn f c (Some page) within has =
     let by = moved_by (is_whole t paper) t paper c (scale_on t paper) in
     let inside = back_in_cell t.room paper (cell_at t.room t.grid row column) cell (past_cell t paper) item
     (moved_cell t.room t.grid.rows t.grid.columns t.grid.turned row column) (ap (λ (m : Measure). m.unit) by.2) is.in_cell in
-    subst (λ (q : Paper). IsInCell (exchanged t.room) (turned_paper turn paper) cell (kept t.room.trim (past_cell t q)) (turned_item turn paper (moved_item (Some t.room) item))) (sym (twice_turned turn paper))
-    (turned_stays_in_cell turn (exchanged t.room) paper cell (past_cell t paper) (moved_item (Some t.room) item) (nat_abs paper.width) (nat_abs paper.height) is.scale (by.0 +ℤ shift t.room) by.1
-    (ap (λ (p : Paper). p.width) sides) (ap (λ (p : Paper). p.height) sides) is.scale_is (moved_too by.0 (shift t.room) item.x by.2) by.3 inside)
+    subst (λ (q : Paper). IsInCell (exchanged t.room) (turned_paper turn paper) cell (kept_length t.room.trim (past_cell t q)) (turned_item turn paper (moved_item (Some t.room) item))) (sym (twice_turned turn paper))
+    (turned_stays_in_cell turn (exchanged t.room) paper cell (past_cell t paper) (moved_item (Some t.room) item) (nat_abs paper.width) (nat_abs paper.height) is.scale (by.0 +ℤ swap_shift t.room) by.1
+    (ap (λ (p : Paper). p.width) sides) (ap (λ (p : Paper). p.height) sides) is.scale_is (moved_too by.0 (swap_shift t.room) item.x by.2) by.3 inside)
 
 on_either : (back : Bool) (turn : Turn) (f : Filling) (c : ℕ) (entry : Option ℕ) → c < size f.setting.grid → EntryFits f entry
-    → SlotIsInCell turn f.setting (if back then exchanged f.setting.room else f.setting.room) c (turned_slot turn (moved_slot (if back then Some f.setting.room else None) (slot_in f c entry)))
+    → SlotIsInCell turn f.setting (if back then exchanged f.setting.room else f.setting.room) c (turned_slot turn (moved_slot (if back then Some f.setting.room else None) (slot_in_cell f c entry)))
 on_either true turn f c entry within has = on_back turn f c entry within has
 on_either false turn f c entry within has =
-    subst (λ x. SlotIsInCell turn f.setting f.setting.room c (turned_slot turn x)) (sym (unmoved (slot_in f c entry))) (on_front turn f c entry within has)
+    subst (λ x. SlotIsInCell turn f.setting f.setting.room c (turned_slot turn x)) (sym (unmoved (slot_in_cell f c entry))) (on_front turn f c entry within has)
 
-abbrev pub mirror_of : Bool → Room → Option Room
-mirror_of m room = if m then Some room else None
+abbrev pub swapped_room_of : Bool → Room → Option Room
+swapped_room_of m room = if m then Some room else None
 
 pub on_side : (m : Bool) (turn : Turn) (f : Filling) (s c : ℕ) (entry : Option ℕ) → c < size f.setting.grid → EntryFits f entry
-    → SlotIsInCell turn f.setting (side_room m f.setting.room s) c (turned_slot turn (moved_slot (mirror_on (mirror_of m f.setting.room) s) (slot_in f c entry)))
+    → SlotIsInCell turn f.setting (side_room m f.setting.room s) c (turned_slot turn (moved_slot (swapped_room_on (swapped_room_of m f.setting.room) s) (slot_in_cell f c entry)))
 on_side true turn f s c entry within has = on_either (s % 2 == 1) turn f c entry within has
 on_side false turn f s c entry within has =
-    subst (λ m. SlotIsInCell turn f.setting f.setting.room c (turned_slot turn (moved_slot m (slot_in f c entry)))) (sym (either_way (s % 2 == 1) None))
+    subst (λ m. SlotIsInCell turn f.setting f.setting.room c (turned_slot turn (moved_slot m (slot_in_cell f c entry)))) (sym (either_way (s % 2 == 1) None))
     (on_either false turn f c entry within has)
 
 -- ---- all sheets
@@ -170,31 +170,31 @@ numbered P g f n h = subst (Each P) (fused g f (range_with_len 0 n)) (numbered_i
 
 -- sheet s of those that are moved and turned
 pub sheet_is : (turn : Turn) (m : Option Room) (made : ℕ → MadeSheet) (sheets s : ℕ) (d : MadeSheet) → s < sheets
-    → slice_index_or (map (turned_sheet turn) (mirrored m (map made (range_with_len 0 sheets)))) s d ≡ turned_sheet turn (moved_sheet (mirror_on m s) (made s))
+    → slice_index_or (map (turned_sheet turn) (swapped m (map made (range_with_len 0 sheets)))) s d ≡ turned_sheet turn (moved_sheet (swapped_room_on m s) (made s))
 sheet_is turn m made sheets s d less =
     let laid = map made (range_with_len 0 sheets) in
     let many = length-map-range_with_len made 0 sheets in
     let count = count_is m 0 laid in
     let within : s < length laid = omega (arith, less, many) in
     let here : 0 + s ≡ s = omega arith in
-    get_or-map (turned_sheet turn) (mirrored m laid) s d d (omega (arith, within, count))
-    ∙ ap (turned_sheet turn) (at_place m 0 s laid d within ∙ ap₂ (λ k x. moved_sheet (mirror_on m k) x) here (get_or-map-range_with_len made 0 sheets s s d less (omega arith)))
+    get_or-map (turned_sheet turn) (swapped m laid) s d d (omega (arith, within, count))
+    ∙ ap (turned_sheet turn) (at_place m 0 s laid d within ∙ ap₂ (λ k x. moved_sheet (swapped_room_on m k) x) here (get_or-map-range_with_len made 0 sheets s s d less (omega arith)))
 
 pub filled_lie : (m : Bool) (turn : Turn) (f : Filling) (sheets cells : ℕ) (entry : (s c : ℕ) → Option ℕ) → cells ≤ size f.setting.grid → ((s c : ℕ) → EntryFits f (entry s c))
-    → AreInCells turn m f.setting (map (turned_sheet turn) (mirrored (mirror_of m f.setting.room) (filled f sheets cells entry)))
+    → AreInCells turn m f.setting (map (turned_sheet turn) (swapped (swapped_room_of m f.setting.room) (filled f sheets cells entry)))
 filled_lie m turn f sheets cells entry enough fits s c sheet d less within =
-    let mir = mirror_of m f.setting.room in
-    let slot : ℕ → ℕ → MadeSlot = λ s c. slot_in f c (entry s c) in
+    let mir = swapped_room_of m f.setting.room in
+    let slot : ℕ → ℕ → MadeSlot = λ s c. slot_in_cell f c (entry s c) in
     let made : ℕ → MadeSheet = λ s. record { paper = f.setting.room.paper; slots = map (slot s) (range_with_len 0 cells) } in
     let laid = map made (range_with_len 0 sheets) in
-    let all = map (turned_sheet turn) (mirrored mir laid) in
+    let all = map (turned_sheet turn) (swapped mir laid) in
     let many = length-map-range_with_len made 0 sheets in
     let count = count_is mir 0 laid in
-    let same = length-map (mirrored mir laid) (turned_sheet turn) in
+    let same = length-map (swapped mir laid) (turned_sheet turn) in
     let below : s < sheets = omega (arith, less, same, count, many) in
     let is = sheet_is turn mir made sheets s sheet below in
     let P = SlotIsInCell turn f.setting (side_room m f.setting.room s) in
-    let mv = moved_slot (mirror_on mir s) in
+    let mv = moved_slot (swapped_room_on mir s) in
     let lie : Each P (map (turned_slot turn) (map mv (map (slot s) (range_with_len 0 cells)))) =
     subst (Each P) (fused (turned_slot turn) mv (map (slot s) (range_with_len 0 cells)))
     (numbered P (λ x. turned_slot turn (mv x)) (slot s) cells (λ k in_k. on_side m turn f s k (entry s k) (omega (arith, in_k, enough)) (fits s k))) in
@@ -230,8 +230,8 @@ zine_is_whole true f c (Some page) many has =
       sides = has.page_is;
       scale = s;
       scale_is = refl;
-      x = pos (whole (nat_abs t.room.paper.width)) -ℤ to_right paper t.room t.grid s row column;
-      y = pos (whole (nat_abs t.room.paper.height)) -ℤ to_top paper t.room t.grid s row column;
+      x = pos (whole_parts (nat_abs t.room.paper.width)) -ℤ to_right paper t.room t.grid s row column;
+      y = pos (whole_parts (nat_abs t.room.paper.height)) -ℤ to_top paper t.room t.grid s row column;
       x_is = refl;
       y_is = refl;
     }
@@ -239,7 +239,7 @@ zine_is_whole false f c (Some page) many has =
     let t = f.setting in
     let paper = f.paper_of page in
     let by = moved_by (is_whole t paper) t paper c (scale_on t paper) in
-    let is = cond-false (is_whole t paper) (alone c) (item_in paper t.room t.grid t.order (scale_on t paper) c) (one_of_many t paper many) in
+    let is = cond-false (is_whole t paper) (page_alone c) (item_in_cell paper t.room t.grid t.order (scale_on t paper) c) (one_of_many t paper many) in
     record { sides = has.page_is; scale = scale_on t paper; scale_is = ap (λ (i : Item). i.scale) is; x = by.0; y = by.1; x_is = by.2; y_is = by.3 }
 
 zine_turned : (turn : Turn) (t : Setting) (c : ℕ) (slot : MadeSlot) → t.room.trim ≡ 0 → SlotIsWhole slot → zine.SlotLiesInZine t c slot → SlotIsInZine turn t c (turned_slot turn slot)
@@ -248,13 +248,13 @@ zine_turned turn t c Blank trim is lies = tt
 zine_turned turn t c (Placed page item paper) trim is lies =
     let cell = cell_at t.room t.grid (row_of t.order t.grid c) (column_of t.order t.grid c) in
     let sides = sides_are paper is.sides in (
-      ap (both turn) lies.turn,
+      ap (turn_sum turn) lies.turn,
       subst (λ n. IsInCell t.room (turned_paper turn paper) cell n (turned_item turn paper item)) (ap (λ l. if l == 0 then past_row c else past_row c + 1) trim)
           (turned_stays_in_cell turn t.room paper cell (past_row c) item (nat_abs paper.width) (nat_abs paper.height) is.scale is.x is.y
           (ap (λ (p : Paper). p.width) sides) (ap (λ (p : Paper). p.height) sides) is.scale_is is.x_is is.y_is lies.in_cell),
     )
 
-zine_sheet_lies : (turn : Turn) (f : Filling) (row : Row) (s : ℕ) → AreZineCells f.setting → AllFit f row
+zine_sheet_lies : (turn : Turn) (f : Filling) (row : Row) (s : ℕ) → AreZineCells f.setting → AllEntriesFit f row
     → ((c : ℕ) (d : MadeSlot) → c < length (map (λ c. zine_slot f c (zine_entry row s c)) (range_with_len 0 8)) → zine.SlotLiesInZine f.setting c (slice_index_or (map (λ c. zine_slot f c (zine_entry row s c)) (range_with_len 0 8)) c d))
     → Each (SlotIsInZine turn f.setting) (map (turned_slot turn) (map (λ c. zine_slot f c (zine_entry row s c)) (range_with_len 0 8)))
 zine_sheet_lies turn f row s cells fits lie =
@@ -267,12 +267,12 @@ zine_sheet_lies turn f row s cells fits lie =
     (subst (zine.SlotLiesInZine f.setting c) (get_or-map-range_with_len slot 0 8 c c Blank within (omega arith)) (lie c Blank (omega (arith, within, many)))))
 
 -- margins that are even are exchanged without a change
-pub even_either : (m : Bool) (room : Room) → room.left ≡ room.right → (xs : List MadeSheet) → mirrored (mirror_of m room) xs ≡ xs
+pub even_either : (m : Bool) (room : Room) → room.left ≡ room.right → (xs : List MadeSheet) → swapped (swapped_room_of m room) xs ≡ xs
 even_either true room even xs = even_sheets room even 0 xs
-even_either false room even xs = unmirrored 0 xs
+even_either false room even xs = unswapped 0 xs
 
-pub zines_lie : (m : Bool) (turn : Turn) (f : Filling) (row : Row) → AreZineCells f.setting → AllFit f row
-    → AreInZines turn f.setting (map (turned_sheet turn) (mirrored (mirror_of m f.setting.room) (zine_sheets f row)))
+pub zines_lie : (m : Bool) (turn : Turn) (f : Filling) (row : Row) → AreZineCells f.setting → AllEntriesFit f row
+    → AreInZines turn f.setting (map (turned_sheet turn) (swapped (swapped_room_of m f.setting.room) (zine_sheets f row)))
 zines_lie m turn f row cells fits =
     let made : ℕ → MadeSheet = λ s. record { paper = f.setting.room.paper; slots = map (λ c. zine_slot f c (zine_entry row s c)) (range_with_len 0 8) } in
     let sheets = blocks 8 (length row) in

@@ -10,24 +10,24 @@ use Rattle.rules.specs.Specification.{Item, Measure, Turn, Upright, Left, Half, 
 use Rattle.rules.specs.Made.{Blank, MadeSheet, MadeSlot, Placed}
 use Rattle.rules.specs.Rows.{Row}
 use Rattle.layouts.specs.declared.setting.Setting.{Setting}
-use Rattle.layouts.specs.Cells.{kept, size}
+use Rattle.layouts.specs.Cells.{kept_length, size}
 use Rattle.layouts.specs.Laws.{LiesInCell}
 use Rattle.layouts.specs.Placed.{IsOfPage, Room, fine, stands}
 use Rattle.layouts.proofs.InGrid.{on_sheet, sides_are}
 use Rattle.row_sheets.specs.Creep.{AreHalves, creep_on, creeping, creeping_sheets, creeping_slot, in_half, moved_up, up_to_fold}
 use Rattle.row_sheets.specs.Filled.{Filling, SlotIsInside, grid_entry, is_turned}
-use Rattle.row_sheets.specs.Halves.{creeping_half, crept_room, is_before, side_turn}
-use Rattle.row_sheets.specs.Standing.{AllFitOnLeaves, EntryCreeps, EntryFits, StandsIn, fold_on}
+use Rattle.row_sheets.specs.Halves.{creeping_half, crept_room, is_before_fold, side_turn}
+use Rattle.row_sheets.specs.Standing.{AllFitOnLeaves, EntryCreeps, EntryFits, StandsInRoom, fold_on}
 use Rattle.row_sheets.proofs.Halves.{slot_lies}
 use Rattle.row_sheets.proofs.LeftGap.{side_of, side_stands, slot_stays}
 use Rattle.row_sheets.proofs.OnLeaves.{SlotStays, fits_in, line, line_in_middle}
 use Rattle.row_sheets.proofs.OnSheets.{numbered as numbered_in_turn}
-use Rattle.row_runs.specs.Mirrored.{mirrored}
-use Rattle.row_runs.specs.Turning.{both, turned_item, turned_paper, turned_sheet, turned_slot}
+use Rattle.row_runs.specs.SwappedMargins.{swapped}
+use Rattle.row_runs.specs.Turning.{turn_sum, turned_item, turned_paper, turned_sheet, turned_slot}
 use Rattle.row_runs.specs.Written.{AreInHalves, KeepFold, KeepLeaves, SlotIsInHalf, SlotKeepsFold}
 use Rattle.row_runs.proofs.Backs.{fused}
 use Rattle.row_runs.proofs.Boxes.{from_start, point, turned_stays_in_cell}
-use Rattle.row_runs.proofs.InCells.{IsWhole, SlotIsWhole, even_either, mirror_of, numbered, zine_is_whole}
+use Rattle.row_runs.proofs.InCells.{IsWhole, SlotIsWhole, even_either, swapped_room_of, numbered, zine_is_whole}
 use Rattle.row_runs.proofs.Rooms.{SlotIsWhole as SlotIsWholeSo, all_apart, box, inside}
 
 -- ---- a page
@@ -70,8 +70,8 @@ slot_in_half turn f by_half k creep (Some page) less halved has =
     let lies = slot_lies f by_half k creep (Some page) less halved has in
     let is = page_is_whole f by_half k creep page halved has in
     let sides = sides_are paper is.sides in (
-      ap (both turn) lies.turn,
-      turned_stays_in_cell turn t.room paper (creeping_half t by_half k creep) (kept t.room.trim 0) (creeping t by_half paper k creep) (nat_abs paper.width) (nat_abs paper.height) is.scale is.x is.y
+      ap (turn_sum turn) lies.turn,
+      turned_stays_in_cell turn t.room paper (creeping_half t by_half k creep) (kept_length t.room.trim 0) (creeping t by_half paper k creep) (nat_abs paper.width) (nat_abs paper.height) is.scale is.x is.y
           (ap (λ (p : Paper). p.width) sides) (ap (λ (p : Paper). p.height) sides) is.scale_is is.x_is is.y_is lies.in_cell,
     )
 
@@ -89,7 +89,7 @@ slot_keeps turn f by_half k creep (Some page) less none halved has = λ p of.
     let at = (slot_in_half turn f by_half k creep (Some page) less halved has).1 p of in
     on_sheet room (stands (turned_paper turn paper) item p) has.sheet_is
     (inside room cell (stands (turned_paper turn paper) item p) has.sheet_is (record { left = on.left; right = on.right; bottom = on.bottom; top = on.top })
-    (subst (λ n. LiesInCell cell n (stands (turned_paper turn paper) item p)) (ap (λ l. kept l (kept l 0)) none) at))
+    (subst (λ n. LiesInCell cell n (stands (turned_paper turn paper) item p)) (ap (λ l. kept_length l (kept_length l 0)) none) at))
 
 slot_is_whole : (f : Filling) (by_half : Bool) (k creep : ℕ) (entry : Option ℕ) → k < 2 → AreHalves f.setting → EntryCreeps f creep entry → SlotIsWholeSo (side_turn by_half) (creeping_slot f by_half k creep entry)
 unfolding SlotIsWholeSo
@@ -103,8 +103,8 @@ slot_is_whole f by_half k creep (Some page) less halved has =
 -- what holds of each side of a booklet, with its pages turned
 on_sides : (P : ℕ → MadeSheet → Type 0) (m : Bool) (turn : Turn) (f : Filling) (turned_backs : Bool) (creep leaves : ℕ) (row : Row) → AreHalves f.setting
     → ((s : ℕ) → P s (turned_sheet turn (side_of f (is_turned turned_backs s) (creep_on creep leaves s) (grid_entry 2 row s 0) (grid_entry 2 row s 1))))
-    → (s : ℕ) (d : MadeSheet) → s < length (map (turned_sheet turn) (mirrored (mirror_of m f.setting.room) (creeping_sheets f turned_backs creep leaves row)))
-    → P s (slice_index_or (map (turned_sheet turn) (mirrored (mirror_of m f.setting.room) (creeping_sheets f turned_backs creep leaves row))) s d)
+    → (s : ℕ) (d : MadeSheet) → s < length (map (turned_sheet turn) (swapped (swapped_room_of m f.setting.room) (creeping_sheets f turned_backs creep leaves row)))
+    → P s (slice_index_or (map (turned_sheet turn) (swapped (swapped_room_of m f.setting.room) (creeping_sheets f turned_backs creep leaves row))) s d)
 on_sides P m turn f turned_backs creep leaves row halved each =
     let side : ℕ → MadeSheet = λ s. side_of f (is_turned turned_backs s) (creep_on creep leaves s) (grid_entry 2 row s 0) (grid_entry 2 row s 1) in
     let sheets = blocks 2 (length row) in
@@ -113,7 +113,7 @@ on_sides P m turn f turned_backs creep leaves row halved each =
     (subst All (fused (turned_sheet turn) side (range_with_len 0 sheets)) (numbered_in_turn P (λ s. turned_sheet turn (side s)) sheets (λ s less. each s)))
 
 pub halves_lie : (m : Bool) (turn : Turn) (f : Filling) (turned_backs : Bool) (creep leaves : ℕ) (row : Row) → AreHalves f.setting → AllFitOnLeaves f creep leaves row
-    → AreInHalves turn f.setting turned_backs creep leaves (map (turned_sheet turn) (mirrored (mirror_of m f.setting.room) (creeping_sheets f turned_backs creep leaves row)))
+    → AreInHalves turn f.setting turned_backs creep leaves (map (turned_sheet turn) (swapped (swapped_room_of m f.setting.room) (creeping_sheets f turned_backs creep leaves row)))
 halves_lie m turn f turned_backs creep leaves row halved fit s k sheet d less within =
     on_sides (λ s x. (k : ℕ) (d : MadeSlot) → k < length x.slots → SlotIsInHalf turn f.setting (is_turned turned_backs s) k (creep_on creep leaves s) (slice_index_or x.slots k d)) m turn f turned_backs creep leaves row halved
     (λ s. let half = is_turned turned_backs s in let by = creep_on creep leaves s in
@@ -158,7 +158,7 @@ slot_keeps_fold turn t false room T (Placed page item paper) none is h = λ p of
     (still_behind t b.x b.y b.n b.m b.l b.k T u.a u.b b.wide b.high (subst P b.first.2 (h b.first.0 (off b.first.0 b.first.1))) (subst P b.last.2 (h b.last.0 (off b.last.0 b.last.1))) u.left u.right u.bottom u.top)
 
 leaves_fold : (m : Bool) (turn : Turn) (f : Filling) (turned_backs : Bool) (creep leaves : ℕ) (row : Row) → f.setting.room.trim ≡ 0 → AreHalves f.setting → AllFitOnLeaves f creep leaves row
-    → KeepFold f.setting turned_backs (map (turned_sheet turn) (mirrored (mirror_of m f.setting.room) (creeping_sheets f turned_backs creep leaves row)))
+    → KeepFold f.setting turned_backs (map (turned_sheet turn) (swapped (swapped_room_of m f.setting.room) (creeping_sheets f turned_backs creep leaves row)))
 leaves_fold m turn f turned_backs creep leaves row none halved fit =
     let room = f.setting.room in
     let b = f.setting.order.right_to_left in
@@ -169,18 +169,18 @@ leaves_fold m turn f turned_backs creep leaves row none halved fit =
       no_nearer = middle.1;
       sides = λ s k sheet d less within.
           on_sides (λ s x. (k : ℕ) (d : MadeSlot) → k < length x.slots
-          → SlotKeepsFold (is_before b (is_turned turned_backs s) k) room (fold_on room (is_turned turned_backs s) (line room)) (slice_index_or x.slots k d)) m turn f turned_backs creep leaves row halved
+          → SlotKeepsFold (is_before_fold b (is_turned turned_backs s) k) room (fold_on room (is_turned turned_backs s) (line room)) (slice_index_or x.slots k d)) m turn f turned_backs creep leaves row halved
           (λ s. let half = is_turned turned_backs s in let by = creep_on creep leaves s in
-          numbered (λ k. SlotKeepsFold (is_before b half k) room (fold_on room half (line room))) (turned_slot turn) (λ k. creeping_slot f half k by (grid_entry 2 row s k)) 2
+          numbered (λ k. SlotKeepsFold (is_before_fold b half k) room (fold_on room half (line room))) (turned_slot turn) (λ k. creeping_slot f half k by (grid_entry 2 row s k)) 2
           (λ k in_k. let entry = grid_entry 2 row s k in
-          slot_keeps_fold turn (side_turn half) (is_before b half k) room (fold_on room half (line room)) (creeping_slot f half k by entry) none
+          slot_keeps_fold turn (side_turn half) (is_before_fold b half k) room (fold_on room half (line room)) (creeping_slot f half k by entry) none
           (slot_is_whole f half k by entry in_k halved (fit s k in_k)) (slot_stays f half k by entry in_k halved (fit s k in_k)))) s sheet less k d within;
     }
 
 pub leaves_keep : (m : Bool) (turn : Turn) (f : Filling) (turned_backs : Bool) (creep leaves : ℕ) (row : Row) → AreHalves f.setting → AllFitOnLeaves f creep leaves row
-    → KeepLeaves f.setting turned_backs creep leaves (map (turned_sheet turn) (mirrored (mirror_of m f.setting.room) (creeping_sheets f turned_backs creep leaves row)))
+    → KeepLeaves f.setting turned_backs creep leaves (map (turned_sheet turn) (swapped (swapped_room_of m f.setting.room) (creeping_sheets f turned_backs creep leaves row)))
 leaves_keep m turn f turned_backs creep leaves row halved fit none = (
-  on_sides (λ s. StandsIn (crept_room f.setting.room (creep_on creep leaves s))) m turn f turned_backs creep leaves row halved
+  on_sides (λ s. StandsInRoom (crept_room f.setting.room (creep_on creep leaves s))) m turn f turned_backs creep leaves row halved
       (λ s. let half = is_turned turned_backs s in let by = creep_on creep leaves s in let slot : ℕ → MadeSlot = λ k. creeping_slot f half k by (grid_entry 2 row s k) in record {
         paper = refl;
         inside = numbered (λ k. SlotIsInside (crept_room f.setting.room by)) (turned_slot turn) slot 2

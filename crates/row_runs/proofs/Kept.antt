@@ -4,7 +4,7 @@ use Rattle.std.specs.Prelude.{⊤, ◌==◌, ◌%◌, if◌then◌else◌}
 use Rattle.rules.specs.Papers.{Paper}
 use Rattle.rules.specs.Sheets.{blocks}
 use Rattle.rules.specs.Specification.{Turn}
-use Rattle.rules.specs.Choice.{signed}
+use Rattle.rules.specs.Choice.{signed_if}
 use Rattle.rules.specs.Made.{MadeSheet}
 use Rattle.rules.specs.Rows.{Row}
 use Rattle.layouts.specs.Cells.{size}
@@ -13,12 +13,12 @@ use Rattle.row_sheets.specs.Filled.{behind_in, card_entry, duplex_entry, grid_en
 use Rattle.row_sheets.specs.Shapes.{filling}
 use Rattle.row_sheets.specs.Standing.{AllStand}
 use Rattle.pagespec.specs.Items.{turn_of}
-use Rattle.row_runs.specs.declared.asked.Laying.{Laying}
-use Rattle.row_runs.specs.declared.asked.Laying.TheVariants as laying
-use Rattle.row_runs.specs.declared.asked.Scheme.TheVariants as scheme
+use Rattle.row_runs.specs.declared.sheet_request.Laying.{Laying}
+use Rattle.row_runs.specs.declared.sheet_request.Laying.TheVariants as laying
+use Rattle.row_runs.specs.declared.sheet_request.Scheme.TheVariants as scheme
 use Rattle.row_runs.specs.declared.run.RowJob.{RowJob}
-use Rattle.row_runs.specs.Evened.{evened_if}
-use Rattle.row_runs.specs.Mirrored.{mirror_in, mirrored}
+use Rattle.row_runs.specs.Evened.{at_common_scale}
+use Rattle.row_runs.specs.SwappedMargins.{swapped_room_in, swapped}
 use Rattle.row_runs.specs.Runs.{AreTurned}
 use Rattle.row_runs.specs.Sheets.{FitAsLaid, MayBeLaid, laying_for, leaves_in, sewn, sheets_laid}
 use Rattle.row_runs.specs.Standing.{StandAsLaid}
@@ -32,7 +32,7 @@ use Rattle.row_runs.proofs.Rooms.{filled_keep}
 -- ---- in their cells
 
 lie_as : (m : Bool) (turn : Turn) (l : Laying) (leaves : ℕ) (papers : List Paper) (row : Row) → MayBeLaid l → FitAsLaid l leaves papers row
-    → AreInTheirCells turn m l leaves (map (turned_sheet turn) (mirrored (mirror_in m l) (sheets_laid l leaves papers row)))
+    → AreInTheirCells turn m l leaves (map (turned_sheet turn) (swapped (swapped_room_in m l) (sheets_laid l leaves papers row)))
 lie_as m turn (laying.AsTheyAre blank) leaves papers row may fits = tt
 lie_as m turn (laying.Poster p) leaves papers row may fits = tt
 lie_as m turn (laying.InCells t (scheme.Booklet turned_backs creep)) leaves papers row may fits = halves_lie m turn (filling t papers) turned_backs creep leaves row may fits
@@ -50,32 +50,32 @@ lie_as m turn (laying.InCells t scheme.Leaves) leaves papers row may fits =
     (λ s c. fits ((if s % 2 == 0 then c else behind_in t c) * (2 * many) + s))
 
 -- one scale for all pages leaves the room as it is
-pub same_mirror : (m same_scale : Bool) (l : Laying) (papers : List Paper) (row : Row) → mirror_in m l ≡ mirror_in m (evened_if same_scale l papers row)
-same_mirror m false l papers row = refl
-same_mirror m true (laying.AsTheyAre blank) papers row = refl
-same_mirror m true (laying.InCells t how) papers row = refl
-same_mirror m true (laying.Poster p) papers row = refl
+pub same_swapped_room : (m same_scale : Bool) (l : Laying) (papers : List Paper) (row : Row) → swapped_room_in m l ≡ swapped_room_in m (at_common_scale same_scale l papers row)
+same_swapped_room m false l papers row = refl
+same_swapped_room m true (laying.AsTheyAre blank) papers row = refl
+same_swapped_room m true (laying.InCells t how) papers row = refl
+same_swapped_room m true (laying.Poster p) papers row = refl
 
 -- what is written is the row, laid, with backs moved and pages turned
 made_is : (j : RowJob) (made : List MadeSheet) → (are : AreTurned j made)
     → (let l = laying_for j.asked j.papers.now are.asked.row in
-    made ≡ map (turned_sheet (turn_of j.turn)) (mirrored (mirror_in j.mirrored l) (sheets_laid l (leaves_in (sewn j.asked) are.asked.row) j.papers.now (signed (sewn j.asked) are.asked.row))))
+    made ≡ map (turned_sheet (turn_of j.turn)) (swapped (swapped_room_in j.swapped l) (sheets_laid l (leaves_in (sewn j.asked) are.asked.row) j.papers.now (signed_if (sewn j.asked) are.asked.row))))
 made_is j made are =
     let turn = turn_of j.turn in
     are.turned
-    ∙ ap₂ (λ (m : Option Room) (xs : List MadeSheet). map (turned_sheet turn) (mirrored m xs)) (same_mirror j.mirrored j.asked.same_scale j.asked.laying j.papers.now (signed (sewn j.asked) are.asked.row)) are.asked.are_laid
+    ∙ ap₂ (λ (m : Option Room) (xs : List MadeSheet). map (turned_sheet turn) (swapped m xs)) (same_swapped_room j.swapped j.asked.same_scale j.asked.laying j.papers.now (signed_if (sewn j.asked) are.asked.row)) are.asked.are_laid
 
 -- and it may be laid so
 may_be : (j : RowJob) (made : List MadeSheet) → (are : AreTurned j made) → MayBeLaid (laying_for j.asked j.papers.now are.asked.row)
-may_be j made are = evened_may_be j.asked.same_scale j.asked.laying j.papers.now (signed (sewn j.asked) are.asked.row) are.may.laid
+may_be j made are = evened_may_be j.asked.same_scale j.asked.laying j.papers.now (signed_if (sewn j.asked) are.asked.row) are.may.laid
 
 pub written_in_cells : WrittenInCells
 written_in_cells j made are =
     let row = are.asked.row in
     let l = laying_for j.asked j.papers.now row in
     let leaves = leaves_in (sewn j.asked) row in
-    subst (AreInTheirCells (turn_of j.turn) j.mirrored l leaves) (sym (made_is j made are))
-    (lie_as j.mirrored (turn_of j.turn) l leaves j.papers.now (signed (sewn j.asked) row) (may_be j made are) are.asked.fits)
+    subst (AreInTheirCells (turn_of j.turn) j.swapped l leaves) (sym (made_is j made are))
+    (lie_as j.swapped (turn_of j.turn) l leaves j.papers.now (signed_if (sewn j.asked) row) (may_be j made are) are.asked.fits)
 
 -- ---- between the margins
 
@@ -87,7 +87,7 @@ StandInRoom (laying.InCells t (scheme.Stack cells)) made = AllStand t.room made
 StandInRoom (laying.InCells t scheme.Leaves) made = AllStand t.room made
 StandInRoom other made = ⊤
 
-in_room_too : (same_scale : Bool) (l : Laying) (papers : List Paper) (row : Row) (made : List MadeSheet) → StandAsLaid l made → StandInRoom (evened_if same_scale l papers row) made
+in_room_too : (same_scale : Bool) (l : Laying) (papers : List Paper) (row : Row) (made : List MadeSheet) → StandAsLaid l made → StandInRoom (at_common_scale same_scale l papers row) made
 in_room_too false (laying.AsTheyAre blank) papers row made h = tt
 in_room_too false (laying.Poster p) papers row made h = tt
 in_room_too false (laying.InCells t (scheme.Booklet turned_backs creep)) papers row made h = tt
@@ -106,7 +106,7 @@ in_room_too true (laying.InCells t (scheme.Stack cells)) papers row made h = h
 in_room_too true (laying.InCells t scheme.Leaves) papers row made h = h
 
 keep_as : (m : Bool) (turn : Turn) (l : Laying) (leaves : ℕ) (papers : List Paper) (row : Row) → MayBeLaid l → FitAsLaid l leaves papers row → StandInRoom l (sheets_laid l leaves papers row)
-    → KeepTheirRoom m l leaves (map (turned_sheet turn) (mirrored (mirror_in m l) (sheets_laid l leaves papers row)))
+    → KeepTheirRoom m l leaves (map (turned_sheet turn) (swapped (swapped_room_in m l) (sheets_laid l leaves papers row)))
 keep_as m turn (laying.AsTheyAre blank) leaves papers row may fits stand = tt
 keep_as m turn (laying.Poster p) leaves papers row may fits stand = tt
 keep_as m turn (laying.InCells t (scheme.Booklet turned_backs creep)) leaves papers row may fits stand = leaves_keep m turn (filling t papers) turned_backs creep leaves row may fits
@@ -128,7 +128,7 @@ written_keep_room j made are =
     let row = are.asked.row in
     let l = laying_for j.asked j.papers.now row in
     let leaves = leaves_in (sewn j.asked) row in
-    let printed = signed (sewn j.asked) row in
+    let printed = signed_if (sewn j.asked) row in
     let stand : StandInRoom l (sheets_laid l leaves j.papers.now printed) = subst (StandInRoom l) are.asked.are_laid (in_room_too j.asked.same_scale j.asked.laying j.papers.now printed are.laid are.stand) in
-    subst (KeepTheirRoom j.mirrored l leaves) (sym (made_is j made are))
-    (keep_as j.mirrored (turn_of j.turn) l leaves j.papers.now printed (may_be j made are) are.asked.fits stand)
+    subst (KeepTheirRoom j.swapped l leaves) (sym (made_is j made are))
+    (keep_as j.swapped (turn_of j.turn) l leaves j.papers.now printed (may_be j made are) are.asked.fits stand)

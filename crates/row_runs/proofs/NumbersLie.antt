@@ -5,9 +5,9 @@ use Rattle.std.proofs.lemmas.Bool.{cond-false, cond-true}
 use Rattle.rules.specs.Papers.{Paper}
 use Rattle.rules.specs.Specification.{Item, Upright}
 use Rattle.layouts.specs.declared.setting.Setting.{Setting}
-use Rattle.layouts.specs.Cells.{Grid, column_of, high, item_in, row_of, size, turn_in}
+use Rattle.layouts.specs.Cells.{Grid, column_of, high, item_in_cell, row_of, size, turn_in}
 use Rattle.layouts.specs.Fitted.{fitted, is_whole, scale_on}
-use Rattle.layouts.specs.Grids.{alone, has_bare_edges, is_same}
+use Rattle.layouts.specs.Grids.{page_alone, has_bare_edges, is_same}
 use Rattle.layouts.specs.Laws.{cell_at}
 use Rattle.layouts.specs.Placed.{Room}
 use Rattle.layouts.proofs.Fitting.{fitted_stands}
@@ -30,9 +30,9 @@ upright_if false e = refl
 
 turn_is : (b : Bool) (t : Setting) (page : Paper) (c : ℕ) → is_whole t page ≡ b → (fitted t page c).turn ≡ turn_in t.grid
 turn_is true t page c e =
-    ap (λ (i : Item). i.turn) (cond-true (is_whole t page) (alone c) (item_in page t.room t.grid t.order (scale_on t page) c) e)
+    ap (λ (i : Item). i.turn) (cond-true (is_whole t page) (page_alone c) (item_in_cell page t.room t.grid t.order (scale_on t page) c) e)
     ∙ sym (upright_if t.grid.turned (second (((size t.grid == 1) && is_same page t.room.paper) && has_bare_edges t.room && is_none t.scale) (not t.grid.turned) e))
-turn_is false t page c e = ap (λ (i : Item). i.turn) (cond-false (is_whole t page) (alone c) (item_in page t.room t.grid t.order (scale_on t page) c) e)
+turn_is false t page c e = ap (λ (i : Item). i.turn) (cond-false (is_whole t page) (page_alone c) (item_in_cell page t.room t.grid t.order (scale_on t page) c) e)
 
 -- a cell is as high as it is held
 high_is : (room : Room) (rows columns : ℕ) (b : Bool) (row column : ℕ) → (let g : Grid = record { rows = rows; columns = columns; turned = b } in

@@ -3,20 +3,20 @@ use Rattle.std.proofs.Common.{Bool, true, false, List, ◌≡◌, ◌∙◌, sym
 use Rattle.rules.specs.Papers.{Paper}
 use Rattle.rules.specs.Made.{MadeSheet}
 use Rattle.rules.specs.Rows.{Row}
-use Rattle.row_runs.specs.declared.asked.Laying.{Laying}
-use Rattle.row_runs.specs.declared.asked.Laying.TheVariants as laying
-use Rattle.row_runs.specs.declared.asked.Scheme.TheVariants as scheme
+use Rattle.row_runs.specs.declared.sheet_request.Laying.{Laying}
+use Rattle.row_runs.specs.declared.sheet_request.Laying.TheVariants as laying
+use Rattle.row_runs.specs.declared.sheet_request.Scheme.TheVariants as scheme
 use Rattle.layouts.specs.declared.setting.Setting.{Setting}
 use Rattle.row_sheets.specs.Shapes.{filling}
 use Rattle.row_sheets.specs.SameScale.{at_one_scale, first_unscaled}
 use Rattle.row_sheets.specs.declared.poster.Poster.{Poster}
-use Rattle.row_runs.specs.declared.asked.Scheme.{Scheme}
-use Rattle.row_runs.specs.Evened.{evened_if, why_not_even_if}
+use Rattle.row_runs.specs.declared.sheet_request.Scheme.{Scheme}
+use Rattle.row_runs.specs.Evened.{at_common_scale, why_not_even_if}
 use Rattle.row_runs.specs.Sheets.{MayBeLaid}
 use Rattle.row_runs.specs.Standing.{StandAsLaid}
 
 -- they are placed as others are
-pub evened_stand : (same_scale : Bool) (l : Laying) (papers : List Paper) (row : Row) (made : List MadeSheet) → StandAsLaid (evened_if same_scale l papers row) made → StandAsLaid l made
+pub evened_stand : (same_scale : Bool) (l : Laying) (papers : List Paper) (row : Row) (made : List MadeSheet) → StandAsLaid (at_common_scale same_scale l papers row) made → StandAsLaid l made
 evened_stand false l papers row made h = h
 evened_stand true (laying.InCells t (scheme.Booklet turned_backs creep)) papers row made h =
     record { twice = h.twice; no_farther = h.no_farther; no_nearer = h.no_nearer; sides = h.sides; apart = h.apart }
@@ -34,15 +34,15 @@ may_be_evened t papers row scheme.Zine may =
 
 -- what is evened, and why it can't be, by how it is laid
 module _ (same_scale : Bool) (l : Laying) (papers : List Paper) (row : Row) where
-  pub evened_in_cells : (t u : Setting) (how : Scheme) → same_scale ≡ true → l ≡ laying.InCells t how → u ≡ at_one_scale (filling t papers) row → laying.InCells u how ≡ evened_if same_scale l papers row
-  evened_in_cells t u how same is made = (λ i. laying.InCells (made i) how) ∙ sym (λ i. evened_if (same i) (is i) papers row)
+  pub evened_in_cells : (t u : Setting) (how : Scheme) → same_scale ≡ true → l ≡ laying.InCells t how → u ≡ at_one_scale (filling t papers) row → laying.InCells u how ≡ at_common_scale same_scale l papers row
+  evened_in_cells t u how same is made = (λ i. laying.InCells (made i) how) ∙ sym (λ i. at_common_scale (same i) (is i) papers row)
 
   pub fault_in_cells : (t : Setting) (how : Scheme) → same_scale ≡ true → l ≡ laying.InCells t how → why_not_even_if same_scale l papers row ≡ first_unscaled (filling t papers) row
   fault_in_cells t how same is = λ i. why_not_even_if (same i) (is i) papers row
 
 pub others_stay : (same_scale : Bool) (l : Laying) (papers : List Paper) (row : Row) → ((blank : Paper) × (l ≡ laying.AsTheyAre blank)) ⊎ ((poster : Poster) × (l ≡ laying.Poster poster))
-    → (l ≡ evened_if same_scale l papers row) × (why_not_even_if same_scale l papers row ≡ None)
+    → (l ≡ at_common_scale same_scale l papers row) × (why_not_even_if same_scale l papers row ≡ None)
 others_stay false l papers row others = (refl, refl)
 others_stay true l papers row others = ⊎_elim
-    (λ p. (p.1 ∙ sym (ap (λ m. evened_if true m papers row) p.1), ap (λ m. why_not_even_if true m papers row) p.1))
-    (λ p. (p.1 ∙ sym (ap (λ m. evened_if true m papers row) p.1), ap (λ m. why_not_even_if true m papers row) p.1)) others
+    (λ p. (p.1 ∙ sym (ap (λ m. at_common_scale true m papers row) p.1), ap (λ m. why_not_even_if true m papers row) p.1))
+    (λ p. (p.1 ∙ sym (ap (λ m. at_common_scale true m papers row) p.1), ap (λ m. why_not_even_if true m papers row) p.1)) others

@@ -19,24 +19,24 @@ use Rattle.pagespec.specs.Items.{turn_of}
 use Rattle.sheet_plan.specs.OfSheets.{slots_at}
 use Rattle.sheet_plan.specs.declared.error.MadeError.TheVariants as plan
 use Rattle.sheet_plan.proofs.Accepted.{too_many_sheets}
-use Rattle.row_runs.specs.Mirrored.{mirror_on}
-use Rattle.row_runs.specs.Reaching.{IsNotReached, are_reached, are_reached_from, is_near, is_slot_reached}
-use Rattle.row_runs.specs.Turning.{both, corner, farther, long, turned_item}
-use Rattle.row_runs.specs.Runs.{RefusesRun, mirror_for, page_count}
+use Rattle.row_runs.specs.SwappedMargins.{swapped_room_on}
+use Rattle.row_runs.specs.Reaching.{IsNotReached, are_reached, are_reached_from, is_writable_offset, is_slot_reached}
+use Rattle.row_runs.specs.Turning.{turn_sum, turned_corner, shifted, scaled_length, turned_item}
+use Rattle.row_runs.specs.Runs.{RefusesRun, swapped_room_for, page_count}
 use Rattle.row_runs.specs.Sheets.{AreAsked}
-use Rattle.row_runs.specs.declared.error.AskedError.{AskedError}
-use Rattle.row_runs.specs.declared.error.AskedError.TheVariants as error
+use Rattle.row_runs.specs.declared.error.SheetError.{SheetError}
+use Rattle.row_runs.specs.declared.error.SheetError.TheVariants as error
 use Rattle.row_runs.specs.declared.run.RowJob.{RowJob}
 use Rattle.row_runs.proofs.Turned.{turned_refused}
 use Rattle.row_runs.proofs.Turns.{item_at, item_is, point}
 
 -- ---- one offset
 
-pub is_near_if : (m : Measure) → FitsNumber m.number → is_near m ≡ true
+pub is_near_if : (m : Measure) → FitsNumber m.number → is_writable_offset m ≡ true
 is_near_if m fits = grind (arith, nat_tests)
 
-pub is_far_if : (m : Measure) → (FitsNumber m.number → ⊥) → is_near m ≡ false
-is_far_if m never = false_from_ne_true (is_near m) (λ is. never (leb-true (nat_abs m.number) greatest_number is))
+pub is_far_if : (m : Measure) → (FitsNumber m.number → ⊥) → is_writable_offset m ≡ false
+is_far_if m never = false_from_ne_true (is_writable_offset m) (λ is. never (leb-true (nat_abs m.number) greatest_number is))
 
 -- ---- one item
 
@@ -52,10 +52,10 @@ word_is z small = let fits : FitsSigned w64 z = omega (arith, ints, small) in si
 -- the parts of an item that is turned, as its function counts them
 pub turned_is : (turn : Turn) (paper : Paper) (item : Item) (w h a b x y : ℤ) (t : Turn) (mx my : Measure)
     → IsSmall w → IsSmall h → IsSmall a → IsSmall b → IsSmall x → IsSmall y
-    → w ≡ pos (long item.scale paper.width) → h ≡ pos (long item.scale paper.height)
-    → a ≡ (corner turn (word w) (word h)).x → b ≡ (corner turn (word w) (word h)).y
+    → w ≡ pos (scaled_length item.scale paper.width) → h ≡ pos (scaled_length item.scale paper.height)
+    → a ≡ (turned_corner turn (word w) (word h)).x → b ≡ (turned_corner turn (word w) (word h)).y
     → x ≡ (turned item.turn (point (word a) (word b))).x → y ≡ (turned item.turn (point (word a) (word b))).y
-    → t ≡ both turn item.turn → mx ≡ farther (word x) item.x → my ≡ farther (word y) item.y
+    → t ≡ turn_sum turn item.turn → mx ≡ shifted (word x) item.x → my ≡ shifted (word y) item.y
     → item_at item.page item.from_end t item.scale mx my ≡ turned_item turn paper item
 turned_is turn paper item w h a b x y t mx my w_small h_small a_small b_small x_small y_small w_is h_is a_is b_is x_is y_is t_is mx_is my_is =
     let in_w = word_is w w_small in
@@ -65,13 +65,13 @@ turned_is turn paper item w h a b x y t mx my w_small h_small a_small b_small x_
     let in_x = word_is x x_small in
     let in_y = word_is y y_small in
     item_is turn paper item w h a b x y t mx my w_is h_is
-    (a_is ∙ ap (λ (z : ℤ). (corner turn z (word h)).x) in_w ∙ ap (λ (z : ℤ). (corner turn w z).x) in_h)
-    (b_is ∙ ap (λ (z : ℤ). (corner turn z (word h)).y) in_w ∙ ap (λ (z : ℤ). (corner turn w z).y) in_h)
+    (a_is ∙ ap (λ (z : ℤ). (turned_corner turn z (word h)).x) in_w ∙ ap (λ (z : ℤ). (turned_corner turn w z).x) in_h)
+    (b_is ∙ ap (λ (z : ℤ). (turned_corner turn z (word h)).y) in_w ∙ ap (λ (z : ℤ). (turned_corner turn w z).y) in_h)
     (x_is ∙ ap (λ (z : ℤ). (turned item.turn (point z (word b))).x) in_a ∙ ap (λ (z : ℤ). (turned item.turn (point a z)).x) in_b)
     (y_is ∙ ap (λ (z : ℤ). (turned item.turn (point z (word b))).y) in_a ∙ ap (λ (z : ℤ). (turned item.turn (point a z)).y) in_b)
     t_is
-    (mx_is ∙ ap (λ (z : ℤ). farther z item.x) in_x)
-    (my_is ∙ ap (λ (z : ℤ). farther z item.y) in_y)
+    (mx_is ∙ ap (λ (z : ℤ). shifted z item.x) in_x)
+    (my_is ∙ ap (λ (z : ℤ). shifted z item.y) in_y)
 
 -- ---- all of a list
 
@@ -110,7 +110,7 @@ one_of_all p (suc i) (y ∷ xs) x at is = one_of_all p i xs x at (right_of (p y)
 -- ---- all sheets
 
 abbrev slots_reached : Turn → Option Room → (s : ℕ) → List MadeSlot → Bool
-slots_reached t m s slots = list_all (is_slot_reached t (mirror_on m s)) slots
+slots_reached t m s slots = list_all (is_slot_reached t (swapped_room_on m s)) slots
 
 more_reached : (t : Turn) (m : Option Room) (s i : ℕ) (made : List MadeSheet) → i < length made → are_reached_from t m s (take i made) ≡ true
     → slots_reached t m (s + i) (slots_at made i) ≡ true → are_reached_from t m s (take (suc i) made) ≡ true
@@ -170,10 +170,10 @@ reached_at t m i made less is =
 -- ---- what a refusal says of a run
 
 -- of the sheets that are laid
-laid_too_far : (j : RowJob) (laid : List MadeSheet) (e : AskedError) → page_count j ≤ most_pages → AreAsked (page_count j) j.papers.now j.asked laid
-    → IsNotReached (turn_of j.turn) (mirror_for j) laid e → RefusesRun j e
+laid_too_far : (j : RowJob) (laid : List MadeSheet) (e : SheetError) → page_count j ≤ most_pages → AreAsked (page_count j) j.papers.now j.asked laid
+    → IsNotReached (turn_of j.turn) (swapped_room_for j) laid e → RefusesRun j e
 laid_too_far j laid (error.Sheets plan.TooManySheets) few asked h =
-    (laid, asked, turned_refused (turn_of j.turn) (mirror_for j) (page_count j) laid plan.TooManySheets (too_many_sheets (page_count j) laid few h))
+    (laid, asked, turned_refused (turn_of j.turn) (swapped_room_for j) (page_count j) laid plan.TooManySheets (too_many_sheets (page_count j) laid few h))
 laid_too_far j laid (error.Sheets plan.TooManyPages) few asked h = absurd h
 laid_too_far j laid (error.Sheets (plan.SlotsOutOfRange sheet)) few asked h = absurd h
 laid_too_far j laid (error.Sheets plan.TooManyPlaces) few asked h = absurd h
@@ -186,8 +186,8 @@ laid_too_far j laid (error.Poster e) few asked h = absurd h
 laid_too_far j laid error.NoMemory few asked h = absurd h
 
 -- the same by the numbers that a run counts
-pub reach_refused : (j : RowJob) (n : ℕ) (m : Option Room) (laid : List MadeSheet) (e : AskedError) → n ≡ page_count j → m ≡ mirror_for j → n ≤ most_pages
+pub reach_refused : (j : RowJob) (n : ℕ) (m : Option Room) (laid : List MadeSheet) (e : SheetError) → n ≡ page_count j → m ≡ swapped_room_for j → n ≤ most_pages
     → AreAsked n j.papers.now j.asked laid → IsNotReached (turn_of j.turn) m laid e → RefusesRun j e
-reach_refused j n m laid e count mirror few asked h =
+reach_refused j n m laid e count swap few asked h =
     laid_too_far j laid e (subst (λ k. k ≤ most_pages) count few) (subst (λ k. AreAsked k j.papers.now j.asked laid) count asked)
-    (subst (λ r. IsNotReached (turn_of j.turn) r laid e) mirror h)
+    (subst (λ r. IsNotReached (turn_of j.turn) r laid e) swap h)

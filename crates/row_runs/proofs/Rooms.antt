@@ -12,25 +12,25 @@ use Rattle.rules.specs.Placement.{Point}
 use Rattle.rules.specs.Specification.{Item, Measure, Turn, Upright, Left, Half, Right}
 use Rattle.rules.specs.Made.{MadeSlot, Blank, Placed, MadeSheet}
 use Rattle.layouts.specs.declared.setting.Setting.{Setting}
-use Rattle.layouts.specs.Placed.{AreApart, ComesFirst, IsOfPage, Room, across, fine, stands, up}
-use Rattle.layouts.specs.Cells.{Along, along_height, along_width, cell, column_of, high, in_points, item_in, kept, row_of, size, step, turn_in, whole, wide}
+use Rattle.layouts.specs.Placed.{AreApart, ComesFirst, IsOfPage, Room, across, fine, stands, upward}
+use Rattle.layouts.specs.Cells.{Along, along_height, along_width, cell, column_of, high, in_points, item_in_cell, kept_length, row_of, size, pitch, turn_in, whole_parts, wide}
 use Rattle.layouts.specs.Fitted.{fitted, is_whole, past_cell, scale_on}
-use Rattle.layouts.specs.Grids.{alone}
+use Rattle.layouts.specs.Grids.{page_alone}
 use Rattle.layouts.specs.Laws.{Cell, IsPaper, LiesInCell, cell_at}
 use Rattle.layouts.proofs.AlongSide.{cells_fit}
 use Rattle.layouts.proofs.Fitting.{in_cell}
 use Rattle.layouts.proofs.InGrid.{fits, on_sheet, sides_are}
 use Rattle.layouts.proofs.InOrder.{place_fits}
 use Rattle.layouts.proofs.Sides.{LiesIn}
-use Rattle.row_sheets.specs.Filled.{Filling, SlotIsInside, SlotsAreApart, filled, slot_in}
+use Rattle.row_sheets.specs.Filled.{Filling, SlotIsInside, SlotsAreApart, filled, slot_in_cell}
 use Rattle.row_sheets.specs.Halves.{CellIsOn}
-use Rattle.row_sheets.specs.Standing.{AllStand, EntryFits, StandsIn}
-use Rattle.row_runs.specs.Mirrored.{IsInPoints, exchanged, mirror_on, mirrored, moved_sheet, moved_slot, shift}
+use Rattle.row_sheets.specs.Standing.{AllStand, EntryFits, StandsInRoom}
+use Rattle.row_runs.specs.SwappedMargins.{IsInPoints, exchanged, swapped_room_on, swapped, moved_sheet, moved_slot, swap_shift}
 use Rattle.row_runs.specs.Turning.{turned_item, turned_paper, turned_sheet, turned_slot}
 use Rattle.row_runs.specs.Written.{KeepRoom, SlotIsInCell, side_room}
 use Rattle.row_runs.proofs.Backs.{filled_in_points, fused, side_stands}
 use Rattle.row_runs.proofs.Boxes.{Box, box_at, from_start, paper_of, point}
-use Rattle.row_runs.proofs.InCells.{IsMoved, mirror_of, moved_by, moved_cell, moved_too, numbered, on_side, sheet_is}
+use Rattle.row_runs.proofs.InCells.{IsMoved, swapped_room_of, moved_by, moved_cell, moved_too, numbered, on_side, sheet_is}
 use Rattle.row_runs.proofs.Written.{count_is}
 
 -- ---- a cell is on what the margins leave
@@ -40,11 +40,11 @@ kept_least true n = omega arith
 kept_least false n = omega arith
 
 along_in : (a : Along) (w c j : ℕ) → 0 < cell a w c → j < c
-    → (a.before ≤ kept a.trim a.before + j * step a w c) × (kept a.trim a.before + j * step a w c + cell a w c + a.after ≤ whole w)
+    → (a.before ≤ kept_length a.trim a.before + j * pitch a w c) × (kept_length a.trim a.before + j * pitch a w c + cell a w c + a.after ≤ whole_parts w)
 along_in a w c j some less =
     let all = cells_fit a w c j some less in
-    let one : suc j * step a w c ≤ c * step a w c = mul-le-mul_right (step a w c) (omega (arith, less)) in
-    let is = suc-mul j (step a w c) in
+    let one : suc j * pitch a w c ≤ c * pitch a w c = mul-le-mul_right (pitch a w c) (omega (arith, less)) in
+    let is = suc-mul j (pitch a w c) in
     let before = kept_least (a.trim == 0) a.before in
     let after = kept_least (a.trim == 0) a.after in
     (omega (arith, before), omega (arith, all, one, is, after, some))
@@ -99,14 +99,14 @@ slot_inside turn t room c (Placed page item paper) on none not is lies = λ p of
     (inside room (cell_at room t.grid (row_of t.order t.grid c) (column_of t.order t.grid c)) (stands paper item p) on is
     (subst (λ n. LiesInCell (cell_at room t.grid (row_of t.order t.grid c) (column_of t.order t.grid c)) n (stands paper item p)) past (lies p of)))
   where
-    zero_of : (l n : ℕ) → l ≡ 0 → kept l n ≡ n
-    zero_of l n e = ap (λ k. kept k n) e
+    zero_of : (l n : ℕ) → l ≡ 0 → kept_length l n ≡ n
+    zero_of l n e = ap (λ k. kept_length k n) e
 
-    past : kept t.room.trim (past_cell t (turned_paper turn paper)) ≡ 0
-    past = zero_of t.room.trim _ none ∙ cond-false (is_whole t (turned_paper turn paper)) 1 (kept t.room.trim 0) (not (turned_paper turn paper)) ∙ zero_of t.room.trim 0 none
+    past : kept_length t.room.trim (past_cell t (turned_paper turn paper)) ≡ 0
+    past = zero_of t.room.trim _ none ∙ cond-false (is_whole t (turned_paper turn paper)) 1 (kept_length t.room.trim 0) (not (turned_paper turn paper)) ∙ zero_of t.room.trim 0 none
 
 side_inside : (m : Bool) (turn : Turn) (f : Filling) (s c : ℕ) (entry : Option ℕ) → c < size f.setting.grid → f.setting.room.trim ≡ 0 → ((page : Paper) → is_whole f.setting page ≡ false) → EntryFits f entry
-    → SlotIsInside (side_room m f.setting.room s) (turned_slot turn (moved_slot (mirror_on (mirror_of m f.setting.room) s) (slot_in f c entry)))
+    → SlotIsInside (side_room m f.setting.room s) (turned_slot turn (moved_slot (swapped_room_on (swapped_room_of m f.setting.room) s) (slot_in_cell f c entry)))
 side_inside m turn f s c None within none not has = tt
 side_inside m turn f s c (Some page) within none not has =
     let t = f.setting in
@@ -115,7 +115,7 @@ side_inside m turn f s c (Some page) within none not has =
     let room = fits paper t.room t.grid (scale_on t paper) place in
     let at = place_fits t.order.run t.order.right_to_left t.order.turned t.grid c within in
     let is = cell_in t.room t.grid.rows t.grid.columns t.grid.turned (row_of t.order t.grid c) (column_of t.order t.grid c) room.some_wide room.some_high at.0 at.1 in
-    slot_inside turn t (side_room m t.room s) c (turned_slot turn (moved_slot (mirror_on (mirror_of m t.room) s) (slot_in f c (Some page)))) (subst IsPaper (sym (same_paper m t.room s)) has.sheet_is) none not (side_in m t s c is)
+    slot_inside turn t (side_room m t.room s) c (turned_slot turn (moved_slot (swapped_room_on (swapped_room_of m t.room) s) (slot_in_cell f c (Some page)))) (subst IsPaper (sym (same_paper m t.room s)) has.sheet_is) none not (side_in m t s c is)
     (on_side m turn f s c (Some page) within has)
 
 -- ---- pages that are apart
@@ -171,26 +171,26 @@ stays_across turn t room page page' one other none b b' h p q of of' =
     let off : (o : Paper) (r : Point) → IsOfPage 0 o r → IsOfPage room.trim o r = λ o r. subst (λ l. IsOfPage l o r) (sym none) in
     let u = b.all p (on (turned_paper turn page) p of) in
     let v = b'.all q (on (turned_paper turn page') q of') in
-    let le : Point → Point → Type 0 = λ r s. (r.x +ℤ fine room.gap_across) ≤ℤ s.x in
+    let le : Point → Point → Type 0 = λ r s. (r.x +ℤ fine room.gutter_across) ≤ℤ s.x in
     let before = subst (λ r. le r (from_start t b'.x b'.y (point (pos b'.n) (pos b'.m)))) b.first.2 (subst (le (stands page one b.first.0)) b'.last.2 (h b.first.0 b'.last.0 (off page b.first.0 b.first.1) (off page' b'.last.0 b'.last.1))) in
     let after = subst (λ r. le r (from_start t b'.x b'.y (point (pos 0) (pos 0)))) b.last.2 (subst (le (stands page one b.last.0)) b'.first.2 (h b.last.0 b'.first.0 (off page b.last.0 b.last.1) (off page' b'.first.0 b'.first.1))) in
     subst (λ r. le r (stands (turned_paper turn page') (turned_item turn page' other) q)) (sym u.is)
     (subst (le (from_start t b.x b.y (point u.a u.b))) (sym v.is)
-    (first_across t b.x b.y b'.x b'.y b.n b.m b.l b.k b'.n b'.m b'.l b'.k room.gap_across u.a u.b v.a v.b b.wide b.high b'.wide b'.high before after u.left u.right u.bottom u.top v.left v.right v.bottom v.top))
+    (first_across t b.x b.y b'.x b'.y b.n b.m b.l b.k b'.n b'.m b'.l b'.k room.gutter_across u.a u.b v.a v.b b.wide b.high b'.wide b'.high before after u.left u.right u.bottom u.top v.left v.right v.bottom v.top))
 
-stays_up : (turn t : Turn) (room : Room) (page page' : Paper) (one other : Item) → room.trim ≡ 0 → Box t page one turn → Box t page' other turn → ComesFirst up room page one page' other
-    → ComesFirst up room (turned_paper turn page) (turned_item turn page one) (turned_paper turn page') (turned_item turn page' other)
+stays_up : (turn t : Turn) (room : Room) (page page' : Paper) (one other : Item) → room.trim ≡ 0 → Box t page one turn → Box t page' other turn → ComesFirst upward room page one page' other
+    → ComesFirst upward room (turned_paper turn page) (turned_item turn page one) (turned_paper turn page') (turned_item turn page' other)
 stays_up turn t room page page' one other none b b' h p q of of' =
     let on : (o : Paper) (r : Point) → IsOfPage room.trim o r → IsOfPage 0 o r = λ o r. subst (λ l. IsOfPage l o r) none in
     let off : (o : Paper) (r : Point) → IsOfPage 0 o r → IsOfPage room.trim o r = λ o r. subst (λ l. IsOfPage l o r) (sym none) in
     let u = b.all p (on (turned_paper turn page) p of) in
     let v = b'.all q (on (turned_paper turn page') q of') in
-    let le : Point → Point → Type 0 = λ r s. (r.y +ℤ fine room.gap_up) ≤ℤ s.y in
+    let le : Point → Point → Type 0 = λ r s. (r.y +ℤ fine room.gutter_up) ≤ℤ s.y in
     let before = subst (λ r. le r (from_start t b'.x b'.y (point (pos b'.n) (pos b'.m)))) b.first.2 (subst (le (stands page one b.first.0)) b'.last.2 (h b.first.0 b'.last.0 (off page b.first.0 b.first.1) (off page' b'.last.0 b'.last.1))) in
     let after = subst (λ r. le r (from_start t b'.x b'.y (point (pos 0) (pos 0)))) b.last.2 (subst (le (stands page one b.last.0)) b'.first.2 (h b.last.0 b'.first.0 (off page b.last.0 b.last.1) (off page' b'.first.0 b'.first.1))) in
     subst (λ r. le r (stands (turned_paper turn page') (turned_item turn page' other) q)) (sym u.is)
     (subst (le (from_start t b.x b.y (point u.a u.b))) (sym v.is)
-    (first_up t b.x b.y b'.x b'.y b.n b.m b.l b.k b'.n b'.m b'.l b'.k room.gap_up u.a u.b v.a v.b b.wide b.high b'.wide b'.high before after u.left u.right u.bottom u.top v.left v.right v.bottom v.top))
+    (first_up t b.x b.y b'.x b'.y b.n b.m b.l b.k b'.n b'.m b'.l b'.k room.gutter_up u.a u.b v.a v.b b.wide b.high b'.wide b'.high before after u.left u.right u.bottom u.top v.left v.right v.bottom v.top))
 
 still_apart : (turn t : Turn) (room : Room) (page page' : Paper) (one other : Item) → room.trim ≡ 0 → Box t page one turn → Box t page' other turn → AreApart room page one page' other
     → AreApart room (turned_paper turn page) (turned_item turn page one) (turned_paper turn page') (turned_item turn page' other)
@@ -211,28 +211,28 @@ slots_apart turn t room (Placed page item paper) (Placed page' item' paper') non
     still_apart turn t room paper paper' item item' none (box turn t paper item is) (box turn t paper' item' is') h
 
 -- a page in its cell, also on a back
-slot_is_whole : (m : Option Room) (f : Filling) (c : ℕ) (entry : Option ℕ) → ((page : Paper) → is_whole f.setting page ≡ false) → EntryFits f entry → SlotIsWhole (turn_in f.setting.grid) (moved_slot m (slot_in f c entry))
+slot_is_whole : (m : Option Room) (f : Filling) (c : ℕ) (entry : Option ℕ) → ((page : Paper) → is_whole f.setting page ≡ false) → EntryFits f entry → SlotIsWhole (turn_in f.setting.grid) (moved_slot m (slot_in_cell f c entry))
 unfolding SlotIsWhole
 slot_is_whole m f c None not has = tt
 slot_is_whole None f c (Some page) not has =
     let t = f.setting in
     let paper = f.paper_of page in
     let by = moved_by (is_whole t paper) t paper c (scale_on t paper) in
-    let is = cond-false (is_whole t paper) (alone c) (item_in paper t.room t.grid t.order (scale_on t paper) c) (not paper) in
+    let is = cond-false (is_whole t paper) (page_alone c) (item_in_cell paper t.room t.grid t.order (scale_on t paper) c) (not paper) in
     record { sides = has.page_is; turned_so = ap (λ (i : Item). i.turn) is; scale = scale_on t paper; scale_is = ap (λ (i : Item). i.scale) is; x = by.0; y = by.1; x_is = by.2; y_is = by.3 }
 slot_is_whole (Some room) f c (Some page) not has =
     let t = f.setting in
     let paper = f.paper_of page in
     let by = moved_by (is_whole t paper) t paper c (scale_on t paper) in
-    let is = cond-false (is_whole t paper) (alone c) (item_in paper t.room t.grid t.order (scale_on t paper) c) (not paper) in
+    let is = cond-false (is_whole t paper) (page_alone c) (item_in_cell paper t.room t.grid t.order (scale_on t paper) c) (not paper) in
     record {
       sides = has.page_is;
       turned_so = ap (λ (i : Item). i.turn) is;
       scale = scale_on t paper;
       scale_is = ap (λ (i : Item). i.scale) is;
-      x = by.0 +ℤ shift room;
+      x = by.0 +ℤ swap_shift room;
       y = by.1;
-      x_is = moved_too by.0 (shift room) (fitted t paper c).x by.2;
+      x_is = moved_too by.0 (swap_shift room) (fitted t paper c).x by.2;
       y_is = by.3;
     }
 
@@ -246,11 +246,11 @@ trim_is true room s e = of_either (s % 2 == 1)
     of_either false = e
 trim_is false room s e = e
 
-front_or_back : (m : Bool) (room : Room) (s : ℕ) (sheet : MadeSheet) → All IsInPoints sheet.slots → StandsIn room sheet → StandsIn (side_room m room s) (moved_sheet (mirror_on (mirror_of m room) s) sheet)
+front_or_back : (m : Bool) (room : Room) (s : ℕ) (sheet : MadeSheet) → All IsInPoints sheet.slots → StandsInRoom room sheet → StandsInRoom (side_room m room s) (moved_sheet (swapped_room_on (swapped_room_of m room) s) sheet)
 front_or_back true room s sheet points h = side_stands (s % 2 == 1) room sheet points h
 front_or_back false room s sheet points h = unmoved_stands (s % 2 == 1)
   where
-    unmoved_stands : (back : Bool) → StandsIn room (moved_sheet (if back then None else None) sheet)
+    unmoved_stands : (back : Bool) → StandsInRoom room (moved_sheet (if back then None else None) sheet)
     unmoved_stands true = side_stands false room sheet points h
     unmoved_stands false = side_stands false room sheet points h
 
@@ -266,29 +266,29 @@ all_apart turn t room slots none are apart i j d before less =
     (slots_apart turn t room a b none (are i Blank first) (are j Blank second) (apart i j Blank before second)))
 
 pub filled_keep : (m : Bool) (turn : Turn) (f : Filling) (sheets cells : ℕ) (entry : (s c : ℕ) → Option ℕ) → cells ≤ size f.setting.grid → ((s c : ℕ) → EntryFits f (entry s c)) → AllStand f.setting.room (filled f sheets cells entry)
-    → KeepRoom m f.setting (map (turned_sheet turn) (mirrored (mirror_of m f.setting.room) (filled f sheets cells entry)))
+    → KeepRoom m f.setting (map (turned_sheet turn) (swapped (swapped_room_of m f.setting.room) (filled f sheets cells entry)))
 filled_keep m turn f sheets cells entry enough fits stand none not s d less =
     let room = f.setting.room in
-    let mir = mirror_of m room in
-    let slot : ℕ → ℕ → MadeSlot = λ s c. slot_in f c (entry s c) in
+    let mir = swapped_room_of m room in
+    let slot : ℕ → ℕ → MadeSlot = λ s c. slot_in_cell f c (entry s c) in
     let made : ℕ → MadeSheet = λ s. record { paper = room.paper; slots = map (slot s) (range_with_len 0 cells) } in
     let laid = map made (range_with_len 0 sheets) in
     let many = length-map-range_with_len made 0 sheets in
     let count = count_is mir 0 laid in
-    let same = length-map (mirrored mir laid) (turned_sheet turn) in
+    let same = length-map (swapped mir laid) (turned_sheet turn) in
     let below : s < sheets = omega (arith, less, same, count, many) in
     let within : s < length laid = omega (arith, below, many) in
     let here = get_or-map-range_with_len made 0 sheets s s (made s) below (omega arith) in
-    let mv = moved_slot (mirror_on mir s) in
+    let mv = moved_slot (swapped_room_on mir s) in
     let points : All IsInPoints (made s).slots = subst (λ (x : MadeSheet). All IsInPoints x.slots) here (filled_in_points f sheets cells entry s (made s) within) in
-    let side = front_or_back m room s (made s) points (subst (StandsIn room) here (stand s (made s) within)) in
+    let side = front_or_back m room s (made s) points (subst (StandsInRoom room) here (stand s (made s) within)) in
     let are : All (SlotIsWhole (turn_in f.setting.grid)) (map mv (map (slot s) (range_with_len 0 cells))) =
-    numbered (λ k. SlotIsWhole (turn_in f.setting.grid)) mv (slot s) cells (λ k in_k. slot_is_whole (mirror_on mir s) f k (entry s k) not (fits s k)) in
+    numbered (λ k. SlotIsWhole (turn_in f.setting.grid)) mv (slot s) cells (λ k in_k. slot_is_whole (swapped_room_on mir s) f k (entry s k) not (fits s k)) in
     let in_room : All (SlotIsInside (side_room m room s)) (map (turned_slot turn) (map mv (map (slot s) (range_with_len 0 cells)))) =
     subst (All (SlotIsInside (side_room m room s))) (fused (turned_slot turn) mv (map (slot s) (range_with_len 0 cells)))
     (numbered (λ k. SlotIsInside (side_room m room s)) (λ x. turned_slot turn (mv x)) (slot s) cells
     (λ k in_k. side_inside m turn f s k (entry s k) (omega (arith, in_k, enough)) none not (fits s k))) in
-    subst (StandsIn (side_room m room s)) (sym (sheet_is turn mir made sheets s d below)) (record {
+    subst (StandsInRoom (side_room m room s)) (sym (sheet_is turn mir made sheets s d below)) (record {
       paper = side.paper;
       inside = in_room;
       apart = all_apart turn (turn_in f.setting.grid) (side_room m room s) (map mv (map (slot s) (range_with_len 0 cells))) (trim_is m room s none) are side.apart;

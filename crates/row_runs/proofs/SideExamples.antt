@@ -18,8 +18,8 @@ use Rattle.sheet_text.specs.PageNumbers.{number_line}
 use Rattle.sheet_text.specs.declared.numbers.Numbers.{Numbers}
 use Rattle.row_runs.specs.Marked.{strokes_in}
 use Rattle.row_runs.specs.Readings.{sides_by}
-use Rattle.row_runs.specs.declared.asked.Laying.TheVariants as laying
-use Rattle.row_runs.specs.declared.asked.Scheme.TheVariants as scheme
+use Rattle.row_runs.specs.declared.sheet_request.Laying.TheVariants as laying
+use Rattle.row_runs.specs.declared.sheet_request.Scheme.TheVariants as scheme
 
 -- Edges.
 

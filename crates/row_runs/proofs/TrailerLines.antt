@@ -12,7 +12,7 @@ use Rattle.dsc.proofs.LineLengths.{content_len, line_len-pos, line_len_is}
 use Rattle.dsc.proofs.PlainLines.{line_split}
 use Rattle.papers.specs.Media.{contents}
 use Rattle.papers.proofs.Contents.{contents_step}
-use Rattle.row_runs.specs.ToldPages.{begins_line, begins_trailer, behind_trailer, last_lines, trailer_at}
+use Rattle.row_runs.specs.DeclaredPages.{begins_line, is_trailer_line, behind_trailer, last_lines, trailer_at}
 
 abbrev pub TRAILER : List ℕ
 TRAILER = 37 ∷ 37 ∷ 84 ∷ 114 ∷ 97 ∷ 105 ∷ 108 ∷ 101 ∷ 114 ∷ []
@@ -25,7 +25,7 @@ at_front more = record {
   reads = λ j lt. (let same : 0 + j ≡ j = omega arith in ap (slice_index (TRAILER ++ more)) same ∙ get_or_append_left TRAILER more 0 j lt);
 }
 
-key_occurs : (line : List ℕ) → begins_trailer (content_of line) ≡ true → OccursAt line TRAILER 0
+key_occurs : (line : List ℕ) → is_trailer_line (content_of line) ≡ true → OccursAt line TRAILER 0
 key_occurs line is =
     let content : List ℕ = content_of line in
     let n : ℕ = prefix_len (λ b. not (is_blank b || (b == 58))) content in
@@ -45,7 +45,7 @@ both_make s t e f = ap (λ x. x && t) e ∙ f
 
 trailer_occurs : (at : ℕ) (text : List ℕ) → trailer_at at text ≡ true → OccursAt text TRAILER at
 trailer_occurs at text is =
-    let o = key_occurs (drop at text) (both_are (begins_line at text) (begins_trailer (content_of (drop at text))) is).1 in
+    let o = key_occurs (drop at text) (both_are (begins_line at text) (is_trailer_line (content_of (drop at text))) is).1 in
     let fits = o.fits in
     let left = length-drop at text in
     record {
@@ -145,15 +145,15 @@ begins_back l (suc i) text h is =
 
 trailer_on : (l j : ℕ) (text : List ℕ) → trailer_at (l + j) text ≡ true → trailer_at j (drop l text) ≡ true
 trailer_on l j text is =
-    let w = both_are (begins_line (l + j) text) (begins_trailer (content_of (drop (l + j) text))) is in
-    both_make (begins_line j (drop l text)) (begins_trailer (content_of (drop j (drop l text)))) (begins_on l j text w.0)
-    (ap (λ t. begins_trailer (content_of t)) (drop-drop j l text) ∙ w.1)
+    let w = both_are (begins_line (l + j) text) (is_trailer_line (content_of (drop (l + j) text))) is in
+    both_make (begins_line j (drop l text)) (is_trailer_line (content_of (drop j (drop l text)))) (begins_on l j text w.0)
+    (ap (λ t. is_trailer_line (content_of t)) (drop-drop j l text) ∙ w.1)
 
 trailer_back : (l j : ℕ) (text : List ℕ) → (j ≡ 0 → begins_line l text ≡ true) → trailer_at j (drop l text) ≡ true → trailer_at (l + j) text ≡ true
 trailer_back l j text h is =
-    let w = both_are (begins_line j (drop l text)) (begins_trailer (content_of (drop j (drop l text)))) is in
-    both_make (begins_line (l + j) text) (begins_trailer (content_of (drop (l + j) text))) (begins_back l j text h w.0)
-    (ap (λ t. begins_trailer (content_of t)) (sym (drop-drop j l text)) ∙ w.1)
+    let w = both_are (begins_line j (drop l text)) (is_trailer_line (content_of (drop j (drop l text)))) is in
+    both_make (begins_line (l + j) text) (is_trailer_line (content_of (drop (l + j) text))) (begins_back l j text h w.0)
+    (ap (λ t. is_trailer_line (content_of t)) (sym (drop-drop j l text)) ∙ w.1)
 
 line_begins : (text : List ℕ) (n : ℕ) → n ≡ line_len text → 0 < n → n < length text → begins_line n text ≡ true
 line_begins text zero e some h = absurd (omega (arith, some))
@@ -182,7 +182,7 @@ either all more lines true e f = e
 either all more lines false e f = f
 
 lines_step : (all : List (List ℕ)) (b : ℕ) (bs : List ℕ)
-    → behind_trailer all (contents (b ∷ bs)) ≡ choose all (contents (drop (line_len (b ∷ bs)) (b ∷ bs))) (begins_trailer (content_of (b ∷ bs)))
+    → behind_trailer all (contents (b ∷ bs)) ≡ choose all (contents (drop (line_len (b ∷ bs)) (b ∷ bs))) (is_trailer_line (content_of (b ∷ bs)))
 lines_step all b bs = ap (behind_trailer all) (contents_step b bs)
 
 none_left : (most : ℕ) (all : List (List ℕ)) (text : List ℕ) → length text ≤ most → ((k : ℕ) → trailer_at k text ≡ true → ⊥) → behind_trailer all (contents text) ≡ all
@@ -193,7 +193,7 @@ none_left (suc most) all (b ∷ bs) h none =
     let l : ℕ = line_len text in
     let moves : 0 < l = line_len-pos b bs in
     let left = length-drop l text in
-    let isnt : begins_trailer (content_of text) ≡ false = by_test (begins_trailer (content_of text)) (λ is. absurd (none 0 is)) (λ isnt. isnt) in
+    let isnt : is_trailer_line (content_of text) ≡ false = by_test (is_trailer_line (content_of text)) (λ is. absurd (none 0 is)) (λ isnt. isnt) in
     lines_step all b bs ∙ ap (choose all (contents (drop l text))) isnt
     ∙ none_left most all (drop l text) (omega (arith, h, moves, left)) (λ k is. none (l + k) (later_line b bs k is))
 
@@ -211,7 +211,7 @@ reached (suc most) (suc k) all (b ∷ bs) h is =
     let l : ℕ = line_len text in
     let o = trailer_occurs (suc k) text is in
     let fits = o.fits in
-    let ends : is_end (slice_index text k) ≡ true = (both_are (begins_line (suc k) text) (begins_trailer (content_of (drop (suc k) text))) is).0 in
+    let ends : is_end (slice_index text k) ≡ true = (both_are (begins_line (suc k) text) (is_trailer_line (content_of (drop (suc k) text))) is).0 in
     let here : suc k + 0 ≡ suc k = omega arith in
     let sign : slice_index text (suc k) ≡ 37 = sym (ap (slice_index text) here) ∙ o.reads 0 (omega arith) in
     let past : l ≤ suc k = has_ended text k (omega (arith, fits)) ends sign in
@@ -224,7 +224,7 @@ reached (suc most) (suc k) all (b ∷ bs) h is =
     let same : drop j rest ≡ drop (suc k) text = drop-drop j l text ∙ ap (λ n. drop n text) whole in
     let later : (any : List (List ℕ)) → behind_trailer any (contents rest) ≡ behind_trailer (contents (after (suc k) text)) (contents (after (suc k) text)) =
     (λ any. reached most j any rest (omega (arith, h, moves, left)) on ∙ ap (λ t. behind_trailer (contents (drop (line_len t) t)) (contents (drop (line_len t) t))) same) in
-    lines_step all b bs ∙ either all (contents rest) _ (begins_trailer (content_of text)) (later (contents rest)) (later all)
+    lines_step all b bs ∙ either all (contents rest) _ (is_trailer_line (content_of text)) (later (contents rest)) (later all)
 
 -- a line after one that begins further on
 after_first : (text : List ℕ) (k : ℕ) → trailer_at 0 text ≡ true → trailer_at k (drop (line_len text) text) ≡ true → (j : ℕ) × (0 < j) × (trailer_at j text ≡ true)

@@ -8,9 +8,9 @@ use Rattle.std.proofs.lemmas.List.Sums.{sum_by-cons}
 use Rattle.rules.specs.Run.{most_pages, most_places, most_sheets, refuse_if}
 use Rattle.rules.specs.Specification.{Turn}
 use Rattle.rules.specs.Made.{MadeSheet, MadeSlot, Blank, Placed}
-use Rattle.rules.specs.MadePlans.{MadeFault, MadeNoSuchPage, MadeSlotsOutOfRange, MadeTooManyPages, MadeTooManyPlaces, MadeTooManySheets, is_missing, is_slot_count, refuse_at, slot_count}
+use Rattle.rules.specs.MadePlans.{MadeFault, MadeNoSuchPage, MadeSlotsOutOfRange, MadeTooManyPages, MadeTooManyPlaces, MadeTooManySheets, lacks_page, is_slot_count, refuse_at, slot_count}
 use Rattle.layouts.specs.Placed.{Room}
-use Rattle.row_runs.specs.Mirrored.{mirror_on, mirrored, mirrored_from, moved_sheet, moved_slot}
+use Rattle.row_runs.specs.SwappedMargins.{swapped_room_on, swapped, swapped_from, moved_sheet, moved_slot}
 use Rattle.row_runs.specs.Turning.{turned_sheet, turned_slot}
 use Rattle.sheet_plan.specs.MadeRefusals.{RefusesMade}
 use Rattle.sheet_plan.specs.declared.error.MadeError.{MadeError}
@@ -19,7 +19,7 @@ use Rattle.sheet_plan.specs.declared.error.MadeError.TheVariants as error
 -- a sheet has as many slots as another, and lacks a page if that one does
 record IsAlike (one other : MadeSheet) : Type 0 where
   pub many : slot_count one ≡ slot_count other
-  pub lacks : (pages : ℕ) → list_any (is_missing pages) one.slots ≡ list_any (is_missing pages) other.slots
+  pub lacks : (pages : ℕ) → list_any (lacks_page pages) one.slots ≡ list_any (lacks_page pages) other.slots
 
 abbrev Alike : List MadeSheet → List MadeSheet → Type 0
 Alike [] [] = ⊤
@@ -74,14 +74,14 @@ passes_too false false None false None all other h = refl
 
 -- what is checked of sheets is what is checked of those that are alike
 same_checks : (pages : ℕ) (xs ys other : List MadeSheet) → Alike xs ys
-    → checked (nat_lt most_pages pages) (nat_lt most_sheets (length xs)) (position (λ s. not (is_slot_count (slot_count s))) xs) (nat_lt most_places (sum_by slot_count xs)) (position (λ s. list_any (is_missing pages) s.slots) xs) other
-    ≡ checked (nat_lt most_pages pages) (nat_lt most_sheets (length ys)) (position (λ s. not (is_slot_count (slot_count s))) ys) (nat_lt most_places (sum_by slot_count ys)) (position (λ s. list_any (is_missing pages) s.slots) ys) other
+    → checked (nat_lt most_pages pages) (nat_lt most_sheets (length xs)) (position (λ s. not (is_slot_count (slot_count s))) xs) (nat_lt most_places (sum_by slot_count xs)) (position (λ s. list_any (lacks_page pages) s.slots) xs) other
+    ≡ checked (nat_lt most_pages pages) (nat_lt most_sheets (length ys)) (position (λ s. not (is_slot_count (slot_count s))) ys) (nat_lt most_places (sum_by slot_count ys)) (position (λ s. list_any (lacks_page pages) s.slots) ys) other
 same_checks pages xs ys other h =
     let uneven = first_too (λ s. not (is_slot_count (slot_count s))) (λ x y alike. ap (λ n. not (is_slot_count n)) alike.many) xs ys h in
-    let missing = first_too (λ s. list_any (is_missing pages) s.slots) (λ x y alike. alike.lacks pages) xs ys h in
-    ap (λ (n : ℕ). checked (nat_lt most_pages pages) (nat_lt most_sheets n) (position (λ s. not (is_slot_count (slot_count s))) xs) (nat_lt most_places (sum_by slot_count xs)) (position (λ s. list_any (is_missing pages) s.slots) xs) other) (as_many xs ys h)
-    ∙ ap (λ (u : Option ℕ). checked (nat_lt most_pages pages) (nat_lt most_sheets (length ys)) u (nat_lt most_places (sum_by slot_count xs)) (position (λ s. list_any (is_missing pages) s.slots) xs) other) uneven
-    ∙ ap (λ (n : ℕ). checked (nat_lt most_pages pages) (nat_lt most_sheets (length ys)) (position (λ s. not (is_slot_count (slot_count s))) ys) (nat_lt most_places n) (position (λ s. list_any (is_missing pages) s.slots) xs) other) (sum_same xs ys h)
+    let missing = first_too (λ s. list_any (lacks_page pages) s.slots) (λ x y alike. alike.lacks pages) xs ys h in
+    ap (λ (n : ℕ). checked (nat_lt most_pages pages) (nat_lt most_sheets n) (position (λ s. not (is_slot_count (slot_count s))) xs) (nat_lt most_places (sum_by slot_count xs)) (position (λ s. list_any (lacks_page pages) s.slots) xs) other) (as_many xs ys h)
+    ∙ ap (λ (u : Option ℕ). checked (nat_lt most_pages pages) (nat_lt most_sheets (length ys)) u (nat_lt most_places (sum_by slot_count xs)) (position (λ s. list_any (lacks_page pages) s.slots) xs) other) uneven
+    ∙ ap (λ (n : ℕ). checked (nat_lt most_pages pages) (nat_lt most_sheets (length ys)) (position (λ s. not (is_slot_count (slot_count s))) ys) (nat_lt most_places n) (position (λ s. list_any (lacks_page pages) s.slots) xs) other) (sum_same xs ys h)
     ∙ ap (λ (m : Option ℕ). checked (nat_lt most_pages pages) (nat_lt most_sheets (length ys)) (position (λ s. not (is_slot_count (slot_count s))) ys) (nat_lt most_places (sum_by slot_count ys)) m other) missing
 
 refused_too : (pages : ℕ) (xs ys : List MadeSheet) (e : MadeError) → Alike xs ys → RefusesMade pages ys e → RefusesMade pages xs e
@@ -94,16 +94,16 @@ refused_too pages xs ys error.NoMemory a h = same_checks pages xs ys xs a ∙ pa
 
 -- ---- moved and turned
 
-any_same : (pages : ℕ) (f : MadeSlot → MadeSlot) → ((slot : MadeSlot) → is_missing pages (f slot) ≡ is_missing pages slot) → (slots : List MadeSlot)
-    → list_any (is_missing pages) (map f slots) ≡ list_any (is_missing pages) slots
+any_same : (pages : ℕ) (f : MadeSlot → MadeSlot) → ((slot : MadeSlot) → lacks_page pages (f slot) ≡ lacks_page pages slot) → (slots : List MadeSlot)
+    → list_any (lacks_page pages) (map f slots) ≡ list_any (lacks_page pages) slots
 any_same pages f same [] = refl
 any_same pages f same (slot ∷ slots) = rw (same slot, any_same pages f same slots) refl
 
-turned_lacks : (t : Turn) (pages : ℕ) (slot : MadeSlot) → is_missing pages (turned_slot t slot) ≡ is_missing pages slot
+turned_lacks : (t : Turn) (pages : ℕ) (slot : MadeSlot) → lacks_page pages (turned_slot t slot) ≡ lacks_page pages slot
 turned_lacks t pages Blank = refl
 turned_lacks t pages (Placed page item paper) = refl
 
-moved_lacks : (m : Option Room) (pages : ℕ) (slot : MadeSlot) → is_missing pages (moved_slot m slot) ≡ is_missing pages slot
+moved_lacks : (m : Option Room) (pages : ℕ) (slot : MadeSlot) → lacks_page pages (moved_slot m slot) ≡ lacks_page pages slot
 moved_lacks m pages Blank = refl
 moved_lacks m pages (Placed page item paper) = refl
 
@@ -114,10 +114,10 @@ is_alike t m sheet = record {
       ∙ any_same pages (moved_slot m) (moved_lacks m pages) sheet.slots;
 }
 
-are_alike : (t : Turn) (m : Option Room) (s : ℕ) (all : List MadeSheet) → Alike (map (turned_sheet t) (mirrored_from m s all)) all
+are_alike : (t : Turn) (m : Option Room) (s : ℕ) (all : List MadeSheet) → Alike (map (turned_sheet t) (swapped_from m s all)) all
 are_alike t m s [] = tt
-are_alike t m s (sheet ∷ all) = (is_alike t (mirror_on m s) sheet, are_alike t m (s + 1) all)
+are_alike t m s (sheet ∷ all) = (is_alike t (swapped_room_on m s) sheet, are_alike t m (s + 1) all)
 
 pub turned_refused : (t : Turn) (m : Option Room) (pages : ℕ) (all : List MadeSheet) (e : MadeError) → RefusesMade pages all e
-    → RefusesMade pages (map (turned_sheet t) (mirrored m all)) e
+    → RefusesMade pages (map (turned_sheet t) (swapped m all)) e
 turned_refused t m pages all e h = refused_too pages _ all e (are_alike t m 0 all) h

@@ -9,8 +9,8 @@ use Rattle.rules.specs.Placement.{Point, moved, turned}
 use Rattle.rules.specs.Specification.{Item, Measure, Turn, Upright, Left, Half, Right}
 use Rattle.rules.specs.Made.{MadeSlot, Blank, Placed, MadeSheet}
 use Rattle.sheet_plan.specs.OfSheets.{slots_at}
-use Rattle.layouts.specs.Placed.{fine, finer, times}
-use Rattle.row_runs.specs.Turning.{IsDrawnTurned, IsLittle, TurnedStands, TurnsAddUp, both, corner, excess, farther, further, long, on_turned, turned_item, turned_paper, turned_sheet, turned_slot}
+use Rattle.layouts.specs.Placed.{fine, finer, multiplied}
+use Rattle.row_runs.specs.Turning.{IsDrawnTurned, IsLittle, TurnedStands, TurnsAddUp, turn_sum, turned_corner, excess, shifted, quarter_left, scaled_length, on_turned, turned_item, turned_paper, turned_sheet, turned_slot}
 
 abbrev pub point : ℤ → ℤ → Point
 point x y = record { x = x; y = y }
@@ -30,12 +30,12 @@ same_items : (i : Item) (t t' : Turn) (x x' y y' : Measure) → t ≡ t' → x �
     → item_at i.page i.from_end t i.scale x y ≡ item_at i.page i.from_end t' i.scale x' y'
 same_items i t t' x x' y y' e f g = rw e (rw f (rw g refl))
 
-pub no_farther : (by : ℤ) (m : Measure) → by ≡ pos 0 → farther by m ≡ m
+pub no_farther : (by : ℤ) (m : Measure) → by ≡ pos 0 → shifted by m ≡ m
 no_farther by m e =
     let n : m.number +ℤ (pos 10_000 *ℤ by) ≡ m.number = omega (arith, ints, e) in
     ap (λ z. record { number = z; unit = m.unit }) n
 
-twice_farther : (a b c : ℤ) (m : Measure) → a +ℤ b ≡ c → farther b (farther a m) ≡ farther c m
+twice_farther : (a b c : ℤ) (m : Measure) → a +ℤ b ≡ c → shifted b (shifted a m) ≡ shifted c m
 twice_farther a b c m e =
     let n : (m.number +ℤ (pos 10_000 *ℤ a)) +ℤ (pos 10_000 *ℤ b) ≡ m.number +ℤ (pos 10_000 *ℤ c) = omega (arith, ints, e) in
     ap (λ z. record { number = z; unit = m.unit }) n
@@ -46,25 +46,25 @@ nowhere Left = refl
 nowhere Half = refl
 nowhere Right = refl
 
-two_corners : (t : Turn) (a b : ℤ) → moved (turned (further t) (point b (pos 0))) (turned t (point a (pos 0))) ≡ turned t (point a b)
+two_corners : (t : Turn) (a b : ℤ) → moved (turned (quarter_left t) (point b (pos 0))) (turned t (point a (pos 0))) ≡ turned t (point a b)
 two_corners Upright a b = same_points _ _ _ _ (omega (arith, ints)) (omega (arith, ints))
 two_corners Left a b = same_points _ _ _ _ (omega (arith, ints)) (omega (arith, ints))
 two_corners Half a b = same_points _ _ _ _ (omega (arith, ints)) (omega (arith, ints))
 two_corners Right a b = same_points _ _ _ _ (omega (arith, ints)) (omega (arith, ints))
 
-three_corners : (t : Turn) (a b : ℤ) → moved (turned (further (further t)) (point a (pos 0))) (turned t (point a b)) ≡ turned t (point (pos 0) b)
+three_corners : (t : Turn) (a b : ℤ) → moved (turned (quarter_left (quarter_left t)) (point a (pos 0))) (turned t (point a b)) ≡ turned t (point (pos 0) b)
 three_corners Upright a b = same_points _ _ _ _ (omega (arith, ints)) (omega (arith, ints))
 three_corners Left a b = same_points _ _ _ _ (omega (arith, ints)) (omega (arith, ints))
 three_corners Half a b = same_points _ _ _ _ (omega (arith, ints)) (omega (arith, ints))
 three_corners Right a b = same_points _ _ _ _ (omega (arith, ints)) (omega (arith, ints))
 
-four_corners : (t : Turn) (b : ℤ) → moved (turned (further (further (further t))) (point b (pos 0))) (turned t (point (pos 0) b)) ≡ point (pos 0) (pos 0)
+four_corners : (t : Turn) (b : ℤ) → moved (turned (quarter_left (quarter_left (quarter_left t))) (point b (pos 0))) (turned t (point (pos 0) b)) ≡ point (pos 0) (pos 0)
 four_corners Upright b = same_points _ _ _ _ (omega (arith, ints)) (omega (arith, ints))
 four_corners Left b = same_points _ _ _ _ (omega (arith, ints)) (omega (arith, ints))
 four_corners Half b = same_points _ _ _ _ (omega (arith, ints)) (omega (arith, ints))
 four_corners Right b = same_points _ _ _ _ (omega (arith, ints)) (omega (arith, ints))
 
-four_turns : (t : Turn) → further (further (further (further t))) ≡ t
+four_turns : (t : Turn) → quarter_left (quarter_left (quarter_left (quarter_left t))) ≡ t
 four_turns Upright = refl
 four_turns Left = refl
 four_turns Half = refl
@@ -81,35 +81,35 @@ pub turns_add_up : TurnsAddUp
 turns_add_up Blank = record { none = refl; two = refl; three = refl; four = refl }
 turns_add_up (Placed page item paper) =
     let t = item.turn in
-    let a = pos (long item.scale paper.width) in
-    let b = pos (long item.scale paper.height) in
+    let a = pos (scaled_length item.scale paper.width) in
+    let b = pos (scaled_length item.scale paper.height) in
     let one : Point = turned t (point a (pos 0)) in
     let half : Point = turned t (point a b) in
     let right : Point = turned t (point (pos 0) b) in
-    let second : Point = turned (further t) (point b (pos 0)) in
-    let third : Point = turned (further (further t)) (point a (pos 0)) in
-    let fourth : Point = turned (further (further (further t))) (point b (pos 0)) in
+    let second : Point = turned (quarter_left t) (point b (pos 0)) in
+    let third : Point = turned (quarter_left (quarter_left t)) (point a (pos 0)) in
+    let fourth : Point = turned (quarter_left (quarter_left (quarter_left t))) (point b (pos 0)) in
     let two = two_corners t a b in
     let three = three_corners t a b in
     let four = four_corners t b in
     record {
       none = unturned (Placed page item paper);
       two = ap (λ (i : Item). Placed page i paper)
-          (same_items item (both Half t) (both Half t) _ _ _ _ refl (twice_farther one.x second.x half.x item.x (ap (λ (q : Point). q.x) two))
+          (same_items item (turn_sum Half t) (turn_sum Half t) _ _ _ _ refl (twice_farther one.x second.x half.x item.x (ap (λ (q : Point). q.x) two))
           (twice_farther one.y second.y half.y item.y (ap (λ (q : Point). q.y) two)));
       three = ap (λ (i : Item). Placed page i (paper_of paper.height paper.width))
-          (same_items item (both Right t) (both Right t) _ _ _ _ refl (twice_farther half.x third.x right.x item.x (ap (λ (q : Point). q.x) three))
+          (same_items item (turn_sum Right t) (turn_sum Right t) _ _ _ _ refl (twice_farther half.x third.x right.x item.x (ap (λ (q : Point). q.x) three))
           (twice_farther half.y third.y right.y item.y (ap (λ (q : Point). q.y) three)));
       four = ap (λ (i : Item). Placed page i paper)
-          (same_items item (further (both Right t)) t _ item.x _ item.y (four_turns t)
+          (same_items item (quarter_left (turn_sum Right t)) t _ item.x _ item.y (four_turns t)
           (twice_farther right.x fourth.x (pos 0) item.x (ap (λ (q : Point). q.x) four) ∙ no_farther (pos 0) item.x refl)
           (twice_farther right.y fourth.y (pos 0) item.y (ap (λ (q : Point). q.y) four) ∙ no_farther (pos 0) item.y refl));
     }
 
 -- an item that is turned, by its parts
-pub item_is : (turn : Turn) (paper : Paper) (item : Item) (w h a b x y : ℤ) (t : Turn) (mx my : Measure) → w ≡ pos (long item.scale paper.width)
-    → h ≡ pos (long item.scale paper.height) → a ≡ (corner turn w h).x → b ≡ (corner turn w h).y → x ≡ (turned item.turn (point a b)).x
-    → y ≡ (turned item.turn (point a b)).y → t ≡ both turn item.turn → mx ≡ farther x item.x → my ≡ farther y item.y
+pub item_is : (turn : Turn) (paper : Paper) (item : Item) (w h a b x y : ℤ) (t : Turn) (mx my : Measure) → w ≡ pos (scaled_length item.scale paper.width)
+    → h ≡ pos (scaled_length item.scale paper.height) → a ≡ (turned_corner turn w h).x → b ≡ (turned_corner turn w h).y → x ≡ (turned item.turn (point a b)).x
+    → y ≡ (turned item.turn (point a b)).y → t ≡ turn_sum turn item.turn → mx ≡ shifted x item.x → my ≡ shifted y item.y
     → item_at item.page item.from_end t item.scale mx my ≡ turned_item turn paper item
 item_is turn paper item w h a b x y t mx my w_is h_is a_is b_is x_is y_is t_is mx_is my_is =
     rw mx_is (rw my_is (rw t_is (rw x_is (rw y_is (rw a_is (rw b_is (rw w_is (rw h_is refl))))))))
@@ -146,8 +146,8 @@ nothing_more s a =
     let none : s * 0 ≡ 0 = omega arith in
     before s 0 a ∙ ap (λ n. (pos s *ℤ a) +ℤ pos n) none
 
-scaled_on : (turn : Turn) (s w h : ℕ) (p : Point) → times (pos s) (on_turned turn (paper_of (pos w) (pos h)) p)
-    ≡ moved (corner turn (pos (s * w)) (pos (s * h))) (turned turn (times (pos s) p))
+scaled_on : (turn : Turn) (s w h : ℕ) (p : Point) → multiplied (pos s) (on_turned turn (paper_of (pos w) (pos h)) p)
+    ≡ moved (turned_corner turn (pos (s * w)) (pos (s * h))) (turned turn (multiplied (pos s) p))
 scaled_on Upright s w h p = same_points _ _ _ _ (nothing_more s p.x) (nothing_more s p.y)
 scaled_on Left s w h p = same_points _ _ _ _ (less s w p.y) (nothing_more s p.x)
 scaled_on Half s w h p = same_points _ _ _ _ (less s w p.x) (less s h p.y)
@@ -160,11 +160,11 @@ abbrev points : (x y : ℤ) → Point
 points x y = finer (point (x *ℤ pos 127) (y *ℤ pos 127))
 
 abbrev shift : (turn t : Turn) (m n : ℕ) → Point
-shift turn t m n = turned t (corner turn (pos m) (pos n))
+shift turn t m n = turned t (turned_corner turn (pos m) (pos n))
 
 at_turn : (turn t : Turn) (x y : ℤ) (m n : ℕ) (w h : ℤ) (q : Point)
-    → moved (points (x +ℤ (pos 10_000 *ℤ (shift turn t m n).x)) (y +ℤ (pos 10_000 *ℤ (shift turn t m n).y))) (turned (both turn t) q)
-    ≡ moved (turned t (corner turn (fine m -ℤ w) (fine n -ℤ h))) (moved (points x y) (turned t (moved (corner turn w h) (turned turn q))))
+    → moved (points (x +ℤ (pos 10_000 *ℤ (shift turn t m n).x)) (y +ℤ (pos 10_000 *ℤ (shift turn t m n).y))) (turned (turn_sum turn t) q)
+    ≡ moved (turned t (turned_corner turn (fine m -ℤ w) (fine n -ℤ h))) (moved (points x y) (turned t (moved (turned_corner turn w h) (turned turn q))))
 at_turn Upright Upright x y m n w h q = same_points _ _ _ _ (omega (arith, ints)) (omega (arith, ints))
 at_turn Upright Left x y m n w h q = same_points _ _ _ _ (omega (arith, ints)) (omega (arith, ints))
 at_turn Upright Half x y m n w h q = same_points _ _ _ _ (omega (arith, ints)) (omega (arith, ints))
@@ -192,8 +192,8 @@ drawn : (turn t : Turn) (n : ℕ) (from_end : Bool) (x y : ℤ) (w h s : ℕ)
     → IsDrawnTurned turn (paper_of (pos w) (pos h)) (item_at n from_end t (pos s) (in_pt x) (in_pt y)) w h s
 drawn turn t n from_end x y w h s = record {
   little = (is_little (s * w), is_little (s * h));
-  stand = λ p. at_turn turn t x y (long (pos s) (pos w)) (long (pos s) (pos h)) (pos (s * w)) (pos (s * h)) (times (pos s) p)
-      ∙ ap (λ (q : Point). moved (turned t (corner turn (excess s w) (excess s h))) (moved (points x y) (turned t q))) (sym (scaled_on turn s w h p));
+  stand = λ p. at_turn turn t x y (scaled_length (pos s) (pos w)) (scaled_length (pos s) (pos h)) (pos (s * w)) (pos (s * h)) (multiplied (pos s) p)
+      ∙ ap (λ (q : Point). moved (turned t (turned_corner turn (excess s w) (excess s h))) (moved (points x y) (turned t q))) (sym (scaled_on turn s w h p));
 }
 
 same_paper : (page : Paper) (w h : ℕ) → page.width ≡ pos w → page.height ≡ pos h → paper_of (pos w) (pos h) ≡ page

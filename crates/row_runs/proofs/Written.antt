@@ -5,7 +5,7 @@ use Rattle.std.proofs.lemmas.Int.{ints}
 use Rattle.rules.specs.Papers.{Paper}
 use Rattle.rules.specs.Sheets.{blocks}
 use Rattle.rules.specs.Specification.{Measure}
-use Rattle.rules.specs.Choice.{signed}
+use Rattle.rules.specs.Choice.{signed_if}
 use Rattle.rules.specs.Made.{MadeSlot, Blank, Placed, MadeSheet}
 use Rattle.rules.specs.Rows.{Row}
 use Rattle.layouts.specs.Cells.{size}
@@ -13,18 +13,18 @@ use Rattle.layouts.specs.Placed.{Room}
 use Rattle.row_sheets.specs.Filled.{behind_in, card_entry, duplex_entry, grid_entry, stack_entry}
 use Rattle.row_sheets.specs.Shapes.{filling}
 use Rattle.row_sheets.specs.Standing.{AllStand}
-use Rattle.row_runs.specs.declared.asked.Laying.{Laying}
-use Rattle.row_runs.specs.declared.asked.Laying.TheVariants as laying
-use Rattle.row_runs.specs.declared.asked.Scheme.TheVariants as scheme
-use Rattle.row_runs.specs.Evened.{evened_if}
-use Rattle.row_runs.specs.Mirrored.{IsInPoints, mirror_in, mirrored, mirrored_from, moved_sheet, moved_slot, shift}
-use Rattle.row_runs.specs.Runs.{mirror_for, page_count}
+use Rattle.row_runs.specs.declared.sheet_request.Laying.{Laying}
+use Rattle.row_runs.specs.declared.sheet_request.Laying.TheVariants as laying
+use Rattle.row_runs.specs.declared.sheet_request.Scheme.TheVariants as scheme
+use Rattle.row_runs.specs.Evened.{at_common_scale}
+use Rattle.row_runs.specs.SwappedMargins.{IsInPoints, swapped_room_in, swapped, swapped_from, moved_sheet, moved_slot, swap_shift}
+use Rattle.row_runs.specs.Runs.{swapped_room_for, page_count}
 use Rattle.row_runs.specs.Sheets.{MayBeLaid, laying_for, leaves_in, sewn, sheets_laid}
 use Rattle.row_runs.specs.Standing.{StandAsLaid}
 use Rattle.row_runs.specs.Turning.{turned_sheet}
 use Rattle.row_runs.specs.InPlaces.{StandInPlaces}
 use Rattle.row_runs.specs.Written.{StandAsWritten, StandOnSides, WrittenInPlaces, WrittenStand}
-use Rattle.row_runs.proofs.Backs.{filled_in_points, mirrored_stands, unmirrored, unmoved_sheet}
+use Rattle.row_runs.proofs.Backs.{filled_in_points, swapped_stands, unswapped, unmoved_sheet}
 use Rattle.row_runs.proofs.Fit.{asked_stand_in_places}
 use Rattle.row_runs.proofs.Turns.{no_farther, unturned_sheets}
 
@@ -33,8 +33,8 @@ use Rattle.row_runs.proofs.Turns.{no_farther, unturned_sheets}
 even_slot : (room : Room) → room.left ≡ room.right → (slot : MadeSlot) → moved_slot (Some room) slot ≡ slot
 even_slot room even Blank = refl
 even_slot room even (Placed page item paper) =
-    let none : shift room ≡ pos 0 = omega (arith, ints, even) in
-    ap (λ (x : Measure). Placed page (record item { x = x }) paper) (no_farther (shift room) item.x none)
+    let none : swap_shift room ≡ pos 0 = omega (arith, ints, even) in
+    ap (λ (x : Measure). Placed page (record item { x = x }) paper) (no_farther (swap_shift room) item.x none)
 
 even_slots : (room : Room) → room.left ≡ room.right → (slots : List MadeSlot) → map (moved_slot (Some room)) slots ≡ slots
 even_slots room even [] = refl
@@ -44,7 +44,7 @@ even_side : (back : Bool) (room : Room) → room.left ≡ room.right → (sheet 
 even_side true room even sheet = ap (λ (slots : List MadeSlot). record { paper = sheet.paper; slots = slots }) (even_slots room even sheet.slots)
 even_side false room even sheet = unmoved_sheet sheet
 
-pub even_sheets : (room : Room) → room.left ≡ room.right → (s : ℕ) (made : List MadeSheet) → mirrored_from (Some room) s made ≡ made
+pub even_sheets : (room : Room) → room.left ≡ room.right → (s : ℕ) (made : List MadeSheet) → swapped_from (Some room) s made ≡ made
 even_sheets room even s [] = refl
 even_sheets room even s (sheet ∷ made) = ap₂ (λ (x : MadeSheet) (all : List MadeSheet). x ∷ all) (even_side (s % 2 == 1) room even sheet) (even_sheets room even (s + 1) made)
 
@@ -72,7 +72,7 @@ laid_in_points (laying.InCells t scheme.Zine) leaves papers row = tt
 laid_in_points (laying.AsTheyAre blank) leaves papers row = tt
 laid_in_points (laying.Poster p) leaves papers row = tt
 
-evened_in_points : (same_scale : Bool) (l : Laying) (papers : List Paper) (row : Row) (made : List MadeSheet) → InPointsAs (evened_if same_scale l papers row) made → InPointsAs l made
+evened_in_points : (same_scale : Bool) (l : Laying) (papers : List Paper) (row : Row) (made : List MadeSheet) → InPointsAs (at_common_scale same_scale l papers row) made → InPointsAs l made
 evened_in_points false l papers row made h = h
 evened_in_points true (laying.InCells t (scheme.Grid cells)) papers row made h = h
 evened_in_points true (laying.InCells t (scheme.Cards cells)) papers row made h = h
@@ -85,21 +85,21 @@ evened_in_points true (laying.Poster p) papers row made h = tt
 
 -- ---- on both sides
 
-unexchanged : (l : Laying) (laid : List MadeSheet) → StandAsLaid l laid → StandAsLaid l (mirrored None laid)
-unexchanged l laid h = subst (StandAsLaid l) (sym (unmirrored 0 laid)) h
+unexchanged : (l : Laying) (laid : List MadeSheet) → StandAsLaid l laid → StandAsLaid l (swapped None laid)
+unexchanged l laid h = subst (StandAsLaid l) (sym (unswapped 0 laid)) h
 
-on_even_sides : (l : Laying) (room : Room) (laid : List MadeSheet) → room.left ≡ room.right → StandAsLaid l laid → StandAsLaid l (mirrored (Some room) laid)
+on_even_sides : (l : Laying) (room : Room) (laid : List MadeSheet) → room.left ≡ room.right → StandAsLaid l laid → StandAsLaid l (swapped (Some room) laid)
 on_even_sides l room laid even h = subst (StandAsLaid l) (sym (even_sheets room even 0 laid)) h
 
-pub count_is : (m : Option Room) (s : ℕ) (made : List MadeSheet) → length (mirrored_from m s made) ≡ length made
+pub count_is : (m : Option Room) (s : ℕ) (made : List MadeSheet) → length (swapped_from m s made) ≡ length made
 count_is m s [] = refl
 count_is m s (x ∷ made) = ap suc (count_is m (s + 1) made)
 
-on_sides : (room : Room) (laid : List MadeSheet) → AllInPoints laid → AllStand room laid → StandOnSides room (mirrored (Some room) laid)
+on_sides : (room : Room) (laid : List MadeSheet) → AllInPoints laid → AllStand room laid → StandOnSides room (swapped (Some room) laid)
 on_sides room laid points stand s d less =
-    mirrored_stands room laid points stand s d (subst (λ n. s < n) (count_is (Some room) 0 laid) less)
+    swapped_stands room laid points stand s d (subst (λ n. s < n) (count_is (Some room) 0 laid) less)
 
-sides_stand : (m : Bool) (l : Laying) (laid : List MadeSheet) → MayBeLaid l → InPointsAs l laid → StandAsLaid l laid → StandAsWritten m l (mirrored (mirror_in m l) laid)
+sides_stand : (m : Bool) (l : Laying) (laid : List MadeSheet) → MayBeLaid l → InPointsAs l laid → StandAsLaid l laid → StandAsWritten m l (swapped (swapped_room_in m l) laid)
 sides_stand false (laying.AsTheyAre blank) laid may points h = unexchanged (laying.AsTheyAre blank) laid h
 sides_stand false (laying.InCells t how) laid may points h = unexchanged (laying.InCells t how) laid h
 sides_stand false (laying.Poster p) laid may points h = unexchanged (laying.Poster p) laid h
@@ -119,10 +119,10 @@ written_stand j made are upright =
     let papers = j.papers.now in
     let laid = are.laid in
     let row = are.asked.row in
-    let points : InPointsAs a.laying laid = evened_in_points a.same_scale a.laying papers (signed (sewn a) row) laid
-    (subst (InPointsAs (laying_for a papers row)) (sym are.asked.are_laid) (laid_in_points (laying_for a papers row) (leaves_in (sewn a) row) papers (signed (sewn a) row))) in
-    let same : made ≡ mirrored (mirror_for j) laid = are.turned ∙ ap (λ t. map (turned_sheet t) (mirrored (mirror_for j) laid)) upright ∙ unturned_sheets (mirrored (mirror_for j) laid) in
-    subst (StandAsWritten j.mirrored a.laying) (sym same) (sides_stand j.mirrored a.laying laid are.may.laid points are.stand)
+    let points : InPointsAs a.laying laid = evened_in_points a.same_scale a.laying papers (signed_if (sewn a) row) laid
+    (subst (InPointsAs (laying_for a papers row)) (sym are.asked.are_laid) (laid_in_points (laying_for a papers row) (leaves_in (sewn a) row) papers (signed_if (sewn a) row))) in
+    let same : made ≡ swapped (swapped_room_for j) laid = are.turned ∙ ap (λ t. map (turned_sheet t) (swapped (swapped_room_for j) laid)) upright ∙ unturned_sheets (swapped (swapped_room_for j) laid) in
+    subst (StandAsWritten j.swapped a.laying) (sym same) (sides_stand j.swapped a.laying laid are.may.laid points are.stand)
 
 -- ---- in their places
 
@@ -132,6 +132,6 @@ written_in_places j made are upright unmoved =
     let papers = j.papers.now in
     let laid = are.laid in
     let row = are.asked.row in
-    let same : made ≡ laid = are.turned ∙ ap₂ (λ t m. map (turned_sheet t) (mirrored m laid)) upright unmoved ∙ unturned_sheets (mirrored None laid) ∙ unmirrored 0 laid in
-    subst (StandInPlaces (laying_for a papers row) papers (signed (sewn a) row)) (sym same)
+    let same : made ≡ laid = are.turned ∙ ap₂ (λ t m. map (turned_sheet t) (swapped m laid)) upright unmoved ∙ unturned_sheets (swapped None laid) ∙ unswapped 0 laid in
+    subst (StandInPlaces (laying_for a papers row) papers (signed_if (sewn a) row)) (sym same)
     (asked_stand_in_places (page_count j) papers a laid are.may are.asked)

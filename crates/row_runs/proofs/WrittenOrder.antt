@@ -4,7 +4,7 @@ use Rattle.std.specs.Prelude.{flat_map, slice_index_or}
 use Rattle.std.specs.List.{range_with_len}
 use Rattle.rules.specs.Sheets.{blocks}
 use Rattle.rules.specs.Specification.{Turn}
-use Rattle.rules.specs.Choice.{sides_for, signed}
+use Rattle.rules.specs.Choice.{sides_for, signed_if}
 use Rattle.rules.specs.Leaves.{Face, read_signature}
 use Rattle.rules.specs.Made.{Blank, MadeSheet, MadeSlot, Placed}
 use Rattle.rules.specs.Rows.{Row}
@@ -20,12 +20,12 @@ use Rattle.row_sheets.proofs.Zines.{zine_is_read}
 use Rattle.row_sheets.specs.Zine.{in_hand, read_folded}
 use Rattle.pagespec.specs.Items.{turn_of}
 use Rattle.rules.specs.Papers.{Paper}
-use Rattle.row_runs.specs.declared.asked.Laying.{Laying}
-use Rattle.row_runs.specs.declared.asked.Laying.TheVariants as laying
-use Rattle.row_runs.specs.declared.asked.Scheme.TheVariants as scheme
-use Rattle.row_runs.specs.Mirrored.{mirror_on, mirrored_from, moved_sheet, moved_slot}
+use Rattle.row_runs.specs.declared.sheet_request.Laying.{Laying}
+use Rattle.row_runs.specs.declared.sheet_request.Laying.TheVariants as laying
+use Rattle.row_runs.specs.declared.sheet_request.Scheme.TheVariants as scheme
+use Rattle.row_runs.specs.SwappedMargins.{swapped_room_on, swapped_from, moved_sheet, moved_slot}
 use Rattle.row_runs.specs.ReadAsBound.{AreReadAs}
-use Rattle.row_runs.specs.Runs.{mirror_for, page_count}
+use Rattle.row_runs.specs.Runs.{swapped_room_for, page_count}
 use Rattle.row_runs.specs.Sheets.{laying_for, leaves_in, sewn, sheets_laid}
 use Rattle.row_runs.specs.Turning.{turned_sheet, turned_slot}
 use Rattle.row_runs.specs.Written.{AreReadInOrder, WrittenAreRead, WrittenIsBound}
@@ -47,7 +47,7 @@ abbrev written : Turn → Option Room → MadeSheet → MadeSheet
 written turn m sheet = turned_sheet turn (moved_sheet m sheet)
 
 abbrev written_from : Turn → Option Room → (s : ℕ) → List MadeSheet → List MadeSheet
-written_from turn m s laid = map (turned_sheet turn) (mirrored_from m s laid)
+written_from turn m s laid = map (turned_sheet turn) (swapped_from m s laid)
 
 same_at : (turn : Turn) (m : Option Room) (sheet : MadeSheet) (c : ℕ) → shown_at (written turn m sheet) c ≡ shown_at sheet c
 same_at turn m sheet c = same_shown turn m sheet.slots c
@@ -59,23 +59,23 @@ same_cells turn m cells sheet = ap (λ (f : ℕ → Option ℕ). map f (range_wi
 
 same_grid : (turn : Turn) (m : Option Room) (s cells : ℕ) (laid : List MadeSheet) → flat_map (shown_on cells) (written_from turn m s laid) ≡ flat_map (shown_on cells) laid
 same_grid turn m s cells [] = refl
-same_grid turn m s cells (sheet ∷ laid) = ap₂ (λ (x y : Row). x ++ y) (same_cells turn (mirror_on m s) cells sheet) (same_grid turn m (s + 1) cells laid)
+same_grid turn m s cells (sheet ∷ laid) = ap₂ (λ (x y : Row). x ++ y) (same_cells turn (swapped_room_on m s) cells sheet) (same_grid turn m (s + 1) cells laid)
 
 same_cards : (turn : Turn) (m : Option Room) (s cells : ℕ) (laid : List MadeSheet) → map (shown_on cells) (written_from turn m s laid) ≡ map (shown_on cells) laid
 same_cards turn m s cells [] = refl
-same_cards turn m s cells (sheet ∷ laid) = ap₂ (λ (x : Row) (xs : List Row). x ∷ xs) (same_cells turn (mirror_on m s) cells sheet) (same_cards turn m (s + 1) cells laid)
+same_cards turn m s cells (sheet ∷ laid) = ap₂ (λ (x : Row) (xs : List Row). x ∷ xs) (same_cells turn (swapped_room_on m s) cells sheet) (same_cards turn m (s + 1) cells laid)
 
 -- ---- stacks
 
 same_pile : (turn : Turn) (m : Option Room) (s : ℕ) (laid : List MadeSheet) (c : ℕ) → pile (written_from turn m s laid) c ≡ pile laid c
 same_pile turn m s [] c = refl
-same_pile turn m s (sheet ∷ laid) c = ap₂ (λ (x : Option ℕ) (xs : Row). x ∷ xs) (same_at turn (mirror_on m s) sheet c) (same_pile turn m (s + 1) laid c)
+same_pile turn m s (sheet ∷ laid) c = ap₂ (λ (x : Option ℕ) (xs : Row). x ∷ xs) (same_at turn (swapped_room_on m s) sheet c) (same_pile turn m (s + 1) laid c)
 
 same_leaves : (turn : Turn) (m : Option Room) (s : ℕ) (laid : List MadeSheet) (c b : ℕ) → turned_pile c b (written_from turn m s laid) ≡ turned_pile c b laid
 same_leaves turn m s [] c b = refl
-same_leaves turn m s (front ∷ []) c b = ap (λ (x : Option ℕ). x ∷ []) (same_at turn (mirror_on m s) front c)
+same_leaves turn m s (front ∷ []) c b = ap (λ (x : Option ℕ). x ∷ []) (same_at turn (swapped_room_on m s) front c)
 same_leaves turn m s (front ∷ back ∷ laid) c b =
-    ap₂ (λ (x y : Option ℕ). x ∷ y ∷ turned_pile c b (written_from turn m (s + 1 + 1) laid)) (same_at turn (mirror_on m s) front c) (same_at turn (mirror_on m (s + 1)) back b)
+    ap₂ (λ (x y : Option ℕ). x ∷ y ∷ turned_pile c b (written_from turn m (s + 1 + 1) laid)) (same_at turn (swapped_room_on m s) front c) (same_at turn (swapped_room_on m (s + 1)) back b)
     ∙ ap (λ (xs : Row). shown_at front c ∷ shown_at back b ∷ xs) (same_leaves turn m (s + 1 + 1) laid c b)
 
 -- ---- zines
@@ -83,7 +83,7 @@ same_leaves turn m s (front ∷ back ∷ laid) c b =
 same_folded : (turn : Turn) (m : Option Room) (s : ℕ) (laid : List MadeSheet) → flat_map read_folded (written_from turn m s laid) ≡ flat_map read_folded laid
 same_folded turn m s [] = refl
 same_folded turn m s (sheet ∷ laid) =
-    ap₂ (λ (x y : Row). x ++ y) (λ i. map (λ p. same_at turn (mirror_on m s) sheet (p.row * 4 + p.column) i) in_hand) (same_folded turn m (s + 1) laid)
+    ap₂ (λ (x y : Row). x ++ y) (λ i. map (λ p. same_at turn (swapped_room_on m s) sheet (p.row * 4 + p.column) i) in_hand) (same_folded turn m (s + 1) laid)
 
 -- ---- booklets
 
@@ -94,7 +94,7 @@ same_face false turn m side = ap₂ face (same_shown turn m side.slots 1) (same_
 same_faces : (b turned_backs : Bool) (turn : Turn) (m : Option Room) (s n : ℕ) (laid : List MadeSheet) → faces_from b turned_backs n (written_from turn m s laid) ≡ faces_from b turned_backs n laid
 same_faces b turned_backs turn m s n [] = refl
 same_faces b turned_backs turn m s n (side ∷ laid) =
-    ap₂ (λ (x : Face) (xs : List Face). x ∷ xs) (same_face (is_first_left b (is_turned turned_backs n)) turn (mirror_on m s) side) (same_faces b turned_backs turn m (s + 1) (n + 1) laid)
+    ap₂ (λ (x : Face) (xs : List Face). x ∷ xs) (same_face (is_first_left b (is_turned turned_backs n)) turn (swapped_room_on m s) side) (same_faces b turned_backs turn m (s + 1) (n + 1) laid)
 
 -- ---- what is written
 
@@ -112,10 +112,10 @@ read_as_laid (laying.Poster p) leaves papers row turn m = tt
 
 pub written_are_read : WrittenAreRead
 written_are_read j made are =
-    let row = signed (sewn j.asked) are.asked.row in
+    let row = signed_if (sewn j.asked) are.asked.row in
     let l = laying_for j.asked j.papers.now are.asked.row in
-    subst (AreReadInOrder l row) (sym (are.turned ∙ ap (λ (xs : List MadeSheet). written_from (turn_of j.turn) (mirror_for j) 0 xs) are.asked.are_laid))
-    (read_as_laid l (leaves_in (sewn j.asked) are.asked.row) j.papers.now row (turn_of j.turn) (mirror_for j))
+    subst (AreReadInOrder l row) (sym (are.turned ∙ ap (λ (xs : List MadeSheet). written_from (turn_of j.turn) (swapped_room_for j) 0 xs) are.asked.are_laid))
+    (read_as_laid l (leaves_in (sewn j.asked) are.asked.row) j.papers.now row (turn_of j.turn) (swapped_room_for j))
 
 pub written_is_bound : WrittenIsBound
 written_is_bound j made t turned_backs creep how are is sewn_so =
@@ -123,5 +123,5 @@ written_is_bound j made t turned_backs creep how are is sewn_so =
     let row = are.asked.row in
     let sides = sides_for (signing_of how) (length row) in
     subst (AreReadAs b turned_backs sides row) (sym are.turned)
-    (ap (λ (faces : List Face). flat_map (λ signature. read_signature (sides / 4) (map (as_bound b) faces) signature) (range_with_len 0 (blocks sides (length row)))) (same_faces b turned_backs (turn_of j.turn) (mirror_for j) 0 0 are.laid)
+    (ap (λ (faces : List Face). flat_map (λ signature. read_signature (sides / 4) (map (as_bound b) faces) signature) (range_with_len 0 (blocks sides (length row)))) (same_faces b turned_backs (turn_of j.turn) (swapped_room_for j) 0 0 are.laid)
     ∙ asked_is_read (page_count j) j.papers.now j.asked are.laid t turned_backs creep how are.may are.asked is sewn_so)

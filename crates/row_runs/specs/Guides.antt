@@ -12,9 +12,9 @@ use Rattle.preview.specs.declared.guides.GuideKind.TheVariants.{Margin, Fold, Cu
 use Rattle.dressing.specs.declared.strokes.Marks.{Marks}
 use Rattle.dressing.specs.declared.strokes.Stroke.{Stroke}
 use Rattle.row_runs.specs.Marked.{ruled_if}
-use Rattle.row_runs.specs.declared.asked.Laying.{Laying}
-use Rattle.row_runs.specs.declared.asked.Laying.TheVariants as laying
-use Rattle.row_runs.specs.declared.asked.Scheme.TheVariants as scheme
+use Rattle.row_runs.specs.declared.sheet_request.Laying.{Laying}
+use Rattle.row_runs.specs.declared.sheet_request.Laying.TheVariants as laying
+use Rattle.row_runs.specs.declared.sheet_request.Scheme.TheVariants as scheme
 
 -- a line that is so far from the left edge of a paper, and one that lies so far from the lower one
 abbrev pub upright : GuideKind → Paper → (x : ℤ) → Guide
@@ -59,8 +59,8 @@ lines_between kind room g =
     upright_lines kind room (cells_across g) ++ level_lines kind room (cells_up g)
 
 -- the lines of a setting, of this kind between its cells
-abbrev pub lines_in : GuideKind → Setting → List Guide
-lines_in kind setting = margin_lines setting.room ++ lines_between kind setting.room setting.grid
+abbrev pub setting_guides : GuideKind → Setting → List Guide
+setting_guides kind setting = margin_lines setting.room ++ lines_between kind setting.room setting.grid
 
 -- a sheet of a poster, with its margins
 abbrev pub tile_room : Poster → Room
@@ -70,8 +70,8 @@ tile_room p = record {
   right = p.edge;
   bottom = p.edge;
   top = p.edge;
-  gap_across = 0;
-  gap_up = 0;
+  gutter_across = 0;
+  gutter_up = 0;
   trim = 0;
 }
 
@@ -79,19 +79,19 @@ tile_room p = record {
 abbrev pub guides_in : Laying → List Guide
 guides_in (laying.AsTheyAre blank) = []
 guides_in (laying.InCells t (scheme.Grid cells)) = margin_lines t.room
-guides_in (laying.InCells t (scheme.Booklet turned_backs creep)) = lines_in Fold t
-guides_in (laying.InCells t scheme.Zine) = lines_in Fold t
-guides_in (laying.InCells t other) = lines_in Cut t
+guides_in (laying.InCells t (scheme.Booklet turned_backs creep)) = setting_guides Fold t
+guides_in (laying.InCells t scheme.Zine) = setting_guides Fold t
+guides_in (laying.InCells t other) = setting_guides Cut t
 guides_in (laying.Poster poster) = margin_lines (tile_room poster)
 
 -- the lines for notes that are asked for
 abbrev pub note_guide : Stroke → Guide
 note_guide s = record { kind = Note; start = s.start; end = s.end }
 
-abbrev pub notes_in : Marks → Laying → List Guide
-notes_in marks (laying.InCells t (scheme.Grid cells)) = map note_guide (ruled_if marks.ruled t)
-notes_in marks other = []
+abbrev pub note_guides : Marks → Laying → List Guide
+note_guides marks (laying.InCells t (scheme.Grid cells)) = map note_guide (ruled_if marks.ruled t)
+note_guides marks other = []
 
 -- all lines of a laying with these marks
 abbrev pub guides_with : Marks → Laying → List Guide
-guides_with marks l = guides_in l ++ notes_in marks l
+guides_with marks l = guides_in l ++ note_guides marks l

@@ -4,7 +4,7 @@ use Rattle.std.specs.List.{AllByRecursion}
 use Rattle.rules.specs.Papers.{Paper}
 use Rattle.rules.specs.Placement.{Point}
 use Rattle.rules.specs.Signatures.{entry_of}
-use Rattle.rules.specs.Choice.{signed}
+use Rattle.rules.specs.Choice.{signed_if}
 use Rattle.rules.specs.Made.{MadeSheet}
 use Rattle.rules.specs.Rows.{Row}
 use Rattle.layouts.specs.declared.setting.Setting.{Setting}
@@ -19,10 +19,10 @@ use Rattle.dressing.specs.Between.{IsAlong}
 use Rattle.dressing.specs.declared.strokes.Marks.{Marks}
 use Rattle.row_runs.specs.Marked.{strokes_in}
 use Rattle.row_runs.specs.Sheets.{AreAsked, MayBeAsked, laying_for, sewn}
-use Rattle.row_runs.specs.declared.asked.Asked.{Asked}
-use Rattle.row_runs.specs.declared.asked.Laying.{Laying}
-use Rattle.row_runs.specs.declared.asked.Laying.TheVariants as laying
-use Rattle.row_runs.specs.declared.asked.Scheme.TheVariants as scheme
+use Rattle.row_runs.specs.declared.sheet_request.SheetRequest.{SheetRequest}
+use Rattle.row_runs.specs.declared.sheet_request.Laying.{Laying}
+use Rattle.row_runs.specs.declared.sheet_request.Laying.TheVariants as laying
+use Rattle.row_runs.specs.declared.sheet_request.Scheme.TheVariants as scheme
 
 -- these sheets show all of the page of entry i: the poster has tiles, which are longer than they overlap, and each
 -- point of the page is shown on one of the entry's sheets
@@ -55,6 +55,6 @@ StandInPlaces (laying.Poster p) papers row made = (i page : ℕ) → entry_of ro
 
 -- the sheets that are asked for are in their places: a law
 abbrev pub AskedStandInPlaces : Type 0
-AskedStandInPlaces = (pages : ℕ) (papers : List Paper) (a : Asked) (made : List MadeSheet) → MayBeAsked a
+AskedStandInPlaces = (pages : ℕ) (papers : List Paper) (a : SheetRequest) (made : List MadeSheet) → MayBeAsked a
     → (asked : AreAsked pages papers a made)
-    → StandInPlaces (laying_for a papers asked.row) papers (signed (sewn a) asked.row) made
+    → StandInPlaces (laying_for a papers asked.row) papers (signed_if (sewn a) asked.row) made

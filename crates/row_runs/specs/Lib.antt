@@ -11,7 +11,7 @@ pub mod Standing
 pub mod InPlaces
 pub mod ReadAsBound
 pub mod Turning
-pub mod Mirrored
+pub mod SwappedMargins
 pub mod Reaching
 pub mod Marked
 pub mod Numbers
@@ -22,4 +22,4 @@ pub mod BySpec
 pub mod Guides
 pub mod Readings
 pub mod Looks
-pub mod ToldPages
+pub mod DeclaredPages

@@ -6,9 +6,9 @@ use Rattle.rules.specs.Made.{MadeSheet}
 use Rattle.rules.specs.MadePlans.{slot_count}
 use Rattle.sheet_plan.specs.declared.error.MadeError.{MadeError}
 use Rattle.sheet_plan.specs.declared.error.MadeError.TheVariants as plan
-use Rattle.row_runs.specs.declared.asked.Laying.{Laying}
-use Rattle.row_runs.specs.declared.asked.Laying.TheVariants as laying
-use Rattle.row_runs.specs.declared.asked.Scheme.TheVariants as scheme
+use Rattle.row_runs.specs.declared.sheet_request.Laying.{Laying}
+use Rattle.row_runs.specs.declared.sheet_request.Laying.TheVariants as laying
+use Rattle.row_runs.specs.declared.sheet_request.Scheme.TheVariants as scheme
 
 -- the first limit that so many sheets pass, with so many places on each
 abbrev pub limit_passed : (sheets places : ℕ) → Option MadeError
@@ -25,12 +25,12 @@ limit_in (laying.Poster poster) n = limit_passed (n * (poster.rows * poster.colu
 limit_in other n = None
 
 -- sheets that keep to the limits
-pub record AreFew (made : List MadeSheet) : Type 0 where
+pub record SheetsAreFew (made : List MadeSheet) : Type 0 where
   pub sheets : length made ≤ most_sheets
   pub places : sum_by slot_count made ≤ most_places
 
 -- the sheets of cards and posters keep to the limits of a plan
 abbrev pub AreFewAsLaid : Laying → List MadeSheet → Type 0
-AreFewAsLaid (laying.InCells setting (scheme.Cards cells)) made = AreFew made
-AreFewAsLaid (laying.Poster poster) made = AreFew made
+AreFewAsLaid (laying.InCells setting (scheme.Cards cells)) made = SheetsAreFew made
+AreFewAsLaid (laying.Poster poster) made = SheetsAreFew made
 AreFewAsLaid other made = ⊤

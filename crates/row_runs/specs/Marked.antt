@@ -5,9 +5,9 @@ use Rattle.dressing.specs.Strokes.{cut_marks, fold_marks, outer_cut_marks}
 use Rattle.dressing.specs.Ruled.{note_lines}
 use Rattle.dressing.specs.declared.strokes.Marks.{Marks}
 use Rattle.dressing.specs.declared.strokes.Stroke.{Stroke}
-use Rattle.row_runs.specs.declared.asked.Laying.{Laying}
-use Rattle.row_runs.specs.declared.asked.Laying.TheVariants as laying
-use Rattle.row_runs.specs.declared.asked.Scheme.TheVariants as scheme
+use Rattle.row_runs.specs.declared.sheet_request.Laying.{Laying}
+use Rattle.row_runs.specs.declared.sheet_request.Laying.TheVariants as laying
+use Rattle.row_runs.specs.declared.sheet_request.Scheme.TheVariants as scheme
 
 -- a sheet is cut between its cells, if that is asked for
 abbrev pub cut_if : (asked : Bool) → Setting → List Stroke

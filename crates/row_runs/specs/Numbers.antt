@@ -3,7 +3,7 @@ use Rattle.std.specs.Prelude.{ℕ, ◌+◌, ◌*◌, nat_le, ℤ, pos, Bool, tru
 use Rattle.rules.specs.Papers.{Paper}
 use Rattle.rules.specs.Run.{most_sheets}
 use Rattle.rules.specs.Specification.{Upright}
-use Rattle.rules.specs.Choice.{RowFault, signed}
+use Rattle.rules.specs.Choice.{RowFault, signed_if}
 use Rattle.rules.specs.Made.{MadeSheet}
 use Rattle.rules.specs.Rows.{Row}
 use Rattle.layouts.specs.Cells.{high}
@@ -11,21 +11,21 @@ use Rattle.layouts.specs.Placed.{Room}
 use Rattle.row_sheets.specs.RowSheets.{paper_of}
 use Rattle.dressing.specs.declared.numbers.Numbering.{Numbering}
 use Rattle.sheet_text.specs.declared.numbers.Numbers.{Numbers}
-use Rattle.row_runs.specs.Mirrored.{mirrored}
+use Rattle.row_runs.specs.SwappedMargins.{swapped}
 use Rattle.row_runs.specs.Reaching.{are_reached}
 use Rattle.row_runs.specs.Sheets.{laying_for, leaves_in, row_chosen, sewn, sheets_laid}
-use Rattle.row_runs.specs.declared.asked.Asked.{Asked}
-use Rattle.row_runs.specs.declared.asked.Laying.{Laying}
-use Rattle.row_runs.specs.declared.asked.Laying.TheVariants as laying
+use Rattle.row_runs.specs.declared.sheet_request.SheetRequest.{SheetRequest}
+use Rattle.row_runs.specs.declared.sheet_request.Laying.{Laying}
+use Rattle.row_runs.specs.declared.sheet_request.Laying.TheVariants as laying
 
 -- an entry of which the page is named by this place
-abbrev pub named : (place : ℕ) → Option ℕ → Option ℕ
-named place entry = option_map (λ page. place) entry
+abbrev pub place_named : (place : ℕ) → Option ℕ → Option ℕ
+place_named place entry = option_map (λ page. place) entry
 
 -- a row of which each page is named by its place in it, counted from this one
-abbrev pub places_from : (place : ℕ) → Row → Row
-places_from place [] = []
-places_from place (entry ∷ row) = named place entry ∷ places_from (place + 1) row
+abbrev pub named_places_from : (place : ℕ) → Row → Row
+named_places_from place [] = []
+named_places_from place (entry ∷ row) = place_named place entry ∷ named_places_from (place + 1) row
 
 -- the paper of sheets, which pages have whose own isn't known, and which blanks are given here
 abbrev pub sheet_paper : Laying → Paper
@@ -38,12 +38,12 @@ paper_in papers other None = other
 paper_in papers other (Some page) = paper_of papers other page
 
 -- the sheets that are asked for, with each page named by its place in the row, by which its paper is found too
-abbrev pub places_on : List Paper → Asked → Row → List MadeSheet
-places_on papers a row = sheets_laid (laying_for a papers row) (leaves_in (sewn a) row)
-    (map (paper_in papers (sheet_paper a.laying)) row) (signed (sewn a) (places_from 0 row))
+abbrev pub places_laid : List Paper → SheetRequest → Row → List MadeSheet
+places_laid papers a row = sheets_laid (laying_for a papers row) (leaves_in (sewn a) row)
+    (map (paper_in papers (sheet_paper a.laying)) row) (signed_if (sewn a) (named_places_from 0 row))
 
-abbrev pub places_by : List Paper → Asked → Result Row RowFault → List MadeSheet
-places_by papers a (Ok row) = places_on papers a row
+abbrev pub places_by : List Paper → SheetRequest → Result Row RowFault → List MadeSheet
+places_by papers a (Ok row) = places_laid papers a row
 places_by papers a (Err fault) = []
 
 -- how far the foot of a cell is below the middle of its page, in grains: half of the cell's height. Pages that are as they are,
@@ -53,16 +53,16 @@ below_middle (laying.InCells t how) = Some (pos (635_000 * high t.room t.grid))
 below_middle other = None
 
 -- the numbers that are asked for of a document with so many pages, if any are, which are moved as their pages are (RULES, 15)
-abbrev pub numbers_asked : (pages : ℕ) → List Paper → Asked → (mirror : Option Room) → Option Numbering → Option Numbers
-numbers_asked pages papers a mirror asked = option_map (λ how. record {
+abbrev pub numbers_asked : (pages : ℕ) → List Paper → SheetRequest → (swap : Option Room) → Option Numbering → Option Numbers
+numbers_asked pages papers a swap asked = option_map (λ how. record {
   size = how.size;
   first = how.first;
-  places = mirrored mirror (places_by papers a (row_chosen pages a));
+  places = swapped swap (places_by papers a (row_chosen pages a));
   below = below_middle a.laying;
 }) asked
 
 -- they can be moved so: there are few enough, and none comes out of reach
-abbrev pub are_numbers_reached : (pages : ℕ) → List Paper → Asked → (mirror : Option Room) → Option Numbering → Bool
-are_numbers_reached pages papers a mirror None = true
-are_numbers_reached pages papers a mirror (Some how) = let places = places_by papers a (row_chosen pages a) in
-    nat_le (length places) most_sheets && are_reached Upright mirror places
+abbrev pub are_numbers_reached : (pages : ℕ) → List Paper → SheetRequest → (swap : Option Room) → Option Numbering → Bool
+are_numbers_reached pages papers a swap None = true
+are_numbers_reached pages papers a swap (Some how) = let places = places_by papers a (row_chosen pages a) in
+    nat_le (length places) most_sheets && are_reached Upright swap places

@@ -10,42 +10,42 @@ use Rattle.rules.specs.Made.{MadeSlot, Blank, Placed, MadeSheet}
 use Rattle.layouts.specs.Placed.{Room}
 use Rattle.sheet_plan.specs.declared.error.MadeError.TheVariants as plan
 use Rattle.row_runs.specs.Turning.{turned_item}
-use Rattle.row_runs.specs.Mirrored.{mirror_on, moved_item}
-use Rattle.row_runs.specs.declared.error.AskedError.{AskedError}
-use Rattle.row_runs.specs.declared.error.AskedError.TheVariants as error
+use Rattle.row_runs.specs.SwappedMargins.{swapped_room_on, moved_item}
+use Rattle.row_runs.specs.declared.error.SheetError.{SheetError}
+use Rattle.row_runs.specs.declared.error.SheetError.TheVariants as error
 
 -- an offset of less than 100,000 points
-abbrev pub is_near : Measure → Bool
-is_near m = nat_le (nat_abs m.number) greatest_number
+abbrev pub is_writable_offset : Measure → Bool
+is_writable_offset m = nat_le (nat_abs m.number) greatest_number
 
 -- a page has such offsets once it is moved to the side, if it is
 abbrev pub is_moved_near : Option Room → Item → Bool
 is_moved_near None item = true
-is_moved_near (Some room) item = is_near (moved_item (Some room) item).x
+is_moved_near (Some room) item = is_writable_offset (moved_item (Some room) item).x
 
 -- an item is within reach once it is turned
 abbrev pub is_turned_near : Turn → (paper : Paper) → Item → Bool
-is_turned_near turn paper item = let turned = turned_item turn paper item in is_near turned.x && is_near turned.y
+is_turned_near turn paper item = let turned = turned_item turn paper item in is_writable_offset turned.x && is_writable_offset turned.y
 
 -- the page of a slot, if there is one, is within reach once it is moved and turned
 abbrev pub is_item_reached : Turn → Option Room → (paper : Paper) → Item → Bool
-is_item_reached turn mirror paper item = is_moved_near mirror item && is_turned_near turn paper (moved_item mirror item)
+is_item_reached turn swap paper item = is_moved_near swap item && is_turned_near turn paper (moved_item swap item)
 
 abbrev pub is_slot_reached : Turn → Option Room → MadeSlot → Bool
-is_slot_reached turn mirror Blank = true
-is_slot_reached turn mirror (Placed page item paper) = is_item_reached turn mirror paper item
+is_slot_reached turn swap Blank = true
+is_slot_reached turn swap (Placed page item paper) = is_item_reached turn swap paper item
 
 -- each page of these sheets, the first of which is sheet s, is within reach once it is moved and turned
 abbrev pub are_reached_from : Turn → Option Room → (s : ℕ) → List MadeSheet → Bool
-are_reached_from turn mirror s [] = true
-are_reached_from turn mirror s (sheet ∷ made) =
-    list_all (is_slot_reached turn (mirror_on mirror s)) sheet.slots && are_reached_from turn mirror (s + 1) made
+are_reached_from turn swap s [] = true
+are_reached_from turn swap s (sheet ∷ made) =
+    list_all (is_slot_reached turn (swapped_room_on swap s)) sheet.slots && are_reached_from turn swap (s + 1) made
 
 abbrev pub are_reached : Turn → Option Room → List MadeSheet → Bool
-are_reached turn mirror made = are_reached_from turn mirror 0 made
+are_reached turn swap made = are_reached_from turn swap 0 made
 
 -- a refusal says that there are more sheets than can be planned, or that there aren't and a page isn't reached
-abbrev pub IsNotReached : Turn → Option Room → List MadeSheet → AskedError → Type 0
-IsNotReached turn mirror made (error.Sheets plan.TooManySheets) = most_sheets < length made
-IsNotReached turn mirror made error.OutOfReach = (length made ≤ most_sheets) × (are_reached turn mirror made ≡ false)
-IsNotReached turn mirror made other = ⊥
+abbrev pub IsNotReached : Turn → Option Room → List MadeSheet → SheetError → Type 0
+IsNotReached turn swap made (error.Sheets plan.TooManySheets) = most_sheets < length made
+IsNotReached turn swap made error.OutOfReach = (length made ≤ most_sheets) × (are_reached turn swap made ≡ false)
+IsNotReached turn swap made other = ⊥

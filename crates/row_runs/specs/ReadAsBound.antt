@@ -12,9 +12,9 @@ use Rattle.rows.specs.Sewing.{signing_of}
 use Rattle.rows.specs.declared.sewing.Signing.{Signing}
 use Rattle.row_sheets.specs.Bound.{faces_on, read_bound}
 use Rattle.row_runs.specs.Sheets.{AreAsked, MayBeAsked}
-use Rattle.row_runs.specs.declared.asked.Asked.{Asked}
-use Rattle.row_runs.specs.declared.asked.Laying.TheVariants as laying
-use Rattle.row_runs.specs.declared.asked.Scheme.TheVariants as scheme
+use Rattle.row_runs.specs.declared.sheet_request.SheetRequest.{SheetRequest}
+use Rattle.row_runs.specs.declared.sheet_request.Laying.TheVariants as laying
+use Rattle.row_runs.specs.declared.sheet_request.Scheme.TheVariants as scheme
 
 -- the sides of a booklet's leaves, folded and bound in signatures of so many, read leaf by leaf and signature by signature,
 -- are the row; after its end are the blanks that fill up the last signature
@@ -25,6 +25,6 @@ AreReadAs right_to_left turned_backs sides row made = (let signatures = blocks s
 
 -- the booklet that is asked for is read in the order of the row that is chosen: a law
 abbrev pub AskedIsRead : Type 0
-AskedIsRead = (pages : ℕ) (papers : List Paper) (a : Asked) (made : List MadeSheet) (t : Setting) (turned_backs : Bool) (creep : ℕ) (how : Signing)
+AskedIsRead = (pages : ℕ) (papers : List Paper) (a : SheetRequest) (made : List MadeSheet) (t : Setting) (turned_backs : Bool) (creep : ℕ) (how : Signing)
     → MayBeAsked a → (asked : AreAsked pages papers a made) → a.laying ≡ laying.InCells t (scheme.Booklet turned_backs creep) → a.signing ≡ Some how
     → AreReadAs t.order.right_to_left turned_backs (sides_for (signing_of how) (length asked.row)) asked.row made

@@ -15,9 +15,9 @@ use Rattle.preview.specs.declared.naming.Sides.TheVariants as sides
 use Rattle.preview.specs.declared.reading.Places.{Places}
 use Rattle.preview.specs.declared.reading.Places.TheVariants.{Cells, Tiles}
 use Rattle.preview.specs.declared.reading.Reading.{Reading}
-use Rattle.row_runs.specs.declared.asked.Laying.{Laying}
-use Rattle.row_runs.specs.declared.asked.Laying.TheVariants as laying
-use Rattle.row_runs.specs.declared.asked.Scheme.TheVariants as scheme
+use Rattle.row_runs.specs.declared.sheet_request.Laying.{Laying}
+use Rattle.row_runs.specs.declared.sheet_request.Laying.TheVariants as laying
+use Rattle.row_runs.specs.declared.sheet_request.Scheme.TheVariants as scheme
 
 -- ---- edges
 
@@ -49,7 +49,7 @@ sides_in other = sides.One
 abbrev pub edge_as_printed : Paper → Edge
 edge_as_printed paper = if nat_lt (nat_abs paper.height) (nat_abs paper.width) then Short else Long
 
-abbrev pub sides_by : (mirror : Option Room) → Laying → Sides
+abbrev pub sides_by : (swap : Option Room) → Laying → Sides
 sides_by None l = sides_in l
 sides_by (Some room) l = sides.Both (edge_as_printed room.paper)
 
@@ -63,10 +63,10 @@ single = record { rows = 1; columns = 1; turned = false }
 abbrev pub tiles_in : Poster → Grid
 tiles_in p = record { rows = max 1 p.rows; columns = max 1 p.columns; turned = false }
 
-abbrev pub places_in : Laying → Places
-places_in (laying.AsTheyAre blank) = Cells single plain_order
-places_in (laying.InCells t how) = Cells t.grid t.order
-places_in (laying.Poster poster) = Tiles (tiles_in poster)
+abbrev pub places_read : Laying → Places
+places_read (laying.AsTheyAre blank) = Cells single plain_order
+places_read (laying.InCells t how) = Cells t.grid t.order
+places_read (laying.Poster poster) = Tiles (tiles_in poster)
 
-abbrev pub reading_in : (mirror : Option Room) → Laying → Reading
-reading_in mirror l = record { sides = sides_by mirror l; places = places_in l }
+abbrev pub reading_in : (swap : Option Room) → Laying → Reading
+reading_in swap l = record { sides = sides_by swap l; places = places_read l }

@@ -7,7 +7,7 @@ use Rattle.rules.specs.MadePlans.{made_plan_of}
 use Rattle.layouts.specs.Placed.{Room}
 use Rattle.pagespec.specs.Items.{turn_of}
 use Rattle.row_runs.specs.Turning.{turned_sheet}
-use Rattle.row_runs.specs.Mirrored.{mirror_in, mirrored}
+use Rattle.row_runs.specs.SwappedMargins.{swapped_room_in, swapped}
 use Rattle.row_runs.specs.Reaching.{are_reached}
 use Rattle.sheet_plan.specs.MadeRefusals.{RefusesMade}
 use Rattle.row_runs.specs.SheetsRuns.{told_output}
@@ -20,28 +20,28 @@ use Rattle.sheet_text.specs.declared.numbers.Numbers.{Numbers}
 use Rattle.dressing.specs.declared.strokes.Stroke.{Stroke}
 use Rattle.row_runs.specs.Standing.{StandAsLaid}
 use Rattle.row_runs.specs.declared.run.RowJob.{RowJob}
-use Rattle.row_runs.specs.declared.error.AskedError.{AskedError}
-use Rattle.row_runs.specs.declared.error.AskedError.TheVariants as error
+use Rattle.row_runs.specs.declared.error.SheetError.{SheetError}
+use Rattle.row_runs.specs.declared.error.SheetError.TheVariants as error
 
 -- how many pages the document has
 abbrev pub page_count : RowJob → ℕ
 page_count j = length (pages j.document.now)
 
 -- the room that is exchanged on backs, if that is asked for
-abbrev pub mirror_for : RowJob → Option Room
-mirror_for j = mirror_in j.mirrored j.asked.laying
+abbrev pub swapped_room_for : RowJob → Option Room
+swapped_room_for j = swapped_room_in j.swapped j.asked.laying
 
 -- sheets with left and right exchanged on backs, and with their pages turned, as is asked for
 abbrev pub turned_on : RowJob → List MadeSheet → List MadeSheet
-turned_on j laid = map (turned_sheet (turn_of j.turn)) (mirrored (mirror_for j) laid)
+turned_on j laid = map (turned_sheet (turn_of j.turn)) (swapped (swapped_room_for j) laid)
 
 -- each page that is laid so can be written once it is moved and turned
 abbrev pub are_laid_in_reach : RowJob → (laid : List MadeSheet) → Bool
-are_laid_in_reach j laid = are_reached (turn_of j.turn) (mirror_for j) laid
+are_laid_in_reach j laid = are_reached (turn_of j.turn) (swapped_room_for j) laid
 
 -- each number of a page is within reach once it is moved
 abbrev pub have_numbers_in_reach : RowJob → Bool
-have_numbers_in_reach j = are_numbers_reached (page_count j) j.papers.now j.asked (mirror_for j) j.marks.numbers
+have_numbers_in_reach j = are_numbers_reached (page_count j) j.papers.now j.asked (swapped_room_for j) j.marks.numbers
 
 -- these sheets are asked for, with pages of the papers that they have once they are turned, which lie as they are to be
 -- laid; then backs are moved, and pages turned, which brings none out of reach
@@ -64,7 +64,7 @@ strokes_on j = strokes_in j.marks j.asked.laying
 
 -- the numbers of the pages, moved on backs as the pages are
 abbrev pub numbers_on : RowJob → Option Numbers
-numbers_on j = numbers_asked (page_count j) j.papers.now j.asked (mirror_for j) j.marks.numbers
+numbers_on j = numbers_asked (page_count j) j.papers.now j.asked (swapped_room_for j) j.marks.numbers
 
 -- all that is drawn on them
 abbrev pub drawn_of : RowJob → Drawn
@@ -80,7 +80,7 @@ output_on j made = told_output (border_on j) (drawn_of j) made j.document.now
 
 -- a refusal names the first fault: of the row; if there is one, of a page in its cell or as a poster; if its pages have their places, of
 -- the sheets, or that a page or its number would come out of reach. Out of memory comes after the checks of the row
-abbrev pub RefusesRun : RowJob → AskedError → Type 0
+abbrev pub RefusesRun : RowJob → SheetError → Type 0
 RefusesRun j (error.Row e) = sheets.RefusesAsked (page_count j) j.papers.now j.asked (error.Row e)
 RefusesRun j (error.Arrangement e) = sheets.RefusesAsked (page_count j) j.papers.now j.asked (error.Arrangement e)
 RefusesRun j (error.Poster e) = sheets.RefusesAsked (page_count j) j.papers.now j.asked (error.Poster e)

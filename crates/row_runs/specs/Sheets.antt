@@ -5,7 +5,7 @@ use Rattle.rules.specs.Papers.{Paper}
 use Rattle.rules.specs.Run.{most_pages}
 use Rattle.rules.specs.Made.{MadeSheet}
 use Rattle.rules.specs.Rows.{Row}
-use Rattle.rules.specs.Choice.{RowFault, Signing, chosen, sides_for, signed}
+use Rattle.rules.specs.Choice.{RowFault, Signing, chosen, sides_for, signed_if}
 use Rattle.layouts.specs.Cells.{size}
 use Rattle.layouts.specs.declared.error.ArrangementError.{ArrangementError}
 use Rattle.layouts.specs.declared.error.ArrangementError.TheVariants as why
@@ -17,19 +17,19 @@ use Rattle.row_sheets.specs.Filled.{Filling, card_sheets, duplex_sheets, grid_sh
 use Rattle.row_sheets.specs.Creep.{AreHalves, creeping_sheets, first_over_fold}
 use Rattle.row_sheets.specs.Shapes.{filling, first_refused}
 use Rattle.row_sheets.specs.Posters.{AllMayBePosters, first_no_poster, most_tiles, row_tiles}
-use Rattle.row_sheets.specs.Standing.{AllFit, AllFitOnLeaves}
+use Rattle.row_sheets.specs.Standing.{AllEntriesFit, AllFitOnLeaves}
 use Rattle.row_sheets.specs.Zine.{AreZineCells}
 use Rattle.sheet_plan.specs.MadeRefusals.{RefusesMade}
 use Rattle.sheet_plan.specs.declared.error.MadeError.{MadeError}
-use Rattle.row_runs.specs.Evened.{evened_if, why_not_even_if}
+use Rattle.row_runs.specs.Evened.{at_common_scale, why_not_even_if}
 use Rattle.row_runs.specs.Limits.{limit_in}
-use Rattle.row_runs.specs.declared.asked.Asked.{Asked}
-use Rattle.row_runs.specs.declared.asked.Laying.{Laying}
-use Rattle.row_runs.specs.declared.asked.Laying.TheVariants as laying
-use Rattle.row_runs.specs.declared.asked.Scheme.{Scheme}
-use Rattle.row_runs.specs.declared.asked.Scheme.TheVariants as scheme
-use Rattle.row_runs.specs.declared.error.AskedError.{AskedError}
-use Rattle.row_runs.specs.declared.error.AskedError.TheVariants as error
+use Rattle.row_runs.specs.declared.sheet_request.SheetRequest.{SheetRequest}
+use Rattle.row_runs.specs.declared.sheet_request.Laying.{Laying}
+use Rattle.row_runs.specs.declared.sheet_request.Laying.TheVariants as laying
+use Rattle.row_runs.specs.declared.sheet_request.Scheme.{Scheme}
+use Rattle.row_runs.specs.declared.sheet_request.Scheme.TheVariants as scheme
+use Rattle.row_runs.specs.declared.error.SheetError.{SheetError}
+use Rattle.row_runs.specs.declared.error.SheetError.TheVariants as error
 
 -- a way of laying has at least one cell, and the sheet has all of them; those of a booklet are its halves, those of a
 -- zine two rows of four; a poster has no more sheets than it may have, and no wider margins
@@ -44,7 +44,7 @@ MayBeLaid (laying.InCells t scheme.Zine) = AreZineCells t
 MayBeLaid (laying.Poster poster) = (poster.rows * poster.columns ≤ most_tiles) × (poster.edge ≤ 10_000_000_000)
 
 -- sheets may be asked for: they may be laid, and a signature may have its number of sides
-pub record MayBeAsked (a : Asked) : Type 0 where
+pub record MayBeAsked (a : SheetRequest) : Type 0 where
   pub laid : MayBeLaid a.laying
   pub sewn : IfSome a.signing MayBeSewn
 
@@ -56,18 +56,18 @@ leaves_in None row = 0
 leaves_in (Some how) row = sides_for how (length row) / 4
 
 -- a row in the cells of sheets; if it is in signatures, each has so many leaves (RULES, 14)
-abbrev pub sheets_in : Scheme → Filling → (leaves : ℕ) → Row → List MadeSheet
-sheets_in (scheme.Grid cells) f leaves row = grid_sheets f cells row
-sheets_in (scheme.Cards cells) f leaves row = card_sheets f cells row
-sheets_in (scheme.Stack cells) f leaves row = stack_sheets f cells row
-sheets_in scheme.Leaves f leaves row = duplex_sheets f row
-sheets_in (scheme.Booklet turned_backs creep) f leaves row = creeping_sheets f turned_backs creep leaves row
-sheets_in scheme.Zine f leaves row = zine_sheets f row
+abbrev pub sheets_by_scheme : Scheme → Filling → (leaves : ℕ) → Row → List MadeSheet
+sheets_by_scheme (scheme.Grid cells) f leaves row = grid_sheets f cells row
+sheets_by_scheme (scheme.Cards cells) f leaves row = card_sheets f cells row
+sheets_by_scheme (scheme.Stack cells) f leaves row = stack_sheets f cells row
+sheets_by_scheme scheme.Leaves f leaves row = duplex_sheets f row
+sheets_by_scheme (scheme.Booklet turned_backs creep) f leaves row = creeping_sheets f turned_backs creep leaves row
+sheets_by_scheme scheme.Zine f leaves row = zine_sheets f row
 
 -- a row of pages with these papers, laid on sheets
 abbrev pub sheets_laid : Laying → (leaves : ℕ) → List Paper → Row → List MadeSheet
 sheets_laid (laying.AsTheyAre blank) leaves papers row = selected papers blank row
-sheets_laid (laying.InCells t how) leaves papers row = sheets_in how (filling t papers) leaves row
+sheets_laid (laying.InCells t how) leaves papers row = sheets_by_scheme how (filling t papers) leaves row
 sheets_laid (laying.Poster poster) leaves papers row = row_tiles poster papers row
 
 -- why it can't be in the cells: the first page of the row that doesn't fit its own
@@ -80,7 +80,7 @@ abbrev pub IsNotIn : Scheme → Filling → (leaves : ℕ) → Row → Arrangeme
 IsNotIn how f leaves row e = (e ≡ why.NoMemory) ⊎ (why_not_in how f leaves row ≡ Some e)
 
 -- why it can't be laid so: a page that doesn't fit its cell, or the first one that can't be a poster
-abbrev pub why_not_laid : Laying → (leaves : ℕ) → List Paper → Row → Option AskedError
+abbrev pub why_not_laid : Laying → (leaves : ℕ) → List Paper → Row → Option SheetError
 why_not_laid (laying.AsTheyAre blank) leaves papers row = None
 why_not_laid (laying.InCells t how) leaves papers row = option_map error.Arrangement (why_not_in how (filling t papers) leaves row)
 why_not_laid (laying.Poster poster) leaves papers row = option_map error.Poster (first_no_poster poster papers row)
@@ -89,7 +89,7 @@ why_not_laid (laying.Poster poster) leaves papers row = option_map error.Poster 
 abbrev pub FitAsLaid : Laying → (leaves : ℕ) → List Paper → Row → Type 0
 FitAsLaid (laying.AsTheyAre blank) leaves papers row = ⊤
 FitAsLaid (laying.InCells t (scheme.Booklet turned_backs creep)) leaves papers row = AllFitOnLeaves (filling t papers) creep leaves row
-FitAsLaid (laying.InCells t other) leaves papers row = AllFit (filling t papers) row
+FitAsLaid (laying.InCells t other) leaves papers row = AllEntriesFit (filling t papers) row
 FitAsLaid (laying.Poster poster) leaves papers row = AllMayBePosters poster papers row
 
 -- the sheets that it comes to pass a limit: of so few pages they are no plan, and this is their first fault
@@ -97,7 +97,7 @@ abbrev pub WhyNoPlan : Laying → (leaves : ℕ) → List Paper → Row → Made
 WhyNoPlan l leaves papers row e = (pages : ℕ) → pages ≤ most_pages → RefusesMade pages (sheets_laid l leaves papers row) e
 
 -- a refusal says why; a limit that is passed, only if all pages have their places
-abbrev pub RefusesLaying : Laying → (leaves : ℕ) → List Paper → Row → AskedError → Type 0
+abbrev pub RefusesLaying : Laying → (leaves : ℕ) → List Paper → Row → SheetError → Type 0
 RefusesLaying l leaves papers row (error.Arrangement e) = why_not_laid l leaves papers row ≡ Some (error.Arrangement e)
 RefusesLaying l leaves papers row (error.Poster e) = why_not_laid l leaves papers row ≡ Some (error.Poster e)
 RefusesLaying l leaves papers row error.OutOfReach = ⊥
@@ -109,42 +109,42 @@ RefusesLaying l leaves papers row (error.Sheets e) =
 -- ---- what is asked for
 
 -- the row that is chosen of a document with so many pages, or its fault
-abbrev pub row_chosen : (pages : ℕ) → Asked → Result Row RowFault
+abbrev pub row_chosen : (pages : ℕ) → SheetRequest → Result Row RowFault
 row_chosen pages a = chosen pages (choice_of a.choice)
 
 -- how it is put into signatures, if it is
-abbrev pub sewn : Asked → Option Signing
+abbrev pub sewn : SheetRequest → Option Signing
 sewn a = option_map signing_of a.signing
 
 -- how the row that is chosen is laid: at one scale if that is asked for
-abbrev pub laying_for : Asked → List Paper → Row → Laying
-laying_for a papers row = evened_if a.same_scale a.laying papers (signed (sewn a) row)
+abbrev pub laying_for : SheetRequest → List Paper → Row → Laying
+laying_for a papers row = at_common_scale a.same_scale a.laying papers (signed_if (sewn a) row)
 
 -- why a page is refused: the first that has no scale of its own, if there is to be one for all, or else the first that
 -- has no place as it is laid (RULES, 16, step 12)
-abbrev pub why_not_asked : List Paper → Asked → Row → Option AskedError
-why_not_asked papers a row = let printed = signed (sewn a) row in
+abbrev pub why_not_asked : List Paper → SheetRequest → Row → Option SheetError
+why_not_asked papers a row = let printed = signed_if (sewn a) row in
     option_or (option_map error.Arrangement (why_not_even_if a.same_scale a.laying papers printed))
     (why_not_laid (laying_for a papers row) (leaves_in (sewn a) row) papers printed)
 
 -- the sheets that are asked for: the row that is chosen, in signatures if there are to be some, laid as is asked, with
 -- no page of it refused
-pub record AreAsked (pages : ℕ) (papers : List Paper) (a : Asked) (made : List MadeSheet) : Type 0 where
+pub record AreAsked (pages : ℕ) (papers : List Paper) (a : SheetRequest) (made : List MadeSheet) : Type 0 where
   pub row : Row
   pub is_chosen : row_chosen pages a ≡ Ok row
-  pub are_laid : made ≡ sheets_laid (laying_for a papers row) (leaves_in (sewn a) row) papers (signed (sewn a) row)
-  pub fits : FitAsLaid (laying_for a papers row) (leaves_in (sewn a) row) papers (signed (sewn a) row)
+  pub are_laid : made ≡ sheets_laid (laying_for a papers row) (leaves_in (sewn a) row) papers (signed_if (sewn a) row)
+  pub fits : FitAsLaid (laying_for a papers row) (leaves_in (sewn a) row) papers (signed_if (sewn a) row)
   pub accepted : why_not_asked papers a row ≡ None
 
 -- a refusal names the fault of the row; or, if there is one, why a page of it is refused; or, if none is, the limit that the
 -- sheets pass that are asked for (RULES, 16, steps 11 to 13)
-abbrev pub RefusesAsked : (pages : ℕ) → List Paper → Asked → AskedError → Type 0
+abbrev pub RefusesAsked : (pages : ℕ) → List Paper → SheetRequest → SheetError → Type 0
 RefusesAsked pages papers a (error.Row e) = RefusesRow (row_chosen pages a) e
 RefusesAsked pages papers a (error.Arrangement e) =
     (row : Row) × (row_chosen pages a ≡ Ok row) × (why_not_asked papers a row ≡ Some (error.Arrangement e))
 RefusesAsked pages papers a (error.Poster e) =
     (row : Row) × (row_chosen pages a ≡ Ok row) × (why_not_asked papers a row ≡ Some (error.Poster e))
 RefusesAsked pages papers a (error.Sheets e) = (made : List MadeSheet) × (asked : AreAsked pages papers a made)
-    × (limit_in (laying_for a papers asked.row) (length (signed (sewn a) asked.row)) ≡ Some e) × RefusesMade pages made e
+    × (limit_in (laying_for a papers asked.row) (length (signed_if (sewn a) asked.row)) ≡ Some e) × RefusesMade pages made e
 RefusesAsked pages papers a error.OutOfReach = ⊥
 RefusesAsked pages papers a error.NoMemory = IsOk (row_chosen pages a)

@@ -8,18 +8,18 @@ use Rattle.rules.specs.Made.{MadeSlot, Blank, Placed, MadeSheet}
 use Rattle.layouts.specs.Placed.{fine, stands}
 
 -- a quarter turn more to the left
-abbrev pub further : Turn → Turn
-further Upright = Left
-further Left = Half
-further Half = Right
-further Right = Upright
+abbrev pub quarter_left : Turn → Turn
+quarter_left Upright = Left
+quarter_left Left = Half
+quarter_left Half = Right
+quarter_left Right = Upright
 
 -- one turn, and then another
-abbrev pub both : Turn → Turn → Turn
-both Upright other = other
-both Left other = further other
-both Half other = further (further other)
-both Right other = further (further (further other))
+abbrev pub turn_sum : Turn → Turn → Turn
+turn_sum Upright other = other
+turn_sum Left other = quarter_left other
+turn_sum Half other = quarter_left (quarter_left other)
+turn_sum Right other = quarter_left (quarter_left (quarter_left other))
 
 -- the paper that a page has once it is turned: by a quarter its sides are exchanged (RULES, 13.7)
 abbrev pub turned_paper : Turn → Paper → Paper
@@ -29,31 +29,31 @@ turned_paper Half paper = paper
 turned_paper Right paper = record { width = paper.height; height = paper.width }
 
 -- where the page's lower left corner is then, on a paper that is so wide and high
-abbrev pub corner : Turn → (width height : ℤ) → Point
-corner Upright width height = record { x = pos 0; y = pos 0 }
-corner Left width height = record { x = width; y = pos 0 }
-corner Half width height = record { x = width; y = height }
-corner Right width height = record { x = pos 0; y = height }
+abbrev pub turned_corner : Turn → (width height : ℤ) → Point
+turned_corner Upright width height = record { x = pos 0; y = pos 0 }
+turned_corner Left width height = record { x = width; y = pos 0 }
+turned_corner Half width height = record { x = width; y = height }
+turned_corner Right width height = record { x = pos 0; y = height }
 
 -- how long a side is at this scale, in 10^-5 of a point, of which none is lost
-abbrev pub long : (scale side : ℤ) → ℕ
-long scale side = (nat_abs scale * nat_abs side + 1_269_999_999_999_999) / 1_270_000_000_000_000
+abbrev pub scaled_length : (scale side : ℤ) → ℕ
+scaled_length scale side = (nat_abs scale * nat_abs side + 1_269_999_999_999_999) / 1_270_000_000_000_000
 
 -- a measure of something that is moved by this number of 10^-5 of a point
-abbrev pub farther : ℤ → Measure → Measure
-farther by m = record { number = m.number +ℤ (pos 10_000 *ℤ by); unit = m.unit }
+abbrev pub shifted : ℤ → Measure → Measure
+shifted by m = record { number = m.number +ℤ (pos 10_000 *ℤ by); unit = m.unit }
 
 -- the item by which the page is placed where this one places a page of its turned paper (RULES, 13.7)
 abbrev pub turned_item : Turn → (paper : Paper) → Item → Item
 turned_item turn paper item =
-    let by = turned item.turn (corner turn (pos (long item.scale paper.width)) (pos (long item.scale paper.height))) in
+    let by = turned item.turn (turned_corner turn (pos (scaled_length item.scale paper.width)) (pos (scaled_length item.scale paper.height))) in
     record {
       page = item.page;
       from_end = item.from_end;
-      turn = both turn item.turn;
+      turn = turn_sum turn item.turn;
       scale = item.scale;
-      x = farther by.x item.x;
-      y = farther by.y item.y;
+      x = shifted by.x item.x;
+      y = shifted by.y item.y;
     }
 
 -- a page has its own paper again, by which it is clipped
@@ -78,11 +78,11 @@ TurnsAddUp = (slot : MadeSlot) → TurnsOf slot
 
 -- where a point of the page is on its turned paper
 abbrev pub on_turned : Turn → (paper : Paper) → Point → Point
-on_turned turn paper p = moved (corner turn paper.width paper.height) (turned turn p)
+on_turned turn paper p = moved (turned_corner turn paper.width paper.height) (turned turn p)
 
 -- by how much a side is taken as longer than it is, in 10^-9 of a grain
 abbrev pub excess : (scale side : ℕ) → ℤ
-excess scale side = fine (long (pos scale) (pos side)) -ℤ pos (scale * side)
+excess scale side = fine (scaled_length (pos scale) (pos side)) -ℤ pos (scale * side)
 
 -- a length is less than 10^-5 of a point
 pub record IsLittle (z : ℤ) : Type 0 where
@@ -94,7 +94,7 @@ pub record IsLittle (z : ℤ) : Type 0 where
 pub record IsDrawnTurned (turn : Turn) (page : Paper) (item : Item) (width height scale : ℕ) : Type 0 where
   pub little : IsLittle (excess scale width) × IsLittle (excess scale height)
   pub stand : (p : Point) → stands (turned_paper turn page) (turned_item turn page item) p
-      ≡ moved (turned item.turn (corner turn (excess scale width) (excess scale height))) (stands page item (on_turned turn page p))
+      ≡ moved (turned item.turn (turned_corner turn (excess scale width) (excess scale height))) (stands page item (on_turned turn page p))
 
 abbrev pub TurnedStands : Type 0
 TurnedStands = (turn : Turn) (page : Paper) (item : Item) (width height scale : ℕ)

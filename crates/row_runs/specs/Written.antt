@@ -3,40 +3,40 @@ use Rattle.std.specs.Prelude.{◌≡◌, ⊤, ℕ, ◌+◌, ◌<◌, ◌≤◌, 
 use Rattle.rules.specs.Papers.{Paper}
 use Rattle.rules.specs.Placement.{Point}
 use Rattle.rules.specs.Specification.{Item, Turn, Upright}
-use Rattle.rules.specs.Choice.{sides_for, signed}
+use Rattle.rules.specs.Choice.{sides_for, signed_if}
 use Rattle.rules.specs.Made.{MadeSlot, Blank, Placed, MadeSheet}
 use Rattle.rules.specs.Rows.{Row}
 use Rattle.layouts.specs.declared.setting.Setting.{Setting}
 use Rattle.layouts.specs.Placed.{IsOfPage, Room, fine, stands}
-use Rattle.layouts.specs.Cells.{column_of, in_points, kept, row_of, whole}
+use Rattle.layouts.specs.Cells.{column_of, in_points, kept_length, row_of, whole_parts}
 use Rattle.layouts.specs.Fitted.{is_whole, past_cell}
 use Rattle.layouts.specs.Laws.{Cell, IsInCell, cell_at}
 use Rattle.row_sheets.specs.Creep.{creep_on}
 use Rattle.row_sheets.specs.Filled.{is_turned}
-use Rattle.row_sheets.specs.Halves.{StandCrept, creeping_half, is_before, side_turn}
-use Rattle.row_sheets.specs.Standing.{StandsIn, fold_on}
+use Rattle.row_sheets.specs.Halves.{StandCrept, creeping_half, is_before_fold, side_turn}
+use Rattle.row_sheets.specs.Standing.{StandsInRoom, fold_on}
 use Rattle.pagespec.specs.Items.{turn_of}
-use Rattle.row_runs.specs.Mirrored.{mirrored, room_on}
+use Rattle.row_runs.specs.SwappedMargins.{swapped, room_on}
 use Rattle.rows.specs.Sewing.{signing_of}
 use Rattle.rows.specs.declared.sewing.Signing.{Signing}
 use Rattle.row_sheets.specs.Stacked.{AreCards, AreFilledInTurn, ArePiled, ArePiledLeaves}
 use Rattle.row_runs.specs.ReadAsBound.{AreReadAs}
 use Rattle.row_runs.specs.InPlaces.{StandInPlaces}
-use Rattle.row_runs.specs.Runs.{AreTurned, mirror_for}
+use Rattle.row_runs.specs.Runs.{AreTurned, swapped_room_for}
 use Rattle.row_runs.specs.Sheets.{laying_for, leaves_in, sewn}
 use Rattle.row_runs.specs.Standing.{StandAsLaid}
 use Rattle.row_sheets.specs.Zine.{AreReadFolded, past_row, zine_turn}
-use Rattle.row_runs.specs.Turning.{both, turned_item, turned_paper, turned_slot}
-use Rattle.row_runs.specs.declared.asked.Laying.{Laying}
-use Rattle.row_runs.specs.declared.asked.Laying.TheVariants as laying
-use Rattle.row_runs.specs.declared.asked.Scheme.TheVariants as scheme
+use Rattle.row_runs.specs.Turning.{turn_sum, turned_item, turned_paper, turned_slot}
+use Rattle.row_runs.specs.declared.sheet_request.Laying.{Laying}
+use Rattle.row_runs.specs.declared.sheet_request.Laying.TheVariants as laying
+use Rattle.row_runs.specs.declared.sheet_request.Scheme.TheVariants as scheme
 use Rattle.row_runs.specs.declared.run.RowJob.{RowJob}
 
 -- ---- neither moved nor turned
 
 -- where nothing is exchanged on backs, sheets stay as they are: a law
 abbrev pub NothingIsMoved : Type 0
-NothingIsMoved = (made : List MadeSheet) → mirrored None made ≡ made
+NothingIsMoved = (made : List MadeSheet) → swapped None made ≡ made
 
 -- a page that isn't turned stays as it is: a law
 abbrev pub UprightIsUnturned : Type 0
@@ -46,7 +46,7 @@ UprightIsUnturned = (slot : MadeSlot) → turned_slot Upright slot ≡ slot
 
 -- each sheet stands in the room of its side
 abbrev pub StandOnSides : Room → List MadeSheet → Type 0
-StandOnSides room made = (s : ℕ) (d : MadeSheet) → s < length made → StandsIn (room_on room s) (slice_index_or made s d)
+StandOnSides room made = (s : ℕ) (d : MadeSheet) → s < length made → StandsInRoom (room_on room s) (slice_index_or made s d)
 
 -- the sheets of a laying stand as it lays them; where left and right margins are exchanged on backs, pages in cells stand between
 -- the margins of their own side. The margins of booklets and zines are even, so there is nothing to exchange
@@ -61,13 +61,13 @@ StandAsWritten false l made = StandAsLaid l made
 -- the sheets that are written are inside and apart if no page is turned, as in `impose nup 4 --margin inner=1cm`: a law
 abbrev pub WrittenStand : Type 0
 WrittenStand = (j : RowJob) (made : List MadeSheet) → AreTurned j made → turn_of j.turn ≡ Upright
-    → StandAsWritten j.mirrored j.asked.laying made
+    → StandAsWritten j.swapped j.asked.laying made
 
 -- the sheets that are written are in order, stacks and zines can be cut, and posters show their pages, if no page is
 -- turned and no margins are exchanged: a law
 abbrev pub WrittenInPlaces : Type 0
-WrittenInPlaces = (j : RowJob) (made : List MadeSheet) → (are : AreTurned j made) → turn_of j.turn ≡ Upright → mirror_for j ≡ None
-    → StandInPlaces (laying_for j.asked j.papers.now are.asked.row) j.papers.now (signed (sewn j.asked) are.asked.row) made
+WrittenInPlaces = (j : RowJob) (made : List MadeSheet) → (are : AreTurned j made) → turn_of j.turn ≡ Upright → swapped_room_for j ≡ None
+    → StandInPlaces (laying_for j.asked j.papers.now are.asked.row) j.papers.now (signed_if (sewn j.asked) are.asked.row) made
 
 -- ---- in order, also turned
 
@@ -84,7 +84,7 @@ AreReadInOrder other row made = ⊤
 -- the sheets that are written are read in order, as by `impose nup 4 --turn left`: a law
 abbrev pub WrittenAreRead : Type 0
 WrittenAreRead = (j : RowJob) (made : List MadeSheet) → (are : AreTurned j made)
-    → AreReadInOrder (laying_for j.asked j.papers.now are.asked.row) (signed (sewn j.asked) are.asked.row) made
+    → AreReadInOrder (laying_for j.asked j.papers.now are.asked.row) (signed_if (sewn j.asked) are.asked.row) made
 
 -- the booklet that is written is read in the order of the row that is chosen, as by `impose booklet --turn left`: a law
 abbrev pub WrittenIsBound : Type 0
@@ -100,7 +100,7 @@ abbrev pub TurnedStaysInCell : Type 0
 TurnedStaysInCell = (turn : Turn) (room : Room) (page : Paper) (cell : Cell) (past : ℕ) (item : Item) (width height scale : ℕ) (x y : ℤ)
     → page.width ≡ pos width → page.height ≡ pos height → item.scale ≡ pos scale → item.x ≡ in_points x → item.y ≡ in_points y
     → IsInCell room page cell past item
-    → IsInCell room (turned_paper turn page) cell (kept room.trim past) (turned_item turn page item)
+    → IsInCell room (turned_paper turn page) cell (kept_length room.trim past) (turned_item turn page item)
 
 -- the room of sheet s, where left and right margins are exchanged on backs, or aren't
 abbrev pub side_room : (exchanged : Bool) → Room → (s : ℕ) → Room
@@ -111,7 +111,7 @@ side_room false room s = room
 abbrev pub SlotIsInCell : Turn → Setting → Room → (c : ℕ) → MadeSlot → Type 0
 SlotIsInCell turn t room c Blank = ⊤
 SlotIsInCell turn t room c (Placed page item paper) = IsInCell room paper (cell_at room t.grid (row_of t.order t.grid c) (column_of t.order t.grid c))
-    (kept t.room.trim (past_cell t (turned_paper turn paper))) item
+    (kept_length t.room.trim (past_cell t (turned_paper turn paper))) item
 
 -- each page of these sheets lies in its cell
 abbrev pub AreInCells : Turn → (exchanged : Bool) → Setting → List MadeSheet → Type 0
@@ -121,7 +121,7 @@ AreInCells turn exchanged t made = (s c : ℕ) (sheet : MadeSheet) (d : MadeSlot
 -- a page lies in its cell of a zine, where pages of the first row are upside down
 abbrev pub SlotIsInZine : Turn → Setting → (c : ℕ) → MadeSlot → Type 0
 SlotIsInZine turn t c Blank = ⊤
-SlotIsInZine turn t c (Placed page item paper) = (item.turn ≡ both turn (zine_turn t c))
+SlotIsInZine turn t c (Placed page item paper) = (item.turn ≡ turn_sum turn (zine_turn t c))
     × IsInCell t.room paper (cell_at t.room t.grid (row_of t.order t.grid c) (column_of t.order t.grid c)) (past_row c) item
 
 abbrev pub AreInZines : Turn → Setting → List MadeSheet → Type 0
@@ -130,8 +130,8 @@ AreInZines turn t made = All (λ sheet. (c : ℕ) (d : MadeSlot) → c < length 
 -- a page lies in its half of a side of a booklet, which creeps with its leaf
 abbrev pub SlotIsInHalf : Turn → Setting → (by_half : Bool) → (k creep : ℕ) → MadeSlot → Type 0
 SlotIsInHalf turn t by_half k creep Blank = ⊤
-SlotIsInHalf turn t by_half k creep (Placed page item paper) = (item.turn ≡ both turn (side_turn by_half))
-    × IsInCell t.room paper (creeping_half t by_half k creep) (kept t.room.trim (kept t.room.trim 0)) item
+SlotIsInHalf turn t by_half k creep (Placed page item paper) = (item.turn ≡ turn_sum turn (side_turn by_half))
+    × IsInCell t.room paper (creeping_half t by_half k creep) (kept_length t.room.trim (kept_length t.room.trim 0)) item
 
 abbrev pub AreInHalves : Turn → Setting → (turned_backs : Bool) → (creep leaves : ℕ) → List MadeSheet → Type 0
 AreInHalves turn t turned_backs creep leaves made = (s k : ℕ) (sheet : MadeSheet) (d : MadeSlot) → s < length made → k < length (slice_index_or made s sheet).slots
@@ -150,7 +150,7 @@ AreInTheirCells turn exchanged other leaves made = ⊤
 -- the pages of the sheets that are written lie in their cells, as by `impose booklet --turn left`: a law
 abbrev pub WrittenInCells : Type 0
 WrittenInCells = (j : RowJob) (made : List MadeSheet) → (are : AreTurned j made)
-    → AreInTheirCells (turn_of j.turn) j.mirrored (laying_for j.asked j.papers.now are.asked.row) (leaves_in (sewn j.asked) are.asked.row) made
+    → AreInTheirCells (turn_of j.turn) j.swapped (laying_for j.asked j.papers.now are.asked.row) (leaves_in (sewn j.asked) are.asked.row) made
 
 -- ---- between the margins and apart, also turned
 
@@ -158,21 +158,21 @@ WrittenInCells = (j : RowJob) (made : List MadeSheet) → (are : AreTurned j mad
 -- and are apart by the gap
 abbrev pub KeepRoom : (exchanged : Bool) → Setting → List MadeSheet → Type 0
 KeepRoom exchanged t made = t.room.trim ≡ 0 → ((page : Paper) → is_whole t page ≡ false)
-    → (s : ℕ) (d : MadeSheet) → s < length made → StandsIn (side_room exchanged t.room s) (slice_index_or made s d)
+    → (s : ℕ) (d : MadeSheet) → s < length made → StandsInRoom (side_room exchanged t.room s) (slice_index_or made s d)
 
 -- a slot of a booklet's side stays on its side of the fold, which is twice as far up as said, but for half of 10^-5 of a point
-abbrev pub SlotKeepsFold : (is_before : Bool) → Room → (twice : ℕ) → MadeSlot → Type 0
-SlotKeepsFold is_before room twice Blank = ⊤
+abbrev pub SlotKeepsFold : (is_before_fold : Bool) → Room → (twice : ℕ) → MadeSlot → Type 0
+SlotKeepsFold is_before_fold room twice Blank = ⊤
 SlotKeepsFold true room twice (Placed page item paper) = (p : Point) → IsOfPage room.trim paper p → (pos 2 *ℤ (stands paper item p).y) ≤ℤ fine (twice + 1)
 SlotKeepsFold false room twice (Placed page item paper) = (p : Point) → IsOfPage room.trim paper p → fine twice ≤ℤ ((pos 2 *ℤ (stands paper item p).y) +ℤ fine 1)
 
 -- the fold is one line for all sides of a booklet, in the middle of the sheet to 10^-5 of a point
 pub record KeepFold (t : Setting) (turned_backs : Bool) (made : List MadeSheet) : Type 0 where
   pub twice : ℕ
-  pub no_farther : twice ≤ whole (nat_abs t.room.paper.height) + 1
-  pub no_nearer : whole (nat_abs t.room.paper.height) ≤ twice + 1
+  pub no_farther : twice ≤ whole_parts (nat_abs t.room.paper.height) + 1
+  pub no_nearer : whole_parts (nat_abs t.room.paper.height) ≤ twice + 1
   pub sides : (s k : ℕ) (sheet : MadeSheet) (d : MadeSlot) → s < length made → k < length (slice_index_or made s sheet).slots
-      → SlotKeepsFold (is_before t.order.right_to_left (is_turned turned_backs s) k) t.room (fold_on t.room (is_turned turned_backs s) twice)
+      → SlotKeepsFold (is_before_fold t.order.right_to_left (is_turned turned_backs s) k) t.room (fold_on t.room (is_turned turned_backs s) twice)
       (slice_index_or (slice_index_or made s sheet).slots k d)
 
 -- each side of a booklet keeps margins, fold and what its leaf leaves of the gap as it creeps
@@ -190,4 +190,4 @@ KeepTheirRoom exchanged other leaves made = ⊤
 -- the sheets that are written keep margins and gaps, as by `impose nup 4 --gap 1cm --turn left`: a law
 abbrev pub WrittenKeepRoom : Type 0
 WrittenKeepRoom = (j : RowJob) (made : List MadeSheet) → (are : AreTurned j made)
-    → KeepTheirRoom j.mirrored (laying_for j.asked j.papers.now are.asked.row) (leaves_in (sewn j.asked) are.asked.row) made
+    → KeepTheirRoom j.swapped (laying_for j.asked j.papers.now are.asked.row) (leaves_in (sewn j.asked) are.asked.row) made

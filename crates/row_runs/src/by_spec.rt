@@ -5,8 +5,8 @@ ghost use Rattle.dressing.specs.Numbered.{nothing_drawn};
 ghost use Rattle.row_runs.specs.SheetsRuns.{IsDressOf};
 ghost use Rattle.row_runs.specs.BySpec.{AreBySpec, RefusesBySpec};
 
-use crate::asked::row_error;
-use crate::error::{AskedError, plan_error};
+use crate::error::{SheetError, plan_error};
+use crate::sheet_request::row_error;
 use dressing::dress_of;
 use dsc::Document;
 use lengths::{Grains, Paper};
@@ -14,7 +14,7 @@ use pagespec::Spec;
 use row_sheets::{SpecOnRow, spec_sheets};
 use rows::{Choice, Signing, chosen_row, signed_row};
 use sheet_plan::MadeSheets;
-use sheet_text::Dress;
+use sheet_text::SheetExtras;
 use std::alloc::Global;
 
 /// What is imposed of a document, which was read before, by a specification: which of its pages, in signatures or not, on
@@ -34,7 +34,7 @@ impl<'j, 'd> SpecJob<'j, 'd> {
     /// The sheets of the specification on the row, and the lines that report their papers. What is wrong with the row is
     /// refused first, then a limit that they pass.
     /// Whoever creates an output plans them before: `Plan::of_sheets` refuses what is left.
-    pub fn lay(&self, alloc: Global) -> Result<(MadeSheets, Dress), AskedError>
+    pub fn lay(&self, alloc: Global) -> Result<(MadeSheets, SheetExtras), SheetError>
         requires { IfSome self.now.signing MayBeSewn }
         ensures made { IfOk result (λ laid. AreBySpec self.now laid.0) }
         ensures dressed { IfOk result (λ laid. IsDressOf nothing_drawn laid.0 laid.1) }
@@ -46,7 +46,7 @@ impl<'j, 'd> SpecJob<'j, 'd> {
         };
         let printed = match signed_row(alloc, row, self.signing) {
             Ok(printed) => printed,
-            Err(_) => return Err(AskedError::NoMemory),
+            Err(_) => return Err(SheetError::NoMemory),
         };
         let on = SpecOnRow {
             spec: self.spec,
@@ -60,7 +60,7 @@ impl<'j, 'd> SpecJob<'j, 'd> {
         };
         match dress_of(alloc, &sheets, &[], None) {
             Ok(dress) => Ok((sheets, dress)),
-            Err(_) => Err(AskedError::NoMemory),
+            Err(_) => Err(SheetError::NoMemory),
         }
     }
 }

@@ -1,6 +1,6 @@
 //! Why a row isn't imposed.
 ghost use Rattle.std.specs.Prelude.{◌≡◌};
-ghost use Rattle.row_runs.specs.Errors.{of_plan};
+ghost use Rattle.row_runs.specs.Errors.{of_made_plan};
 
 use layouts::ArrangementError;
 use row_sheets::PosterError;
@@ -10,7 +10,7 @@ use thiserror::Error;
 
 /// Why a row isn't imposed, in the order of the checks.
 #[derive(Clone, Copy, Debug, PartialEq, Eq, Error)]
-pub enum AskedError {
+pub enum SheetError {
     /// There is no such row, never for memory.
     #[error(transparent)]
     Row(RowError),
@@ -32,11 +32,11 @@ pub enum AskedError {
 }
 
 /// The name of an error of the plan.
-pub fn plan_error(error: MadeError) -> AskedError
-    ensures { result ≡ of_plan error }
+pub fn plan_error(error: MadeError) -> SheetError
+    ensures { result ≡ of_made_plan error }
 {
     match error {
-        MadeError::NoMemory => AskedError::NoMemory,
-        error => AskedError::Sheets(error),
+        MadeError::NoMemory => SheetError::NoMemory,
+        error => SheetError::Sheets(error),
     }
 }

@@ -1,15 +1,15 @@
 //! Layings with one scale for all pages of a row.
 ghost use Rattle.std.specs.Prelude.{◌≡◌, IfErr, IfOk, None, OnOk, Some};
-ghost use Rattle.row_runs.specs.Evened.{evened_if as evened_if_asked, why_not_even_if};
+ghost use Rattle.row_runs.specs.Evened.{at_common_scale as evened_if_asked, why_not_even_if};
 ghost use Rattle.row_runs.specs.Sheets.{MayBeLaid};
 
-use crate::asked::Laying;
+use crate::sheet_request::Laying;
 use layouts::ArrangementError;
 use lengths::Paper;
 use row_sheets::at_one_scale;
 
 /// The laying, with one scale for all pages of the row if that is asked for.
-pub(crate) fn evened_if(
+pub(crate) fn at_common_scale(
     same_scale: bool,
     laying: &Laying,
     papers: &[Paper],

@@ -1,13 +1,13 @@
 //! Lines that are drawn on sheets: margins, lines between cells, and lines for notes.
 ghost use Rattle.std.specs.Prelude.{◌≡◌, ◌<◌, ◌≤◌, ◌++◌, IfOk, OnOk, map};
 ghost use Rattle.row_runs.specs.Guides.{guides_in, level as level_of, level_line as level_line_of};
-ghost use Rattle.row_runs.specs.Guides.{level_lines, level_margin, lines_between, lines_in, margin_lines};
+ghost use Rattle.row_runs.specs.Guides.{level_lines, level_margin, lines_between, setting_guides, margin_lines};
 ghost use Rattle.row_runs.specs.Guides.{upright as upright_of, upright_line as upright_line_of, upright_lines, upright_margin};
-ghost use Rattle.row_runs.specs.Guides.{guides_with, note_guide as note_guide_of, notes_in, tile_room as tile_room_of};
+ghost use Rattle.row_runs.specs.Guides.{guides_with, note_guide as note_guide_of, note_guides, tile_room as tile_room_of};
 ghost use Rattle.row_runs.specs.Sheets.{MayBeLaid};
 
-use crate::asked::{Laying, Scheme};
 use crate::marked::ruled_if;
+use crate::sheet_request::{Laying, Scheme};
 use dressing::{Marks, Stroke};
 use layouts::{Grid, Room, Setting, from_far, gap_at, in_grains};
 use lengths::{Grains, Paper};
@@ -54,7 +54,7 @@ fn push_notes(
     laying: &Laying,
     guides: &mut Vec<Guide>,
 ) -> Result<(), AllocError>
-    ensures { OnOk result (guides.new.items ≡ guides.old.items ++ notes_in marks laying.now) }
+    ensures { OnOk result (guides.new.items ≡ guides.old.items ++ note_guides marks laying.now) }
 {
     match laying {
         Laying::InCells { setting, scheme } => match scheme {
@@ -99,18 +99,18 @@ fn tile_room(poster: &Poster) -> Room
         right: poster.edge,
         bottom: poster.edge,
         top: poster.edge,
-        gap_across: 0,
-        gap_up: 0,
+        gutter_across: 0,
+        gutter_up: 0,
         trim: 0,
     }
 }
 
 /// Adds the lines of a setting, of this kind between its cells.
 fn push_lines(kind: GuideKind, setting: &Setting, guides: &mut Vec<Guide>) -> Result<(), AllocError>
-    ensures { OnOk result (guides.new.items ≡ guides.old.items ++ lines_in kind setting.now) }
+    ensures { OnOk result (guides.new.items ≡ guides.old.items ++ setting_guides kind setting.now) }
 {
     push_margin(&setting.room, guides)?;
-    push_between(kind, &setting.room, setting.grid, guides)?;
+    push_lines_between(kind, &setting.room, setting.grid, guides)?;
     Ok(())
 }
 
@@ -144,7 +144,7 @@ fn push_level_margin(room: &Room, guides: &mut Vec<Guide>) -> Result<(), AllocEr
 }
 
 /// Adds the lines between all cells of a grid.
-fn push_between(
+fn push_lines_between(
     kind: GuideKind,
     room: &Room,
     grid: Grid,
@@ -152,13 +152,13 @@ fn push_between(
 ) -> Result<(), AllocError>
     ensures { OnOk result (guides.new.items ≡ guides.old.items ++ lines_between kind room.now grid) }
 {
-    push_upright(kind, room, grid.across(), guides)?;
-    push_level(kind, room, grid.up(), guides)?;
+    push_upright_lines(kind, room, grid.across(), guides)?;
+    push_level_lines(kind, room, grid.up(), guides)?;
     Ok(())
 }
 
 /// Adds the lines between cells side by side.
-fn push_upright(
+fn push_upright_lines(
     kind: GuideKind,
     room: &Room,
     parts: u32,
@@ -174,7 +174,7 @@ fn push_upright(
 }
 
 /// Adds the lines between cells one above another.
-fn push_level(
+fn push_level_lines(
     kind: GuideKind,
     room: &Room,
     parts: u32,

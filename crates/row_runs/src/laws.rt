@@ -1,7 +1,7 @@
 //! Laws of the definitions. The functions do nothing.
 ghost use Rattle.row_runs.specs.InPlaces.{AskedStandInPlaces};
 ghost use Rattle.row_runs.specs.ReadAsBound.{AskedIsRead};
-ghost use Rattle.row_runs.specs.Mirrored.{FittedAreInPoints, MirroredStands};
+ghost use Rattle.row_runs.specs.SwappedMargins.{FittedAreInPoints, SwappedStands};
 ghost use Rattle.row_runs.specs.Turning.{TurnedStands, TurnsAddUp};
 ghost use Rattle.row_runs.specs.NumbersLie.{NumbersInCells, NumbersInHalves};
 ghost use Rattle.row_runs.specs.Written.{NothingIsMoved, TurnedStaysInCell, UprightIsUnturned, WrittenAreRead, WrittenInCells, WrittenInPlaces, WrittenIsBound, WrittenKeepRoom, WrittenStand};
@@ -29,8 +29,8 @@ pub fn turned_stands()
 
 /// Pages that lie in a room, inside and apart, do so on fronts, and with left and right margins exchanged on backs, if pages are
 /// moved by points, as those are that are fitted into cells.
-pub fn mirrored_stands()
-    ensures stands { MirroredStands }
+pub fn swapped_stands()
+    ensures stands { SwappedStands }
     ensures points { FittedAreInPoints }
 {}
 

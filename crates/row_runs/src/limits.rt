@@ -2,7 +2,7 @@
 ghost use Rattle.std.specs.Prelude.{◌≡◌, ◌<◌, ◌^◌};
 ghost use Rattle.row_runs.specs.Limits.{limit_in as limit_of_laying, limit_passed as first_passed};
 
-use crate::asked::{Laying, Scheme};
+use crate::sheet_request::{Laying, Scheme};
 use sheet_plan::MadeError;
 
 const MOST_SHEETS: u128 = 1_000_000;

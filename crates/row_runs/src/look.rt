@@ -4,17 +4,17 @@ ghost use Rattle.rules.specs.MadePlans.{made_plan_of};
 ghost use Rattle.sheet_plan.specs.MadeRefusals.{RefusesMade};
 ghost use Rattle.preview.specs.Drawing.{preview_text as picture_of};
 ghost use Rattle.row_runs.specs.Sheets.{MayBeAsked};
-ghost use Rattle.row_runs.specs.Runs.{ArePlanned, RefusesRun, mirror_for};
+ghost use Rattle.row_runs.specs.Runs.{ArePlanned, RefusesRun, swapped_room_for};
 ghost use Rattle.row_runs.specs.Looks.{TellsPicture, TellsPlan, guides_on};
-ghost use Rattle.row_runs.specs.Readings.{sides_by as sides_of_mirror};
+ghost use Rattle.row_runs.specs.Readings.{sides_by as sides_of_swapped_room};
 
-use crate::asked::asked_sheets;
-use crate::error::{AskedError, plan_error};
+use crate::error::{SheetError, plan_error};
 use crate::guides::guides_of;
-use crate::mirrored::mirror_in;
 use crate::reaching::check_reach;
 use crate::reading::{reading_of, sides_by};
 use crate::run::RowJob;
+use crate::sheet_request::make_sheets;
+use crate::swapped_margins::swapped_room_in;
 use crate::turning::turned_sheets;
 use preview::{Guide, plan_text, preview_text};
 use sheet_plan::{MadeError, MadeSheets, Plan};
@@ -22,24 +22,24 @@ use std::alloc::{AllocError, Global};
 
 /// The text of the plan of the sheets that a run would impose. Of more sheets or leaves than `most` the middle is
 /// left out. What the run refuses is refused as it does.
-pub fn row_plan(alloc: Global, job: &RowJob<'_, '_>, most: u32) -> Result<Vec<u8>, AskedError>
+pub fn row_plan(alloc: Global, job: &RowJob<'_, '_>, most: u32) -> Result<Vec<u8>, SheetError>
     requires asked { MayBeAsked job.now.asked }
     ensures told { IfOk result (λ text. TellsPlan job.now most text.items) }
     ensures refused { IfErr result (RefusesRun job.now) }
 {
     let sheets = planned_sheets(alloc, job)?;
-    let mirror = mirror_in(job.mirrored, &job.asked.laying);
-    let reading = reading_of(&mirror, &job.asked.laying);
+    let swap = swapped_room_in(job.swapped, &job.asked.laying);
+    let reading = reading_of(&swap, &job.asked.laying);
     match plan_text(alloc, &sheets, &reading, most) {
         Ok(text) => Ok(text),
-        Err(_) => Err(AskedError::NoMemory),
+        Err(_) => Err(SheetError::NoMemory),
     }
 }
 
 /// The picture of the sheets that a run would impose, as an SVG, with margin, cuts, fold and lines for notes on each if they
 /// are the same.
 /// Of more sheets than `most` the first are drawn. What the run refuses is refused as it does.
-pub fn row_preview(alloc: Global, job: &RowJob<'_, '_>, most: u32) -> Result<Vec<u8>, AskedError>
+pub fn row_preview(alloc: Global, job: &RowJob<'_, '_>, most: u32) -> Result<Vec<u8>, SheetError>
     requires asked { MayBeAsked job.now.asked }
     ensures told { IfOk result (λ text. TellsPicture job.now most text.items) }
     ensures refused { IfErr result (RefusesRun job.now) }
@@ -47,7 +47,7 @@ pub fn row_preview(alloc: Global, job: &RowJob<'_, '_>, most: u32) -> Result<Vec
     let sheets = planned_sheets(alloc, job)?;
     match drawn(alloc, &sheets, job, most) {
         Ok(text) => Ok(text),
-        Err(_) => Err(AskedError::NoMemory),
+        Err(_) => Err(SheetError::NoMemory),
     }
 }
 
@@ -60,11 +60,11 @@ fn drawn(
 ) -> Result<Vec<u8>, AllocError>
     requires { MayBeAsked job.now.asked }
     ensures { IfOk result (λ text. text.items
-        ≡ picture_of (sides_of_mirror (mirror_for job.now) job.now.asked.laying) (guides_on job.now) most sheets.now) }
+        ≡ picture_of (sides_of_swapped_room (swapped_room_for job.now) job.now.asked.laying) (guides_on job.now) most sheets.now) }
 {
     let guides = guides_for(alloc, job)?;
-    let mirror = mirror_in(job.mirrored, &job.asked.laying);
-    let sides = sides_by(&mirror, &job.asked.laying);
+    let swap = swapped_room_in(job.swapped, &job.asked.laying);
+    let sides = sides_by(&swap, &job.asked.laying);
     let text = preview_text(alloc, sheets, sides, guides.as_slice(), most)?;
     Ok(text)
 }
@@ -74,7 +74,7 @@ fn guides_for(alloc: Global, job: &RowJob<'_, '_>) -> Result<Vec<Guide>, AllocEr
     requires { MayBeAsked job.now.asked }
     ensures { IfOk result (λ guides. guides.items ≡ guides_on job.now) }
 {
-    if job.mirrored {
+    if job.swapped {
         Ok(Vec::new(alloc))
     } else {
         guides_of(alloc, job.marks, &job.asked.laying)
@@ -82,17 +82,17 @@ fn guides_for(alloc: Global, job: &RowJob<'_, '_>) -> Result<Vec<Guide>, AllocEr
 }
 
 /// The sheets that would be imposed.
-fn planned_sheets(alloc: Global, job: &RowJob<'_, '_>) -> Result<MadeSheets, AskedError>
+fn planned_sheets(alloc: Global, job: &RowJob<'_, '_>) -> Result<MadeSheets, SheetError>
     requires asked { MayBeAsked job.now.asked }
     ensures made { IfOk result (ArePlanned job.now) }
     ensures refused { IfErr result (RefusesRun job.now) }
 {
     let count = job.document.pages();
-    let sheets = asked_sheets(alloc, count, job.papers, &job.asked)?;
-    let mirror = mirror_in(job.mirrored, &job.asked.laying);
-    check_reach(job.turn, &mirror, &sheets)?;
-    let Ok(sheets) = turned_sheets(alloc, job.turn, &mirror, sheets) else {
-        return Err(AskedError::NoMemory);
+    let sheets = make_sheets(alloc, count, job.papers, &job.asked)?;
+    let swap = swapped_room_in(job.swapped, &job.asked.laying);
+    check_reach(job.turn, &swap, &sheets)?;
+    let Ok(sheets) = turned_sheets(alloc, job.turn, &swap, sheets) else {
+        return Err(SheetError::NoMemory);
     };
     match check_plan(alloc, count, &sheets) {
         Ok(()) => Ok(sheets),

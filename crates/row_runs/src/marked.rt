@@ -2,7 +2,7 @@
 ghost use Rattle.std.specs.Prelude.{◌≡◌, ◌++◌, IfOk};
 ghost use Rattle.row_runs.specs.Marked.{cut_if as cut_of, fold_if as fold_of, outer_cut_if as outer_cut_of, ruled_if as ruled_of, strokes_in};
 
-use crate::asked::{Laying, Scheme};
+use crate::sheet_request::{Laying, Scheme};
 use dressing::{Marks, Stroke, cut_marks, fold_marks, note_lines, outer_cut_marks};
 use layouts::Setting;
 use std::alloc::{AllocError, Global};

@@ -1,17 +1,17 @@
 //! The numbers on sheets.
 ghost use Rattle.std.specs.Prelude.{◌≡◌, ◌≤◌, ◌<◌, ◌⊎◌, ℕ, IfErr, IfOk, Option, Some, false, length, map, slice_get};
 ghost use Rattle.rules.specs.Choice.{most_entries};
-ghost use Rattle.row_runs.specs.Numbers.{are_numbers_reached, below_middle as below_of, named, numbers_asked, paper_in as paper_of_entry, places_by};
-ghost use Rattle.row_runs.specs.Numbers.{places_from, sheet_paper as sheet_paper_of};
+ghost use Rattle.row_runs.specs.Numbers.{are_numbers_reached, below_middle as below_of, place_named, numbers_asked, paper_in as paper_of_entry, places_by};
+ghost use Rattle.row_runs.specs.Numbers.{named_places_from, sheet_paper as sheet_paper_of};
 ghost use Rattle.row_runs.specs.Sheets.{MayBeAsked, row_chosen};
 
-use crate::asked::{Asked, Laying, laid, leaves_in};
-use crate::error::AskedError;
-use crate::evened::evened_if;
-use crate::mirrored::mirrored_sheets;
+use crate::error::SheetError;
+use crate::evened::at_common_scale;
 use crate::reaching::check_reach;
+use crate::sheet_request::{Laying, SheetRequest, lay_row, leaves_in};
+use crate::swapped_margins::swapped_sheets;
 use dressing::Numbering;
-use layouts::{Room, cells, grains};
+use layouts::{Room, cell_size, grains};
 use lengths::{Grains, Paper};
 use pagespec::Turn;
 use rows::{chosen_row, signed_row};
@@ -21,31 +21,31 @@ use std::alloc::{AllocError, Global};
 
 /// The numbers asked for of a document with this number of pages, if any are. On backs they are moved as their pages are, if
 /// they can be.
-pub(crate) fn numbers_of(
+pub(crate) fn numbers_on(
     alloc: Global,
     pages: u32,
     papers: &[Paper],
-    asked: &Asked<'_>,
-    mirror: &Option<Room>,
+    asked: &SheetRequest<'_>,
+    swap: &Option<Room>,
     how: Option<Numbering>,
-) -> Result<Option<Numbers>, AskedError>
+) -> Result<Option<Numbers>, SheetError>
     requires pages { pages ≤ most_entries }
     requires asked { MayBeAsked asked.now }
-    ensures made { IfOk result (λ numbers. numbers ≡ numbers_asked pages papers.now asked.now mirror.now how) }
-    ensures refused { IfErr result (λ error. (error ≡ AskedError.NoMemory)
-        ⊎ ((error ≡ AskedError.OutOfReach) × (are_numbers_reached pages papers.now asked.now mirror.now how ≡ false))) }
+    ensures made { IfOk result (λ numbers. numbers ≡ numbers_asked pages papers.now asked.now swap.now how) }
+    ensures refused { IfErr result (λ error. (error ≡ SheetError.NoMemory)
+        ⊎ ((error ≡ SheetError.OutOfReach) × (are_numbers_reached pages papers.now asked.now swap.now how ≡ false))) }
 {
     let Some(how) = how else {
         return Ok(None);
     };
     let Ok(places) = places_of(alloc, pages, papers, asked) else {
-        return Err(AskedError::NoMemory);
+        return Err(SheetError::NoMemory);
     };
-    let Ok(()) = check_reach(Turn::None, mirror, &places) else {
-        return Err(AskedError::OutOfReach);
+    let Ok(()) = check_reach(Turn::None, swap, &places) else {
+        return Err(SheetError::OutOfReach);
     };
-    let Ok(places) = mirrored_sheets(alloc, mirror, places) else {
-        return Err(AskedError::NoMemory);
+    let Ok(places) = swapped_sheets(alloc, swap, places) else {
+        return Err(SheetError::NoMemory);
     };
     Ok(Some(Numbers {
         size: how.size,
@@ -60,7 +60,7 @@ fn places_of(
     alloc: Global,
     pages: u32,
     papers: &[Paper],
-    asked: &Asked<'_>,
+    asked: &SheetRequest<'_>,
 ) -> Result<MadeSheets, AllocError>
     requires pages { pages ≤ most_entries }
     requires asked { MayBeAsked asked.now }
@@ -70,13 +70,14 @@ fn places_of(
         return Err(AllocError);
     };
     let leaves = leaves_in(asked.signing, row.as_slice());
-    let own = own_papers(alloc, papers, sheet_paper(&asked.laying), row.as_slice())?;
+    let own = papers_on_row(alloc, papers, sheet_paper(&asked.laying), row.as_slice())?;
     let places = signed_row(alloc, named_places(alloc, row.as_slice())?, asked.signing)?;
     let printed = signed_row(alloc, row, asked.signing)?;
-    let Ok(laying) = evened_if(asked.same_scale, &asked.laying, papers, printed.as_slice()) else {
+    let Ok(laying) = at_common_scale(asked.same_scale, &asked.laying, papers, printed.as_slice())
+    else {
         return Err(AllocError);
     };
-    match laid(alloc, &laying, leaves, own.as_slice(), places.as_slice()) {
+    match lay_row(alloc, &laying, leaves, own.as_slice(), places.as_slice()) {
         Ok(sheets) => Ok(sheets),
         Err(_) => Err(AllocError),
     }
@@ -85,7 +86,7 @@ fn places_of(
 /// The row with each page named by its place in it.
 fn named_places(alloc: Global, row: &[Option<u32>]) -> Result<Vec<Option<u32>>, AllocError>
     requires { length row.now ≤ most_entries }
-    ensures { IfOk result (λ places. places.items ≡ places_from 0 row.now) }
+    ensures { IfOk result (λ places. places.items ≡ named_places_from 0 row.now) }
 {
     let mut places = Vec::new(alloc);
     for place in 0..row.len() as u32 {
@@ -97,7 +98,7 @@ fn named_places(alloc: Global, row: &[Option<u32>]) -> Result<Vec<Option<u32>>, 
 /// An entry of the row with its page named so.
 fn named_at(row: &[Option<u32>], place: u32) -> Option<u32>
     requires { place < length row.now }
-    ensures { (entry : Option ℕ) → slice_get row.now place ≡ Some entry → result ≡ named place entry }
+    ensures { (entry : Option ℕ) → slice_get row.now place ≡ Some entry → result ≡ place_named place entry }
 {
     match row[place as usize] {
         Some(_) => Some(place),
@@ -106,7 +107,7 @@ fn named_at(row: &[Option<u32>], place: u32) -> Option<u32>
 }
 
 /// The papers of its pages, in their order.
-fn own_papers(
+fn papers_on_row(
     alloc: Global,
     papers: &[Paper],
     other: &Paper,
@@ -116,12 +117,12 @@ fn own_papers(
 {
     let mut own = Vec::new(alloc);
     for entry in row {
-        own.push(paper_in(papers, other, *entry))?;
+        own.push(entry_paper(papers, other, *entry))?;
     }
     Ok(own)
 }
 
-fn paper_in(papers: &[Paper], other: &Paper, entry: Option<u32>) -> Paper
+fn entry_paper(papers: &[Paper], other: &Paper, entry: Option<u32>) -> Paper
     ensures { result ≡ paper_of_entry papers.now other.now entry }
 {
     match entry {
@@ -148,6 +149,6 @@ fn below_middle(laying: &Laying) -> Option<Grains>
     let Laying::InCells { setting, .. } = laying else {
         return None;
     };
-    let (_, height) = cells(&setting.room, setting.grid);
+    let (_, height) = cell_size(&setting.room, setting.grid);
     Some(grains(635_000 * i128::from(height)))
 }

@@ -6,8 +6,8 @@ ghost use Rattle.pagespec.specs.Items.{turn_of};
 ghost use Rattle.sheet_plan.specs.OfSheets.{placed_of, slots_at};
 ghost use Rattle.row_runs.specs.Reaching as meaning;
 
-use crate::error::AskedError;
-use crate::mirrored::mirror_on;
+use crate::error::SheetError;
+use crate::swapped_margins::swapped_room_on;
 use crate::turning::changed_item;
 use layouts::Room;
 use pagespec::Turn;
@@ -19,52 +19,52 @@ const MOST_SHEETS: usize = 1_000_000;
 /// Whether these sheets can be moved and turned so: they are few enough to be planned, and no page comes out of reach.
 pub(crate) fn check_reach(
     turn: Turn,
-    mirror: &Option<Room>,
+    swap: &Option<Room>,
     sheets: &MadeSheets,
-) -> Result<(), AskedError>
+) -> Result<(), SheetError>
     ensures few { OnOk result (length sheets.now ≤ most_sheets) }
-    ensures reached { OnOk result (meaning.are_reached (turn_of turn) mirror.now sheets.now ≡ true) }
-    ensures refused { IfErr result (meaning.IsNotReached (turn_of turn) mirror.now sheets.now) }
+    ensures reached { OnOk result (meaning.are_reached (turn_of turn) swap.now sheets.now ≡ true) }
+    ensures refused { IfErr result (meaning.IsNotReached (turn_of turn) swap.now sheets.now) }
 {
     if sheets.len() > MOST_SHEETS {
-        return Err(AskedError::Sheets(MadeError::TooManySheets));
+        return Err(SheetError::Sheets(MadeError::TooManySheets));
     }
-    if are_reached(turn, mirror, sheets) {
+    if are_reached(turn, swap, sheets) {
         Ok(())
     } else {
-        Err(AskedError::OutOfReach)
+        Err(SheetError::OutOfReach)
     }
 }
 
-fn are_reached(turn: Turn, mirror: &Option<Room>, sheets: &MadeSheets) -> bool
+fn are_reached(turn: Turn, swap: &Option<Room>, sheets: &MadeSheets) -> bool
     requires { length sheets.now ≤ most_sheets }
-    ensures { result ≡ meaning.are_reached (turn_of turn) mirror.now sheets.now }
+    ensures { result ≡ meaning.are_reached (turn_of turn) swap.now sheets.now }
 {
     for sheet in 0..sheets.len() as u32 {
-        if !is_sheet_reached(turn, &mirror_on(mirror, sheet), sheets, sheet) {
+        if !is_sheet_reached(turn, &swapped_room_on(swap, sheet), sheets, sheet) {
             return false;
         }
     }
     true
 }
 
-fn is_sheet_reached(turn: Turn, mirror: &Option<Room>, sheets: &MadeSheets, sheet: u32) -> bool
+fn is_sheet_reached(turn: Turn, swap: &Option<Room>, sheets: &MadeSheets, sheet: u32) -> bool
     requires { sheet < length sheets.now }
-    ensures { result ≡ list_all (meaning.is_slot_reached (turn_of turn) mirror.now) (slots_at sheets.now sheet) }
+    ensures { result ≡ list_all (meaning.is_slot_reached (turn_of turn) swap.now) (slots_at sheets.now sheet) }
 {
     for slot in 0..sheets.slots(sheet) {
-        if !is_slot_reached(turn, mirror, sheets.placed(sheet, slot)) {
+        if !is_slot_reached(turn, swap, sheets.placed(sheet, slot)) {
             return false;
         }
     }
     true
 }
 
-fn is_slot_reached(turn: Turn, mirror: &Option<Room>, slot: Option<PlacedSlot<'_>>) -> bool
-    ensures { result ≡ meaning.is_slot_reached (turn_of turn) mirror.now (placed_of slot.entry) }
+fn is_slot_reached(turn: Turn, swap: &Option<Room>, slot: Option<PlacedSlot<'_>>) -> bool
+    ensures { result ≡ meaning.is_slot_reached (turn_of turn) swap.now (placed_of slot.entry) }
 {
     match slot {
         None => true,
-        Some(placed) => changed_item(turn, mirror, placed.paper, placed.item).is_some(),
+        Some(placed) => changed_item(turn, swap, placed.paper, placed.item).is_some(),
     }
 }

@@ -4,31 +4,31 @@ ghost use Rattle.layouts.specs.Cells.{held_height, held_width};
 ghost use Rattle.layouts.specs.Grids.{plain_order as order_of_one};
 ghost use Rattle.preview.specs.declared.naming.Edge.TheVariants.{Long, Short};
 ghost use Rattle.preview.specs.declared.reading.Places.TheVariants.{Cells};
-ghost use Rattle.row_runs.specs.Readings.{edge_at_side as edge_of, height_read, places_in, reading_in, sides_by as sides_of_mirror, sides_in, single as single_grid};
+ghost use Rattle.row_runs.specs.Readings.{edge_at_side as edge_of, height_read, places_read, reading_in, sides_by as sides_of_swapped_room, sides_in, single as single_grid};
 ghost use Rattle.row_runs.specs.Readings.{edge_as_printed as edge_printed, tiles_in, width_read};
 
-use crate::asked::{Laying, Scheme};
-use layouts::{Grid, Order, Room, Run, Setting, Turned, side};
+use crate::sheet_request::{Laying, Scheme};
+use layouts::{FillOrder, Grid, Order, Room, Setting, Turned, extent};
 use lengths::Paper;
 use preview::{Edge, Places, Reading, Sides};
 use row_sheets::Poster;
 
 /// On which sides the sheets of a laying are printed, and where their places are.
-pub(crate) fn reading_of(mirror: &Option<Room>, laying: &Laying) -> Reading
-    ensures { result ≡ reading_in mirror.now laying.now }
+pub(crate) fn reading_of(swap: &Option<Room>, laying: &Laying) -> Reading
+    ensures { result ≡ reading_in swap.now laying.now }
 {
     Reading {
-        sides: sides_by(mirror, laying),
+        sides: sides_by(swap, laying),
         places: places_of(laying),
     }
 }
 
 /// On which sides they are printed if this room is exchanged on backs, or else as they are laid.
-pub(crate) fn sides_by(mirror: &Option<Room>, laying: &Laying) -> Sides
-    ensures { result ≡ sides_of_mirror mirror.now laying.now }
+pub(crate) fn sides_by(swap: &Option<Room>, laying: &Laying) -> Sides
+    ensures { result ≡ sides_of_swapped_room swap.now laying.now }
 {
-    match mirror {
-        None => sides_of(laying),
+    match swap {
+        None => printed_sides(laying),
         Some(room) => Sides::Both {
             flip: edge_as_printed(&room.paper),
         },
@@ -39,7 +39,7 @@ pub(crate) fn sides_by(mirror: &Option<Room>, laying: &Laying) -> Sides
 fn edge_as_printed(paper: &Paper) -> Edge
     ensures { result ≡ edge_printed paper.now }
 {
-    if side(paper.height()) < side(paper.width()) {
+    if extent(paper.height()) < extent(paper.width()) {
         Edge::Short
     } else {
         Edge::Long
@@ -47,7 +47,7 @@ fn edge_as_printed(paper: &Paper) -> Edge
 }
 
 /// Whether sheets are printed on one side, or leaves on both; and on which edge these are flipped.
-fn sides_of(laying: &Laying) -> Sides
+fn printed_sides(laying: &Laying) -> Sides
     ensures { result ≡ sides_in laying.now }
 {
     match laying {
@@ -100,7 +100,7 @@ fn sides_held(turned: bool, paper: &Paper) -> (u64, u64)
     ensures width { result.0 ≡ held_width turned paper.now }
     ensures height { result.1 ≡ held_height turned paper.now }
 {
-    let (width, height) = (side(paper.width()), side(paper.height()));
+    let (width, height) = (extent(paper.width()), extent(paper.height()));
     if turned {
         (height, width)
     } else {
@@ -110,7 +110,7 @@ fn sides_held(turned: bool, paper: &Paper) -> (u64, u64)
 
 /// The cells in which places are; or the tiles of a poster.
 fn places_of(laying: &Laying) -> Places
-    ensures { result ≡ places_in laying.now }
+    ensures { result ≡ places_read laying.now }
 {
     match laying {
         Laying::AsTheyAre { .. } => Places::Cells {
@@ -142,7 +142,7 @@ fn plain_order() -> Order
     ensures { result ≡ order_of_one }
 {
     Order {
-        run: Run::Rows,
+        run: FillOrder::Rows,
         right_to_left: false,
         turned: Turned::Upright,
     }

@@ -4,19 +4,19 @@ ghost use Rattle.row_runs.specs.Sheets.{MayBeAsked};
 ghost use Rattle.row_runs.specs.SheetsRuns.{IsDressOf};
 ghost use Rattle.row_runs.specs.Runs.{AreTurned, RefusesRun, drawn_of};
 
-use crate::asked::{Asked, asked_sheets};
-use crate::error::AskedError;
+use crate::error::SheetError;
 use crate::marked::strokes_of;
-use crate::mirrored::mirror_in;
-use crate::numbered::numbers_of;
+use crate::numbered::numbers_on;
 use crate::reaching::check_reach;
+use crate::sheet_request::{SheetRequest, make_sheets};
+use crate::swapped_margins::swapped_room_in;
 use crate::turning::turned_sheets;
 use dressing::{Marks, dress_of};
 use dsc::Document;
 use lengths::{Grains, Paper};
 use pagespec::Turn;
 use sheet_plan::MadeSheets;
-use sheet_text::Dress;
+use sheet_text::SheetExtras;
 use std::alloc::Global;
 
 /// What is imposed of a document, which was read before; how its pages are turned, and the papers that they have then, in
@@ -28,8 +28,8 @@ pub struct RowJob<'j, 'd> {
     pub document: &'j Document<'d>,
     pub turn: Turn,
     pub papers: &'j [Paper],
-    pub asked: Asked<'j>,
-    pub mirrored: bool,
+    pub asked: SheetRequest<'j>,
+    pub swapped: bool,
     pub border: Option<Grains>,
     pub inset: Grains,
     pub marks: Marks,
@@ -39,7 +39,7 @@ impl<'j, 'd> RowJob<'j, 'd> {
     /// The sheets that are asked for, with backs moved and pages turned, and the lines that report their papers and draw their
     /// marks and numbers. What is wrong with the row is refused first, then a page that fits no cell. Whoever creates an output plans
     /// them before: `Plan::of_sheets` refuses what is left.
-    pub fn lay(&self, alloc: Global) -> Result<(MadeSheets, Dress), AskedError>
+    pub fn lay(&self, alloc: Global) -> Result<(MadeSheets, SheetExtras), SheetError>
         requires { MayBeAsked self.now.asked }
         ensures turned { IfOk result (λ laid. AreTurned self.now laid.0) }
         ensures dressed { IfOk result (λ laid. IsDressOf (drawn_of self.now) laid.0 laid.1) }
@@ -47,20 +47,20 @@ impl<'j, 'd> RowJob<'j, 'd> {
         ensures refused { IfErr result (RefusesRun self.now) }
     {
         let count = self.document.pages();
-        let sheets = asked_sheets(alloc, count, self.papers, &self.asked)?;
-        let mirror = mirror_in(self.mirrored, &self.asked.laying);
-        check_reach(self.turn, &mirror, &sheets)?;
+        let sheets = make_sheets(alloc, count, self.papers, &self.asked)?;
+        let swap = swapped_room_in(self.swapped, &self.asked.laying);
+        check_reach(self.turn, &swap, &sheets)?;
         let Ok(strokes) = strokes_of(alloc, self.marks, &self.asked.laying) else {
-            return Err(AskedError::NoMemory);
+            return Err(SheetError::NoMemory);
         };
         let numbering = self.marks.numbers;
-        let numbers = numbers_of(alloc, count, self.papers, &self.asked, &mirror, numbering)?;
-        let Ok(sheets) = turned_sheets(alloc, self.turn, &mirror, sheets) else {
-            return Err(AskedError::NoMemory);
+        let numbers = numbers_on(alloc, count, self.papers, &self.asked, &swap, numbering)?;
+        let Ok(sheets) = turned_sheets(alloc, self.turn, &swap, sheets) else {
+            return Err(SheetError::NoMemory);
         };
         match dress_of(alloc, &sheets, strokes.as_slice(), numbers) {
             Ok(dress) => Ok((sheets, dress)),
-            Err(_) => Err(AskedError::NoMemory),
+            Err(_) => Err(SheetError::NoMemory),
         }
     }
 }

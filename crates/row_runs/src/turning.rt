@@ -6,11 +6,11 @@ ghost use Rattle.rules.specs.Placement.{turned as turned_point};
 ghost use Rattle.rules.specs.Run.{most_sheets};
 ghost use Rattle.pagespec.specs.Items.{item_of, measure_of, turn_of};
 ghost use Rattle.sheet_plan.specs.OfSheets.{placed_of, slot_of, slots_at};
-ghost use Rattle.row_runs.specs.Mirrored.{mirrored, moved_item as moved_of, moved_slot};
+ghost use Rattle.row_runs.specs.SwappedMargins.{swapped, moved_item as moved_of, moved_slot};
 ghost use Rattle.row_runs.specs.Reaching as reaching;
 ghost use Rattle.row_runs.specs.Turning as meaning;
 
-use crate::mirrored::{mirror_on, moved_item};
+use crate::swapped_margins::{moved_item, swapped_room_on};
 use layouts::Room;
 use lengths::{Grains, Number, Paper};
 use pagespec::{Item, Measure, Turn};
@@ -56,33 +56,33 @@ fn all_papers(alloc: Global, turn: Turn, papers: &[Paper]) -> Result<Vec<Paper>,
 pub(crate) fn turned_sheets(
     alloc: Global,
     turn: Turn,
-    mirror: &Option<Room>,
+    swap: &Option<Room>,
     sheets: MadeSheets,
 ) -> Result<MadeSheets, AllocError>
     requires few { length sheets ≤ most_sheets }
-    requires reached { reaching.are_reached (turn_of turn) mirror.now sheets ≡ true }
-    ensures { IfOk result (λ turned. turned ≡ map (meaning.turned_sheet (turn_of turn)) (mirrored mirror.now sheets)) }
+    requires reached { reaching.are_reached (turn_of turn) swap.now sheets ≡ true }
+    ensures { IfOk result (λ turned. turned ≡ map (meaning.turned_sheet (turn_of turn)) (swapped swap.now sheets)) }
 {
-    match (turn, mirror) {
+    match (turn, swap) {
         (Turn::None, None) => Ok(sheets),
-        _ => all_sheets(alloc, turn, mirror, &sheets),
+        _ => all_sheets(alloc, turn, swap, &sheets),
     }
 }
 
 fn all_sheets(
     alloc: Global,
     turn: Turn,
-    mirror: &Option<Room>,
+    swap: &Option<Room>,
     sheets: &MadeSheets,
 ) -> Result<MadeSheets, AllocError>
     requires few { length sheets.now ≤ most_sheets }
-    requires reached { reaching.are_reached (turn_of turn) mirror.now sheets.now ≡ true }
-    ensures { IfOk result (λ turned. turned ≡ map (meaning.turned_sheet (turn_of turn)) (mirrored mirror.now sheets.now)) }
+    requires reached { reaching.are_reached (turn_of turn) swap.now sheets.now ≡ true }
+    ensures { IfOk result (λ turned. turned ≡ map (meaning.turned_sheet (turn_of turn)) (swapped swap.now sheets.now)) }
 {
     let mut turned = MadeSheets::new(alloc);
     let mut slots = Vec::new(alloc);
     for sheet in 0..sheets.len() as u32 {
-        let side = mirror_on(mirror, sheet);
+        let side = swapped_room_on(swap, sheet);
         turn_slots(&mut slots, turn, &side, sheets, sheet)?;
         turned.push(sheets.paper(sheet), slots.as_slice())?;
     }
@@ -93,29 +93,29 @@ fn all_sheets(
 fn turn_slots(
     slots: &mut Vec<MadeSlot>,
     turn: Turn,
-    mirror: &Option<Room>,
+    swap: &Option<Room>,
     sheets: &MadeSheets,
     sheet: u32,
 ) -> Result<(), AllocError>
     requires sheet { sheet < length sheets.now }
-    requires reached { list_all (reaching.is_slot_reached (turn_of turn) mirror.now) (slots_at sheets.now sheet) ≡ true }
+    requires reached { list_all (reaching.is_slot_reached (turn_of turn) swap.now) (slots_at sheets.now sheet) ≡ true }
     ensures { OnOk result (map slot_of slots.new.items
-        ≡ map (λ slot. meaning.turned_slot (turn_of turn) (moved_slot mirror.now slot)) (slots_at sheets.now sheet)) }
+        ≡ map (λ slot. meaning.turned_slot (turn_of turn) (moved_slot swap.now slot)) (slots_at sheets.now sheet)) }
 {
     slots.clear();
     for slot in 0..sheets.slots(sheet) {
-        slots.push(turned_slot(turn, mirror, sheets.placed(sheet, slot)))?;
+        slots.push(turned_slot(turn, swap, sheets.placed(sheet, slot)))?;
     }
     Ok(())
 }
 
-fn turned_slot(turn: Turn, mirror: &Option<Room>, slot: Option<PlacedSlot<'_>>) -> MadeSlot
-    requires { reaching.is_slot_reached (turn_of turn) mirror.now (placed_of slot) ≡ true }
-    ensures { slot_of result ≡ meaning.turned_slot (turn_of turn) (moved_slot mirror.now (placed_of slot.entry)) }
+fn turned_slot(turn: Turn, swap: &Option<Room>, slot: Option<PlacedSlot<'_>>) -> MadeSlot
+    requires { reaching.is_slot_reached (turn_of turn) swap.now (placed_of slot) ≡ true }
+    ensures { slot_of result ≡ meaning.turned_slot (turn_of turn) (moved_slot swap.now (placed_of slot.entry)) }
 {
     match slot {
         None => MadeSlot::Blank,
-        Some(placed) => match changed_item(turn, mirror, placed.paper, placed.item) {
+        Some(placed) => match changed_item(turn, swap, placed.paper, placed.item) {
             Some(item) => MadeSlot::Placed {
                 page: placed.page,
                 item,
@@ -129,15 +129,15 @@ fn turned_slot(turn: Turn, mirror: &Option<Room>, slot: Option<PlacedSlot<'_>>) 
 /// An item whose page is moved first, and then turned, if its offsets can be written.
 pub(crate) fn changed_item(
     turn: Turn,
-    mirror: &Option<Room>,
+    swap: &Option<Room>,
     paper: &Paper,
     item: &Item,
 ) -> Option<Item>
     ensures value { IfSome result (λ changed.
-        item_of changed ≡ meaning.turned_item (turn_of turn) paper.now (moved_of mirror.now (item_of item.now))) }
-    ensures reached { is_some result ≡ reaching.is_item_reached (turn_of turn) mirror.now paper.now (item_of item.now) }
+        item_of changed ≡ meaning.turned_item (turn_of turn) paper.now (moved_of swap.now (item_of item.now))) }
+    ensures reached { is_some result ≡ reaching.is_item_reached (turn_of turn) swap.now paper.now (item_of item.now) }
 {
-    let moved = moved_item(mirror, item)?;
+    let moved = moved_item(swap, item)?;
     turned_item(turn, paper, &moved)
 }
 
@@ -146,32 +146,32 @@ fn turned_item(turn: Turn, paper: &Paper, item: &Item) -> Option<Item>
     ensures value { IfSome result (λ turned. item_of turned ≡ meaning.turned_item (turn_of turn) paper.now (item_of item.now)) }
     ensures near { is_some result ≡ reaching.is_turned_near (turn_of turn) paper.now (item_of item.now) }
 {
-    let width = long(item.scale, paper.width());
-    let height = long(item.scale, paper.height());
-    let (x, y) = corner(turn, width, height);
+    let width = scaled_length(item.scale, paper.width());
+    let height = scaled_length(item.scale, paper.height());
+    let (x, y) = turned_corner(turn, width, height);
     let (right, up) = turned_by(item.turn, x, y);
     Some(Item {
-        turn: both(turn, item.turn),
-        offset: (farther(right, item.offset.0)?, farther(up, item.offset.1)?),
+        turn: turn_sum(turn, item.turn),
+        offset: (shifted(right, item.offset.0)?, shifted(up, item.offset.1)?),
         ..*item
     })
 }
 
 /// One turn, and then another.
-fn both(turn: Turn, other: Turn) -> Turn
-    ensures { turn_of result ≡ meaning.both (turn_of turn) (turn_of other) }
+fn turn_sum(turn: Turn, other: Turn) -> Turn
+    ensures { turn_of result ≡ meaning.turn_sum (turn_of turn) (turn_of other) }
 {
     match turn {
         Turn::None => other,
-        Turn::Left => further(other),
-        Turn::Half => further(further(other)),
-        Turn::Right => further(further(further(other))),
+        Turn::Left => quarter_left(other),
+        Turn::Half => quarter_left(quarter_left(other)),
+        Turn::Right => quarter_left(quarter_left(quarter_left(other))),
     }
 }
 
 /// A quarter turn more to the left.
-fn further(turn: Turn) -> Turn
-    ensures { turn_of result ≡ meaning.further (turn_of turn) }
+fn quarter_left(turn: Turn) -> Turn
+    ensures { turn_of result ≡ meaning.quarter_left (turn_of turn) }
 {
     match turn {
         Turn::None => Turn::Left,
@@ -182,11 +182,11 @@ fn further(turn: Turn) -> Turn
 }
 
 /// Where the lower left corner of a page is on its turned paper, which is so wide and high.
-fn corner(turn: Turn, width: i64, height: i64) -> (i64, i64)
+fn turned_corner(turn: Turn, width: i64, height: i64) -> (i64, i64)
     requires width { nat_abs width ≤ 10 ^ 17 }
     requires height { nat_abs height ≤ 10 ^ 17 }
-    ensures x { result.0 ≡ (meaning.corner (turn_of turn) width height).x }
-    ensures y { result.1 ≡ (meaning.corner (turn_of turn) width height).y }
+    ensures x { result.0 ≡ (meaning.turned_corner (turn_of turn) width height).x }
+    ensures y { result.1 ≡ (meaning.turned_corner (turn_of turn) width height).y }
     ensures x_in_range { nat_abs result.0 ≤ 10 ^ 17 }
     ensures y_in_range { nat_abs result.1 ≤ 10 ^ 17 }
 {
@@ -216,9 +216,9 @@ fn turned_by(turn: Turn, x: i64, y: i64) -> (i64, i64)
 }
 
 /// How long a side is at this scale, in 10^-5 of a point, of which none is lost.
-fn long(scale: Number, side: Grains) -> i64
+fn scaled_length(scale: Number, side: Grains) -> i64
     requires { IsTrue (is_side side) }
-    ensures value { result ≡ pos (meaning.long scale side) }
+    ensures value { result ≡ pos (meaning.scaled_length scale side) }
     ensures in_range { nat_abs result ≤ 10 ^ 17 }
 {
     let length = u128::from(scale.billionths().unsigned_abs()) * side.get().unsigned_abs();
@@ -226,10 +226,10 @@ fn long(scale: Number, side: Grains) -> i64
 }
 
 /// This many 10^-5 of a point farther, if that can be written.
-pub(crate) fn farther(by: i64, measure: Measure) -> Option<Measure>
+pub(crate) fn shifted(by: i64, measure: Measure) -> Option<Measure>
     requires { nat_abs by ≤ 10 ^ 17 }
-    ensures value { IfSome result (λ moved. measure_of moved ≡ meaning.farther by (measure_of measure)) }
-    ensures near { is_some result ≡ reaching.is_near (meaning.farther by (measure_of measure)) }
+    ensures value { IfSome result (λ moved. measure_of moved ≡ meaning.shifted by (measure_of measure)) }
+    ensures near { is_some result ≡ reaching.is_writable_offset (meaning.shifted by (measure_of measure)) }
 {
     let number = i128::from(measure.number.billionths()) + 10_000 * i128::from(by);
     match i64::try_from(number) {

@@ -12,12 +12,12 @@ use Rattle.rules.specs.Made.{Placed}
 use Rattle.rules.specs.Rows.{Row, all_pages, in_signatures}
 use Rattle.rules.proofs.Rows.{sheets_of_all}
 use Rattle.layouts.specs.Fitted.{binding_setting_of, fitted, setting_of}
-use Rattle.layouts.specs.Grids.{arranged, bound, count_of}
+use Rattle.layouts.specs.Grids.{arranged, bound, cells_per_sheet}
 use Rattle.layouts.specs.declared.setting.Setting.{Setting}
 use Rattle.layouts.proofs.Fitting.{leaves_even}
 use Rattle.layouts.proofs.Writable.{all_made}
 use Rattle.row_sheets.specs.BySpec.{made_on}
-use Rattle.row_sheets.specs.Filled.{filled, grid_entry, slot_in}
+use Rattle.row_sheets.specs.Filled.{filled, grid_entry, slot_in_cell}
 use Rattle.row_sheets.specs.Shapes.{filling}
 use Rattle.row_sheets.specs.AsPrinted.{HaveOnePaper, IsReadAs, PrintedBookletIsImposed, PrintedIsImposed}
 use Rattle.row_sheets.specs.Specified.{of_paper}
@@ -62,7 +62,7 @@ signed_are n s row h =
 
 -- ---- cells that are filled with them
 pub slot_same : (t : Setting) (page : Paper) (papers : List Paper) → HaveOnePaper page papers → (c : ℕ) (entry : Option ℕ) → IsPage (length papers) entry
-    → slot_in (of_paper t page) c entry ≡ slot_in (filling t papers) c entry
+    → slot_in_cell (of_paper t page) c entry ≡ slot_in_cell (filling t papers) c entry
 slot_same t page papers one c None h = refl
 slot_same t page papers one c (Some k) h = ap (λ q. Placed k (fitted t q c) q) (sym (one k t.room.paper h))
 
@@ -70,10 +70,10 @@ filled_same : (t : Setting) (page : Paper) (papers : List Paper) → HaveOnePape
     → ((s c : ℕ) → IsPage (length papers) (entry s c)) → filled (of_paper t page) n m entry ≡ filled (filling t papers) n m entry
 filled_same t page papers one n m entry are =
     let cells : List ℕ = range_with_len 0 m in
-    same_map (λ s. sheet_of t.room.paper (map (λ c. slot_in (of_paper t page) c (entry s c)) cells))
-    (λ s. sheet_of t.room.paper (map (λ c. slot_in (filling t papers) c (entry s c)) cells))
+    same_map (λ s. sheet_of t.room.paper (map (λ c. slot_in_cell (of_paper t page) c (entry s c)) cells))
+    (λ s. sheet_of t.room.paper (map (λ c. slot_in_cell (filling t papers) c (entry s c)) cells))
     (λ s. ap (sheet_of t.room.paper)
-    (same_map (λ c. slot_in (of_paper t page) c (entry s c)) (λ c. slot_in (filling t papers) c (entry s c)) (λ c. slot_same t page papers one c (entry s c) (are s c)) cells))
+    (same_map (λ c. slot_in_cell (of_paper t page) c (entry s c)) (λ c. slot_in_cell (filling t papers) c (entry s c)) (λ c. slot_same t page papers one c (entry s c) (are s c)) cells))
     (range_with_len 0 n)
 
 -- ---- a grid, and a booklet
@@ -82,7 +82,7 @@ printed_is_imposed page sheet a spec papers possible one read =
     let n : ℕ = length papers in
     let row : Row = all_pages n in
     let t : Setting = setting_of page sheet a in
-    let cells : ℕ = count_of a.cells in
+    let cells : ℕ = cells_per_sheet a.cells in
     ap (λ s. made_on sheet page (sheets s n)) (read_once (arranged page sheet a) spec read)
     ∙ ap (made_on sheet page) (sheets_of_all None (arranged page sheet a) n)
     ∙ grid_is_specified page sheet a row possible

@@ -12,7 +12,7 @@ use Rattle.rules.specs.Rows.{Row}
 use Rattle.layouts.specs.declared.error.ArrangementError.{ArrangementError}
 use Rattle.layouts.specs.declared.error.ArrangementError.TheVariants as why
 use Rattle.layouts.specs.declared.setting.Setting.{Setting}
-use Rattle.layouts.specs.Refusals.{first_of}
+use Rattle.layouts.specs.Refusals.{error_unless}
 use Rattle.layouts.specs.Placed.{Room}
 use Rattle.layouts.specs.Fitted.{why_not_fitted}
 use Rattle.row_sheets.specs.Filled.{Filling, grid_entry, is_turned, slot_on}
@@ -82,7 +82,7 @@ free n = search rules
 
 not_for_creep : (t : Setting) (page : Paper) → why_not_creeping t page 0 ≡ why_not_fitted t page
 not_for_creep t page =
-    ap (λ b. option_or (why_not_fitted t page) (first_of b why.CreepOverFold None)) (free _)
+    ap (λ b. option_or (why_not_fitted t page) (error_unless b why.CreepOverFold None)) (free _)
     ∙ or_none (why_not_fitted t page)
 
 half_at_rest : (f : Filling) (entry : Option ℕ) → why_no_half f 0 entry ≡ why_no_place f entry

@@ -5,7 +5,7 @@ use Rattle.std.proofs.Math.Nat.{lt-div-mul-add, div-mul-le_self}
 use Rattle.layouts.specs.declared.arrangement.Turned.{Turned}
 use Rattle.layouts.specs.declared.arrangement.Turned.TheVariants as sideways
 use Rattle.layouts.specs.Placed.{IsEven, Room}
-use Rattle.layouts.specs.Cells.{Along, Grid, along_height, along_width, cell, held_column, held_row, high, kept, left_free, read_column, read_columns, read_row, step, step_across, step_down, whole, wide}
+use Rattle.layouts.specs.Cells.{Along, Grid, along_height, along_width, cell, held_column, held_row, high, kept_length, left_free, read_column, read_columns, read_row, pitch, step_across, step_down, whole_parts, wide}
 use Rattle.layouts.specs.Laws.{Cell, cell_at}
 use Rattle.row_sheets.specs.Filled.{behind_in}
 use Rattle.row_sheets.specs.Stacked.{AreMirrored, CellsLieBehind, LieBehind, is_upright}
@@ -20,12 +20,12 @@ opposite_at e f g s n i j side all even some least most =
 
 abbrev Opposite : Along → (side n i j : ℕ) → Type 0
 Opposite a side n i j =
-    AreMirrored (whole side) n (kept a.trim a.before + i * step a side n) (kept a.trim a.before + j * step a side n + cell a side n)
+    AreMirrored (whole_parts side) n (kept_length a.trim a.before + i * pitch a side n) (kept_length a.trim a.before + j * pitch a side n + cell a side n)
 
 opposite : (a : Along) (side n i j : ℕ) → a.before ≡ a.after → i + j + 1 ≡ n → 0 < cell a side n → Opposite a side n i j
 opposite a side n i j even all some =
-    let free = left_free a side + 1_270_000 * kept a.trim a.gap in
-    opposite_at (kept a.trim a.before) (kept a.trim a.after) (kept a.trim a.gap) (step a side n) n i j side all (ap (kept a.trim) even) some
+    let free = left_free a side + 1_270_000 * kept_length a.trim a.gap in
+    opposite_at (kept_length a.trim a.before) (kept_length a.trim a.after) (kept_length a.trim a.gap) (pitch a side n) n i j side all (ap (kept_length a.trim) even) some
     (div-mul-le_self free (1_270_000 * n)) (lt-div-mul-add {a = free} {b = 1_270_000 * n} (omega (arith, all)))
 
 -- rows are counted from above
@@ -54,27 +54,27 @@ Behind room t g row row' column column' =
 lies_behind : (room : Room) (t : Turned) (rows columns : ℕ) (b : Bool) (row row' column column' : ℕ) → IsEven room → 0 < wide room (grid rows columns b) → 0 < high room (grid rows columns b) → row' ≡ row
     → column' + column + 1 ≡ read_columns t (grid rows columns b) → Behind room t (grid rows columns b) row row' column column'
 lies_behind room sideways.Upright rows columns false row row' column column' even some_wide some_high same all = (
-  ap (λ r. kept room.trim room.bottom + (rows - (r + 1)) * step_down room (grid rows columns false)) same,
+  ap (λ r. kept_length room.trim room.bottom + (rows - (r + 1)) * step_down room (grid rows columns false)) same,
   opposite (along_width room) (nat_abs room.paper.width) columns column column' even.across (as_far columns column column' all) some_wide,
 )
 lies_behind room sideways.Upright rows columns true row row' column column' even some_wide some_high same all = (
-  ap (λ r. kept room.trim room.left + r * step_down room (grid rows columns true)) same,
+  ap (λ r. kept_length room.trim room.left + r * step_down room (grid rows columns true)) same,
   opposite (along_height room) (nat_abs room.paper.height) columns column column' even.up (as_far columns column column' all) some_wide,
 )
 lies_behind room sideways.Left rows columns false row row' column column' even some_wide some_high same all = (
-  ap (λ r. kept room.trim room.left + (columns - (r + 1)) * step_across room (grid rows columns false)) same,
+  ap (λ r. kept_length room.trim room.left + (columns - (r + 1)) * step_across room (grid rows columns false)) same,
   opposite (along_height room) (nat_abs room.paper.height) rows (rows - (column + 1)) (rows - (column' + 1)) even.up (from_above rows column column' all) some_high,
 )
 lies_behind room sideways.Left rows columns true row row' column column' even some_wide some_high same all = (
-  ap (λ r. kept room.trim room.bottom + (columns - (r + 1)) * step_across room (grid rows columns true)) same,
+  ap (λ r. kept_length room.trim room.bottom + (columns - (r + 1)) * step_across room (grid rows columns true)) same,
   opposite (along_width room) (nat_abs room.paper.width) rows column column' even.across (as_far rows column column' all) some_high,
 )
 lies_behind room sideways.Right rows columns false row row' column column' even some_wide some_high same all = (
-  ap (λ r. kept room.trim room.left + r * step_across room (grid rows columns false)) same,
+  ap (λ r. kept_length room.trim room.left + r * step_across room (grid rows columns false)) same,
   opposite (along_height room) (nat_abs room.paper.height) rows (rows - (rows - (column + 1) + 1)) (rows - (rows - (column' + 1) + 1)) even.up (twice_from_above rows column column' all) some_high,
 )
 lies_behind room sideways.Right rows columns true row row' column column' even some_wide some_high same all = (
-  ap (λ r. kept room.trim room.bottom + r * step_across room (grid rows columns true)) same,
+  ap (λ r. kept_length room.trim room.bottom + r * step_across room (grid rows columns true)) same,
   opposite (along_width room) (nat_abs room.paper.width) rows (rows - (column + 1)) (rows - (column' + 1)) even.across (from_above rows column column' all) some_high,
 )
 

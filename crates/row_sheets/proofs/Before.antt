@@ -10,8 +10,8 @@ use Rattle.rules.specs.Made.{MadeSlot, MadeSheet}
 use Rattle.rules.specs.Rows.{Row}
 use Rattle.sheet_plan.specs.OfSheets.{placed_of, slots_at}
 use Rattle.sheet_plan.specs.declared.made.PlacedSlot.{PlacedSlot}
-use Rattle.row_sheets.specs.Filled.{Filling, filled, grid_entry, is_turned, slot_in}
-use Rattle.row_sheets.specs.Shapes.{filled_by, is_folded, slot_by}
+use Rattle.row_sheets.specs.Filled.{Filling, filled, grid_entry, is_turned, slot_in_cell}
+use Rattle.row_sheets.specs.Shapes.{filled_by, is_folded, cell_slot}
 use Rattle.row_sheets.specs.declared.fill.CellKind.{CellKind}
 use Rattle.row_sheets.specs.declared.fill.CellKind.TheVariants as kind
 use Rattle.row_sheets.specs.Creep.{creep_on, creeping_sides, creeping_slot}
@@ -43,7 +43,7 @@ slot_at paper h made cells n s c slot is within in_cells at =
 
 -- ---- in a cell of the sheet before
 
-of_cell : (f : Filling) (c : ℕ) (entry : Option ℕ) → EntryFits f entry → IsOfCell f.setting c (slot_in f c entry)
+of_cell : (f : Filling) (c : ℕ) (entry : Option ℕ) → EntryFits f entry → IsOfCell f.setting c (slot_in_cell f c entry)
 of_cell f c None fits = tt
 of_cell f c (Some page) fits = (fits, refl)
 
@@ -54,7 +54,7 @@ in_grid f entry made cells n s c None is fits last in_cells at = tt
 in_grid f entry made cells n s c (Some placed) is fits last in_cells at =
     let some = at.0 in
     let within : s - 1 < n = omega (arith, last, some) in
-    subst (IsOfCell f.setting c) (sym (slot_at f.setting.room.paper (λ s c. slot_in f c (entry s c)) made cells n (s - 1) c (placed_of (Some placed)) is within in_cells at.1))
+    subst (IsOfCell f.setting c) (sym (slot_at f.setting.room.paper (λ s c. slot_in_cell f c (entry s c)) made cells n (s - 1) c (placed_of (Some placed)) is within in_cells at.1))
     (of_cell f c (entry (s - 1) c) (fits (s - 1) c within in_cells))
 
 pub cell_before : (way : CellKind) (f : Filling) (entry : (s c : ℕ) → Option ℕ) (made : List MadeSheet) (cells n s c : ℕ) (before : Option PlacedSlot) → made ≡ filled_by way f n cells entry
@@ -67,7 +67,7 @@ cell_before kind.Leaves f entry made cells n s c before is fits last in_cells at
 cell_before kind.Zine f entry made cells n s c before is fits last in_cells at plain = absurd (true≢false plain)
 
 pub filled_count : (way : CellKind) (f : Filling) (entry : (s c : ℕ) → Option ℕ) (made : List MadeSheet) (cells n : ℕ) → made ≡ filled_by way f n cells entry → length made ≡ n
-filled_count way f entry made cells n is = how_many f.setting.room.paper (λ s c. slot_by way f c (entry s c)) made cells n is
+filled_count way f entry made cells n is = how_many f.setting.room.paper (λ s c. cell_slot way f c (entry s c)) made cells n is
 
 -- ---- in a half of the same side of the leaf before
 

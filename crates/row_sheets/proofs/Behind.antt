@@ -2,8 +2,8 @@
 use Rattle.std.proofs.Common.{arith, ◌≡◌, ℕ, suc, ◌+◌, ◌-◌, ◌*◌, ◌/◌, ◌%◌, ◌<◌, true, false, ap}
 use Rattle.std.proofs.Math.Nat.{mul_comm, suc-mul, mul-le-mul_right}
 use Rattle.std.proofs.lemmas.Nat.{div-mul-add, mod-mul-add, div-add-mod'}
-use Rattle.layouts.specs.declared.arrangement.Run.{Run}
-use Rattle.layouts.specs.declared.arrangement.Run.TheVariants.{Rows, Columns}
+use Rattle.layouts.specs.declared.arrangement.FillOrder.{FillOrder}
+use Rattle.layouts.specs.declared.arrangement.FillOrder.TheVariants.{Rows, Columns}
 use Rattle.layouts.specs.declared.arrangement.Turned.{Turned}
 use Rattle.layouts.specs.declared.arrangement.Turned.TheVariants as sideways
 use Rattle.layouts.specs.Cells.{Grid, size, read_columns, read_rows}
@@ -49,7 +49,7 @@ in_columns r c k h =
     }
 
 -- behind the cell behind a cell is the cell
-twice : (run : Run) (r c k : ℕ) → k < r * c → cell_behind run r c (cell_behind run r c k) ≡ k
+twice : (run : FillOrder) (r c k : ℕ) → k < r * c → cell_behind run r c (cell_behind run r c k) ≡ k
 twice Rows r c k h =
     let f = in_rows r c k h in
     let row = f.row in let place = f.place in let less = f.less in

@@ -12,7 +12,7 @@ use Rattle.rules.specs.Made.{MadeSlot}
 use Rattle.rules.specs.Rows.{Row}
 use Rattle.layouts.specs.declared.setting.Setting.{Setting}
 use Rattle.layouts.specs.Placed.{Room}
-use Rattle.layouts.specs.Cells.{Along, along_height, cell, counted, size, slack, trimmed, whole}
+use Rattle.layouts.specs.Cells.{Along, along_height, cell, trimmed_side, size, slack, trimmed, whole_parts}
 use Rattle.layouts.specs.Grids.{beside, leaf_order}
 use Rattle.layouts.specs.Fitted.{scale_on, why_no_scale_on}
 use Rattle.layouts.proofs.AlongSide.{in_cell, cells_fit}
@@ -27,9 +27,9 @@ use Rattle.row_sheets.specs.Filled.{Filling}
 -- ---- a page on its half
 
 record Within (a : Along) (h v s creep : ℕ) : Type 0 where
-  pub before : from_start a h 2 v s 0 + creep ≤ whole h
+  pub before : from_start a h 2 v s 0 + creep ≤ whole_parts h
   pub behind : creep ≤ from_start a h 2 v s 1
-  pub ends : from_start a h 2 v s 1 ≤ whole h
+  pub ends : from_start a h 2 v s 1 ≤ whole_parts h
 
 within : (a : Along) (h v s creep : ℕ) → HasCell a h 2 v s → 2 * creep ≤ 2 * slack (cell a h 2) (shown a v) s + a.gap → Within a h v s creep
 within a h v s creep has may =
@@ -78,7 +78,7 @@ of_halves P t h p = subst P (sym (halves_are t h)) p
 -- a page in its half, with room at the fold
 record Creeps (room : Room) (v s creep : ℕ) : Type 0 where
   pub stays : Within (along_height room) (nat_abs room.paper.height) v s creep
-  pub near : whole (nat_abs room.paper.height) + trimmed room s < 10_000_000_000
+  pub near : whole_parts (nat_abs room.paper.height) + trimmed room s < 10_000_000_000
 
 creeps : (page : Paper) (room : Room) (b : Bool) (asked : Option ℤ) (creep : ℕ) → (let s = scale_on (halves room b asked) page in
     why_no_scale_on (halves room b asked) page ≡ None → may_creep page room s creep ≡ true → Creeps room (nat_abs page.width) s creep)
@@ -89,10 +89,10 @@ creeps page room b asked creep e may =
     let f = fits page room (beside true) s has.place in
     let h = nat_abs room.paper.height in
     let cell_is : HasCell (along_height room) h 2 (nat_abs page.width) s = record { some = f.some_wide; fits = f.is_wide; left = has.place.some_wide } in
-    let near = both_true (nat_lt (whole (nat_abs room.paper.width) + trimmed room s) 10_000_000_000) (nat_lt (whole h + trimmed room s) 10_000_000_000) has.near in
+    let near = both_true (nat_lt (whole_parts (nat_abs room.paper.width) + trimmed room s) 10_000_000_000) (nat_lt (whole_parts h + trimmed room s) 10_000_000_000) has.near in
     record {
-      stays = within (along_height room) h (nat_abs page.width) s creep cell_is (leb-true (2 * creep) (2 * slack (cell (along_height room) h 2) (counted room page.width) s + room.gap_up) may);
-      near = ltb-true (whole h + trimmed room s) 10_000_000_000 near.1;
+      stays = within (along_height room) h (nat_abs page.width) s creep cell_is (leb-true (2 * creep) (2 * slack (cell (along_height room) h 2) (trimmed_side room page.width) s + room.gutter_up) may);
+      near = ltb-true (whole_parts h + trimmed room s) 10_000_000_000 near.1;
     }
 
 -- how far up it is in the end, in 10^-9 of a point

@@ -2,7 +2,7 @@
 use Rattle.std.proofs.Common.{◌≡◌, refl}
 use Rattle.std.specs.Prelude.{ℕ, ◌+◌, ◌*◌, ℤ, pos, false, map, [], ◌∷◌, Option, Some, None}
 use Rattle.std.specs.List.{range_with_len}
-use Rattle.layouts.specs.declared.arrangement.Run.TheVariants.{Rows, Columns}
+use Rattle.layouts.specs.declared.arrangement.FillOrder.TheVariants.{Rows, Columns}
 use Rattle.rules.specs.Rows.{all_pages}
 use Rattle.layouts.specs.Grids.{leaf_order}
 use Rattle.layouts.specs.Placed.{bare}
@@ -11,7 +11,7 @@ use Rattle.rules.specs.Made.{MadeSlot, Blank, Placed}
 use Rattle.row_sheets.specs.Filled.{Filling, stack_entry, duplex_entry, cell_behind, card_entry, zine_place, zine_slot}
 use Rattle.row_sheets.specs.Zine.{in_hand, zine_grid}
 use Rattle.row_sheets.specs.Creep.{creep_of}
-use Rattle.row_sheets.specs.Posters.{length_of}
+use Rattle.row_sheets.specs.Posters.{tiles_length}
 use Rattle.rules.specs.Papers.{points}
 use Rattle.rules.specs.Specification.{Turn, Half, Upright}
 use Rattle.std.specs.Prelude.{nat_abs}
@@ -52,7 +52,7 @@ one_leaf : creep_of 850_393 1 0 ≡ 0
 one_leaf = refl
 
 -- three tiles of 595 pt with margins of 10 pt that overlap by 20 pt
-three_tiles : length_of (nat_abs (points 595 842).width) 1_000_000 2_000_000 3 ≡ 168_500_000
+three_tiles : tiles_length (nat_abs (points 595 842).width) 1_000_000 2_000_000 3 ≡ 168_500_000
 three_tiles = refl
 
 -- from the left, the upper row of a zine has the pages 5, 4, 3 and 2, the lower one 6, 7, 8 and 1

@@ -8,7 +8,7 @@ use Rattle.rules.specs.Papers.{Paper}
 use Rattle.rules.specs.Placement.{Point}
 use Rattle.rules.specs.Specification.{Item}
 use Rattle.layouts.specs.Placed.{IsEven, IsOfPage, Room, stands}
-use Rattle.layouts.specs.Cells.{along_height, along_width, counted, high, kept, slack, slack_x, step_across, step_down, whole, wide}
+use Rattle.layouts.specs.Cells.{along_height, along_width, trimmed_side, high, kept_length, slack, slack_x, step_across, step_down, whole_parts, wide}
 use Rattle.layouts.specs.Fitted.{fitted, fitted_back, scale_on}
 use Rattle.layouts.specs.Grids.{beside}
 use Rattle.layouts.specs.Laws.{Cell, IsHalfTurnOf, IsInMiddle, IsMean, LiesInCell}
@@ -87,11 +87,11 @@ moved_lies false trim past creep page c item item' by is least moved at = record
 }
 
 -- and one that is turned by half
-half_lies : (trim past : ℕ) (page sheet : Paper) (c : Cell) (item item' : Item) → c.left + c.width ≤ whole (nat_abs sheet.width) → c.bottom + c.height ≤ whole (nat_abs sheet.height) → IsHalfTurnOf page sheet item item'
+half_lies : (trim past : ℕ) (page sheet : Paper) (c : Cell) (item item' : Item) → c.left + c.width ≤ whole_parts (nat_abs sheet.width) → c.bottom + c.height ≤ whole_parts (nat_abs sheet.height) → IsHalfTurnOf page sheet item item'
     → LiesAt trim page c past item → LiesAt trim page (turned_cell sheet c) past item'
 half_lies trim past page sheet c item item' across up half at =
-    let W = whole (nat_abs sheet.width) in
-    let H = whole (nat_abs sheet.height) in
+    let W = whole_parts (nat_abs sheet.width) in
+    let H = whole_parts (nat_abs sheet.height) in
     record {
       in_cell = λ p of. half_in W H past c (stands page item p) (stands page item' p) across up (half.across p) (half.up p) (at.in_cell p of);
       middle = record {
@@ -142,10 +142,10 @@ half_at room before = half_of (halves room false None) (column before)
 
 -- what holds of a sheet whose halves have room to creep so far
 record HaveRoom (room : Room) (creep : ℕ) : Type 0 where
-  pub across : (before : Bool) → (half_at room before).left + (half_at room before).width ≤ whole (nat_abs room.paper.width)
-  pub up : (before : Bool) → (half_at room before).bottom + (half_at room before).height ≤ whole (nat_abs room.paper.height)
+  pub across : (before : Bool) → (half_at room before).left + (half_at room before).width ≤ whole_parts (nat_abs room.paper.width)
+  pub up : (before : Bool) → (half_at room before).bottom + (half_at room before).height ≤ whole_parts (nat_abs room.paper.height)
   pub beyond : creep ≤ (half_at room false).bottom
-  pub behind : creep ≤ whole (nat_abs room.paper.height) - ((half_at room true).bottom + (half_at room true).height)
+  pub behind : creep ≤ whole_parts (nat_abs room.paper.height) - ((half_at room true).bottom + (half_at room true).height)
   pub front : (before : Bool) → CellIsOn room (moved_cell before creep (half_at room before))
   pub back : (before : Bool) → CellIsOn room (moved_cell (not before) creep (turned_cell room.paper (half_at room before)))
 
@@ -154,17 +154,17 @@ have_room page room b s creep c =
     let f = fits page room (beside true) s c.place in
     let w = nat_abs room.paper.width in
     let h = nat_abs room.paper.height in
-    let may = leb-true (2 * creep) (2 * slack_x page room (beside true) s + room.gap_up) c.may in
-    let less : 2 * creep ≤ wide room (beside true) + room.gap_up = omega (arith, may, half_slack (wide room (beside true)) (counted room page.width) s) in
-    let n = in_numbers room.left room.right room.bottom room.top (kept room.trim room.left) (kept room.trim room.right) (kept room.trim room.bottom) (kept room.trim room.top) (kept room.trim room.gap_up) (kept room.trim room.gap_across)
-    (step_across room (beside true)) (step_down room (beside true)) (wide room (beside true)) (high room (beside true)) (whole w) (whole h) creep room.gap_up refl refl f.some_high f.some_wide
-    (cells_fit (along_width room) w 1 0 f.some_high (omega arith)) (cells_fit (along_height room) h 2 0 f.some_wide (omega arith)) less (kept_little room.trim room.gap_up).0
-    c.even.across c.even.up (ap (kept room.trim) c.even.across) (ap (kept room.trim) c.even.up) (kept_little room.trim room.left).0 (kept_little room.trim room.bottom).0 in
+    let may = leb-true (2 * creep) (2 * slack_x page room (beside true) s + room.gutter_up) c.may in
+    let less : 2 * creep ≤ wide room (beside true) + room.gutter_up = omega (arith, may, half_slack (wide room (beside true)) (trimmed_side room page.width) s) in
+    let n = in_numbers room.left room.right room.bottom room.top (kept_length room.trim room.left) (kept_length room.trim room.right) (kept_length room.trim room.bottom) (kept_length room.trim room.top) (kept_length room.trim room.gutter_up) (kept_length room.trim room.gutter_across)
+    (step_across room (beside true)) (step_down room (beside true)) (wide room (beside true)) (high room (beside true)) (whole_parts w) (whole_parts h) creep room.gutter_up refl refl f.some_high f.some_wide
+    (cells_fit (along_width room) w 1 0 f.some_high (omega arith)) (cells_fit (along_height room) h 2 0 f.some_wide (omega arith)) less (kept_little room.trim room.gutter_up).0
+    c.even.across c.even.up (ap (kept_length room.trim) c.even.across) (ap (kept_length room.trim) c.even.up) (kept_little room.trim room.left).0 (kept_little room.trim room.bottom).0 in
     let l = n.left in
     let l' = n.turned_left in
     record {
-      across = either (λ c. c.left + c.width ≤ whole w) (omega (arith, l)) (omega (arith, l));
-      up = either (λ c. c.bottom + c.height ≤ whole h) n.low n.upper;
+      across = either (λ c. c.left + c.width ≤ whole_parts w) (omega (arith, l)) (omega (arith, l));
+      up = either (λ c. c.bottom + c.height ≤ whole_parts h) n.low n.upper;
       beyond = n.beyond;
       behind = n.behind;
       front = elim [
@@ -190,7 +190,7 @@ same_half room false true asked = refl
 same_half room false false asked = refl
 
 at_rest : (before : Bool) (page : Paper) (room : Room) (b : Bool) (asked : Option ℤ) (creep : ℕ) → IsEven room → FitsOnLeaf (halves room b asked) page creep
-    → LiesAt room.trim page (half_at room before) (kept room.trim 0) (fitted (halves room b asked) page (slot_there b before))
+    → LiesAt room.trim page (half_at room before) (kept_length room.trim 0) (fitted (halves room b asked) page (slot_there b before))
 at_rest before page room b asked creep even has =
     let t = halves room b asked in
     let k = slot_there b before in
@@ -198,8 +198,8 @@ at_rest before page room b asked creep even has =
     let free = (creeps_on page room b asked creep even has).0 in
     let not = one_of_many t page (omega arith) in
     let at = fitted_stands t page k has.page_is has.sheet_is (omega (arith, less)) free in
-    subst (λ (c : Cell). LiesAt room.trim page c (kept room.trim 0) (fitted t page k)) (same_half room b before asked)
-    (record { in_cell = subst (λ n. (p : Point) → IsOfPage room.trim page p → LiesInCell (half_of t k) n (stands page (fitted t page k) p)) (ap (λ w. if w then 1 else kept room.trim 0) not) at.in_cell; middle = at.middle })
+    subst (λ (c : Cell). LiesAt room.trim page c (kept_length room.trim 0) (fitted t page k)) (same_half room b before asked)
+    (record { in_cell = subst (λ n. (p : Point) → IsOfPage room.trim page p → LiesInCell (half_of t k) n (stands page (fitted t page k) p)) (ap (λ w. if w then 1 else kept_length room.trim 0) not) at.in_cell; middle = at.middle })
 
 pub front_by : (b before : Bool) (creep : ℕ) → to_fold b (slot_there b before) creep ≡ (if before then pos creep else neg_ℤ (pos creep))
 front_by true true creep = refl
@@ -241,8 +241,8 @@ in_front before page room b asked creep even has =
     let is = (in_cell t page k k (one_of_many t page (omega arith)) c.0).0 in
     let by = to_fold b k creep in
     let moved = subst (λ (i : Item). IsMoved page i (moved_up by i) by) (sym is) (creep_moves page room b (scale_on t page) creep k) in
-    let at = subst (λ (x : Cell). LiesAt room.trim page x (kept room.trim 0) (creeping t false page k creep)) (front_half room b before asked creep)
-    (moved_lies before room.trim (kept room.trim 0) creep page (half_at room before) (fitted t page k) (creeping t false page k creep) by (front_by b before creep) (beyond_there room creep before r) moved
+    let at = subst (λ (x : Cell). LiesAt room.trim page x (kept_length room.trim 0) (creeping t false page k creep)) (front_half room b before asked creep)
+    (moved_lies before room.trim (kept_length room.trim 0) creep page (half_at room before) (fitted t page k) (creeping t false page k creep) by (front_by b before creep) (beyond_there room creep before r) moved
     (at_rest before page room b asked creep even has)) in
     record { turn = ap (λ (i : Item). i.turn) is; is_on = subst (CellIsOn room) (front_half room b before asked creep) (r.front before); in_cell = at.in_cell; middle = at.middle }
 
@@ -256,10 +256,10 @@ in_back before page room b asked creep even has =
     let r = have_room page room b (scale_on t page) creep c.1 in
     let half = (stands_back t page k has.page_is has.sheet_is (omega (arith, less)) (scale_of_many t page (omega arith) c.0)).turned (one_of_many t page (omega arith)) in
     let here = half_at room before in
-    let at = subst (λ (x : Cell). LiesAt room.trim page x (kept room.trim 0) (creeping t true page k creep)) (back_half room b before asked creep)
-    (moved_lies (not before) room.trim (kept room.trim 0) creep page (turned_cell room.paper here) (fitted_back t page k) (creeping t true page k creep) (neg_ℤ (to_fold b k creep)) (back_by before (to_fold b k creep) creep (front_by b before creep)) (behind_there room creep before r)
+    let at = subst (λ (x : Cell). LiesAt room.trim page x (kept_length room.trim 0) (creeping t true page k creep)) (back_half room b before asked creep)
+    (moved_lies (not before) room.trim (kept_length room.trim 0) creep page (turned_cell room.paper here) (fitted_back t page k) (creeping t true page k creep) (neg_ℤ (to_fold b k creep)) (back_by before (to_fold b k creep) creep (front_by b before creep)) (behind_there room creep before r)
     (back_moves page room b (scale_on t page) creep k)
-    (half_lies room.trim (kept room.trim 0) page room.paper here (fitted t page k) (fitted_back t page k) (r.across before) (r.up before) half (at_rest before page room b asked creep even has))) in
+    (half_lies room.trim (kept_length room.trim 0) page room.paper here (fitted t page k) (fitted_back t page k) (r.across before) (r.up before) half (at_rest before page room b asked creep even has))) in
     record { turn = refl; is_on = subst (CellIsOn room) (back_half room b before asked creep) (r.back before); in_cell = at.in_cell; middle = at.middle }
 
 page_lies : (page : Paper) (room : Room) (b : Bool) (asked : Option ℤ) (by_half : Bool) (k creep : ℕ) → k < 2 → IsEven room → FitsOnLeaf (halves room b asked) page creep

@@ -4,7 +4,7 @@ use Rattle.std.specs.Prelude.{if◌then◌else◌, nat_abs}
 use Rattle.rules.specs.Papers.{Paper}
 use Rattle.rules.specs.Specification.{Item}
 use Rattle.rules.specs.Made.{MadeSlot, Blank, Placed}
-use Rattle.layouts.specs.Cells.{whole}
+use Rattle.layouts.specs.Cells.{whole_parts}
 use Rattle.layouts.specs.Fitted.{why_not_fitted, HaveOneFold}
 use Rattle.layouts.specs.Laws.{IsPaper, LiesBefore, LiesBehind}
 use Rattle.layouts.proofs.Fitting.{one_fold}
@@ -47,7 +47,7 @@ each_page f true c (Some page) Q S blank placed places h = let p = places page i
 folds : (f : Filling) (right_to_left : Bool) → HaveOneFold f.setting right_to_left → HavePlaces f → BookletFolds f right_to_left
 folds f r fold places =
     let room = f.setting.room in
-    let h = whole (nat_abs room.paper.height) in
+    let h = whole_parts (nat_abs room.paper.height) in
     record {
       twice = fold.twice;
       no_farther = fold.no_farther;

@@ -11,7 +11,7 @@ use Rattle.layouts.proofs.AlongSide.{in_cell, in_middle, scaled_fits}
 use Rattle.layouts.proofs.Sides.{of_sides}
 use Rattle.layouts.proofs.InGrid.{both_true, sides_are}
 use Rattle.row_sheets.specs.declared.poster.Poster.{Poster}
-use Rattle.row_sheets.specs.Posters.{PosterIsInMiddle, PosterIsLarge, exact_length, length_of, poster_cell, poster_height, poster_scale, poster_width, stride, tile, tile_item}
+use Rattle.row_sheets.specs.Posters.{PosterIsInMiddle, PosterIsLarge, exact_length, tiles_length, poster_cell, poster_height, poster_scale, poster_width, stride, tile, tile_item}
 
 -- ---- as large as its tiles
 
@@ -29,7 +29,7 @@ both_least a b s h i = grind (arith, h, i)
 
 -- so many tiles in exact parts of their sheets are longer by less than 10^-5 of a point for each
 little_longer : (side edge overlap tiles : ℕ) → 0 < tiles → overlap < tile side edge
-    → exact_length side edge overlap tiles < 1_270_000_000_000_000 * length_of side edge overlap tiles + 1_270_000_000_000_000 * tiles
+    → exact_length side edge overlap tiles < 1_270_000_000_000_000 * tiles_length side edge overlap tiles + 1_270_000_000_000_000 * tiles
 little_longer side edge overlap tiles some longer =
     let cut = lt-div-mul-add {a = side} {b = 1_270_000} (omega arith) in
     let m = tiles - 1 in

@@ -81,8 +81,8 @@ behind_at v u k s a h x creep has may (negsuc c) e of = absurd (let f = of.left 
 -- the one page, and the other
 
 room_left : (v u : ℕ) (room : Room) (s creep : ℕ) → may_creep (of_sides v u) room s creep ≡ true
-    → 2 * creep ≤ 2 * slack (cell (along_height room) (nat_abs room.paper.height) 2) (shown (along_height room) v) s + room.gap_up
-room_left v u room s creep may = leb-true (2 * creep) (2 * slack (cell (along_height room) (nat_abs room.paper.height) 2) (shown (along_height room) v) s + room.gap_up) may
+    → 2 * creep ≤ 2 * slack (cell (along_height room) (nat_abs room.paper.height) 2) (shown (along_height room) v) s + room.gutter_up
+room_left v u room s creep may = leb-true (2 * creep) (2 * slack (cell (along_height room) (nat_abs room.paper.height) 2) (shown (along_height room) v) s + room.gutter_up) may
 
 before_fold : (v u : ℕ) (room : Room) (b : Bool) (s creep : ℕ) → HasPlace (of_sides v u) room (beside true) s → may_creep (of_sides v u) room s creep ≡ true
     → StaysBefore room (fold (along_height room) (nat_abs room.paper.height)) (of_sides v u) (leaf_item (of_sides v u) room b s creep (if b then 1 else 0))

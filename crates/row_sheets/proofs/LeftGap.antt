@@ -8,15 +8,15 @@ use Rattle.rules.specs.Sheets.{blocks}
 use Rattle.rules.specs.Specification.{Item}
 use Rattle.rules.specs.Made.{Blank, MadeSheet, MadeSlot, Placed}
 use Rattle.layouts.specs.declared.setting.Setting.{Setting}
-use Rattle.layouts.specs.Placed.{ComesFirst, IsEven, IsOfPage, Room, fine, stands, up}
-use Rattle.layouts.specs.Cells.{along_height, item_in, back_in, whole}
+use Rattle.layouts.specs.Placed.{ComesFirst, IsEven, IsOfPage, Room, fine, stands, upward}
+use Rattle.layouts.specs.Cells.{along_height, item_in_cell, back_in, whole_parts}
 use Rattle.layouts.specs.Fitted.{scale_on}
 use Rattle.layouts.specs.Grids.{beside, leaf_order}
 use Rattle.layouts.proofs.Folds.{fold, lies_before, lies_behind, turned_before, turned_behind}
 use Rattle.row_sheets.specs.Creep.{AreHalves, creep_on, creeping, creeping_slot, leaf_item, to_fold}
 use Rattle.row_sheets.specs.Filled.{Filling, SlotIsInside, SlotsAreApart, grid_entry, is_turned}
-use Rattle.row_sheets.specs.Halves.{BookletKeepsGap, crept_room, is_before}
-use Rattle.row_sheets.specs.Standing.{EntryCreeps, FitsOnLeaf, StandsIn, fold_on}
+use Rattle.row_sheets.specs.Halves.{BookletKeepsGap, crept_room, is_before_fold}
+use Rattle.row_sheets.specs.Standing.{EntryCreeps, FitsOnLeaf, StandsInRoom, fold_on}
 use Rattle.row_sheets.proofs.Creeping.{halves, of_halves}
 use Rattle.row_sheets.proofs.Halves.{back_by, front_by}
 use Rattle.row_sheets.proofs.Leaves.{creep_moves}
@@ -27,8 +27,8 @@ use Rattle.row_sheets.proofs.OnSheets.{numbered}
 
 -- before a line across the sheet, or beyond it, by half of the gap but for the creep
 abbrev Keeps : (before : Bool) → Room → (T creep : ℕ) → (page : Paper) → Item → Type 0
-Keeps true room T creep page item = (p : Point) → IsOfPage room.trim page p → ((pos 2 *ℤ (stands page item p).y) +ℤ fine room.gap_up) ≤ℤ fine (T + 2 * creep)
-Keeps false room T creep page item = (p : Point) → IsOfPage room.trim page p → (fine T +ℤ fine room.gap_up) ≤ℤ ((pos 2 *ℤ (stands page item p).y) +ℤ fine (2 * creep))
+Keeps true room T creep page item = (p : Point) → IsOfPage room.trim page p → ((pos 2 *ℤ (stands page item p).y) +ℤ fine room.gutter_up) ≤ℤ fine (T + 2 * creep)
+Keeps false room T creep page item = (p : Point) → IsOfPage room.trim page p → (fine T +ℤ fine room.gutter_up) ≤ℤ ((pos 2 *ℤ (stands page item p).y) +ℤ fine (2 * creep))
 
 record IsParted (before : Bool) (room : Room) (T creep : ℕ) (page : Paper) (item : Item) : Type 0 where
   pub keeps : Keeps before room T creep page item
@@ -44,29 +44,29 @@ front_keeps : (before : Bool) (page : Paper) (room : Room) (b : Bool) (s creep :
     → Keeps before room (fold (along_height room) (nat_abs room.paper.height)) creep page (leaf_item page room b s creep (slot_there b before))
 front_keeps true page room b s creep c = λ p of.
     let k = slot_there b true in
-    up_keeps (stands page (item_in page room (beside true) (leaf_order b) s k) p).y (stands page (leaf_item page room b s creep k) p).y (to_fold b k creep) (fold (along_height room) (nat_abs room.paper.height)) room.gap_up creep
+    up_keeps (stands page (item_in_cell page room (beside true) (leaf_order b) s k) p).y (stands page (leaf_item page room b s creep k) p).y (to_fold b k creep) (fold (along_height room) (nat_abs room.paper.height)) room.gutter_up creep
     (front_by b true creep) (creep_moves page room b s creep k p).1 (lies_before page room b s c.page_is c.place p of)
 front_keeps false page room b s creep c = λ p of.
     let k = slot_there b false in
-    down_keeps (stands page (item_in page room (beside true) (leaf_order b) s k) p).y (stands page (leaf_item page room b s creep k) p).y (to_fold b k creep) (fold (along_height room) (nat_abs room.paper.height)) room.gap_up creep
+    down_keeps (stands page (item_in_cell page room (beside true) (leaf_order b) s k) p).y (stands page (leaf_item page room b s creep k) p).y (to_fold b k creep) (fold (along_height room) (nat_abs room.paper.height)) room.gutter_up creep
     (front_by b false creep) (creep_moves page room b s creep k p).1 (lies_behind page room b s c.page_is c.place p of)
 
 back_keeps : (front : Bool) (page : Paper) (room : Room) (b : Bool) (s creep : ℕ) → Creeps page room b s creep
-    → Keeps (not front) room (2 * whole (nat_abs room.paper.height) - fold (along_height room) (nat_abs room.paper.height)) creep page (back_item page room b s creep (slot_there b front))
+    → Keeps (not front) room (2 * whole_parts (nat_abs room.paper.height) - fold (along_height room) (nat_abs room.paper.height)) creep page (back_item page room b s creep (slot_there b front))
 back_keeps true page room b s creep c = λ p of.
     let k = slot_there b true in
     let T = fold (along_height room) (nat_abs room.paper.height) in
-    let one = item_in page room (beside true) (leaf_order b) s k in
+    let one = item_in_cell page room (beside true) (leaf_order b) s k in
     let other = back_in page room (beside true) (leaf_order b) s 0 k in
-    down_keeps (stands page other p).y (stands page (back_item page room b s creep k) p).y (neg_ℤ (to_fold b k creep)) (2 * whole (nat_abs room.paper.height) - T) room.gap_up creep
+    down_keeps (stands page other p).y (stands page (back_item page room b s creep k) p).y (neg_ℤ (to_fold b k creep)) (2 * whole_parts (nat_abs room.paper.height) - T) room.gutter_up creep
     (back_by true (to_fold b k creep) creep (front_by b true creep)) (back_moves page room b s creep k p).1
     (turned_behind room T page one other (no_higher page room b s creep c) (lies_before page room b s c.page_is c.place) (c.turned k (one_of_two b true)) p of)
 back_keeps false page room b s creep c = λ p of.
     let k = slot_there b false in
     let T = fold (along_height room) (nat_abs room.paper.height) in
-    let one = item_in page room (beside true) (leaf_order b) s k in
+    let one = item_in_cell page room (beside true) (leaf_order b) s k in
     let other = back_in page room (beside true) (leaf_order b) s 0 k in
-    up_keeps (stands page other p).y (stands page (back_item page room b s creep k) p).y (neg_ℤ (to_fold b k creep)) (2 * whole (nat_abs room.paper.height) - T) room.gap_up creep
+    up_keeps (stands page other p).y (stands page (back_item page room b s creep k) p).y (neg_ℤ (to_fold b k creep)) (2 * whole_parts (nat_abs room.paper.height) - T) room.gutter_up creep
     (back_by false (to_fold b k creep) creep (front_by b false creep)) (back_moves page room b s creep k p).1
     (turned_before room T page one other (no_higher page room b s creep c) (lies_behind page room b s c.page_is c.place) (c.turned k (one_of_two b false)) p of)
 
@@ -80,7 +80,7 @@ front_parted before page room b asked creep even has =
     (record { keeps = front_keeps before page room b s creep c.1; stays = front_stays before page room b s creep c.1 })
 
 back_parted : (front : Bool) (page : Paper) (room : Room) (b : Bool) (asked : Option ℤ) (creep : ℕ) → IsEven room → FitsOnLeaf (halves room b asked) page creep
-    → IsParted (not front) room (2 * whole (nat_abs room.paper.height) - fold (along_height room) (nat_abs room.paper.height)) creep page (creeping (halves room b asked) true page (slot_there b front) creep)
+    → IsParted (not front) room (2 * whole_parts (nat_abs room.paper.height) - fold (along_height room) (nat_abs room.paper.height)) creep page (creeping (halves room b asked) true page (slot_there b front) creep)
 back_parted front page room b asked creep even has =
     let s = scale_on (halves room b asked) page in
     let c = creeps_on page room b asked creep even has in
@@ -92,9 +92,9 @@ left_between : (y y' : ℤ) (T gap creep : ℕ) → ((pos 2 *ℤ y) +ℤ fine ga
     → (y +ℤ fine (gap - 2 * creep)) ≤ℤ y'
 left_between y y' T gap creep one one_stays other other_stays = omega (arith, ints, one, one_stays, other, other_stays)
 
-first : (room : Room) (T creep : ℕ) (page page' : Paper) (one other : Item) → IsParted true room T creep page one → IsParted false room T creep page' other → ComesFirst up (crept_room room creep) page one page' other
+first : (room : Room) (T creep : ℕ) (page page' : Paper) (one other : Item) → IsParted true room T creep page one → IsParted false room T creep page' other → ComesFirst upward (crept_room room creep) page one page' other
 first room T creep page page' one other h i p q of of' =
-    left_between (stands page one p).y (stands page' other q).y T room.gap_up creep (h.keeps p of) (h.stays p of) (i.keeps q of') (i.stays q of')
+    left_between (stands page one p).y (stands page' other q).y T room.gutter_up creep (h.keeps p of) (h.stays p of) (i.keeps q of') (i.stays q of')
 
 abbrev Apart : (room : Room) (b : Bool) (asked : Option ℤ) (paper_of : ℕ → Paper) (by_half : Bool) (creep : ℕ) (one other : Option ℕ) → Type 0
 Apart room b asked paper_of by_half creep one other = let f = on_halves room b asked paper_of in
@@ -135,7 +135,7 @@ still_inside room creep (Placed page item paper) h = λ p of. let at = h p of in
 -- ---- the fold
 
 stays_on_halves : (room : Room) (b : Bool) (asked : Option ℤ) (paper_of : ℕ → Paper) (by_half : Bool) (k creep : ℕ) (entry : Option ℕ) → k < 2 → IsEven room → EntryCreeps (on_halves room b asked paper_of) creep entry
-    → SlotStays (is_before b by_half k) room (fold_on room by_half (line room)) (creeping_slot (on_halves room b asked paper_of) by_half k creep entry)
+    → SlotStays (is_before_fold b by_half k) room (fold_on room by_half (line room)) (creeping_slot (on_halves room b asked paper_of) by_half k creep entry)
 stays_on_halves room false asked paper_of false zero creep entry less even has = (front_slot true room false asked paper_of creep entry even has).1
 stays_on_halves room false asked paper_of false (suc zero) creep entry less even has = (front_slot false room false asked paper_of creep entry even has).1
 stays_on_halves room true asked paper_of false zero creep entry less even has = (front_slot false room true asked paper_of creep entry even has).1
@@ -148,10 +148,10 @@ stays_on_halves room b asked paper_of by_half (suc (suc k)) creep entry less eve
 
 -- a slot stays on its side of the fold
 pub slot_stays : (f : Filling) (by_half : Bool) (k creep : ℕ) (entry : Option ℕ) → k < 2 → AreHalves f.setting → EntryCreeps f creep entry
-    → SlotStays (is_before f.setting.order.right_to_left by_half k) f.setting.room (fold_on f.setting.room by_half (line f.setting.room)) (creeping_slot f by_half k creep entry)
+    → SlotStays (is_before_fold f.setting.order.right_to_left by_half k) f.setting.room (fold_on f.setting.room by_half (line f.setting.room)) (creeping_slot f by_half k creep entry)
 slot_stays f by_half k creep entry less halved has =
     of_halves (λ t. let g : Filling = record { setting = t; paper_of = f.paper_of } in
-    EntryCreeps g creep entry → SlotStays (is_before t.order.right_to_left by_half k) t.room (fold_on t.room by_half (line t.room)) (creeping_slot g by_half k creep entry)) f.setting halved
+    EntryCreeps g creep entry → SlotStays (is_before_fold t.order.right_to_left by_half k) t.room (fold_on t.room by_half (line t.room)) (creeping_slot g by_half k creep entry)) f.setting halved
     (stays_on_halves f.setting.room f.setting.order.right_to_left f.setting.scale f.paper_of by_half k creep entry less halved.even) has
 
 -- ---- a side
@@ -172,7 +172,7 @@ side_of f by_half creep one other = record { paper = f.setting.room.paper; slots
 
 abbrev pub SideStands : (paper_of : ℕ → Paper) (by_half : Bool) (creep : ℕ) (one other : Option ℕ) → Setting → Type 0
 SideStands paper_of by_half creep one other t = let f : Filling = record { setting = t; paper_of = paper_of } in
-    EntryCreeps f creep one → EntryCreeps f creep other → StandsIn (crept_room t.room creep) (side_of f by_half creep one other)
+    EntryCreeps f creep one → EntryCreeps f creep other → StandsInRoom (crept_room t.room creep) (side_of f by_half creep one other)
 
 pub side_stands : (f : Filling) (by_half : Bool) (creep : ℕ) (one other : Option ℕ) → AreHalves f.setting → SideStands f.paper_of by_half creep one other f.setting
 side_stands f by_half creep one other halved =
@@ -191,6 +191,6 @@ side_stands f by_half creep one other halved =
 
 pub booklet_keeps_gap : BookletKeepsGap
 booklet_keeps_gap f turned_backs creep leaves row halved fit s d less =
-    numbered (λ s. StandsIn (crept_room f.setting.room (creep_on creep leaves s)))
+    numbered (λ s. StandsInRoom (crept_room f.setting.room (creep_on creep leaves s)))
     (λ s. side_of f (is_turned turned_backs s) (creep_on creep leaves s) (grid_entry 2 row s 0) (grid_entry 2 row s 1)) (blocks 2 (length row))
     (λ s below. side_stands f (is_turned turned_backs s) (creep_on creep leaves s) (grid_entry 2 row s 0) (grid_entry 2 row s 1) halved (fit s 0 (omega arith)) (fit s 1 (omega arith))) s d less

@@ -15,7 +15,7 @@ use Rattle.rules.specs.MadePlans.{MadeTooManyPlaces, MadeTooManySheets, is_slot_
 use Rattle.rules.specs.Rows.{Row}
 use Rattle.sheet_plan.proofs.Accepted.{looked_none, too_many_places, too_many_sheets, uneven}
 use Rattle.sheet_plan.proofs.Admitted.{bounded, filled}
-use Rattle.row_sheets.specs.BySpec.{by_spec, sheet_by, slot_by}
+use Rattle.row_sheets.specs.BySpec.{by_spec, sheet_by, item_slot}
 use Rattle.row_sheets.proofs.GroupByGroup.{made_sheets_are}
 
 pub none_from : {X : Type 0} (p : X → Bool) (xs : List X) (k : ℕ) → All (λ x. p x ≡ false) xs → position_from p k xs ≡ None
@@ -29,7 +29,7 @@ even_count k some few = ap (λ b. not (b && nat_le k 4_096)) (le-leb 1 k (omega 
 -- a group has at least one item, and not too many
 even_group : (sheet page : Paper) (row : Row) (m b : ℕ) (g : List Item) → 0 < length g → length g ≤ 4_096 → uneven (sheet_by sheet page row m b g) ≡ false
 even_group sheet page row m b g some few =
-    ap (λ n. not (is_slot_count n)) (length-map g (slot_by page row m b)) ∙ even_count (length g) some few
+    ap (λ n. not (is_slot_count n)) (length-map g (item_slot page row m b)) ∙ even_count (length g) some few
 
 even_block : (sheet page : Paper) (row : Row) (spec : Spec) → IsAdmissible most_slots spec → (b : ℕ)
     → All (λ s. uneven s ≡ false) (map (sheet_by sheet page row spec.modulo b) spec.groups)

@@ -4,14 +4,14 @@ use Rattle.std.specs.Prelude.{nat_abs, nat_le, nat_lt, ◌&&◌, if◌then◌els
 use Rattle.std.proofs.Math.Nat.{div-mul-le_self, mul-le-mul_right}
 use Rattle.std.proofs.lemmas.Bool.{leb-true, ltb-true}
 use Rattle.rules.specs.Papers.{Paper}
-use Rattle.layouts.specs.Cells.{slack, whole}
-use Rattle.layouts.specs.Refusals.{are_reached}
+use Rattle.layouts.specs.Cells.{slack, whole_parts}
+use Rattle.layouts.specs.Refusals.{is_paper_reached}
 use Rattle.layouts.proofs.InGrid.{both_true}
 use Rattle.layouts.proofs.InOrder.{along_rows}
 use Rattle.row_sheets.specs.declared.poster.Poster.{Poster}
 use Rattle.row_sheets.specs.declared.poster.PosterError.{PosterError}
 use Rattle.row_sheets.specs.declared.poster.PosterError.TheVariants as why
-use Rattle.row_sheets.specs.Posters.{tile, stride, length_of, poster_width, poster_height, poster_scale, why_no_poster, laid_of, IsNear}
+use Rattle.row_sheets.specs.Posters.{tile, stride, tiles_length, poster_width, poster_height, poster_scale, why_no_poster, laid_of, IsNear}
 
 -- tile n of a poster is one of its tiles
 pub tile_in : (r c n : ℕ) → n < r * c → (n % c < c) × (r - (n / c + 1) < r)
@@ -38,7 +38,7 @@ possible page p h =
     let w = nat_abs p.sheet.width in
     let t = nat_abs p.sheet.height in
     let a = passed_if (nat_le 1 (p.rows * p.columns) && nat_le (p.rows * p.columns) 1_024) _ why.TilesOutOfRange h in
-    let b = passed_if (are_reached p.sheet) _ why.SideTooLong a.1 in
+    let b = passed_if (is_paper_reached p.sheet) _ why.SideTooLong a.1 in
     let c = passed_if (nat_lt p.overlap (tile w p.edge) && nat_lt p.overlap (tile t p.edge)) _ why.NothingButOverlap b.1 in
     let d = passed_if (nat_lt (poster_width p) 10_000_000_000 && nat_lt (poster_height p) 10_000_000_000) _ why.SideTooLong c.1 in
     let count = both_true (nat_le 1 (p.rows * p.columns)) (nat_le (p.rows * p.columns) 1_024) a.0 in
@@ -50,12 +50,12 @@ possible page p h =
     }
 
 -- along a side
-near_side : (w edge overlap tiles side s column : ℕ) → w < 12_700_000_000_000_000 → overlap < tile w edge → length_of w edge overlap tiles < 10_000_000_000 → column < tiles
-    → (edge + slack (length_of w edge overlap tiles) side s < 10_000_000_000) × (column * stride w edge overlap < 10_000_000_000)
+near_side : (w edge overlap tiles side s column : ℕ) → w < 12_700_000_000_000_000 → overlap < tile w edge → tiles_length w edge overlap tiles < 10_000_000_000 → column < tiles
+    → (edge + slack (tiles_length w edge overlap tiles) side s < 10_000_000_000) × (column * stride w edge overlap < 10_000_000_000)
 near_side w edge overlap tiles side s column reached some short within =
-    let l = length_of w edge overlap tiles in
+    let l = tiles_length w edge overlap tiles in
     let half : slack l side s * 2_540_000_000_000_000 ≤ 1_270_000_000_000_000 * l - s * side = div-mul-le_self (1_270_000_000_000_000 * l - s * side) 2_540_000_000_000_000 in
-    let cut : whole w * 1_270_000 ≤ w = div-mul-le_self w 1_270_000 in
+    let cut : whole_parts w * 1_270_000 ≤ w = div-mul-le_self w 1_270_000 in
     let steps : column * stride w edge overlap ≤ (tiles - 1) * stride w edge overlap = mul-le-mul_right (stride w edge overlap) (omega (arith, within)) in
     let half' : slack l side s < 5_000_000_000 = omega (arith, half, short) in
     let edge' : edge < 5_000_000_000 = omega (arith, reached, some, cut) in

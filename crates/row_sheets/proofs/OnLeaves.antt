@@ -15,10 +15,10 @@ use Rattle.layouts.specs.declared.error.ArrangementError.{ArrangementError}
 use Rattle.layouts.specs.declared.error.ArrangementError.TheVariants as why
 use Rattle.layouts.specs.declared.setting.Setting.{Setting}
 use Rattle.layouts.specs.Placed.{IsEven, Room, fine, stands, IsInside}
-use Rattle.layouts.specs.Cells.{along_height, cell, kept, item_in, back_in, whole, to_right, to_top, row_of, column_of}
+use Rattle.layouts.specs.Cells.{along_height, cell, kept_length, item_in_cell, back_in, whole_parts, to_right, to_top, row_of, column_of}
 use Rattle.layouts.specs.Grids.{beside, leaf_order}
 use Rattle.layouts.specs.Laws.{IsPaper, HasPlace, IsHalfTurnOf}
-use Rattle.layouts.specs.Refusals.{first_of}
+use Rattle.layouts.specs.Refusals.{error_unless}
 use Rattle.layouts.specs.Fitted.{fitted, fitted_back, scale_on, why_not_fitted}
 use Rattle.layouts.proofs.Sides.{placed}
 use Rattle.layouts.proofs.InGrid.{fits, sides_are}
@@ -44,9 +44,9 @@ pub record Creeps (page : Paper) (room : Room) (b : Bool) (s creep : ℕ) : Type
   pub sheet_is : IsPaper room.paper
   pub place : HasPlace page room (beside true) s
   pub may : may_creep page room s creep ≡ true
-  pub inside : (k : ℕ) → k < 2 → IsInside room page (item_in page room (beside true) (leaf_order b) s k)
+  pub inside : (k : ℕ) → k < 2 → IsInside room page (item_in_cell page room (beside true) (leaf_order b) s k)
   pub inside_back : (k : ℕ) → k < 2 → IsInside room page (back_in page room (beside true) (leaf_order b) s 0 k)
-  pub turned : (k : ℕ) → k < 2 → IsHalfTurnOf page room.paper (item_in page room (beside true) (leaf_order b) s k) (back_in page room (beside true) (leaf_order b) s 0 k)
+  pub turned : (k : ℕ) → k < 2 → IsHalfTurnOf page room.paper (item_in_cell page room (beside true) (leaf_order b) s k) (back_in page room (beside true) (leaf_order b) s 0 k)
 
 -- before a line across the sheet, or beyond it; and which of the two slots of a front is there
 abbrev pub Stays : (before : Bool) → Room → (twice : ℕ) → (page : Paper) → Item → Type 0
@@ -72,12 +72,12 @@ record OnSheet (room : Room) (T W : ℕ) : Type 0 where
   pub least : 2 * room.bottom ≤ T
   pub most : T + 2 * room.top ≤ 2 * W
 
-fold_within : (room : Room) (h : ℕ) → IsEven room → 0 < cell (along_height room) h 2 → OnSheet room (fold (along_height room) h) (whole h)
+fold_within : (room : Room) (h : ℕ) → IsEven room → 0 < cell (along_height room) h 2 → OnSheet room (fold (along_height room) h) (whole_parts h)
 fold_within room h even some =
     let up = even.up in
-    let same : kept room.trim room.bottom ≡ kept room.trim room.top = ap (kept room.trim) even.up in
+    let same : kept_length room.trim room.bottom ≡ kept_length room.trim room.top = ap (kept_length room.trim) even.up in
     let edge = kept_little room.trim room.bottom in
-    let gap = kept_little room.trim room.gap_up in
+    let gap = kept_little room.trim room.gutter_up in
     record {
       least = omega (arith, some, edge.0, gap.0);
       most = omega (arith, some, up, same, cells_fit (along_height room) h 2 0 some (omega arith), edge.0, gap.0, gap.1);
@@ -122,7 +122,7 @@ down_by : (y z by : ℤ) → by ≤ℤ pos 0 → z ≡ y +ℤ (pos 1_270_000_000
 down_by y z by h e = omega (arith, ints, h, e)
 
 -- but not across it
-moved_inside : (before : Bool) (page : Paper) (room : Room) (item item' : Item) (by : ℤ) (T : ℕ) → IsPaper room.paper → OnSheet room T (whole (nat_abs room.paper.height)) → IsInside room page item
+moved_inside : (before : Bool) (page : Paper) (room : Room) (item item' : Item) (by : ℤ) (T : ℕ) → IsPaper room.paper → OnSheet room T (whole_parts (nat_abs room.paper.height)) → IsInside room page item
     → IsTowards before by → IsMoved page item item' by → Stays before room T page item' → IsInside room page item'
 moved_inside true page room item item' by T is on inside way moved stays p of =
     let at = inside p of in
@@ -131,7 +131,7 @@ moved_inside true page room item item' by T is on inside way moved stays p of =
       left = subst (λ x. fine room.left ≤ℤ x) (sym (moved p).0) at.left;
       right = subst (λ x. (x +ℤ fine room.right) ≤ℤ (pos 1_000_000_000 *ℤ room.paper.width)) (sym (moved p).0) at.right;
       bottom = lower (fine room.bottom) (stands page item p).y (stands page item' p).y at.bottom (up_by (stands page item p).y (stands page item' p).y by way (moved p).1);
-      top = top_at (stands page item' p).y room.paper.height T room.top (whole h) h (height_is room.paper is) (div-mul-le_self h 1_270_000) on.most (stays p of);
+      top = top_at (stands page item' p).y room.paper.height T room.top (whole_parts h) h (height_is room.paper is) (div-mul-le_self h 1_270_000) on.most (stays p of);
     }
 moved_inside false page room item item' by T is on inside way moved stays p of =
     let at = inside p of in
@@ -158,17 +158,17 @@ pub back_moves : (page : Paper) (room : Room) (b : Bool) (s creep k : ℕ)
 back_moves page room b s creep k p =
     let row = row_of (leaf_order b) (beside true) k in
     let column = column_of (leaf_order b) (beside true) k in
-    back_moved_at page (0 + k) s (pos (whole (nat_abs room.paper.width)) -ℤ to_right page room (beside true) s row column) (pos (whole (nat_abs room.paper.height)) -ℤ to_top page room (beside true) s row column) (neg_ℤ (to_fold b k creep)) p
+    back_moved_at page (0 + k) s (pos (whole_parts (nat_abs room.paper.width)) -ℤ to_right page room (beside true) s row column) (pos (whole_parts (nat_abs room.paper.height)) -ℤ to_top page room (beside true) s row column) (neg_ℤ (to_fold b k creep)) p
 
 turned_at : (W : ℕ) (y z front back c : ℤ) → front ≡ y +ℤ (pos 1_270_000_000_000_000 *ℤ c) → z ≡ (pos 1_270_000_000_000_000 *ℤ pos W) -ℤ y → back ≡ z +ℤ (pos 1_270_000_000_000_000 *ℤ neg_ℤ c)
     → back ≡ (pos 1_270_000_000_000_000 *ℤ pos W) -ℤ front
 turned_at W y z front back c e f g = omega (arith, ints, e, f, g)
 
 -- it is the front's, turned by half
-back_turned : (page : Paper) (room : Room) (b : Bool) (s creep k : ℕ) (p : Point) → IsHalfTurnOf page room.paper (item_in page room (beside true) (leaf_order b) s k) (back_in page room (beside true) (leaf_order b) s 0 k)
-    → (stands page (back_item page room b s creep k) p).y ≡ (pos 1_270_000_000_000_000 *ℤ pos (whole (nat_abs room.paper.height))) -ℤ (stands page (leaf_item page room b s creep k) p).y
+back_turned : (page : Paper) (room : Room) (b : Bool) (s creep k : ℕ) (p : Point) → IsHalfTurnOf page room.paper (item_in_cell page room (beside true) (leaf_order b) s k) (back_in page room (beside true) (leaf_order b) s 0 k)
+    → (stands page (back_item page room b s creep k) p).y ≡ (pos 1_270_000_000_000_000 *ℤ pos (whole_parts (nat_abs room.paper.height))) -ℤ (stands page (leaf_item page room b s creep k) p).y
 back_turned page room b s creep k p half =
-    turned_at (whole (nat_abs room.paper.height)) (stands page (item_in page room (beside true) (leaf_order b) s k) p).y (stands page (back_in page room (beside true) (leaf_order b) s 0 k) p).y
+    turned_at (whole_parts (nat_abs room.paper.height)) (stands page (item_in_cell page room (beside true) (leaf_order b) s k) p).y (stands page (back_in page room (beside true) (leaf_order b) s 0 k) p).y
     (stands page (leaf_item page room b s creep k) p).y (stands page (back_item page room b s creep k) p).y (to_fold b k creep)
     (creep_moves page room b s creep k p).1 (half.up p) (back_moves page room b s creep k p).1
 
@@ -201,7 +201,7 @@ one_of_two true false = let less : 0 < 2 = omega arith in less
 one_of_two false true = let less : 0 < 2 = omega arith in less
 one_of_two false false = let less : 1 < 2 = omega arith in less
 
-fold_here : (page : Paper) (room : Room) (b : Bool) (s creep : ℕ) → Creeps page room b s creep → OnSheet room (fold (along_height room) (nat_abs room.paper.height)) (whole (nat_abs room.paper.height))
+fold_here : (page : Paper) (room : Room) (b : Bool) (s creep : ℕ) → Creeps page room b s creep → OnSheet room (fold (along_height room) (nat_abs room.paper.height)) (whole_parts (nat_abs room.paper.height))
 fold_here page room b s creep c = fold_within room (nat_abs room.paper.height) c.even (some_cell page room s c.place)
 
 front_lies : (before : Bool) (page : Paper) (room : Room) (b : Bool) (s creep : ℕ) → Creeps page room b s creep
@@ -209,31 +209,31 @@ front_lies : (before : Bool) (page : Paper) (room : Room) (b : Bool) (s creep : 
 front_lies before page room b s creep c =
     let k = slot_there b before in
     let stays = front_stays before page room b s creep c in record {
-      inside = moved_inside before page room (item_in page room (beside true) (leaf_order b) s k) (leaf_item page room b s creep k) (to_fold b k creep) (fold (along_height room) (nat_abs room.paper.height)) c.sheet_is (fold_here page room b s creep c)
+      inside = moved_inside before page room (item_in_cell page room (beside true) (leaf_order b) s k) (leaf_item page room b s creep k) (to_fold b k creep) (fold (along_height room) (nat_abs room.paper.height)) c.sheet_is (fold_here page room b s creep c)
           (c.inside k (one_of_two b before)) (front_way b before creep) (creep_moves page room b s creep k) stays;
       stays = stays;
     }
 
-pub no_higher : (page : Paper) (room : Room) (b : Bool) (s creep : ℕ) → Creeps page room b s creep → fold (along_height room) (nat_abs room.paper.height) ≤ 2 * whole (nat_abs room.paper.height)
+pub no_higher : (page : Paper) (room : Room) (b : Bool) (s creep : ℕ) → Creeps page room b s creep → fold (along_height room) (nat_abs room.paper.height) ≤ 2 * whole_parts (nat_abs room.paper.height)
 no_higher page room b s creep c = fold_on_sheet (along_height room) (nat_abs room.paper.height) c.even.up (some_cell page room s c.place)
 
 pub back_stays : (front : Bool) (page : Paper) (room : Room) (b : Bool) (s creep : ℕ) → Creeps page room b s creep
-    → Stays (not front) room (2 * whole (nat_abs room.paper.height) - fold (along_height room) (nat_abs room.paper.height)) page (back_item page room b s creep (slot_there b front))
+    → Stays (not front) room (2 * whole_parts (nat_abs room.paper.height) - fold (along_height room) (nat_abs room.paper.height)) page (back_item page room b s creep (slot_there b front))
 back_stays true page room b s creep c = λ p of.
     let k = slot_there b true in
-    behind_turned (fold (along_height room) (nat_abs room.paper.height)) (whole (nat_abs room.paper.height)) (stands page (leaf_item page room b s creep k) p).y (stands page (back_item page room b s creep k) p).y
+    behind_turned (fold (along_height room) (nat_abs room.paper.height)) (whole_parts (nat_abs room.paper.height)) (stands page (leaf_item page room b s creep k) p).y (stands page (back_item page room b s creep k) p).y
     (no_higher page room b s creep c) (front_stays true page room b s creep c p of) (back_turned page room b s creep k p (c.turned k (one_of_two b true)))
 back_stays false page room b s creep c = λ p of.
     let k = slot_there b false in
-    before_turned (fold (along_height room) (nat_abs room.paper.height)) (whole (nat_abs room.paper.height)) (stands page (leaf_item page room b s creep k) p).y (stands page (back_item page room b s creep k) p).y
+    before_turned (fold (along_height room) (nat_abs room.paper.height)) (whole_parts (nat_abs room.paper.height)) (stands page (leaf_item page room b s creep k) p).y (stands page (back_item page room b s creep k) p).y
     (no_higher page room b s creep c) (front_stays false page room b s creep c p of) (back_turned page room b s creep k p (c.turned k (one_of_two b false)))
 
 back_lies : (front : Bool) (page : Paper) (room : Room) (b : Bool) (s creep : ℕ) → Creeps page room b s creep
-    → Lies (not front) room (2 * whole (nat_abs room.paper.height) - fold (along_height room) (nat_abs room.paper.height)) page (back_item page room b s creep (slot_there b front))
+    → Lies (not front) room (2 * whole_parts (nat_abs room.paper.height) - fold (along_height room) (nat_abs room.paper.height)) page (back_item page room b s creep (slot_there b front))
 back_lies front page room b s creep c =
     let k = slot_there b front in
-    let T = 2 * whole (nat_abs room.paper.height) - fold (along_height room) (nat_abs room.paper.height) in
-    let on = turned_within room (fold (along_height room) (nat_abs room.paper.height)) (whole (nat_abs room.paper.height)) c.even (fold_here page room b s creep c) in
+    let T = 2 * whole_parts (nat_abs room.paper.height) - fold (along_height room) (nat_abs room.paper.height) in
+    let on = turned_within room (fold (along_height room) (nat_abs room.paper.height)) (whole_parts (nat_abs room.paper.height)) c.even (fold_here page room b s creep c) in
     let stays = back_stays front page room b s creep c in record {
       inside = moved_inside (not front) page room (back_in page room (beside true) (leaf_order b) s 0 k) (back_item page room b s creep k) (neg_ℤ (to_fold b k creep)) T c.sheet_is on
           (c.inside_back k (one_of_two b front)) (back_way front (to_fold b k creep) (front_way b front creep)) (back_moves page room b s creep k) stays;
@@ -248,7 +248,7 @@ none_both (Some e) other h = absurd (cc (h))
 
 pub fits_in : (t : Setting) (page : Paper) (creep : ℕ) → FitsOnLeaf t page creep → FitsIn t page
 fits_in t page creep has =
-    let free = none_both (why_not_fitted t page) (first_of (may_creep page t.room (scale_on t page) creep) why.CreepOverFold None) has.fits in
+    let free = none_both (why_not_fitted t page) (error_unless (may_creep page t.room (scale_on t page) creep) why.CreepOverFold None) has.fits in
     record { sheet_is = has.sheet_is; page_is = has.page_is; fits = free.0 }
 
 pub creeps_on : (page : Paper) (room : Room) (b : Bool) (asked : Option ℤ) (creep : ℕ) → (let t = halves room b asked in
@@ -256,9 +256,9 @@ pub creeps_on : (page : Paper) (room : Room) (b : Bool) (asked : Option ℤ) (cr
 creeps_on page room b asked creep even has =
     let t = halves room b asked in
     let may = may_creep page room (scale_on t page) creep in
-    let free = none_both (why_not_fitted t page) (first_of may why.CreepOverFold None) has.fits in
+    let free = none_both (why_not_fitted t page) (error_unless may why.CreepOverFold None) has.fits in
     let scale = scale_of_many t page (omega arith) free.0 in
-    let is_in_cell : (k : ℕ) → fitted t page k ≡ item_in page room (beside true) (leaf_order b) (scale_on t page) k = λ k. (in_cell t page k k (one_of_many t page (omega arith)) free.0).0 in (
+    let is_in_cell : (k : ℕ) → fitted t page k ≡ item_in_cell page room (beside true) (leaf_order b) (scale_on t page) k = λ k. (in_cell t page k k (one_of_many t page (omega arith)) free.0).0 in (
       free.0,
       record {
         even = even;
@@ -275,20 +275,20 @@ creeps_on page room b asked creep even has =
 
 -- a line that is there also if no page is
 abbrev pub line : Room → ℕ
-line room = let h = nat_abs room.paper.height in if nat_lt 0 (cell (along_height room) h 2) then fold (along_height room) h else whole h
+line room = let h = nat_abs room.paper.height in if nat_lt 0 (cell (along_height room) h 2) then fold (along_height room) h else whole_parts h
 
 pub line_is : (page : Paper) (room : Room) (b : Bool) (s creep : ℕ) → Creeps page room b s creep → fold (along_height room) (nat_abs room.paper.height) ≡ line room
 line_is page room b s creep c =
     let h = nat_abs room.paper.height in
-    sym (cond-true (nat_lt 0 (cell (along_height room) h 2)) (fold (along_height room) h) (whole h) (lt-ltb 0 (cell (along_height room) h 2) (some_cell page room s c.place)))
+    sym (cond-true (nat_lt 0 (cell (along_height room) h 2)) (fold (along_height room) h) (whole_parts h) (lt-ltb 0 (cell (along_height room) h 2) (some_cell page room s c.place)))
 
 abbrev pub InMiddle : (T W : ℕ) → Type 0
 InMiddle T W = (T ≤ W + 1) × (W ≤ T + 1)
 
-pub line_in_middle : (room : Room) → IsEven room → InMiddle (line room) (whole (nat_abs room.paper.height))
+pub line_in_middle : (room : Room) → IsEven room → InMiddle (line room) (whole_parts (nat_abs room.paper.height))
 line_in_middle room even =
     let h = nat_abs room.paper.height in
-    cond_both (nat_lt 0 (cell (along_height room) h 2)) (fold (along_height room) h) (whole h) (λ T. InMiddle T (whole h))
+    cond_both (nat_lt 0 (cell (along_height room) h 2)) (fold (along_height room) h) (whole_parts h) (λ T. InMiddle T (whole_parts h))
     (λ e. in_middle (along_height room) h even.up (ltb-true 0 (cell (along_height room) h 2) e)) (λ e. (omega arith, omega arith))
 
 abbrev pub on_halves : (room : Room) (b : Bool) (asked : Option ℤ) → (ℕ → Paper) → Filling
@@ -330,16 +330,16 @@ front_slot before room b asked paper_of creep (Some page) even has =
 
 pub back_slot : (front : Bool) (room : Room) (b : Bool) (asked : Option ℤ) (paper_of : ℕ → Paper) (creep : ℕ) (entry : Option ℕ) → (let f = on_halves room b asked paper_of in
     let slot = creeping_slot f true (slot_there b front) creep entry in
-    IsEven room → EntryCreeps f creep entry → SlotIsInside room slot × SlotStays (not front) room (2 * whole (nat_abs room.paper.height) - line room) slot)
-back_slot front room b asked paper_of creep None even has = (tt, blank_stays (not front) room (2 * whole (nat_abs room.paper.height) - line room))
+    IsEven room → EntryCreeps f creep entry → SlotIsInside room slot × SlotStays (not front) room (2 * whole_parts (nat_abs room.paper.height) - line room) slot)
+back_slot front room b asked paper_of creep None even has = (tt, blank_stays (not front) room (2 * whole_parts (nat_abs room.paper.height) - line room))
 back_slot front room b asked paper_of creep (Some page) even has =
     let paper = paper_of page in
     let s = scale_on (halves room b asked) paper in
     let c = creeps_on paper room b asked creep even has in
     let at = back_lies front paper room b s creep c.1 in (
       at.inside,
-      page_stays (not front) room (2 * whole (nat_abs room.paper.height) - line room) page (back_item paper room b s creep (slot_there b front)) paper
-          (subst (λ T. Stays (not front) room (2 * whole (nat_abs room.paper.height) - T) paper (back_item paper room b s creep (slot_there b front))) (line_is paper room b s creep c.1) at.stays),
+      page_stays (not front) room (2 * whole_parts (nat_abs room.paper.height) - line room) page (back_item paper room b s creep (slot_there b front)) paper
+          (subst (λ T. Stays (not front) room (2 * whole_parts (nat_abs room.paper.height) - T) paper (back_item paper room b s creep (slot_there b front))) (line_is paper room b s creep c.1) at.stays),
     )
 
 -- ---- a side
@@ -420,4 +420,4 @@ unfolding leaves_stand
 leaves_fold f turned_backs creep leaves sheets row halved has some =
     let room = f.setting.room in
     let h = nat_abs room.paper.height in
-    cond-true (nat_lt 0 (cell (along_height room) h 2)) (fold (along_height room) h) (whole h) (lt-ltb 0 (cell (along_height room) h 2) some)
+    cond-true (nat_lt 0 (cell (along_height room) h 2)) (fold (along_height room) h) (whole_parts h) (lt-ltb 0 (cell (along_height room) h 2) some)

@@ -8,7 +8,7 @@ use Rattle.layouts.specs.Placed.{IsEven}
 use Rattle.layouts.specs.Cells.{size}
 use Rattle.layouts.proofs.Fitting.{fitted_stands, fitted_is_apart, stands_back, scale_of_many, backs_are_apart}
 use Rattle.row_sheets.specs.Filled.{Filling, filled, slot_on, sides, is_turned, SlotIsInside, SlotsAreApart}
-use Rattle.row_sheets.specs.Standing.{StandsIn, AllStand, EntryFits}
+use Rattle.row_sheets.specs.Standing.{StandsInRoom, AllStand, EntryFits}
 
 -- ---- what is numbered in turn
 
@@ -71,7 +71,7 @@ only_backs false s t h e = absurd (cc (e))
 pub sides_stand : (f : Filling) (turned_backs : Bool) (sheets cells : ℕ) (entry : (s c : ℕ) → Option ℕ) → cells ≤ size f.setting.grid → (turned_backs ≡ true → MayTurn f.setting)
     → ((s c : ℕ) → s < sheets → c < cells → EntryFits f (entry s c)) → AllStand f.setting.room (sides f turned_backs sheets cells entry)
 sides_stand f turned_backs sheets cells entry enough halves fits =
-    each_of (StandsIn f.setting.room) (λ s. record {
+    each_of (StandsInRoom f.setting.room) (λ s. record {
       paper = f.setting.room.paper;
       slots = map (λ c. slot_on f (is_turned turned_backs s) c (entry s c)) (range_with_len 0 cells);
     }) sheets (λ s less. let half = is_turned turned_backs s in record {

@@ -10,7 +10,7 @@ use Rattle.layouts.specs.declared.error.ArrangementError.TheVariants as why
 use Rattle.layouts.specs.Cells.{scale_in}
 use Rattle.layouts.specs.Placed.{Room}
 use Rattle.layouts.specs.Fitted.{is_whole, scale_on, why_no_scale_on}
-use Rattle.layouts.specs.Refusals.{first_of, are_reached, is_near, is_scale, is_shown, why_no_scale}
+use Rattle.layouts.specs.Refusals.{error_unless, is_paper_reached, within_reach, is_scale_in_range, is_shown, why_no_scale}
 use Rattle.layouts.proofs.Possible.{passed}
 use Rattle.layouts.proofs.Fitting.{fitted_stands}
 use Rattle.row_sheets.specs.Filled.{Filling}
@@ -120,7 +120,7 @@ have_one_scale f row i page e =
 
 -- ---- it fits
 
-passes : (b : Bool) (e : ArrangementError) (x : Option ArrangementError) → b ≡ true → x ≡ None → first_of b e x ≡ None
+passes : (b : Bool) (e : ArrangementError) (x : Option ArrangementError) → b ≡ true → x ≡ None → error_unless b e x ≡ None
 passes true e x b h = h
 passes false e x b h = absurd (cc (b))
 
@@ -128,16 +128,16 @@ passes false e x b h = absurd (cc (b))
 fits_less : (room : Room) (s largest own other : ℕ) → why_no_scale room s largest ≡ None → why_no_scale room own other ≡ None → s ≤ own → why_no_scale room s other ≡ None
 fits_less room s largest own other mine its less =
     let a = passed (nat_le 1 largest) (why.NoRoom room) _ mine in
-    let b = passed (is_scale s) why.ScaleOutOfRange _ a.1 in
+    let b = passed (is_scale_in_range s) why.ScaleOutOfRange _ a.1 in
     let c = passed (nat_le s largest) why.ScaleTooLarge _ b.1 in
-    let d = passed (is_near room s) why.ScaleOutOfRange None c.1 in
+    let d = passed (within_reach room s) why.ScaleOutOfRange None c.1 in
     let a' = passed (nat_le 1 other) (why.NoRoom room) _ its in
-    let b' = passed (is_scale own) why.ScaleOutOfRange _ a'.1 in
+    let b' = passed (is_scale_in_range own) why.ScaleOutOfRange _ a'.1 in
     let c' = passed (nat_le own other) why.ScaleTooLarge _ b'.1 in
     let le : own ≤ other = search (rules, c'.0) in
     let within : s ≤ other = omega (arith, le, less) in
     let test : nat_le s other ≡ true = search (rules, within) in
-    passes (nat_le 1 other) (why.NoRoom room) _ a'.0 (passes (is_scale s) why.ScaleOutOfRange _ b.0 (passes (nat_le s other) why.ScaleTooLarge _ test (passes (is_near room s) why.ScaleOutOfRange None d.0 refl)))
+    passes (nat_le 1 other) (why.NoRoom room) _ a'.0 (passes (is_scale_in_range s) why.ScaleOutOfRange _ b.0 (passes (nat_le s other) why.ScaleTooLarge _ test (passes (within_reach room s) why.ScaleOutOfRange None d.0 refl)))
 
 or_none : (b : Bool) (x : Option ArrangementError) → x ≡ None → (if b then None else x) ≡ None
 or_none true x h = refl
@@ -154,13 +154,13 @@ has_place f row i page some e =
     let owner = f.paper_of is.page in
     let mine = some is.place is.page is.is_there in
     let its = some i page e in
-    let a = passed (are_reached owner && are_reached t.room.paper) why.SideTooLong _ mine in
+    let a = passed (is_paper_reached owner && is_paper_reached t.room.paper) why.SideTooLong _ mine in
     let b = passed (is_shown owner t.room) why.NothingLeftOfPage _ a.1 in
-    let a' = passed (are_reached paper && are_reached t.room.paper) why.SideTooLong _ its in
+    let a' = passed (is_paper_reached paper && is_paper_reached t.room.paper) why.SideTooLong _ its in
     let b' = passed (is_shown paper t.room) why.NothingLeftOfPage _ a'.1 in
     let scale : why_no_scale t.room s (scale_in owner t.room t.grid) ≡ None = subst (λ n. why_no_scale t.room n (scale_in owner t.room t.grid) ≡ None) is.is_own b.1 in
     let less = fits_less t.room s (scale_in owner t.room t.grid) (own_scale f page) (scale_in paper t.room t.grid) scale b'.1 (is.least i page e) in
-    passes (are_reached paper && are_reached t.room.paper) why.SideTooLong _ a'.0
+    passes (is_paper_reached paper && is_paper_reached t.room.paper) why.SideTooLong _ a'.0
     (passes (is_shown paper t.room) why.NothingLeftOfPage _ b'.0
     (subst (λ n. why_no_scale t.room n (scale_in paper t.room t.grid) ≡ None) (sym (is.all paper)) less))
 

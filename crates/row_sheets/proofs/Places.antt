@@ -16,14 +16,14 @@ use Rattle.row_sheets.specs.Creep.{creep_on}
 use Rattle.row_sheets.specs.Shapes.{cell_on, is_folded, is_two_sided, place_by, sheet_count}
 use Rattle.row_sheets.specs.declared.fill.CellKind.{CellKind}
 use Rattle.row_sheets.specs.declared.fill.CellKind.TheVariants as kind
-use Rattle.row_sheets.specs.Standing.{AllFit, AllFitOnLeaves, EntryCreeps, EntryFits}
+use Rattle.row_sheets.specs.Standing.{AllEntriesFit, AllFitOnLeaves, EntryCreeps, EntryFits}
 use Rattle.row_sheets.proofs.Behind.{behind_is_mirror, behind_twice}
 
 -- after the end of a row all is blank
 pub past_end : (row : Row) (i : ℕ) → length row ≤ i → entry_of row i ≡ None
 past_end row i past = get_or_past row i None past
 
-each_entry : (f : Filling) (row : Row) → ((i : ℕ) → i < length row → EntryFits f (entry_of row i)) → AllFit f row
+each_entry : (f : Filling) (row : Row) → ((i : ℕ) → i < length row → EntryFits f (entry_of row i)) → AllEntriesFit f row
 each_entry f row fits i = elim (cases_lt i (length row)) [
   | inl less ↦ fits i less
   | inr past ↦ subst (EntryFits f) (sym (past_end row i past)) tt
@@ -74,7 +74,7 @@ zine_cell (suc (suc (suc (suc (suc (suc (suc zero))))))) within = (6, omega arit
 zine_cell (suc (suc (suc (suc (suc (suc (suc (suc j)))))))) within = absurd (omega (arith, within))
 
 pub cells_fit : (way : CellKind) (f : Filling) (cells sheets : ℕ) (row : Row) → 0 < cells → sheets ≡ sheet_count way cells (length row) → (is_two_sided way ≡ true → cells ≡ size f.setting.grid)
-    → (is_folded way ≡ true → cells ≡ 8) → ((s c : ℕ) → s < sheets → c < cells → EntryFits f (entry_of row (place_by way f.setting sheets cells s c))) → AllFit f row
+    → (is_folded way ≡ true → cells ≡ 8) → ((s c : ℕ) → s < sheets → c < cells → EntryFits f (entry_of row (place_by way f.setting sheets cells s c))) → AllEntriesFit f row
 cells_fit kind.Grid f cells sheets row some many all folded fits = each_entry f row (λ i less.
     let at = in_blocks i (length row) cells sheets less (covering cells sheets row some many) in
     subst (λ k. EntryFits f (entry_of row k)) at.is (fits (i / cells) (i % cells) at.block at.place))

@@ -21,7 +21,7 @@ use Rattle.layouts.specs.Grids.{bound}
 use Rattle.layouts.specs.declared.setting.Setting.{Setting}
 use Rattle.layouts.proofs.Fitting.{bound_is_fitted, leaves_even}
 use Rattle.row_sheets.specs.AsPrinted.{HaveOnePaper, NothingIsWrittenOfNumbers, PrintedBacksAreImposed, unnumbered, unnumbered_slot}
-use Rattle.row_sheets.specs.BySpec.{by_spec, made_on, sheet_by, slot_by}
+use Rattle.row_sheets.specs.BySpec.{by_spec, made_on, sheet_by, item_slot}
 use Rattle.row_sheets.specs.Filled.{grid_entry, is_turned, slot_on}
 use Rattle.row_sheets.specs.Shapes.{filling}
 use Rattle.row_sheets.proofs.AsPrinted.{IsPage, all_are, entry_is, read_once, signed_are, slot_same}
@@ -33,7 +33,7 @@ use Rattle.row_sheets.proofs.Specified.{either_item, place_is, slot_is}
 
 -- ---- a slot
 front_slot : (t : Setting) (page : Paper) (papers : List Paper) (taken : Row) → HaveOnePaper page papers → ((i : ℕ) → IsPage (length papers) (entry_of taken i)) → (b k : ℕ)
-    → slot_by page taken 4 b (fitted t page k) ≡ slot_on (filling t papers) false k (grid_entry 2 taken (2 * b) k)
+    → item_slot page taken 4 b (fitted t page k) ≡ slot_on (filling t papers) false k (grid_entry 2 taken (2 * b) k)
 front_slot t page papers taken one are b k =
     let at : b * 4 + k ≡ 2 * b * 2 + k = omega arith in
     let item = either_item t page k (is_whole t page) in
@@ -47,7 +47,7 @@ back_same t page papers one k None h = refl
 back_same t page papers one k (Some p) h = ap (λ q. unnumbered_slot (Placed p (fitted_back t q k) q)) (sym (one p t.room.paper h))
 
 back_slot : (t : Setting) (page : Paper) (papers : List Paper) (taken : Row) → HaveOnePaper page papers → ((i : ℕ) → IsPage (length papers) (entry_of taken i)) → (b k : ℕ)
-    → unnumbered_slot (slot_by page taken 4 b (back_of t page k)) ≡ unnumbered_slot (slot_on (filling t papers) true k (grid_entry 2 taken (2 * b + 1) k))
+    → unnumbered_slot (item_slot page taken 4 b (back_of t page k)) ≡ unnumbered_slot (slot_on (filling t papers) true k (grid_entry 2 taken (2 * b + 1) k))
 back_slot t page papers taken one are b k =
     let at : b * 4 + (2 + k) ≡ (2 * b + 1) * 2 + k = omega arith in
     ap (λ i. unnumbered_slot (made_slot page (entry_of taken i) (back_of t page k))) at
@@ -72,7 +72,7 @@ two one other = one ∷ other ∷ []
 front_is : (t : Setting) (page : Paper) (papers : List Paper) (taken : Row) → HaveOnePaper page papers → ((i : ℕ) → IsPage (length papers) (entry_of taken i)) → (b : ℕ)
     → unnumbered (sheet_by t.room.paper page taken 4 b (map (fitted t page) (range_with_len 0 2))) ≡ unnumbered (side_at t papers taken (2 * b))
 front_is t page papers taken one are b =
-    ap (λ x. unnumbered (sheet_of t.room.paper (two x (slot_by page taken 4 b (fitted t page 1))))) (front_slot t page papers taken one are b 0)
+    ap (λ x. unnumbered (sheet_of t.room.paper (two x (item_slot page taken 4 b (fitted t page 1))))) (front_slot t page papers taken one are b 0)
     ∙ ap (λ y. unnumbered (sheet_of t.room.paper (two (slot_on (filling t papers) false 0 (grid_entry 2 taken (2 * b) 0)) y))) (front_slot t page papers taken one are b 1)
     ∙ ap (λ h. unnumbered (side t papers taken h (2 * b))) (sym (upright b))
 
@@ -82,7 +82,7 @@ numberless paper one other = sheet_of paper (two one other)
 back_is : (t : Setting) (page : Paper) (papers : List Paper) (taken : Row) → HaveOnePaper page papers → ((i : ℕ) → IsPage (length papers) (entry_of taken i)) → (b : ℕ)
     → unnumbered (sheet_by t.room.paper page taken 4 b (map (back_of t page) (range_with_len 0 2))) ≡ unnumbered (side_at t papers taken (2 * b + 1))
 back_is t page papers taken one are b =
-    ap (λ x. numberless t.room.paper x (unnumbered_slot (slot_by page taken 4 b (back_of t page 1)))) (back_slot t page papers taken one are b 0)
+    ap (λ x. numberless t.room.paper x (unnumbered_slot (item_slot page taken 4 b (back_of t page 1)))) (back_slot t page papers taken one are b 0)
     ∙ ap (λ y. numberless t.room.paper (unnumbered_slot (slot_on (filling t papers) true 0 (grid_entry 2 taken (2 * b + 1) 0))) y) (back_slot t page papers taken one are b 1)
     ∙ ap (λ h. unnumbered (side t papers taken h (2 * b + 1))) (sym (turned b))
 

@@ -14,7 +14,7 @@ use Rattle.row_sheets.specs.FirstFault.{first_fault}
 use Rattle.row_sheets.specs.Shapes.{first_refused, why_no_place}
 use Rattle.row_sheets.specs.Creep.{IsRefusedCreeping, creep_on, first_over_fold, why_no_half}
 use Rattle.row_sheets.specs.Posters.{AllMayBePosters, EntryMayBePoster, IsNoPoster, IsNoPosterFor, first_no_poster, why_no_tiles}
-use Rattle.row_sheets.specs.Standing.{AllFit, AllFitOnLeaves, EntryCreeps, EntryFits}
+use Rattle.row_sheets.specs.Standing.{AllEntriesFit, AllFitOnLeaves, EntryCreeps, EntryFits}
 use Rattle.row_sheets.specs.declared.poster.Poster.{Poster}
 use Rattle.row_sheets.specs.declared.poster.PosterError.{PosterError}
 use Rattle.row_sheets.proofs.Filling.{one_more}
@@ -53,7 +53,7 @@ pub fits_none : (f : Filling) (entry : Option ℕ) → EntryFits f entry → why
 fits_none f None has = refl
 fits_none f (Some page) has = has.fits
 
-pub fit_none : (f : Filling) (row : Row) → AllFit f row → first_refused f row ≡ None
+pub fit_none : (f : Filling) (row : Row) → AllEntriesFit f row → first_refused f row ≡ None
 fit_none f row fits = no_fault (λ i. why_no_place f (entry_of row i)) (length row) (λ i less. fits_none f (entry_of row i) (fits i))
 
 -- ---- on leaves that creep

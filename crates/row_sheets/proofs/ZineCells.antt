@@ -13,8 +13,8 @@ use Rattle.rules.specs.Made.{MadeSheet, MadeSlot}
 use Rattle.layouts.specs.declared.arrangement.Order.{Order}
 use Rattle.layouts.specs.declared.setting.Setting.{Setting}
 use Rattle.layouts.specs.Placed.{IsEven, Room, fine, stands}
-use Rattle.layouts.specs.Cells.{Along, Grid, along_height, along_width, size, kept, step, left_free, whole, column_of, row_of, half_turned, high, turn_in, wide, item_in}
-use Rattle.layouts.specs.Grids.{alone, leaf_order}
+use Rattle.layouts.specs.Cells.{Along, Grid, along_height, along_width, size, kept_length, pitch, left_free, whole_parts, column_of, row_of, half_turned, high, turn_in, wide, item_in_cell}
+use Rattle.layouts.specs.Grids.{page_alone, leaf_order}
 use Rattle.layouts.specs.Fitted.{fitted, fitted_back, is_whole, past_cell, scale_on, why_not_fitted}
 use Rattle.layouts.specs.Laws.{Cell, IsInCell, IsPaper, LiesInCell, cell_at}
 use Rattle.layouts.proofs.AlongSide.{cells_fit}
@@ -34,22 +34,22 @@ record Opposite (side one long other : ℕ) : Type 0 where
   pub most : side ≤ one + (other + long) + 3
 
 record AreOpposite (sheet : Paper) (c d : Cell) : Type 0 where
-  pub across : Opposite (whole (nat_abs sheet.width)) c.left c.width d.left
-  pub up : Opposite (whole (nat_abs sheet.height)) c.bottom c.height d.bottom
+  pub across : Opposite (whole_parts (nat_abs sheet.width)) c.left c.width d.left
+  pub up : Opposite (whole_parts (nat_abs sheet.height)) c.bottom c.height d.bottom
   pub as_wide : d.width ≡ c.width
   pub as_high : d.height ≡ c.height
 
 -- of two cells side by side, and of four
-of_two : (p D E F w : ℕ) → 0 < p - D → E ≡ F → 2 * p + (E + F) ≤ whole w + D → w - 1_270_000 * (E + F) + 1_270_000 * D < p * (1_270_000 * 2) + 1_270_000 * 2
-    → Opposite (whole w) (E + 0 * p) (p - D) (E + 1 * p) × Opposite (whole w) (E + 1 * p) (p - D) (E + 0 * p)
+of_two : (p D E F w : ℕ) → 0 < p - D → E ≡ F → 2 * p + (E + F) ≤ whole_parts w + D → w - 1_270_000 * (E + F) + 1_270_000 * D < p * (1_270_000 * 2) + 1_270_000 * 2
+    → Opposite (whole_parts w) (E + 0 * p) (p - D) (E + 1 * p) × Opposite (whole_parts w) (E + 1 * p) (p - D) (E + 0 * p)
 of_two p D E F w some even fit least =
     let cut = div-mul-le_self w 1_270_000 in (
       record { least = omega (arith, some, even, fit); most = omega (arith, some, even, least, cut) },
       record { least = omega (arith, some, even, fit); most = omega (arith, some, even, least, cut) },
     )
 
-of_four : (p D E F w k : ℕ) → k < 4 → 0 < p - D → E ≡ F → 4 * p + (E + F) ≤ whole w + D → w - 1_270_000 * (E + F) + 1_270_000 * D < p * (1_270_000 * 4) + 1_270_000 * 4
-    → Opposite (whole w) (E + k * p) (p - D) (E + (3 - k) * p)
+of_four : (p D E F w k : ℕ) → k < 4 → 0 < p - D → E ≡ F → 4 * p + (E + F) ≤ whole_parts w + D → w - 1_270_000 * (E + F) + 1_270_000 * D < p * (1_270_000 * 4) + 1_270_000 * 4
+    → Opposite (whole_parts w) (E + k * p) (p - D) (E + (3 - k) * p)
 of_four p D E F w zero less some even fit least =
     let cut = div-mul-le_self w 1_270_000 in record { least = omega (arith, some, even, fit); most = omega (arith, some, even, least, cut) }
 of_four p D E F w (suc zero) less some even fit least =
@@ -64,31 +64,31 @@ of_four p D E F w (suc (suc (suc (suc k)))) less some even fit least = absurd (o
 abbrev cell_of : Room → (b r : Bool) → (c : ℕ) → Cell
 cell_of room b r c = cell_at room (zine_grid b) (row_of (leaf_order r) (zine_grid b) c) (column_of (leaf_order r) (zine_grid b) c)
 
-two_along : (a : Along) (w : ℕ) → kept a.trim a.before ≡ kept a.trim a.after → 0 < step a w 2 - kept a.trim a.gap
-    → Opposite (whole w) (kept a.trim a.before + 0 * step a w 2) (step a w 2 - kept a.trim a.gap) (kept a.trim a.before + 1 * step a w 2)
-    × Opposite (whole w) (kept a.trim a.before + 1 * step a w 2) (step a w 2 - kept a.trim a.gap) (kept a.trim a.before + 0 * step a w 2)
+two_along : (a : Along) (w : ℕ) → kept_length a.trim a.before ≡ kept_length a.trim a.after → 0 < pitch a w 2 - kept_length a.trim a.gap
+    → Opposite (whole_parts w) (kept_length a.trim a.before + 0 * pitch a w 2) (pitch a w 2 - kept_length a.trim a.gap) (kept_length a.trim a.before + 1 * pitch a w 2)
+    × Opposite (whole_parts w) (kept_length a.trim a.before + 1 * pitch a w 2) (pitch a w 2 - kept_length a.trim a.gap) (kept_length a.trim a.before + 0 * pitch a w 2)
 two_along a w even some =
-    let D = kept a.trim a.gap in
-    of_two (step a w 2) D (kept a.trim a.before) (kept a.trim a.after) w some even (cells_fit a w 2 1 some (omega arith)) (lt-div-mul-add {a = left_free a w + 1_270_000 * D} {b = 1_270_000 * 2} (omega arith))
+    let D = kept_length a.trim a.gap in
+    of_two (pitch a w 2) D (kept_length a.trim a.before) (kept_length a.trim a.after) w some even (cells_fit a w 2 1 some (omega arith)) (lt-div-mul-add {a = left_free a w + 1_270_000 * D} {b = 1_270_000 * 2} (omega arith))
 
-four_along : (a : Along) (w k : ℕ) → k < 4 → kept a.trim a.before ≡ kept a.trim a.after → 0 < step a w 4 - kept a.trim a.gap
-    → Opposite (whole w) (kept a.trim a.before + k * step a w 4) (step a w 4 - kept a.trim a.gap) (kept a.trim a.before + (3 - k) * step a w 4)
+four_along : (a : Along) (w k : ℕ) → k < 4 → kept_length a.trim a.before ≡ kept_length a.trim a.after → 0 < pitch a w 4 - kept_length a.trim a.gap
+    → Opposite (whole_parts w) (kept_length a.trim a.before + k * pitch a w 4) (pitch a w 4 - kept_length a.trim a.gap) (kept_length a.trim a.before + (3 - k) * pitch a w 4)
 four_along a w k less even some =
-    let D = kept a.trim a.gap in
-    of_four (step a w 4) D (kept a.trim a.before) (kept a.trim a.after) w k less some even (cells_fit a w 4 3 some (omega arith)) (lt-div-mul-add {a = left_free a w + 1_270_000 * D} {b = 1_270_000 * 4} (omega arith))
+    let D = kept_length a.trim a.gap in
+    of_four (pitch a w 4) D (kept_length a.trim a.before) (kept_length a.trim a.after) w k less some even (cells_fit a w 4 3 some (omega arith)) (lt-div-mul-add {a = left_free a w + 1_270_000 * D} {b = 1_270_000 * 4} (omega arith))
 
 -- the cell in column k of the first row, and the opposite one
 opposite_at : (room : Room) (b : Bool) (k : ℕ) → k < 4 → IsEven room → 0 < wide room (zine_grid b) → 0 < high room (zine_grid b)
     → AreOpposite room.paper (cell_at room (zine_grid b) 0 k) (cell_at room (zine_grid b) 1 (3 - k))
 opposite_at room false k less even across up = record {
-  across = four_along (along_width room) (nat_abs room.paper.width) k less (ap (kept room.trim) even.across) across;
-  up = (two_along (along_height room) (nat_abs room.paper.height) (ap (kept room.trim) even.up) up).1;
+  across = four_along (along_width room) (nat_abs room.paper.width) k less (ap (kept_length room.trim) even.across) across;
+  up = (two_along (along_height room) (nat_abs room.paper.height) (ap (kept_length room.trim) even.up) up).1;
   as_wide = refl;
   as_high = refl;
 }
 opposite_at room true k less even across up = record {
-  across = (two_along (along_width room) (nat_abs room.paper.width) (ap (kept room.trim) even.across) up).0;
-  up = four_along (along_height room) (nat_abs room.paper.height) k less (ap (kept room.trim) even.up) across;
+  across = (two_along (along_width room) (nat_abs room.paper.width) (ap (kept_length room.trim) even.across) up).0;
+  up = four_along (along_height room) (nat_abs room.paper.height) k less (ap (kept_length room.trim) even.up) across;
   as_wide = refl;
   as_high = refl;
 }
@@ -114,10 +114,10 @@ half_side side one long other long' past z z' is same none from to half =
     (omega (arith, ints, least, most, same, none, from, to, half), omega (arith, ints, least, most, same, none, from, to, half))
 
 half_lies : (sheet : Paper) (c d : Cell) (past : ℕ) (p q : Point) → AreOpposite sheet c d → past ≡ 0 → LiesInCell d past p
-    → q.x ≡ (pos 1_270_000_000_000_000 *ℤ pos (whole (nat_abs sheet.width))) -ℤ p.x → q.y ≡ (pos 1_270_000_000_000_000 *ℤ pos (whole (nat_abs sheet.height))) -ℤ p.y → LiesInCell c 3 q
+    → q.x ≡ (pos 1_270_000_000_000_000 *ℤ pos (whole_parts (nat_abs sheet.width))) -ℤ p.x → q.y ≡ (pos 1_270_000_000_000_000 *ℤ pos (whole_parts (nat_abs sheet.height))) -ℤ p.y → LiesInCell c 3 q
 half_lies sheet c d past p q is none at x y =
-    let across = half_side (whole (nat_abs sheet.width)) c.left c.width d.left d.width past p.x q.x is.across is.as_wide none at.left at.right x in
-    let up = half_side (whole (nat_abs sheet.height)) c.bottom c.height d.bottom d.height past p.y q.y is.up is.as_high none at.bottom at.top y in
+    let across = half_side (whole_parts (nat_abs sheet.width)) c.left c.width d.left d.width past p.x q.x is.across is.as_wide none at.left at.right x in
+    let up = half_side (whole_parts (nat_abs sheet.height)) c.bottom c.height d.bottom d.height past p.y q.y is.up is.as_high none at.bottom at.top y in
     record { left = across.0; right = across.1; bottom = up.0; top = up.1 }
 
 -- ---- a page
@@ -133,7 +133,7 @@ opposite_in t c cells less =
     (opposite t.room t.grid.turned t.order.right_to_left c less cells.even))
 
 nothing_past : (t : Setting) (page : Paper) → AreZineCells t → is_whole t page ≡ false → past_cell t page ≡ 0
-nothing_past t page cells not = cond-false (is_whole t page) 1 (kept t.room.trim 0) not ∙ kept_is t.room.trim 0 cells.untrimmed
+nothing_past t page cells not = cond-false (is_whole t page) 1 (kept_length t.room.trim 0) not ∙ kept_is t.room.trim 0 cells.untrimmed
 
 in_first : (t : Setting) (page : Paper) (c : ℕ) → AreZineCells t → IsPaper page → IsPaper t.room.paper → why_not_fitted t page ≡ None → c < 8 → nat_lt c 4 ≡ true → LiesInZine t c page (fitted_back t page (7 - c))
 in_first t page c cells is on h within e =
@@ -165,7 +165,7 @@ in_second t page c cells is on h within e =
     let not = one_of_many t page many in
     let there = fitted_stands t page c is on (omega (arith, within, all)) h in
     record {
-      turn = ap (λ (i : Item). i.turn) (cond-false (is_whole t page) (alone c) (item_in page t.room t.grid t.order (scale_on t page) c) not)
+      turn = ap (λ (i : Item). i.turn) (cond-false (is_whole t page) (page_alone c) (item_in_cell page t.room t.grid t.order (scale_on t page) c) not)
           ∙ ap (λ b. if b then half_turned (turn_in t.grid) else turn_in t.grid) (sym e);
       in_cell = subst (λ n. IsInCell t.room page (cell_at t.room t.grid (row_of t.order t.grid c) (column_of t.order t.grid c)) n (fitted t page c))
           (nothing_past t page cells not ∙ ap (λ b. if b then 3 else 0) (sym e)) there.in_cell;

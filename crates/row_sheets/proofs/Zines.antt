@@ -14,7 +14,7 @@ use Rattle.rules.specs.Rows.{Row}
 use Rattle.layouts.specs.declared.arrangement.Order.{Order}
 use Rattle.layouts.specs.declared.setting.Setting.{Setting}
 use Rattle.layouts.specs.Placed.{IsEven, Room, fine, stands, IsOfPage, AreApart}
-use Rattle.layouts.specs.Cells.{Grid, along_height, along_width, size, kept, step, left_free, whole, item_in, back_in, column_of}
+use Rattle.layouts.specs.Cells.{Grid, along_height, along_width, size, kept_length, pitch, left_free, whole_parts, item_in_cell, back_in, column_of}
 use Rattle.layouts.specs.Grids.{leaf_order}
 use Rattle.layouts.specs.Fitted.{fitted, fitted_back, scale_on, why_not_fitted}
 use Rattle.layouts.specs.Laws.{IsPaper, IsHalfTurnOf, HasPlace, LiesInCell, cell_at}
@@ -29,7 +29,7 @@ use Rattle.row_sheets.specs.Filled.{Filling, SlotIsInside, SlotsAreApart, grid_e
 use Rattle.row_sheets.specs.Shapes.{filled_by, is_folded}
 use Rattle.row_sheets.specs.Stacked.{shown_at}
 use Rattle.row_sheets.specs.Bound.{shown_in}
-use Rattle.row_sheets.specs.Standing.{AllStand, EntryFits, StandsIn}
+use Rattle.row_sheets.specs.Standing.{AllStand, EntryFits, StandsInRoom}
 use Rattle.row_sheets.specs.Zine.{AreZineCells, ZineIsRead, closer, kept_by, read_folded, zine_grid}
 use Rattle.row_sheets.proofs.Filling.{sheet}
 use Rattle.row_sheets.proofs.OnSheets.{each_of, each_two_of, filled_stand, not_turned, slot_inside, slots_apart}
@@ -72,14 +72,14 @@ zine_is_read f row =
 pub eight_cells : (t : Setting) → AreZineCells t → size t.grid ≡ 8
 eight_cells t cells = ap size cells.grid_is
 
-pub kept_is : (trim n : ℕ) → trim ≡ 0 → kept trim n ≡ n
+pub kept_is : (trim n : ℕ) → trim ≡ 0 → kept_length trim n ≡ n
 kept_is trim n e = ap (λ t. if t == 0 then n else n + 1) e
 
 -- in the second row
 in_second : (page : Paper) (room : Room) (b r : Bool) (s k : ℕ) → IsPaper page → HasPlace page room (zine_grid b) s → k / 4 ≡ 1 → (p : Point) → IsOfPage room.trim page p
-    → LiesInCell (cell_at room (zine_grid b) 1 (column_of (leaf_order r) (zine_grid b) k)) (kept room.trim 0) (stands page (item_in page room (zine_grid b) (leaf_order r) s k) p)
+    → LiesInCell (cell_at room (zine_grid b) 1 (column_of (leaf_order r) (zine_grid b) k)) (kept_length room.trim 0) (stands page (item_in_cell page room (zine_grid b) (leaf_order r) s k) p)
 in_second page room b r s k is place second p of =
-    subst (λ n. LiesInCell (cell_at room (zine_grid b) n (column_of (leaf_order r) (zine_grid b) k)) (kept room.trim 0) (stands page (item_in page room (zine_grid b) (leaf_order r) s k) p)) second
+    subst (λ n. LiesInCell (cell_at room (zine_grid b) n (column_of (leaf_order r) (zine_grid b) k)) (kept_length room.trim 0) (stands page (item_in_cell page room (zine_grid b) (leaf_order r) s k) p)) second
     (grid_in_cell page room (zine_grid b) (leaf_order r) s k is place p of)
 
 -- upright pages: the second row begins at the margin, and is rounded down
@@ -93,10 +93,10 @@ beside : (p D E F W w gap past : ℕ) (x x' z : ℤ) → E ≡ F → W * 1_270_0
 beside p D E F W w gap past x x' z even part least is some none right right' half = omega (arith, ints, even, part, least, is, some, none, right, right', half)
 
 abbrev RowsApart : (page page' : Paper) → Room → Grid → Order → (s s' k l : ℕ) → Type 0
-RowsApart page page' room g o s s' k l = HasPlace page room g s → HasPlace page' room g s' → IsHalfTurnOf page room.paper (item_in page room g o s k) (back_in page room g o s 0 k)
-    → AreApart (closer room) page (back_in page room g o s 0 k) page' (item_in page' room g o s' l)
+RowsApart page page' room g o s s' k l = HasPlace page room g s → HasPlace page' room g s' → IsHalfTurnOf page room.paper (item_in_cell page room g o s k) (back_in page room g o s 0 k)
+    → AreApart (closer room) page (back_in page room g o s 0 k) page' (item_in_cell page' room g o s' l)
 
-rows_apart : (b r : Bool) (page page' : Paper) (room : Room) (s s' k l : ℕ) → IsPaper page → IsPaper page' → room.trim ≡ 0 → IsEven room → 0 < room.gap_across → k / 4 ≡ 1 → l / 4 ≡ 1
+rows_apart : (b r : Bool) (page page' : Paper) (room : Room) (s s' k l : ℕ) → IsPaper page → IsPaper page' → room.trim ≡ 0 → IsEven room → 0 < room.gutter_across → k / 4 ≡ 1 → l / 4 ≡ 1
     → RowsApart page page' room (zine_grid b) (leaf_order r) s s' k l
 rows_apart false r page page' room s s' k l is is' trim even some second second' place place' half =
     let g = zine_grid false in
@@ -104,20 +104,20 @@ rows_apart false r page page' room s s' k l is is' trim even some second second'
     let high = (fits page room g s place).some_high in
     let a = along_height room in
     inr (inr (λ q p of' of.
-    below (step a h 2) (kept room.trim room.gap_up) (kept room.trim room.bottom) (kept room.trim room.top) (whole h) room.gap_up (kept room.trim 0)
-    (stands page' (item_in page' room g (leaf_order r) s' l) q).y (stands page (item_in page room g (leaf_order r) s k) p).y (stands page (back_in page room g (leaf_order r) s 0 k) p).y
-    high (ap (kept room.trim) even.up) (cells_fit a h 2 1 high (omega arith)) (kept_is room.trim room.gap_up trim) (kept_is room.trim 0 trim)
+    below (pitch a h 2) (kept_length room.trim room.gutter_up) (kept_length room.trim room.bottom) (kept_length room.trim room.top) (whole_parts h) room.gutter_up (kept_length room.trim 0)
+    (stands page' (item_in_cell page' room g (leaf_order r) s' l) q).y (stands page (item_in_cell page room g (leaf_order r) s k) p).y (stands page (back_in page room g (leaf_order r) s 0 k) p).y
+    high (ap (kept_length room.trim) even.up) (cells_fit a h 2 1 high (omega arith)) (kept_is room.trim room.gutter_up trim) (kept_is room.trim 0 trim)
     (in_second page' room false r s' l is' place' second' q of').top (in_second page room false r s k is place second p of).top
     (half.up p)))
 rows_apart true r page page' room s s' k l is is' trim even some second second' place place' half =
     let g = zine_grid true in
     let w = nat_abs room.paper.width in
     let a = along_width room in
-    let D = kept room.trim room.gap_across in
+    let D = kept_length room.trim room.gutter_across in
     inl (inl (λ p q of of'.
-    beside (step a w 2) D (kept room.trim room.left) (kept room.trim room.right) (whole w) w room.gap_across (kept room.trim 0)
-    (stands page' (item_in page' room g (leaf_order r) s' l) q).x (stands page (item_in page room g (leaf_order r) s k) p).x (stands page (back_in page room g (leaf_order r) s 0 k) p).x
-    (ap (kept room.trim) even.across) (div-mul-le_self w 1_270_000) (lt-div-mul-add {a = left_free a w + 1_270_000 * D} {b = 1_270_000 * 2} (omega arith)) (kept_is room.trim room.gap_across trim) some (kept_is room.trim 0 trim)
+    beside (pitch a w 2) D (kept_length room.trim room.left) (kept_length room.trim room.right) (whole_parts w) w room.gutter_across (kept_length room.trim 0)
+    (stands page' (item_in_cell page' room g (leaf_order r) s' l) q).x (stands page (item_in_cell page room g (leaf_order r) s k) p).x (stands page (back_in page room g (leaf_order r) s 0 k) p).x
+    (ap (kept_length room.trim) even.across) (div-mul-le_self w 1_270_000) (lt-div-mul-add {a = left_free a w + 1_270_000 * D} {b = 1_270_000 * 2} (omega arith)) (kept_is room.trim room.gutter_across trim) some (kept_is room.trim 0 trim)
     (in_second page' room true r s' l is' place' second' q of').left (in_second page room true r s k is place second p of).left
     (half.across p)))
 
@@ -134,7 +134,7 @@ pages_apart t page page' k l cells is is' on h h' from to from' to' =
     let s = scale_on t page in
     let s' = scale_on t page' in
     let back = stands_back t page k is on (omega (arith, to, eight)) (scale_of_many t page many h) in
-    let half : IsHalfTurnOf page t.room.paper (item_in page t.room t.grid t.order s k) (fitted_back t page k) =
+    let half : IsHalfTurnOf page t.room.paper (item_in_cell page t.room t.grid t.order s k) (fitted_back t page k) =
     subst (λ i. IsHalfTurnOf page t.room.paper i (fitted_back t page k)) one.0 (back.turned (one_of_many t page many)) in
     let apart : RowsApart page page' t.room t.grid t.order s s' k l =
     subst (λ g. RowsApart page page' t.room g t.order s s' k l) (sym cells.grid_is)
@@ -163,10 +163,10 @@ by_less x y gap h = omega (arith, ints, h)
 still_apart : (room : Room) (one other : MadeSlot) → SlotsAreApart room one other → SlotsAreApart (closer room) one other
 still_apart room Blank other h = tt
 still_apart room (Placed page item paper) Blank h = tt
-still_apart room (Placed page item paper) (Placed page' item' paper') (inl (inl h)) = inl (inl (λ p q of of'. by_less _ _ room.gap_across (h p q of of')))
-still_apart room (Placed page item paper) (Placed page' item' paper') (inl (inr h)) = inl (inr (λ p q of of'. by_less _ _ room.gap_across (h p q of of')))
-still_apart room (Placed page item paper) (Placed page' item' paper') (inr (inl h)) = inr (inl (λ p q of of'. by_less _ _ room.gap_up (h p q of of')))
-still_apart room (Placed page item paper) (Placed page' item' paper') (inr (inr h)) = inr (inr (λ p q of of'. by_less _ _ room.gap_up (h p q of of')))
+still_apart room (Placed page item paper) (Placed page' item' paper') (inl (inl h)) = inl (inl (λ p q of of'. by_less _ _ room.gutter_across (h p q of of')))
+still_apart room (Placed page item paper) (Placed page' item' paper') (inl (inr h)) = inl (inr (λ p q of of'. by_less _ _ room.gutter_across (h p q of of')))
+still_apart room (Placed page item paper) (Placed page' item' paper') (inr (inl h)) = inr (inl (λ p q of of'. by_less _ _ room.gutter_up (h p q of of')))
+still_apart room (Placed page item paper) (Placed page' item' paper') (inr (inr h)) = inr (inr (λ p q of of'. by_less _ _ room.gutter_up (h p q of of')))
 
 still_inside : (room : Room) (slot : MadeSlot) → SlotIsInside room slot → SlotIsInside (closer room) slot
 still_inside room Blank h = tt
@@ -204,7 +204,7 @@ inside_by false f c entry cells in_c has =
 zines_stand : (f : Filling) (sheets cells : ℕ) (entry : (s c : ℕ) → Option ℕ) → AreZineCells f.setting → cells ≡ 8 → ((s c : ℕ) → s < sheets → c < cells → EntryFits f (entry s c))
     → AllStand (closer f.setting.room) (filled_by kind.Zine f sheets cells entry)
 zines_stand f sheets cells entry zine all fits =
-    each_of (StandsIn (closer f.setting.room)) (λ s. record {
+    each_of (StandsInRoom (closer f.setting.room)) (λ s. record {
       paper = f.setting.room.paper;
       slots = map (λ c. zine_slot f c (entry s c)) (range_with_len 0 cells);
     }) sheets (λ s less. record {

@@ -14,7 +14,7 @@ use Rattle.rules.specs.Rows.{all_pages, in_signatures}
 use Rattle.layouts.specs.declared.arrangement.Arrangement.{Arrangement}
 use Rattle.layouts.specs.declared.arrangement.Binding.{Binding}
 use Rattle.layouts.specs.Fitted.{setting_of, binding_setting_of}
-use Rattle.layouts.specs.Grids.{arranged, bound, count_of}
+use Rattle.layouts.specs.Grids.{arranged, bound, cells_per_sheet}
 use Rattle.layouts.specs.Refusals.{why_not_arranged, why_not_bound}
 use Rattle.row_sheets.specs.BySpec.{made_on}
 use Rattle.row_sheets.specs.Creep.{creeping_sheets}
@@ -36,7 +36,7 @@ abbrev pub PrintedIsImposed : Type 0
 PrintedIsImposed = (page sheet : Paper) (a : Arrangement) (spec : Spec) (papers : List Paper)
     → why_not_arranged page sheet a ≡ None → HaveOnePaper page papers → IsReadAs (arranged page sheet a) spec
     → made_on sheet page (sheets spec (length papers))
-    ≡ grid_sheets (filling (setting_of page sheet a) papers) (count_of a.cells) (all_pages (length papers))
+    ≡ grid_sheets (filling (setting_of page sheet a) papers) (cells_per_sheet a.cells) (all_pages (length papers))
 
 -- the sheets of a booklet that doesn't creep, and is flipped on its short edge, in signatures, are those of its printed
 -- specification: a law

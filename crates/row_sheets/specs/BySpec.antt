@@ -27,11 +27,11 @@ BySpecOnAll = (sides : Option ℕ) (spec : Spec) (paper : Paper) (n : ℕ)
     → by_spec spec paper paper (in_order_of sides (all_pages n)) ≡ made_of paper (sheets_in sides spec n)
 
 -- the slot of an item in a block of so many entries, and the sheet of a group
-abbrev pub slot_by : (page : Paper) → Row → (modulo block : ℕ) → Item → MadeSlot
-slot_by page row modulo block item = made_slot page (entry_of row (place modulo (length row) block item)) item
+abbrev pub item_slot : (page : Paper) → Row → (modulo block : ℕ) → Item → MadeSlot
+item_slot page row modulo block item = made_slot page (entry_of row (place modulo (length row) block item)) item
 
 abbrev pub sheet_by : (sheet page : Paper) → Row → (modulo block : ℕ) → List Item → MadeSheet
-sheet_by sheet page row modulo block group = record { paper = sheet; slots = map (slot_by page row modulo block) group }
+sheet_by sheet page row modulo block group = record { paper = sheet; slots = map (item_slot page row modulo block) group }
 
 -- there are no more sheets, and no more slots on them, than a plan may have
 abbrev pub AreFew : List MadeSheet → Type 0

@@ -15,10 +15,10 @@ use Rattle.layouts.specs.declared.error.ArrangementError.{ArrangementError}
 use Rattle.layouts.specs.declared.error.ArrangementError.TheVariants as why
 use Rattle.layouts.specs.declared.setting.Setting.{Setting}
 use Rattle.layouts.specs.Placed.{IsEven, Room, fine, stands, IsOfPage}
-use Rattle.layouts.specs.Cells.{item_in, slack_x, whole}
+use Rattle.layouts.specs.Cells.{item_in_cell, slack_x, whole_parts}
 use Rattle.layouts.specs.Grids.{beside, leaf_order}
 use Rattle.layouts.specs.Laws.{IsPaper, HasPlace}
-use Rattle.layouts.specs.Refusals.{first_of}
+use Rattle.layouts.specs.Refusals.{error_unless}
 use Rattle.layouts.specs.Fitted.{fitted, fitted_back, scale_on, why_not_fitted}
 use Rattle.row_sheets.specs.Filled.{Filling, booklet_sheets, is_turned, grid_entry}
 use Rattle.row_sheets.specs.FirstFault.{first_fault}
@@ -46,15 +46,15 @@ to_fold right_to_left k creep = if is_before_fold right_to_left k then pos creep
 -- page k of a side of a leaf that creeps so far
 abbrev pub leaf_item : (page : Paper) → Room → (right_to_left : Bool) → (scale creep k : ℕ) → Item
 leaf_item page room right_to_left s creep k =
-    moved_up (to_fold right_to_left k creep) (item_in page room (beside true) (leaf_order right_to_left) s k)
+    moved_up (to_fold right_to_left k creep) (item_in_cell page room (beside true) (leaf_order right_to_left) s k)
 
 -- a page of a creeping leaf is that of a leaf that doesn't creep, moved towards the fold: a law
 abbrev pub CreepMoves : Type 0
 CreepMoves = (page : Paper) (room : Room) (right_to_left : Bool) (s creep k : ℕ) (p : Point)
     → ((stands page (leaf_item page room right_to_left s creep k) p).x
-    ≡ (stands page (item_in page room (beside true) (leaf_order right_to_left) s k) p).x)
+    ≡ (stands page (item_in_cell page room (beside true) (leaf_order right_to_left) s k) p).x)
     × ((stands page (leaf_item page room right_to_left s creep k) p).y
-    ≡ (stands page (item_in page room (beside true) (leaf_order right_to_left) s k) p).y
+    ≡ (stands page (item_in_cell page room (beside true) (leaf_order right_to_left) s k) p).y
     +ℤ (pos 1_270_000_000_000_000 *ℤ to_fold right_to_left k creep))
 
 -- the outermost leaf stays, the innermost is moved by the whole creep, and none is moved farther than the next one in
@@ -66,7 +66,7 @@ CreepGrows = (creep leaves i : ℕ) → 1 < leaves → i + 1 < leaves
 -- there is room at the fold for a leaf to creep so far: at the side of the fold a page leaves free its share of the cell,
 -- and half of the gap
 abbrev pub may_creep : (page : Paper) → Room → (scale creep : ℕ) → Bool
-may_creep page room s creep = nat_le (2 * creep) (2 * slack_x page room (beside true) s + room.gap_up)
+may_creep page room s creep = nat_le (2 * creep) (2 * slack_x page room (beside true) s + room.gutter_up)
 
 -- nothing of the page crosses a line across the sheet; the line is twice as far up as said
 abbrev pub StaysBefore : Room → (twice : ℕ) → (page : Paper) → Item → Type 0
@@ -80,8 +80,8 @@ StaysBehind room twice page item = (p : Point) → IsOfPage room.trim page p
 -- nothing crosses the fold, which is the middle of the sheet to 10^-5 of a point
 pub record KeepsSides (page : Paper) (room : Room) (one other : Item) : Type 0 where
   pub twice : ℕ
-  pub no_farther : twice ≤ whole (nat_abs room.paper.height) + 1
-  pub no_nearer : whole (nat_abs room.paper.height) ≤ twice + 1
+  pub no_farther : twice ≤ whole_parts (nat_abs room.paper.height) + 1
+  pub no_nearer : whole_parts (nat_abs room.paper.height) ≤ twice + 1
   pub before : StaysBefore room twice page one
   pub behind : StaysBehind room twice page other
 
@@ -140,7 +140,7 @@ pub record AreHalves (t : Setting) : Type 0 where
 -- (RULES, 16, step 12)
 abbrev pub why_not_creeping : Setting → (page : Paper) → (creep : ℕ) → Option ArrangementError
 why_not_creeping t page creep =
-    option_or (why_not_fitted t page) (first_of (may_creep page t.room (scale_on t page) creep) why.CreepOverFold None)
+    option_or (why_not_fitted t page) (error_unless (may_creep page t.room (scale_on t page) creep) why.CreepOverFold None)
 
 -- why an entry can't lie there, if it can't
 abbrev pub why_no_half : Filling → (creep : ℕ) → (entry : Option ℕ) → Option ArrangementError

@@ -9,12 +9,12 @@ use Rattle.rules.specs.Signatures.{entry_of}
 use Rattle.rules.specs.Made.{MadeSlot, Blank, Placed, MadeSheet}
 use Rattle.rules.specs.Rows.{Row}
 use Rattle.layouts.specs.declared.arrangement.Binding.{Binding}
-use Rattle.layouts.specs.declared.arrangement.Run.{Run}
-use Rattle.layouts.specs.declared.arrangement.Run.TheVariants.{Rows, Columns}
+use Rattle.layouts.specs.declared.arrangement.FillOrder.{FillOrder}
+use Rattle.layouts.specs.declared.arrangement.FillOrder.TheVariants.{Rows, Columns}
 use Rattle.layouts.specs.declared.arrangement.Turned.{Turned}
 use Rattle.layouts.specs.declared.setting.Setting.{Setting}
 use Rattle.layouts.specs.Placed.{IsEven, Room, IsInside, AreApart}
-use Rattle.layouts.specs.Cells.{Grid, size, read_columns, read_rows, read_row, read_column, whole}
+use Rattle.layouts.specs.Cells.{Grid, size, read_columns, read_rows, read_row, read_column, whole_parts}
 use Rattle.layouts.specs.Fitted.{fitted, fitted_back, why_not_fitted, binding_setting_of}
 use Rattle.layouts.specs.Refusals.{why_not_bound}
 use Rattle.layouts.specs.Laws.{IsPaper, LiesBefore, LiesBehind}
@@ -25,9 +25,9 @@ pub record Filling : Type 0 where
   pub paper_of : (page : ℕ) → Paper
 
 -- an entry of a row in cell c
-abbrev pub slot_in : Filling → (c : ℕ) → Option ℕ → MadeSlot
-slot_in f c None = Blank
-slot_in f c (Some page) = let paper = f.paper_of page in Placed page (fitted f.setting paper c) paper
+abbrev pub slot_in_cell : Filling → (c : ℕ) → Option ℕ → MadeSlot
+slot_in_cell f c None = Blank
+slot_in_cell f c (Some page) = let paper = f.paper_of page in Placed page (fitted f.setting paper c) paper
 
 -- as it lies if the whole sheet is turned by half
 abbrev pub back_slot_in : Filling → (c : ℕ) → Option ℕ → MadeSlot
@@ -36,7 +36,7 @@ back_slot_in f c (Some page) = let paper = f.paper_of page in Placed page (fitte
 
 -- on a sheet that is turned by half, or isn't
 abbrev pub slot_on : Filling → (by_half : Bool) → (c : ℕ) → Option ℕ → MadeSlot
-slot_on f false c entry = slot_in f c entry
+slot_on f false c entry = slot_in_cell f c entry
 slot_on f true c entry = back_slot_in f c entry
 
 -- sheets are fronts and backs in turn, from a front on; if backs are turned, each of them is turned by half
@@ -71,7 +71,7 @@ stack_entry sheets row s c = entry_of row (c * sheets + s)
 
 -- the cell that is behind cell c, if a sheet is turned over like the page of a book, as one reads it: it is as far
 -- from the other side
-abbrev pub cell_behind : Run → (rows columns : ℕ) → (c : ℕ) → ℕ
+abbrev pub cell_behind : FillOrder → (rows columns : ℕ) → (c : ℕ) → ℕ
 cell_behind Rows rows columns c = c / columns * columns + (columns - (c % columns + 1))
 cell_behind Columns rows columns c = (columns - (c / rows + 1)) * rows + c % rows
 
@@ -131,7 +131,7 @@ GridRunsOn = (cells sheets : ℕ) (row : Row)
 
 -- the cell behind a cell is in its row, and as far from the right as this one is from the left
 abbrev pub BehindIsMirror : Type 0
-BehindIsMirror = (run : Run) (right_to_left : Bool) (t : Turned) (g : Grid) (c : ℕ) → c < size g
+BehindIsMirror = (run : FillOrder) (right_to_left : Bool) (t : Turned) (g : Grid) (c : ℕ) → c < size g
     → (let b = cell_behind run (read_rows t g) (read_columns t g) c in
     (b < size g) × (read_row run t g b ≡ read_row run t g c)
     × (read_column run right_to_left t g b + read_column run right_to_left t g c + 1 ≡ read_columns t g))
@@ -154,12 +154,12 @@ SlotsAreApart room (Placed page item paper) (Placed page' item' paper') = AreApa
 -- whatever the entries are, and whatever their papers
 abbrev pub FilledIsInside : Type 0
 FilledIsInside = (f : Filling) (c : ℕ) (entry : Option ℕ) → IsPaper f.setting.room.paper → HavePlaces f
-    → c < size f.setting.grid → SlotIsInside f.setting.room (slot_in f c entry)
+    → c < size f.setting.grid → SlotIsInside f.setting.room (slot_in_cell f c entry)
 
 abbrev pub FilledIsApart : Type 0
 FilledIsApart = (f : Filling) (c d : ℕ) (one other : Option ℕ) → IsPaper f.setting.room.paper → HavePlaces f
     → c < size f.setting.grid → d < size f.setting.grid → c ≢ d
-    → SlotsAreApart f.setting.room (slot_in f c one) (slot_in f d other)
+    → SlotsAreApart f.setting.room (slot_in_cell f c one) (slot_in_cell f d other)
 
 -- also on sheets that are turned by half, if the margins are even
 abbrev pub SidesAreInside : Type 0
@@ -185,17 +185,17 @@ SlotLiesBehind room twice (Placed page item paper) = LiesBehind room twice paper
 -- all fronts, in the middle of the sheet to 10^-5 of a point, and the same line, turned by half, for backs that are turned
 pub record BookletFolds (f : Filling) (right_to_left : Bool) : Type 0 where
   pub twice : ℕ
-  pub no_farther : twice ≤ whole (nat_abs f.setting.room.paper.height) + 1
-  pub no_nearer : whole (nat_abs f.setting.room.paper.height) ≤ twice + 1
+  pub no_farther : twice ≤ whole_parts (nat_abs f.setting.room.paper.height) + 1
+  pub no_nearer : whole_parts (nat_abs f.setting.room.paper.height) ≤ twice + 1
   pub before : (entry : Option ℕ)
       → SlotLiesBefore f.setting.room twice (slot_on f false (if right_to_left then 1 else 0) entry)
   pub behind : (entry : Option ℕ)
       → SlotLiesBehind f.setting.room twice (slot_on f false (if right_to_left then 0 else 1) entry)
   pub turned_behind : (entry : Option ℕ)
-      → SlotLiesBehind f.setting.room (2 * whole (nat_abs f.setting.room.paper.height) - twice)
+      → SlotLiesBehind f.setting.room (2 * whole_parts (nat_abs f.setting.room.paper.height) - twice)
       (slot_on f true (if right_to_left then 1 else 0) entry)
   pub turned_before : (entry : Option ℕ)
-      → SlotLiesBefore f.setting.room (2 * whole (nat_abs f.setting.room.paper.height) - twice)
+      → SlotLiesBefore f.setting.room (2 * whole_parts (nat_abs f.setting.room.paper.height) - twice)
       (slot_on f true (if right_to_left then 0 else 1) entry)
 
 -- if the cells are the halves of sheets that are bound so for pages of some paper

@@ -6,35 +6,35 @@ use Rattle.rules.specs.Papers.{Paper}
 use Rattle.rules.specs.Specification.{Item, Upright}
 use Rattle.rules.specs.Placement.{Point}
 use Rattle.layouts.specs.Placed.{fine, stands, IsOfPage}
-use Rattle.layouts.specs.Cells.{fitting, slack, in_points, whole}
-use Rattle.layouts.specs.Refusals.{are_reached, is_scale, most_on_sheet}
+use Rattle.layouts.specs.Cells.{fitting, slack, in_points, whole_parts}
+use Rattle.layouts.specs.Refusals.{is_paper_reached, is_scale_in_range, most_on_sheet}
 use Rattle.layouts.specs.Laws.{Cell, IsInMiddle, IsPaper}
 use Rattle.rules.specs.Signatures.{entry_of}
 use Rattle.rules.specs.Made.{MadeSheet, Blank, Placed}
 use Rattle.rules.specs.Rows.{Row}
 use Rattle.row_sheets.specs.FirstFault.{first_fault}
 use Rattle.row_sheets.specs.declared.poster.Poster.{Poster}
-use Rattle.row_sheets.specs.declared.poster.Laid.{Laid}
+use Rattle.row_sheets.specs.declared.poster.PosterFit.{PosterFit}
 use Rattle.row_sheets.specs.declared.poster.PosterError.{PosterError}
 use Rattle.row_sheets.specs.declared.poster.PosterError.TheVariants as why
 
 -- what the margins leave of a side (RULES, 14.3)
 abbrev pub tile : (side edge : ℕ) → ℕ
-tile side edge = whole side - 2 * edge
+tile side edge = whole_parts side - 2 * edge
 
 -- from where a tile begins to where the next one begins
 abbrev pub stride : (side edge overlap : ℕ) → ℕ
 stride side edge overlap = tile side edge - overlap
 
 -- how long so many tiles are
-abbrev pub length_of : (side edge overlap tiles : ℕ) → ℕ
-length_of side edge overlap tiles = (tiles - 1) * stride side edge overlap + tile side edge
+abbrev pub tiles_length : (side edge overlap tiles : ℕ) → ℕ
+tiles_length side edge overlap tiles = (tiles - 1) * stride side edge overlap + tile side edge
 
 abbrev pub poster_width : Poster → ℕ
-poster_width p = length_of (nat_abs p.sheet.width) p.edge p.overlap p.columns
+poster_width p = tiles_length (nat_abs p.sheet.width) p.edge p.overlap p.columns
 
 abbrev pub poster_height : Poster → ℕ
-poster_height p = length_of (nat_abs p.sheet.height) p.edge p.overlap p.rows
+poster_height p = tiles_length (nat_abs p.sheet.height) p.edge p.overlap p.rows
 
 -- the largest scale with which the page fits its tiles, in 10^-9
 abbrev pub poster_scale : (page : Paper) → Poster → ℕ
@@ -73,10 +73,10 @@ most_tiles = most_on_sheet
 abbrev pub why_no_poster : (page : Paper) → Poster → Option PosterError
 why_no_poster page p =
     if nat_le 1 (p.rows * p.columns) && nat_le (p.rows * p.columns) most_tiles
-    then (if are_reached p.sheet
+    then (if is_paper_reached p.sheet
     then (if nat_lt p.overlap (tile (nat_abs p.sheet.width) p.edge) && nat_lt p.overlap (tile (nat_abs p.sheet.height) p.edge)
     then (if nat_lt (poster_width p) 10_000_000_000 && nat_lt (poster_height p) 10_000_000_000
-    then (if is_scale (poster_scale page p) then None else Some why.ScaleOutOfRange)
+    then (if is_scale_in_range (poster_scale page p) then None else Some why.ScaleOutOfRange)
     else Some why.SideTooLong)
     else Some why.NothingButOverlap)
     else Some why.SideTooLong)
@@ -121,7 +121,7 @@ IsNoPosterFor p papers row e = IsNoPoster (first_no_poster p papers row) e
 -- ---- the page on the tiles
 
 -- the page on the tiles: its scale, where it begins on the first one, and how far the next ones are
-abbrev pub laid_of : (page : Paper) → Poster → Laid
+abbrev pub laid_of : (page : Paper) → Poster → PosterFit
 laid_of page p = let s = poster_scale page p in record {
   scale = s;
   left = p.edge + begins_at (poster_width p) (nat_abs page.width) s;
@@ -130,7 +130,7 @@ laid_of page p = let s = poster_scale page p in record {
   down = stride (nat_abs p.sheet.height) p.edge p.overlap;
 }
 
-abbrev pub laid_item : Laid → (column row : ℕ) → Item
+abbrev pub laid_item : PosterFit → (column row : ℕ) → Item
 laid_item l column row = record {
   page = 0;
   from_end = false;
@@ -141,7 +141,7 @@ laid_item l column row = record {
 }
 
 -- its offsets can be written
-abbrev pub IsNear : Laid → (column row : ℕ) → Type 0
+abbrev pub IsNear : PosterFit → (column row : ℕ) → Type 0
 IsNear l column row =
     (l.left < 10_000_000_000) × (column * l.across < 10_000_000_000) × (l.bottom < 10_000_000_000)
     × (row * l.down < 10_000_000_000)

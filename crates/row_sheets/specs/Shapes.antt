@@ -13,7 +13,7 @@ use Rattle.layouts.specs.Fitted.{why_not_fitted}
 use Rattle.row_sheets.specs.declared.fill.CellKind.{CellKind}
 use Rattle.row_sheets.specs.declared.fill.CellKind.TheVariants as kind
 use Rattle.row_sheets.specs.declared.fill.Shape.{Shape}
-use Rattle.row_sheets.specs.Filled.{Filling, behind_in, slot_in, zine_place, zine_slot}
+use Rattle.row_sheets.specs.Filled.{Filling, behind_in, slot_in_cell, zine_place, zine_slot}
 use Rattle.row_sheets.specs.FirstFault.{first_fault}
 
 -- the cells of a sheet, and the papers of the pages in their order; a page whose paper isn't known has the sheet's
@@ -32,11 +32,11 @@ place_by kind.Stack t sheets cells s c = c * sheets + s
 place_by kind.Leaves t sheets cells s c = cell_on t s c * sheets + s
 place_by kind.Zine t sheets cells s c = s * cells + zine_place c
 
-abbrev pub place : Shape → Setting → (s c : ℕ) → ℕ
-place h t s c = place_by h.kind t h.sheets h.cells s c
+abbrev pub shape_place : Shape → Setting → (s c : ℕ) → ℕ
+shape_place h t s c = place_by h.kind t h.sheets h.cells s c
 
-abbrev pub entry_in : Shape → Setting → Row → (s c : ℕ) → Option ℕ
-entry_in h t row s c = entry_of row (place h t s c)
+abbrev pub entry_in_cell : Shape → Setting → Row → (s c : ℕ) → Option ℕ
+entry_in_cell h t row s c = entry_of row (shape_place h t s c)
 
 -- whether they are the two sides of leaves
 abbrev pub is_two_sided : CellKind → Bool
@@ -57,15 +57,15 @@ sheet_count kind.Leaves cells n = 2 * blocks (2 * cells) n
 sheet_count kind.Zine cells n = blocks cells n
 
 -- an entry in cell c
-abbrev pub slot_by : CellKind → Filling → (c : ℕ) → Option ℕ → MadeSlot
-slot_by kind.Zine f c entry = zine_slot f c entry
-slot_by other f c entry = slot_in f c entry
+abbrev pub cell_slot : CellKind → Filling → (c : ℕ) → Option ℕ → MadeSlot
+cell_slot kind.Zine f c entry = zine_slot f c entry
+cell_slot other f c entry = slot_in_cell f c entry
 
 -- sheets with this number of cells each, of which cell c of sheet s has the entry for it
 abbrev pub filled_by : CellKind → Filling → (sheets cells : ℕ) → (entry : (s c : ℕ) → Option ℕ) → List MadeSheet
 filled_by way f sheets cells entry = map (λ s. record {
   paper = f.setting.room.paper;
-  slots = map (λ c. slot_by way f c (entry s c)) (range_with_len 0 cells);
+  slots = map (λ c. cell_slot way f c (entry s c)) (range_with_len 0 cells);
 }) (range_with_len 0 sheets)
 
 -- the sheets of a row

@@ -11,7 +11,7 @@ use Rattle.rules.specs.Rows.{Row}
 use Rattle.layouts.specs.declared.arrangement.Turned.{Turned}
 use Rattle.layouts.specs.declared.arrangement.Turned.TheVariants as sideways
 use Rattle.layouts.specs.Placed.{IsEven}
-use Rattle.layouts.specs.Cells.{column_of, high, read_columns, row_of, size, whole, wide}
+use Rattle.layouts.specs.Cells.{column_of, high, read_columns, row_of, size, whole_parts, wide}
 use Rattle.layouts.specs.Laws.{Cell, cell_at}
 use Rattle.layouts.specs.declared.setting.Setting.{Setting}
 use Rattle.row_sheets.specs.Filled.{Filling, behind_in, card_sheets, duplex_sheets, grid_sheets, stack_sheets}
@@ -74,8 +74,8 @@ LeavesAreRead = (f : Filling) (row : Row) → ArePiledLeaves f.setting row (dupl
 -- ---- where the parts of a leaf are
 
 -- the cell of slot c on its sheet
-abbrev pub place_of : Setting → (c : ℕ) → Cell
-place_of t c = cell_at t.room t.grid (row_of t.order t.grid c) (column_of t.order t.grid c)
+abbrev pub cell_of_slot : Setting → (c : ℕ) → Cell
+cell_of_slot t c = cell_at t.room t.grid (row_of t.order t.grid c) (column_of t.order t.grid c)
 
 -- what one reads side by side is side by side on the sheet: neither pages nor what is on them lie on their side, or both do
 abbrev pub is_upright : Turned → Bool
@@ -95,12 +95,12 @@ AreMirrored side slack begin end = (begin + end ≤ side) × (side ≤ begin + e
 -- or along its width
 abbrev pub LieBehind : (across : Bool) → (sheet : Paper) → (slack : ℕ) → (front back : Cell) → Type 0
 LieBehind true sheet slack front back =
-    (back.bottom ≡ front.bottom) × AreMirrored (whole (nat_abs sheet.width)) slack front.left (back.left + back.width)
+    (back.bottom ≡ front.bottom) × AreMirrored (whole_parts (nat_abs sheet.width)) slack front.left (back.left + back.width)
 LieBehind false sheet slack front back =
-    (back.left ≡ front.left) × AreMirrored (whole (nat_abs sheet.height)) slack front.bottom (back.bottom + back.height)
+    (back.left ≡ front.left) × AreMirrored (whole_parts (nat_abs sheet.height)) slack front.bottom (back.bottom + back.height)
 
 -- a cell and the one behind it lie behind each other on sheets with even margins, to 10^-5 of a point for each column,
 -- as one reads the sheet: a law
 abbrev pub CellsLieBehind : Type 0
 CellsLieBehind = (t : Setting) (c : ℕ) → IsEven t.room → 0 < wide t.room t.grid → 0 < high t.room t.grid → c < size t.grid
-    → LieBehind (reads_across t) t.room.paper (read_columns t.order.turned t.grid) (place_of t c) (place_of t (behind_in t c))
+    → LieBehind (reads_across t) t.room.paper (read_columns t.order.turned t.grid) (cell_of_slot t c) (cell_of_slot t (behind_in t c))

@@ -8,7 +8,7 @@ use Rattle.rules.specs.Made.{MadeSlot, Blank, Placed, MadeSheet}
 use Rattle.rules.specs.Rows.{Row}
 use Rattle.layouts.specs.declared.setting.Setting.{Setting}
 use Rattle.layouts.specs.Placed.{Room}
-use Rattle.layouts.specs.Cells.{size, whole, run_in}
+use Rattle.layouts.specs.Cells.{size, whole_parts, run_in}
 use Rattle.layouts.specs.Fitted.{IsFitted, fitted, why_not_fitted}
 use Rattle.layouts.specs.Laws.{IsPaper, ComesInRun, ComesInRunBefore}
 use Rattle.row_sheets.specs.Filled.{Filling, SlotIsInside, SlotsAreApart, filled, grid_entry, is_turned}
@@ -18,13 +18,13 @@ use Rattle.row_sheets.specs.Creep.{StaysBefore, StaysBehind, creep_on, creeping,
 
 -- a sheet lies in a room: it is of the room's paper, each page on it lies on what the margins leave, and each two of its
 -- pages are apart by the gap
-pub record StandsIn (room : Room) (sheet : MadeSheet) : Type 0 where
+pub record StandsInRoom (room : Room) (sheet : MadeSheet) : Type 0 where
   pub paper : sheet.paper ≡ room.paper
   pub inside : All (SlotIsInside room) sheet.slots
   pub apart : AllPairs (SlotsAreApart room) sheet.slots
 
 abbrev pub AllStand : Room → List MadeSheet → Type 0
-AllStand room made = All (StandsIn room) made
+AllStand room made = All (StandsInRoom room) made
 
 -- ---- on leaves
 
@@ -52,7 +52,7 @@ pub record StandsOnLeaf (room : Room) (twice : ℕ) (first_is_before : Bool) (si
 -- where the fold is on a side, and whether the first of its two slots is before it: if the side is turned by half, both
 -- are turned
 abbrev pub fold_on : Room → (by_half : Bool) → (twice : ℕ) → ℕ
-fold_on room by_half twice = if by_half then 2 * whole (nat_abs room.paper.height) - twice else twice
+fold_on room by_half twice = if by_half then 2 * whole_parts (nat_abs room.paper.height) - twice else twice
 
 abbrev pub is_first_before : (right_to_left by_half : Bool) → Bool
 is_first_before right_to_left by_half = if by_half then right_to_left else (if right_to_left then false else true)
@@ -61,8 +61,8 @@ is_first_before right_to_left by_half = if by_half then right_to_left else (if r
 -- creep have the gap at their fold
 pub record LeavesStand (t : Setting) (turned_backs : Bool) (creep : ℕ) (made : List MadeSheet) : Type 0 where
   pub twice : ℕ
-  pub no_farther : twice ≤ whole (nat_abs t.room.paper.height) + 1
-  pub no_nearer : whole (nat_abs t.room.paper.height) ≤ twice + 1
+  pub no_farther : twice ≤ whole_parts (nat_abs t.room.paper.height) + 1
+  pub no_nearer : whole_parts (nat_abs t.room.paper.height) ≤ twice + 1
   pub sides : (s : ℕ) (d : MadeSheet) → s < length made
       → StandsOnLeaf t.room (fold_on t.room (is_turned turned_backs s) twice)
       (is_first_before t.order.right_to_left (is_turned turned_backs s)) (slice_index_or made s d)
@@ -102,8 +102,8 @@ IsOfHalf t by_half k creep Blank = ⊤
 IsOfHalf t by_half k creep (Placed page item paper) = FitsOnLeaf t paper creep × (item ≡ creeping t by_half paper k creep)
 
 -- each page of a row has its place: nothing had to be refused
-abbrev pub AllFit : Filling → Row → Type 0
-AllFit f row = (i : ℕ) → EntryFits f (entry_of row i)
+abbrev pub AllEntriesFit : Filling → Row → Type 0
+AllEntriesFit f row = (i : ℕ) → EntryFits f (entry_of row i)
 
 -- all pages of a row fit on creeping leaves, in signatures of `leaves` leaves
 abbrev pub AllFitOnLeaves : Filling → (creep leaves : ℕ) → Row → Type 0

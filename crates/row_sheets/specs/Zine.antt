@@ -17,32 +17,32 @@ use Rattle.row_sheets.specs.declared.fill.CellKind.{CellKind}
 use Rattle.row_sheets.specs.declared.fill.CellKind.TheVariants as kind
 use Rattle.row_sheets.specs.Filled.{Filling, zine_sheets}
 use Rattle.row_sheets.specs.Stacked.{shown_at}
-use Rattle.row_sheets.specs.Standing.{AllFit}
+use Rattle.row_sheets.specs.Standing.{AllEntriesFit}
 
 -- ---- folded and cut
 
 -- a part of the sheet, as one holds it: in which of two rows, from the top, and in which of four columns
-pub record Part : Type 0 where
+pub record ZinePart : Type 0 where
   pub row : ℕ
   pub column : ℕ
 
 -- folded along the middle of its height, with the blank side inside, and cut there between the two inner columns. So the two
 -- parts of an outer column are the two sides of a leaf, and so are the two inner parts of a row, which are pushed together
-abbrev pub other_side : Part → Part
+abbrev pub other_side : ZinePart → ZinePart
 other_side p = if p.column == 1 || p.column == 2 then record { row = p.row; column = 3 - p.column }
     else record { row = 1 - p.row; column = p.column }
 
 -- at the folds between outer and inner columns a part faces the one beside it
-abbrev pub facing : Part → Part
+abbrev pub facing : ZinePart → ZinePart
 facing p = record { row = p.row; column = if p.column % 2 == 0 then p.column + 1 else p.column - 1 }
 
 -- leaves, the first from this side of it on: its two sides, and then the leaf that faces it
-abbrev pub leaves_from : (leaves : ℕ) → Part → List Part
+abbrev pub leaves_from : (leaves : ℕ) → ZinePart → List ZinePart
 leaves_from zero p = []
 leaves_from (suc n) p = p ∷ other_side p ∷ leaves_from n (facing (other_side p))
 
 -- the four leaves, from the last part of the second row on
-abbrev pub in_hand : List Part
+abbrev pub in_hand : List ZinePart
 in_hand = leaves_from 4 (record { row = 1; column = 3 })
 
 -- what a sheet shows there, one after the other
@@ -68,13 +68,13 @@ pub record AreZineCells (t : Setting) : Type 0 where
   pub grid_is : t.grid ≡ zine_grid t.grid.turned
   pub order_is : t.order ≡ leaf_order t.order.right_to_left
   pub untrimmed : t.room.trim ≡ 0
-  pub some_across : 0 < t.room.gap_across
-  pub some_up : 0 < t.room.gap_up
+  pub some_across : 0 < t.room.gutter_across
+  pub some_up : 0 < t.room.gutter_up
   pub even : IsEven t.room
 
 -- the gaps that a zine keeps: less by 10^-5 of a point, as its first row is rounded as the second, but turned by half
 abbrev pub closer : Room → Room
-closer room = record room { gap_across = room.gap_across - 1; gap_up = room.gap_up - 1 }
+closer room = record room { gutter_across = room.gutter_across - 1; gutter_up = room.gutter_up - 1 }
 
 -- what is kept free on sheets whose cells are filled so
 abbrev pub kept_by : CellKind → Room → Room
@@ -109,4 +109,4 @@ LieInZines t made = All (λ sheet. (c : ℕ) (d : MadeSlot) → c < length sheet
 
 -- the pages of a zine lie in their cells, if nothing had to be refused, as by `impose zine`: a law
 abbrev pub ZineLiesInCells : Type 0
-ZineLiesInCells = (f : Filling) (row : Row) → AreZineCells f.setting → AllFit f row → LieInZines f.setting (zine_sheets f row)
+ZineLiesInCells = (f : Filling) (row : Row) → AreZineCells f.setting → AllEntriesFit f row → LieInZines f.setting (zine_sheets f row)

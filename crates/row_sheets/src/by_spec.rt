@@ -4,7 +4,7 @@ ghost use Rattle.rules.specs.Run.{most_sheets};
 ghost use Rattle.rules.specs.Sheets.{blocks as blocks_of, place};
 ghost use Rattle.pagespec.specs.Items.{groups_of, item_of};
 ghost use Rattle.sheet_plan.specs.OfSheets.{slot_of};
-ghost use Rattle.row_sheets.specs.BySpec.{by_spec, slot_by, sheet_by, WhyNoSheets, AreFew};
+ghost use Rattle.row_sheets.specs.BySpec.{by_spec, item_slot, sheet_by, WhyNoSheets, AreFew};
 
 use lengths::Paper;
 use pagespec::{Item, Spec};
@@ -57,14 +57,14 @@ fn blocks_in(on: &SpecOnRow<'_>) -> Result<u32, MadeError>
     if blocks as u128 * groups.len() as u128 > MOST_SHEETS {
         return Err(MadeError::TooManySheets);
     }
-    if blocks as u128 * slots_in_block(groups) > MOST_PLACES {
+    if blocks as u128 * slots_per_block(groups) > MOST_PLACES {
         return Err(MadeError::TooManyPlaces);
     }
     Ok(blocks as u32)
 }
 
 /// The number of slots of one block.
-fn slots_in_block(groups: &[Vec<Item>]) -> u128
+fn slots_per_block(groups: &[Vec<Item>]) -> u128
     requires { sum_by length (groups_of groups.now) < 2 ^ 64 }
     ensures { result ≡ sum_by length (groups_of groups.now) }
 {
@@ -105,7 +105,7 @@ fn fill_sheet(
     requires few { blocks_of on.now.spec.now.modulo (length on.now.row.now) ≤ most_sheets }
     requires block { block < blocks_of on.now.spec.now.modulo (length on.now.row.now) }
     ensures { OnOk result (map slot_of slots.new.items
-        ≡ map (slot_by on.now.page on.now.row.now on.now.spec.now.modulo block) (map item_of group.now)) }
+        ≡ map (item_slot on.now.page on.now.row.now on.now.spec.now.modulo block) (map item_of group.now)) }
 {
     slots.clear();
     for item in group {
@@ -118,9 +118,9 @@ fn fill_sheet(
 fn slot_for(on: &SpecOnRow<'_>, block: u32, item: &Item) -> MadeSlot
     requires few { blocks_of on.now.spec.now.modulo (length on.now.row.now) ≤ most_sheets }
     requires block { block < blocks_of on.now.spec.now.modulo (length on.now.row.now) }
-    ensures { slot_of result ≡ slot_by on.now.page on.now.row.now on.now.spec.now.modulo block (item_of item.now) }
+    ensures { slot_of result ≡ item_slot on.now.page on.now.row.now on.now.spec.now.modulo block (item_of item.now) }
 {
-    match entry_at(on.row, place_of(on, block, item) as u128) {
+    match entry_at(on.row, place_in_row(on, block, item) as u128) {
         Some(page) => MadeSlot::Placed {
             page,
             item: *item,
@@ -131,7 +131,7 @@ fn slot_for(on: &SpecOnRow<'_>, block: u32, item: &Item) -> MadeSlot
 }
 
 /// The place that an item names in a block.
-fn place_of(on: &SpecOnRow<'_>, block: u32, item: &Item) -> usize
+fn place_in_row(on: &SpecOnRow<'_>, block: u32, item: &Item) -> usize
     requires few { blocks_of on.now.spec.now.modulo (length on.now.row.now) ≤ most_sheets }
     requires block { block < blocks_of on.now.spec.now.modulo (length on.now.row.now) }
     ensures { result ≡ place on.now.spec.now.modulo (length on.now.row.now) block (item_of item.now) }

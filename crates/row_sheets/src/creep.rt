@@ -63,7 +63,7 @@ pub fn creeping_booklet_sheets(
     let sheets = blocks_of(row, 2)?;
     let mut made = MadeSheets::new(alloc);
     for s in 0..sheets {
-        let by_half = is_turned(turned_backs, s);
+        let by_half = is_half_turned(turned_backs, s);
         let by = creep_on(creep, s);
         let side = LeafSide { by_half, creep: by };
         let place = 2 * u128::from(s);
@@ -82,7 +82,7 @@ pub fn creeping_booklet_sheets(
 }
 
 /// Whether this side is turned by half.
-fn is_turned(turned_backs: bool, s: u32) -> bool
+fn is_half_turned(turned_backs: bool, s: u32) -> bool
     ensures { result ≡ is_turned_on turned_backs s }
 {
     turned_backs && s % 2 == 1
@@ -194,7 +194,7 @@ fn check_fold(setting: &Setting, paper: &Paper, creep: u64) -> Result<(), Arrang
         return Ok(());
     }
     let slack = setting.slack(paper)?;
-    if has_room(slack, setting.room.gap_up, creep) {
+    if has_creep_room(slack, setting.room.gutter_up, creep) {
         Ok(())
     } else {
         Err(ArrangementError::CreepOverFold)
@@ -202,7 +202,7 @@ fn check_fold(setting: &Setting, paper: &Paper, creep: u64) -> Result<(), Arrang
 }
 
 /// Whether there is room at the fold for a leaf to creep so far.
-fn has_room(slack: u128, gap: u64, creep: u64) -> bool
+fn has_creep_room(slack: u128, gap: u64, creep: u64) -> bool
     ensures { result ≡ nat_le (2 * creep) (2 * slack + gap) }
 {
     2 * u128::from(creep).saturating_sub(slack) <= u128::from(gap)
@@ -227,7 +227,7 @@ fn moved_up(item: Item, by: i64) -> Item
     ensures { item_of result ≡ moved_up_by by (item_of item) }
 {
     let (x, y) = item.offset;
-    match Number::new(sum(y.number.billionths(), in_billionths(by))) {
+    match Number::new(billionths_sum(y.number.billionths(), in_billionths(by))) {
         Some(number) => Item {
             offset: (
                 x,
@@ -251,7 +251,7 @@ fn in_billionths(by: i64) -> i64
 }
 
 /// The sum, which a number can have.
-fn sum(one: i64, other: i64) -> i64
+fn billionths_sum(one: i64, other: i64) -> i64
     requires { nat_abs (one +ℤ other) ≤ greatest_number }
     ensures { result ≡ one +ℤ other }
 {

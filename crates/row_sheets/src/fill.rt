@@ -7,17 +7,17 @@ ghost use Rattle.layouts.specs.declared.error.ArrangementError.TheVariants as wh
 ghost use Rattle.rules.specs.Made.{Placed};
 ghost use Rattle.pagespec.specs.Items.{item_of};
 ghost use Rattle.sheet_plan.specs.OfSheets.{placed_of, slot_of, slots_at};
-ghost use Rattle.row_sheets.specs.Filled.{behind_in, slot_in as slot_of_cell, back_slot_in as back_slot_of_cell};
+ghost use Rattle.row_sheets.specs.Filled.{behind_in, slot_in_cell as slot_of_cell, back_slot_in as back_slot_of_cell};
 ghost use Rattle.row_sheets.specs.Filled.{grid_sheets as grid_of, card_sheets as cards_of, stack_sheets as stack_of};
 ghost use Rattle.row_sheets.specs.Filled.{duplex_sheets as leaves_of, zine_place as place_in_zine, zine_sheets as zine_of};
-ghost use Rattle.row_sheets.specs.Shapes.{filling, is_folded, is_two_sided, sheets_by, sheet_count, place as place_of, cell_on};
-ghost use Rattle.row_sheets.specs.Shapes.{entry_in, filled_by, slot_by as slot_made_by, IsRefusedFor};
-ghost use Rattle.row_sheets.specs.Standing.{AllFit, AllStand, EntryFits, IsOfCell};
+ghost use Rattle.row_sheets.specs.Shapes.{filling, is_folded, is_two_sided, sheets_by, sheet_count, shape_place as place_of, cell_on};
+ghost use Rattle.row_sheets.specs.Shapes.{entry_in_cell, filled_by, cell_slot as slot_made_by, IsRefusedFor};
+ghost use Rattle.row_sheets.specs.Standing.{AllEntriesFit, AllStand, EntryFits, IsOfCell};
 ghost use Rattle.row_sheets.specs.Zine.{AreZineCells, closer, kept_by};
 
 use super::checked::check_cells;
 use super::selecting::paper_or;
-use layouts::{ArrangementError, Run, Setting, read_sides};
+use layouts::{ArrangementError, FillOrder, Setting, read_sides};
 use lengths::Paper;
 use pagespec::Item;
 use rows::entry_at;
@@ -55,10 +55,10 @@ pub fn grid_sheets(
     requires cells { cells ≤ size setting.now.grid }
     ensures made { IfOk result (λ made. made ≡ grid_of (filling setting.now papers.now) cells row.now) }
     ensures stands { IfOk result (AllStand setting.now.room) }
-    ensures fits { OnOk result (AllFit (filling setting.now papers.now) row.now) }
+    ensures fits { OnOk result (AllEntriesFit (filling setting.now papers.now) row.now) }
     ensures refused { IfErr result (IsRefusedFor (filling setting.now papers.now) row.now) }
 {
-    in_cells(alloc, setting, papers, row, CellKind::Grid, cells)
+    fill_cells(alloc, setting, papers, row, CellKind::Grid, cells)
 }
 
 /// Cards: each entry of the row fills all cells of a sheet.
@@ -73,10 +73,10 @@ pub fn card_sheets(
     requires cells { cells ≤ size setting.now.grid }
     ensures made { IfOk result (λ made. made ≡ cards_of (filling setting.now papers.now) cells row.now) }
     ensures stands { IfOk result (AllStand setting.now.room) }
-    ensures fits { OnOk result (AllFit (filling setting.now papers.now) row.now) }
+    ensures fits { OnOk result (AllEntriesFit (filling setting.now papers.now) row.now) }
     ensures refused { IfErr result (IsRefusedFor (filling setting.now papers.now) row.now) }
 {
-    in_cells(alloc, setting, papers, row, CellKind::Cards, cells)
+    fill_cells(alloc, setting, papers, row, CellKind::Cards, cells)
 }
 
 /// A stack: the pile of sheets is cut, its parts are laid on one another, and the row runs on.
@@ -91,10 +91,10 @@ pub fn stack_sheets(
     requires cells { cells ≤ size setting.now.grid }
     ensures made { IfOk result (λ made. made ≡ stack_of (filling setting.now papers.now) cells row.now) }
     ensures stands { IfOk result (AllStand setting.now.room) }
-    ensures fits { OnOk result (AllFit (filling setting.now papers.now) row.now) }
+    ensures fits { OnOk result (AllEntriesFit (filling setting.now papers.now) row.now) }
     ensures refused { IfErr result (IsRefusedFor (filling setting.now papers.now) row.now) }
 {
-    in_cells(alloc, setting, papers, row, CellKind::Stack, cells)
+    fill_cells(alloc, setting, papers, row, CellKind::Stack, cells)
 }
 
 /// A stack of leaves that are printed on both sides: fronts and backs in turn, with each page behind its predecessor or on
@@ -107,11 +107,11 @@ pub fn leaf_sheets(
 ) -> Result<MadeSheets, ArrangementError>
     ensures made { IfOk result (λ made. made ≡ leaves_of (filling setting.now papers.now) row.now) }
     ensures stands { IfOk result (AllStand setting.now.room) }
-    ensures fits { OnOk result (AllFit (filling setting.now papers.now) row.now) }
+    ensures fits { OnOk result (AllEntriesFit (filling setting.now papers.now) row.now) }
     ensures refused { IfErr result (IsRefusedFor (filling setting.now papers.now) row.now) }
 {
     match u32::try_from(setting.grid.size()) {
-        Ok(cells) => in_cells(alloc, setting, papers, row, CellKind::Leaves, cells),
+        Ok(cells) => fill_cells(alloc, setting, papers, row, CellKind::Leaves, cells),
         Err(_) => Err(ArrangementError::NoMemory),
     }
 }
@@ -127,14 +127,14 @@ pub fn zine_sheets(
     requires { AreZineCells setting.now }
     ensures made { IfOk result (λ made. made ≡ zine_of (filling setting.now papers.now) row.now) }
     ensures stands { IfOk result (AllStand (closer setting.now.room)) }
-    ensures fits { OnOk result (AllFit (filling setting.now papers.now) row.now) }
+    ensures fits { OnOk result (AllEntriesFit (filling setting.now papers.now) row.now) }
     ensures refused { IfErr result (IsRefusedFor (filling setting.now papers.now) row.now) }
 {
-    in_cells(alloc, setting, papers, row, CellKind::Zine, 8)
+    fill_cells(alloc, setting, papers, row, CellKind::Zine, 8)
 }
 
 /// The row in this number of cells of each sheet.
-fn in_cells(
+fn fill_cells(
     alloc: Global,
     setting: &Setting,
     papers: &[Paper],
@@ -148,7 +148,7 @@ fn in_cells(
     requires folded { is_folded kind ≡ true → AreZineCells setting.now × (cells ≡ 8) }
     ensures made { IfOk result (λ made. made ≡ sheets_by kind (filling setting.now papers.now) cells row.now) }
     ensures stands { IfOk result (AllStand (kept_by kind setting.now.room)) }
-    ensures fits { OnOk result (AllFit (filling setting.now papers.now) row.now) }
+    ensures fits { OnOk result (AllEntriesFit (filling setting.now papers.now) row.now) }
     ensures refused { IfErr result (IsRefusedFor (filling setting.now papers.now) row.now) }
 {
     let sheets = sheets_for(kind, cells, row)?;
@@ -159,12 +159,12 @@ fn in_cells(
     };
     match filled(alloc, setting, papers, row, shape) {
         Ok(made) => Ok(made),
-        Err(_) => Err(refusal(setting, papers, row)),
+        Err(_) => Err(first_refusal(setting, papers, row)),
     }
 }
 
 /// Why the cells aren't filled. The first page of the row that doesn't fit is reported, on whatever sheet it would be.
-fn refusal(setting: &Setting, papers: &[Paper], row: &[Option<u32>]) -> ArrangementError
+fn first_refusal(setting: &Setting, papers: &[Paper], row: &[Option<u32>]) -> ArrangementError
     requires { 0 < size setting.now.grid }
     ensures { IsRefusedFor (filling setting.now papers.now) row.now result }
 {
@@ -219,10 +219,10 @@ fn filled(
     requires cells { shape.cells ≤ size setting.now.grid }
     requires folded { is_folded shape.kind ≡ true → AreZineCells setting.now × (shape.cells ≡ 8) }
     ensures made { IfOk result (λ made. made ≡ filled_by shape.kind (filling setting.now papers.now) shape.sheets
-        shape.cells (entry_in shape setting.now row.now)) }
+        shape.cells (entry_in_cell shape setting.now row.now)) }
     ensures stands { IfOk result (AllStand (kept_by shape.kind setting.now.room)) }
     ensures fits { OnOk result ((s c : ℕ) → s < shape.sheets → c < shape.cells
-        → EntryFits (filling setting.now papers.now) (entry_in shape setting.now row.now s c)) }
+        → EntryFits (filling setting.now papers.now) (entry_in_cell shape setting.now row.now s c)) }
 {
     let mut made = MadeSheets::new(alloc);
     let mut slots = Vec::new(alloc);
@@ -249,15 +249,15 @@ fn fill_slots(
     requires folded { is_folded shape.kind ≡ true → AreZineCells setting.now × (shape.cells ≡ 8) }
     requires more { length made.now < shape.sheets }
     requires made { made.now ≡ filled_by shape.kind (filling setting.now papers.now) (length made.now) shape.cells
-        (entry_in shape setting.now row.now) }
+        (entry_in_cell shape setting.now row.now) }
     requires fits { (s c : ℕ) → s < length made.now → c < shape.cells
-        → EntryFits (filling setting.now papers.now) (entry_in shape setting.now row.now s c) }
+        → EntryFits (filling setting.now papers.now) (entry_in_cell shape setting.now row.now s c) }
     ensures made { OnOk result (map slot_of slots.new.items
         ≡ map (λ c. slot_made_by shape.kind (filling setting.now papers.now) c
-        (entry_in shape setting.now row.now (length made.now) c))
+        (entry_in_cell shape setting.now row.now (length made.now) c))
         (range_with_len 0 shape.cells)) }
     ensures fits { OnOk result ((c : ℕ) → c < shape.cells
-        → EntryFits (filling setting.now papers.now) (entry_in shape setting.now row.now (length made.now) c)) }
+        → EntryFits (filling setting.now papers.now) (entry_in_cell shape setting.now row.now (length made.now) c)) }
 {
     let s = made.len() as u32;
     slots.clear();
@@ -377,7 +377,8 @@ fn place(shape: Shape, setting: &Setting, s: u32, c: u32) -> u128
         CellKind::Grid => sheet * u128::from(shape.cells) + cell,
         CellKind::Cards => sheet,
         CellKind::Stack => cell * u128::from(shape.sheets) + sheet,
-        CellKind::Leaves => u128::from(side(setting, s, c)) * u128::from(shape.sheets) + sheet,
+        CellKind::Leaves => u128::from(cell_on_side(setting, s, c)) * u128::from(shape.sheets)
+            + sheet,
         CellKind::Zine => sheet * u128::from(shape.cells) + zine_place(cell),
     }
 }
@@ -391,27 +392,27 @@ fn zine_place(cell: u128) -> u128
 }
 
 /// The cell on a front, and on a back the one that is behind it.
-fn side(setting: &Setting, s: u32, c: u32) -> u64
+fn cell_on_side(setting: &Setting, s: u32, c: u32) -> u64
     ensures { result ≡ cell_on setting.now s c }
 {
     if s % 2 == 0 {
         u64::from(c)
     } else {
-        behind(setting, c) as u64
+        cell_on_back(setting, c) as u64
     }
 }
 
 /// The cell that is behind a cell.
-fn behind(setting: &Setting, c: u32) -> u128
+fn cell_on_back(setting: &Setting, c: u32) -> u128
     ensures value { result ≡ behind_in setting.now c }
     ensures in_range { result < 18_446_744_073_709_551_616 }
 {
     let (columns, rows) = read_sides(setting.order.turned, setting.grid);
     match setting.order.run {
-        Run::Rows => {
+        FillOrder::Rows => {
             u128::from(c / columns) * u128::from(columns) + u128::from(columns - (c % columns + 1))
         }
-        Run::Columns => {
+        FillOrder::Columns => {
             u128::from(u64::from(columns).saturating_sub(u64::from(c / rows) + 1))
                 * u128::from(rows)
                 + u128::from(c % rows)

@@ -7,8 +7,8 @@ ghost use Rattle.row_sheets.specs.Posters.{tile as tile_of, poster_sheets as she
 ghost use Rattle.row_sheets.specs.Posters.{most_tiles, why_no_poster, IsNoPoster, MayBePoster, laid_of, laid_item, IsNear};
 
 use layouts::{
-    HUNDRED_THOUSANDTH, MOST_ON_SHEET, distance, is_reached_across, is_scale, largest_scale,
-    number, side, slack,
+    HUNDRED_THOUSANDTH, MOST_ON_SHEET, distance, extent, fits_offsets, is_scale, largest_scale,
+    scale_e9, slack,
 };
 use lengths::Paper;
 use pagespec::{Item, Turn};
@@ -51,7 +51,7 @@ pub enum PosterError {
 /// A page on the tiles: its scale, in 10^-9, where it begins on the first one, and how far the next ones are, in 10^-5 of a
 /// point.
 #[derive(Clone, Copy, Debug, PartialEq, Eq)]
-struct Laid {
+struct PosterFit {
     scale: u64,
     left: u64,
     bottom: u64,
@@ -117,7 +117,7 @@ pub(crate) fn push_poster(
 }
 
 /// The page on the tiles.
-fn laid_on(poster: &Poster, page_paper: &Paper) -> Result<Laid, PosterError>
+fn laid_on(poster: &Poster, page_paper: &Paper) -> Result<PosterFit, PosterError>
     ensures value { IfOk result (λ laid. laid ≡ laid_of page_paper.now poster.now) }
     ensures tiles { IfOk result (λ laid. poster.now.rows * poster.now.columns ≤ most_tiles) }
     ensures page { OnOk result (IsPaper page_paper.now) }
@@ -129,10 +129,10 @@ fn laid_on(poster: &Poster, page_paper: &Paper) -> Result<Laid, PosterError>
     if tiles < 1 || MOST_ON_SHEET < tiles {
         return Err(PosterError::TilesOutOfRange);
     }
-    if !is_reached_across(&poster.sheet) {
+    if !fits_offsets(&poster.sheet) {
         return Err(PosterError::SideTooLong);
     }
-    let (width, height) = (side(poster.sheet.width()), side(poster.sheet.height()));
+    let (width, height) = (extent(poster.sheet.width()), extent(poster.sheet.height()));
     let (wide, high) = (tile(width, poster.edge), tile(height, poster.edge));
     if !(poster.overlap < wide && poster.overlap < high) {
         return Err(PosterError::NothingButOverlap);
@@ -144,14 +144,14 @@ fn laid_on(poster: &Poster, page_paper: &Paper) -> Result<Laid, PosterError>
         return Err(PosterError::SideTooLong);
     }
     let (whole_width, whole_height) = (whole_width as u64, whole_height as u64);
-    let (page_width, page_height) = (side(page_paper.width()), side(page_paper.height()));
+    let (page_width, page_height) = (extent(page_paper.width()), extent(page_paper.height()));
     let scale_across = largest_scale(whole_width, page_width);
     let largest = scale_across.min(largest_scale(whole_height, page_height));
     if !is_scale(largest) {
         return Err(PosterError::ScaleOutOfRange);
     }
     let scale = largest as u64;
-    Ok(Laid {
+    Ok(PosterFit {
         scale,
         left: poster.edge + slack(whole_width, page_width, scale) as u64,
         bottom: poster.edge + slack(whole_height, page_height, scale) as u64,
@@ -179,7 +179,7 @@ fn length(tile: u64, stride: u64, tiles: u32) -> u128
 
 /// The page on the tile in this column, and in this row from the foot. All pages of one paper have the same item, so that
 /// sheets keep it once.
-fn tile_item(laid: &Laid, column: u32, row: u32) -> Item
+fn tile_item(laid: &PosterFit, column: u32, row: u32) -> Item
     requires near { IsNear laid.now column row }
     requires scale { laid.now.scale ≤ greatest_number }
     ensures { item_of result ≡ laid_item laid.now column row }
@@ -188,7 +188,7 @@ fn tile_item(laid: &Laid, column: u32, row: u32) -> Item
         page: 0,
         from_end: false,
         turn: Turn::None,
-        scale: number(laid.scale),
+        scale: scale_e9(laid.scale),
         offset: (
             distance((u64::from(column) * laid.across) as i64, laid.left as i64),
             distance((u64::from(row) * laid.down) as i64, laid.bottom as i64),

@@ -3,7 +3,7 @@ use Rattle.std.proofs.Common.{ℕ, ◌<◌, ◌≡◌, ◌∙◌, Option, Some, 
 use Rattle.std.specs.Prelude.{if◌then◌else◌, option_map, option_and_then}
 use Rattle.std.specs.List.{slice_split}
 use Rattle.std.proofs.lemmas.List.Splits.{length-slice_split}
-use Rattle.rules.specs.Ranges.{Place, BlankPage, FromTo, is_blank_page, range_at, range_of, place_at, last_place_at}
+use Rattle.rules.specs.Ranges.{RangeEnd, BlankPage, FromTo, is_blank_page, range_at, range_of, place_at, last_place_at}
 use Rattle.rows.specs.Found.{found_in, number_found, range_found}
 
 abbrev parts : List ℕ → List (List ℕ)
@@ -22,7 +22,7 @@ too_many pages text first rest second third isnt is more =
     let some : 0 < length (parts third) = omega (arith, length-slice_split (λ b. b == 45) third) in
     sym (ap (option_map (found_in pages)) (not_blank text _ isnt (is ∙ ap (λ ps. first ∷ ps) more) ∙ range_of_many first second (parts third) some))
 
-fused : (pages : ℕ) (a b : Option Place)
+fused : (pages : ℕ) (a b : Option RangeEnd)
     → option_and_then (λ n. option_map (range_found n) (option_map (number_found pages) b)) (option_map (number_found pages) a)
     ≡ option_map (found_in pages) (option_and_then (λ p. option_map (λ q. FromTo p q) b) a)
 fused pages None b = refl

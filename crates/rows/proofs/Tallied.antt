@@ -6,11 +6,11 @@ use Rattle.std.proofs.lemmas.List.{length-append}
 use Rattle.std.proofs.lemmas.List.Concat.{flat_map-cons}
 use Rattle.rules.specs.Units.{◌>>=◌}
 use Rattle.rules.specs.Rows.{Row}
-use Rattle.rules.specs.Ranges.{Place, FromStart, FromEnd, Range, BlankPage, FromTo, has_place, has_range, number_in, entries_of, range_at, row_named}
+use Rattle.rules.specs.Ranges.{RangeEnd, FromStart, FromEnd, Range, BlankPage, FromTo, has_place, has_range, number_in, entries_of, range_at, row_named}
 use Rattle.rules.specs.Choice.{RowFault, NotARange, NotInDocument, TooManyEntries, Standing, or_fault, standing_from, first_missing, first_over, ranges_from, refused_at, row_standing}
 use Rattle.rows.specs.declared.tallies.Tally.{Tally}
 use Rattle.rows.specs.Found.{found_in, number_found, is_missing, entries_found, entries_if, pages_from_to, piece_found}
-use Rattle.rows.specs.Tallies.{tally_of, no_tally, counted, tally_piece, tally_from}
+use Rattle.rows.specs.Tallies.{tally_of, no_tally, with_range, tally_piece, tally_from}
 
 by_test : {P : Type 0} (b : Bool) → (b ≡ true → P) → (b ≡ false → P) → P
 by_test true t f = t refl
@@ -18,11 +18,11 @@ by_test false t f = f refl
 
 -- ---- a range that is found has both ends
 
-number_there : (pages : ℕ) (p : Place) → has_place pages p ≡ true → (number_found pages p ≡ number_in pages p) × ((number_found pages p == 0) ≡ false)
+number_there : (pages : ℕ) (p : RangeEnd) → has_place pages p ≡ true → (number_found pages p ≡ number_in pages p) × ((number_found pages p == 0) ≡ false)
 number_there pages (FromStart k) is = let e : number_found pages (FromStart k) ≡ k = ap (λ t. if t then k else 0) is in (e, grind (arith, nat_tests, is, e))
 number_there pages (FromEnd k) is = let e : number_found pages (FromEnd k) ≡ pages + 1 - k = ap (λ t. if t then pages + 1 - k else 0) is in (e, grind (arith, nat_tests, is, e))
 
-number_missing : (pages : ℕ) (p : Place) → has_place pages p ≡ false → (number_found pages p == 0) ≡ true
+number_missing : (pages : ℕ) (p : RangeEnd) → has_place pages p ≡ false → (number_found pages p == 0) ≡ true
 number_missing pages p isnt = ap (λ t. (if t then number_in pages p else 0) == 0) isnt
 
 pub missing_is : (pages : ℕ) (r : Range) → is_missing (found_in pages r) ≡ not (has_range pages r)
@@ -53,7 +53,7 @@ entries_are pages (FromTo p q) is =
 
 abbrev pub tally_all : (most pages : ℕ) → List Standing → Tally → Tally
 tally_all most pages [] t = t
-tally_all most pages (s ∷ all) t = tally_all most pages all (counted most s.at (found_in pages s.range) t)
+tally_all most pages (s ∷ all) t = tally_all most pages all (with_range most s.at (found_in pages s.range) t)
 
 abbrev pub AreTallied : (most pages : ℕ) → Tally → Result Tally ℕ → Result (List Standing) RowFault → Type 0
 AreTallied most pages t (Ok u) (Ok all) = u ≡ tally_all most pages all t
@@ -62,7 +62,7 @@ AreTallied most pages t (Ok u) (Err fault) = ⊥
 AreTallied most pages t (Err at) (Ok all) = ⊥
 
 one_more : (most pages at : ℕ) (r : Range) (t : Tally) (x : Result Tally ℕ) (y : Result (List Standing) RowFault)
-    → AreTallied most pages (counted most at (found_in pages r) t) x y
+    → AreTallied most pages (with_range most at (found_in pages r) t) x y
     → AreTallied most pages t x (y >>= λ more. Ok (record { at = at; range = r } ∷ more))
 one_more most pages at r t (Ok u) (Ok all) h = h
 one_more most pages at r t (Err b) (Err fault) h = h
@@ -73,7 +73,7 @@ tallied_step : (most pages at : ℕ) (o : Option Range) (t : Tally) (next : Tall
     → ((u : Tally) → AreTallied most pages u (next u) more)
     → AreTallied most pages t (tally_piece most pages at o t >>= next) (or_fault at o >>= λ r. more >>= λ all. Ok (record { at = at; range = r } ∷ all))
 tallied_step most pages at None t next more h = refl
-tallied_step most pages at (Some r) t next more h = one_more most pages at r t (next (counted most at (found_in pages r) t)) more (h (counted most at (found_in pages r) t))
+tallied_step most pages at (Some r) t next more h = one_more most pages at r t (next (with_range most at (found_in pages r) t)) more (h (with_range most at (found_in pages r) t))
 
 pub are_tallied : (most pages at : ℕ) (pieces : List (List ℕ)) (t : Tally) → AreTallied most pages t (tally_from most pages at pieces t) (standing_from at pieces)
 are_tallied most pages at [] t = refl

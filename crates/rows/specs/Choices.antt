@@ -13,13 +13,13 @@ part_named part_is.All = All
 part_named part_is.Odd = Odd
 part_named part_is.Even = Even
 
-abbrev pub ranges_in : Option (Bor (List ℕ)) → Option (List ℕ)
-ranges_in None = None
-ranges_in (Some text) = Some text.now
+abbrev pub ranges_text : Option (Bor (List ℕ)) → Option (List ℕ)
+ranges_text None = None
+ranges_text (Some text) = Some text.now
 
 -- RULES, 11
 abbrev pub choice_of : code.Choice → Choice
-choice_of c = record { ranges = ranges_in c.ranges; part = part_named c.part; backwards = c.backwards }
+choice_of c = record { ranges = ranges_text c.ranges; part = part_named c.part; backwards = c.backwards }
 
 -- the row of ranges that the document has, or of all pages
 abbrev pub named_found : (pages : ℕ) → Option (Bor (List ℕ)) → Row

@@ -15,9 +15,9 @@ RefusesRow asked error.NoEntries = asked ≡ Err NoEntries
 RefusesRow asked error.NoMemory = IsOk asked
 
 -- the same of a call that takes no memory
-abbrev pub IsFault : Result Row RowFault → RowError → Type 0
-IsFault asked (error.NotARange at) = asked ≡ Err (NotARange at)
-IsFault asked (error.NotInDocument at) = asked ≡ Err (NotInDocument at)
-IsFault asked (error.TooManyEntries at) = asked ≡ Err (TooManyEntries at)
-IsFault asked error.NoEntries = asked ≡ Err NoEntries
-IsFault asked error.NoMemory = ⊥
+abbrev pub IsRowFault : Result Row RowFault → RowError → Type 0
+IsRowFault asked (error.NotARange at) = asked ≡ Err (NotARange at)
+IsRowFault asked (error.NotInDocument at) = asked ≡ Err (NotInDocument at)
+IsRowFault asked (error.TooManyEntries at) = asked ≡ Err (TooManyEntries at)
+IsRowFault asked error.NoEntries = asked ≡ Err NoEntries
+IsRowFault asked error.NoMemory = ⊥

@@ -4,7 +4,7 @@ use Rattle.std.specs.List.{range_with_len}
 use Rattle.rules.specs.Sheets.{blocks}
 use Rattle.rules.specs.Signatures.{AreSides, entry_of}
 use Rattle.rules.specs.Rows.{Row}
-use Rattle.rules.specs.Choice.{Signing, InOne, OfSides, Auto, sides_for, signed}
+use Rattle.rules.specs.Choice.{Signing, InOne, OfSides, Auto, sides_for, signed_if}
 use Rattle.rules.specs.Leaves.{faces, read_signature}
 use Rattle.rows.specs.declared.sewing.Signing as code
 use Rattle.rows.specs.declared.sewing.Signing.TheVariants as sewn
@@ -25,5 +25,5 @@ abbrev pub SignedIsRead : Type 0
 SignedIsRead = (how : Signing) (row : Row) → AreSides (sides_for how (length row)) →
     (let sides = sides_for how (length row) in
     let signatures = blocks sides (length row) in
-    flat_map (read_signature (sides / 4) (faces (signed (Some how) row))) (range_with_len 0 signatures)
+    flat_map (read_signature (sides / 4) (faces (signed_if (Some how) row))) (range_with_len 0 signatures)
     ≡ map (entry_of row) (range_with_len 0 (signatures * sides)))

@@ -2,8 +2,8 @@
 ghost use Rattle.std.specs.Prelude.{◌≡◌, ◌≤◌, ◌<◌, length, Ok, IfOk, IfErr};
 ghost use Rattle.rules.specs.Rows.{Row};
 ghost use Rattle.rules.specs.Choice.{chosen, named_row, part_of, reversed_if, most_entries};
-ghost use Rattle.rows.specs.Choices.{choice_of, part_named, ranges_in, named_found};
-ghost use Rattle.rows.specs.Refusals.{RefusesRow, IsFault};
+ghost use Rattle.rows.specs.Choices.{choice_of, part_named, ranges_text, named_found};
+ghost use Rattle.rows.specs.Refusals.{RefusesRow, IsRowFault};
 
 use crate::error::RowError;
 use crate::named_rows::text_row;
@@ -52,10 +52,10 @@ pub fn chosen_row(
 /// The number of entries of the row before a part is taken, or why there is no row.
 fn named_count(pages: u32, ranges: Option<&[u8]>) -> Result<usize, RowError>
     requires { pages ≤ most_entries }
-    ensures row { IfOk result (λ n. named_row pages (ranges_in ranges.entry) ≡ Ok (named_found pages ranges.entry)) }
+    ensures row { IfOk result (λ n. named_row pages (ranges_text ranges.entry) ≡ Ok (named_found pages ranges.entry)) }
     ensures count { IfOk result (λ n. n ≡ length (named_found pages ranges.entry)) }
     ensures few { IfOk result (λ n. n ≤ most_entries) }
-    ensures refused { IfErr result (IsFault (named_row pages (ranges_in ranges.entry))) }
+    ensures refused { IfErr result (IsRowFault (named_row pages (ranges_text ranges.entry))) }
 {
     match ranges {
         Some(text) => entry_count(pages, text),

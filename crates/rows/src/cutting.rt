@@ -4,7 +4,7 @@ ghost use Rattle.std.specs.List.{slice_split};
 ghost use Rattle.rows.specs.Found.{parts_left};
 
 /// The text before the first such byte, and the text after it, if there is one.
-pub(crate) fn cut(byte: u8, text: &[u8]) -> (&[u8], Option<&[u8]>)
+pub(crate) fn split_at_byte(byte: u8, text: &[u8]) -> (&[u8], Option<&[u8]>)
     ensures parts { slice_split (λ b. b == byte) text.now ≡ result.0.now ∷ parts_left byte result.1 }
     ensures whole { IfSome result.1 (λ rest. length text.now ≡ length result.0.now + 1 + length rest.now) }
 {

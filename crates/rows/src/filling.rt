@@ -3,25 +3,25 @@ ghost use Rattle.std.specs.Prelude.{◌≡◌, ◌+◌, ◌<◌, ◌≤◌, ◌+
 ghost use Rattle.std.specs.List.{range_with_len};
 ghost use Rattle.rows.specs.Found.{row_found, entries_found, entries_if, pages_from_to};
 
-use crate::cutting::cut;
-use crate::found_ranges::{Found, read_range};
+use crate::cutting::split_at_byte;
+use crate::found_ranges::{ResolvedRange, read_range};
 
 /// Appends the entries of all ranges of a text, for which the row has room.
-pub(crate) fn append_text(row: &mut Vec<Option<u32>>, pages: u32, text: &[u8])
+pub(crate) fn append_ranges(row: &mut Vec<Option<u32>>, pages: u32, text: &[u8])
     requires { vec_len row.old + length (row_found pages text.now) ≤ vec_capacity row.old }
     ensures appended { row.new.items ≡ row.old.items ++ row_found pages text.now }
     ensures room { vec_capacity row.new ≡ vec_capacity row.old }
 {
     let mut left = Some(text);
     while let Some(rest) = left {
-        let (piece, behind) = cut(b',', rest);
-        append_if(row, read_range(pages, piece));
+        let (piece, behind) = split_at_byte(b',', rest);
+        append_range_if(row, read_range(pages, piece));
         left = behind;
     }
 }
 
 /// Appends the entries of a range, if there is one.
-fn append_if(row: &mut Vec<Option<u32>>, range: Option<Found>)
+fn append_range_if(row: &mut Vec<Option<u32>>, range: Option<ResolvedRange>)
     requires { vec_len row.old + length (entries_if range) ≤ vec_capacity row.old }
     ensures appended { row.new.items ≡ row.old.items ++ entries_if range }
     ensures room { vec_capacity row.new ≡ vec_capacity row.old }
@@ -33,14 +33,14 @@ fn append_if(row: &mut Vec<Option<u32>>, range: Option<Found>)
 }
 
 /// Appends the entries of a range.
-fn append_range(row: &mut Vec<Option<u32>>, range: Found)
+fn append_range(row: &mut Vec<Option<u32>>, range: ResolvedRange)
     requires { vec_len row.old + length (entries_found range) ≤ vec_capacity row.old }
     ensures appended { row.new.items ≡ row.old.items ++ entries_found range }
     ensures room { vec_capacity row.new ≡ vec_capacity row.old }
 {
     match range {
-        Found::Blank => row.push_reserved(None),
-        Found::FromTo(first, last) => {
+        ResolvedRange::Blank => row.push_reserved(None),
+        ResolvedRange::FromTo(first, last) => {
             if first == 0 || last == 0 {
                 return;
             }

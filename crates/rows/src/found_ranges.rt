@@ -3,25 +3,25 @@ ghost use Rattle.std.specs.Prelude.{◌≡◌, ◌^◌, ◌≤◌, length, optio
 ghost use Rattle.rules.specs.Ranges.{FromTo, place_at, last_place_at, range_at, is_blank_page};
 ghost use Rattle.rows.specs.Found.{found_in, is_missing, entries_found, range_found, pages_from_to};
 
-use crate::cutting::cut;
+use crate::cutting::split_at_byte;
 use crate::places::{read_last_place, read_place};
 
 /// A range in a document: a blank, or the numbers of its first and its last page; 0 is a page that the document
 /// lacks.
 #[derive(Clone, Copy)]
-pub enum Found {
+pub enum ResolvedRange {
     Blank,
     FromTo(u32, u32),
 }
 
-impl Found {
+impl ResolvedRange {
     /// Whether the document lacks an end of it.
     pub(crate) fn is_missing(self) -> bool
         ensures { result ≡ is_missing self }
     {
         match self {
-            Found::Blank => false,
-            Found::FromTo(first, last) => first == 0 || last == 0,
+            ResolvedRange::Blank => false,
+            ResolvedRange::FromTo(first, last) => first == 0 || last == 0,
         }
     }
 
@@ -31,8 +31,8 @@ impl Found {
         ensures few { result ≤ 2 ^ 32 }
     {
         match self {
-            Found::Blank => 1,
-            Found::FromTo(first, last) => {
+            ResolvedRange::Blank => 1,
+            ResolvedRange::FromTo(first, last) => {
                 if first == 0 || last == 0 {
                     0
                 } else {
@@ -56,18 +56,18 @@ fn pages_between(first: u32, last: u32) -> u64
 }
 
 /// The range that a text means, in a document of this many pages.
-pub(crate) fn read_range(pages: u32, text: &[u8]) -> Option<Found>
+pub(crate) fn read_range(pages: u32, text: &[u8]) -> Option<ResolvedRange>
     ensures { result ≡ option_map (found_in pages) (range_at text.now) }
 {
-    if is_blank(text) {
-        return Some(Found::Blank);
+    if means_blank(text) {
+        return Some(ResolvedRange::Blank);
     }
-    let (first, rest) = cut(b'-', text);
+    let (first, rest) = split_at_byte(b'-', text);
     let rest = match rest {
         Some(rest) => rest,
         None => return one_page(read_place(pages, first)),
     };
-    let (second, more) = cut(b'-', rest);
+    let (second, more) = split_at_byte(b'-', rest);
     match more {
         Some(_) => None,
         None => from_to(read_place(pages, first), read_last_place(pages, second)),
@@ -75,29 +75,29 @@ pub(crate) fn read_range(pages: u32, text: &[u8]) -> Option<Found>
 }
 
 /// Whether a text means a blank.
-fn is_blank(text: &[u8]) -> bool
+fn means_blank(text: &[u8]) -> bool
     ensures { result ≡ is_blank_page text.now }
 {
     text == b"blank".as_slice() || text == b"_".as_slice()
 }
 
 /// A page alone.
-fn one_page(page: Option<u32>) -> Option<Found>
+fn one_page(page: Option<u32>) -> Option<ResolvedRange>
     ensures { result ≡ option_map (λ n. range_found n n) page }
 {
     match page {
-        Some(page) => Some(Found::FromTo(page, page)),
+        Some(page) => Some(ResolvedRange::FromTo(page, page)),
         None => None,
     }
 }
 
 /// The pages from one to another, if there are both.
-fn from_to(first: Option<u32>, last: Option<u32>) -> Option<Found>
+fn from_to(first: Option<u32>, last: Option<u32>) -> Option<ResolvedRange>
     ensures { result ≡ option_and_then (λ n. option_map (range_found n) last) first }
 {
     match first {
         Some(first) => match last {
-            Some(last) => Some(Found::FromTo(first, last)),
+            Some(last) => Some(ResolvedRange::FromTo(first, last)),
             None => None,
         },
         None => None,

@@ -5,7 +5,7 @@ ghost use Rattle.rows.specs.Found.{row_found};
 ghost use Rattle.rows.specs.Refusals.{RefusesRow};
 
 use crate::error::RowError;
-use crate::filling::append_text;
+use crate::filling::append_ranges;
 use crate::tallies::entry_count;
 use std::alloc::{AllocError, Global};
 
@@ -37,6 +37,6 @@ pub(crate) fn text_row(
     ensures room { IfOk result (λ row. vec_capacity row ≡ vec_len row) }
 {
     let mut row = Vec::with_capacity(alloc, entries)?;
-    append_text(&mut row, pages, text);
+    append_ranges(&mut row, pages, text);
     Ok(row)
 }

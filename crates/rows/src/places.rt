@@ -35,7 +35,7 @@ pub(crate) fn read_last_place(pages: u32, text: &[u8]) -> Option<u32>
 fn from_start(pages: u32, digits: &[u8]) -> Option<u32>
     ensures { result ≡ option_map (number_found pages) (by_digits FromStart digits.now) }
 {
-    match number_in(digits) {
+    match number_of_digits(digits) {
         Some(number) => Some(start_number(pages, number)),
         None => None,
     }
@@ -45,7 +45,7 @@ fn from_start(pages: u32, digits: &[u8]) -> Option<u32>
 fn from_end(pages: u32, digits: &[u8]) -> Option<u32>
     ensures { result ≡ option_map (number_found pages) (by_digits FromEnd digits.now) }
 {
-    match number_in(digits) {
+    match number_of_digits(digits) {
         Some(number) => Some(end_number(pages, number)),
         None => None,
     }
@@ -74,18 +74,18 @@ fn end_number(pages: u32, number: usize) -> u32
 }
 
 /// The value of digits, or the greatest number; None if there are no digits, or a byte is not a digit.
-fn number_in(text: &[u8]) -> Option<usize>
+fn number_of_digits(text: &[u8]) -> Option<usize>
     ensures { MatchOption result (is_number_text text.now ≡ false) (λ n.
         (is_number_text text.now ≡ true) × (n ≡ min (number_of text.now) usize.MAX)) }
 {
     if text.is_empty() {
         return None;
     }
-    count_in(text)
+    number_or_zero(text)
 }
 
 /// The same; 0 if there are no digits.
-fn count_in(text: &[u8]) -> Option<usize>
+fn number_or_zero(text: &[u8]) -> Option<usize>
     ensures { MatchOption result (list_all is_ascii_digit text.now ≡ false) (λ n.
         (list_all is_ascii_digit text.now ≡ true) × (n ≡ min (number_of text.now) usize.MAX)) }
 {

@@ -3,7 +3,7 @@ ghost use Rattle.std.specs.Prelude.{◌≡◌, ◌*◌, ◌≤◌, ◌<◌, leng
 ghost use Rattle.rules.specs.Sheets.{blocks};
 ghost use Rattle.rules.specs.Signatures.{AreSides};
 ghost use Rattle.rules.specs.Rows.{auto_sides, leaves_for};
-ghost use Rattle.rules.specs.Choice.{imposed_row, signed, sides_for, most_entries};
+ghost use Rattle.rules.specs.Choice.{imposed_row, signed_if, sides_for, most_entries};
 ghost use Rattle.rows.specs.Choices.{choice_of};
 ghost use Rattle.rows.specs.Sewing.{signing_of, MayBeSewn};
 ghost use Rattle.rows.specs.Refusals.{RefusesRow};
@@ -73,7 +73,7 @@ pub fn signed_row(
     requires sides { IfSome signing MayBeSewn }
     requires some { 0 < length row.items }
     requires few { length row.items ≤ most_entries }
-    ensures { IfOk result (λ printed. printed.items ≡ signed (option_map signing_of signing) row.items) }
+    ensures { IfOk result (λ printed. printed.items ≡ signed_if (option_map signing_of signing) row.items) }
 {
     match signing {
         Some(how) => sewn_row(alloc, row.as_slice(), how),
@@ -90,7 +90,7 @@ fn sewn_row(
     requires sides { MayBeSewn how }
     requires some { 0 < length row.now }
     requires few { length row.now ≤ most_entries }
-    ensures { IfOk result (λ printed. printed.items ≡ signed (Some (signing_of how)) row.now) }
+    ensures { IfOk result (λ printed. printed.items ≡ signed_if (Some (signing_of how)) row.now) }
 {
     in_signatures(alloc, row, how.sides(row.len()))
 }

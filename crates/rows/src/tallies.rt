@@ -3,12 +3,12 @@ ghost use Rattle.std.specs.Prelude.{◌≡◌, ◌≤◌, length, Ok, IfOk, IfEr
 ghost use Rattle.rules.specs.Ranges.{pieces_of};
 ghost use Rattle.rules.specs.Choice.{most_entries, row_of_text};
 ghost use Rattle.rows.specs.Found.{row_found};
-ghost use Rattle.rows.specs.Tallies.{counted, tally_from, no_tally};
-ghost use Rattle.rows.specs.Refusals.{IsFault};
+ghost use Rattle.rows.specs.Tallies.{with_range, tally_from, no_tally};
+ghost use Rattle.rows.specs.Refusals.{IsRowFault};
 
-use crate::cutting::cut;
+use crate::cutting::split_at_byte;
 use crate::error::RowError;
-use crate::found_ranges::{Found, read_range};
+use crate::found_ranges::{ResolvedRange, read_range};
 
 const MOST_ENTRIES: u64 = 1_000_000;
 
@@ -26,7 +26,7 @@ pub(crate) fn entry_count(pages: u32, text: &[u8]) -> Result<usize, RowError>
     ensures row { IfOk result (λ n. row_of_text pages text.now ≡ Ok (row_found pages text.now)) }
     ensures count { IfOk result (λ n. n ≡ length (row_found pages text.now)) }
     ensures few { IfOk result (λ n. n ≤ most_entries) }
-    ensures refused { IfErr result (IsFault (row_of_text pages text.now)) }
+    ensures refused { IfErr result (IsRowFault (row_of_text pages text.now)) }
 {
     let tally = match tally_ranges(pages, text) {
         Ok(tally) => tally,
@@ -55,9 +55,9 @@ fn tally_ranges(pages: u32, text: &[u8]) -> Result<Tally, usize>
     let mut left = Some(text);
     while let Some(rest) = left {
         let at = text.len() - rest.len();
-        let (piece, behind) = cut(b',', rest);
+        let (piece, behind) = split_at_byte(b',', rest);
         match read_range(pages, piece) {
-            Some(range) => tally = counted(tally, at, range),
+            Some(range) => tally = with_range(tally, at, range),
             None => return Err(at),
         }
         left = behind;
@@ -66,9 +66,9 @@ fn tally_ranges(pages: u32, text: &[u8]) -> Result<Tally, usize>
 }
 
 /// The tally with one more range, which begins at this byte.
-fn counted(tally: Tally, at: usize, range: Found) -> Tally
+fn with_range(tally: Tally, at: usize, range: ResolvedRange) -> Tally
     requires { tally.entries ≤ most_entries }
-    ensures value { result ≡ counted most_entries at range tally }
+    ensures value { result ≡ with_range most_entries at range tally }
     ensures few { result.entries ≤ most_entries }
 {
     if tally.missing.is_some() {

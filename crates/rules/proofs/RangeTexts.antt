@@ -12,7 +12,7 @@ use Rattle.std.proofs.lemmas.List.Sums.{AllPass-from_list_all, list_all-from_All
 use Rattle.rules.specs.Numbers.{number_of}
 use Rattle.rules.specs.Specification.{IsDigits, IsJoined}
 use Rattle.rules.proofs.OneValue.{same_head, same_tail}
-use Rattle.rules.specs.Ranges.{BlankPage, FromEnd, FromStart, FromTo, IsPlace, IsRange, Place, Range, RangesAreRead, by_digits, is_blank_page, is_number, last_place_at, place_at, range_at, range_of, ranges_in, the_last}
+use Rattle.rules.specs.Ranges.{BlankPage, FromEnd, FromStart, FromTo, IsPlace, IsRange, RangeEnd, Range, RangesAreRead, by_digits, is_blank_page, is_number, last_place_at, place_at, range_at, range_of, ranges_in, the_last}
 
 -- ---- cases
 by_test : {P : Type 0} (b : Bool) → (b ≡ true → P) → (b ≡ false → P) → P
@@ -71,7 +71,7 @@ last_without c sign =
     (All-cons (λ b. (b == c) ≡ false) 115 (116 ∷ []) sign.s
     (All-cons (λ b. (b == c) ≡ false) 116 [] sign.t (All-nil (λ b. (b == c) ≡ false)))))
 
-place_without : (c : ℕ) (text : List ℕ) (p : Place) → IsSign c → IsPlace text p → Without c text
+place_without : (c : ℕ) (text : List ℕ) (p : RangeEnd) → IsSign c → IsPlace text p → Without c text
 place_without c text (FromStart k) sign is = digits_without c text k sign is
 place_without c text (FromEnd k) sign (inl (digits, e, is)) =
     subst (Without c) (sym e) (All-cons (λ b. (b == c) ≡ false) 95 digits sign.under (digits_without c digits k sign is))
@@ -82,7 +82,7 @@ some_digit : (text : List ℕ) → text ≢ [] → list_all is_ascii_digit text 
 some_digit [] some all = absurd (some refl)
 some_digit (b ∷ text) some all = all
 
-digits_read : (place : ℕ → Place) (text : List ℕ) (k : ℕ) → IsDigits text k → by_digits place text ≡ Some (place k)
+digits_read : (place : ℕ → RangeEnd) (text : List ℕ) (k : ℕ) → IsDigits text k → by_digits place text ≡ Some (place k)
 digits_read place text k is =
     ap (λ t. if t then Some (place (number_of text)) else None) (some_digit text is.1 (list_all-from_AllPass is_ascii_digit text is.0))
     ∙ ap (λ n. Some (place n)) (sym is.2)
@@ -112,13 +112,13 @@ start_read (b ∷ rest) k is =
     ∙ start_step b rest (no_digit 95 b refl digit)
     ∙ digits_read FromStart (b ∷ rest) k is
 
-place_read : (text : List ℕ) (p : Place) → IsPlace text p → place_at text ≡ Some p
+place_read : (text : List ℕ) (p : RangeEnd) → IsPlace text p → place_at text ≡ Some p
 place_read text (FromStart k) is = start_read text k is
 place_read text (FromEnd k) (inl (digits, e, is)) =
     ap place_at e ∙ place_step 95 digits (not_last 95 digits (λ h. absurd (omega (arith, h)))) ∙ digits_read FromEnd digits k is
 place_read text (FromEnd k) (inr (e, one)) = ap place_at e ∙ ap (λ n. Some (FromEnd n)) (sym one)
 
-last_read : (text : List ℕ) (p : Place) → IsPlace text p → last_place_at text ≡ Some p
+last_read : (text : List ℕ) (p : RangeEnd) → IsPlace text p → last_place_at text ≡ Some p
 last_read [] p is = absurd (no_some p (place_read [] p is))
 last_read (b ∷ rest) p is = place_read (b ∷ rest) p is
 
@@ -127,14 +127,14 @@ is_digits : (text : List ℕ) → is_number text ≡ true → IsDigits text (num
 is_digits [] e = absurd (true≢false (sym e))
 is_digits (b ∷ text) e = (AllPass-from_list_all is_ascii_digit (b ∷ text) e, (λ h. absurd (cc (h))), refl)
 
-digits_found : (place : ℕ → Place) (text : List ℕ) (p : Place) → by_digits place text ≡ Some p
+digits_found : (place : ℕ → RangeEnd) (text : List ℕ) (p : RangeEnd) → by_digits place text ≡ Some p
     → (p ≡ place (number_of text)) × IsDigits text (number_of text)
 digits_found place text p e =
     by_test (is_number text)
     (λ is. (sym (some_same (place (number_of text)) p (sym (ap (λ t. if t then Some (place (number_of text)) else None) is) ∙ e)), is_digits text is))
     (λ isnt. absurd (no_some p (sym (ap (λ t. if t then Some (place (number_of text)) else None) isnt) ∙ e)))
 
-place_found : (text : List ℕ) (p : Place) → place_at text ≡ Some p → IsPlace text p
+place_found : (text : List ℕ) (p : RangeEnd) → place_at text ≡ Some p → IsPlace text p
 place_found [] p e = absurd (no_some p e)
 place_found (b ∷ rest) p e =
     by_test (bytes_eq (b ∷ rest) (codes "last"))
@@ -153,7 +153,7 @@ place_found (b ∷ rest) p e =
         let found = digits_found FromStart (b ∷ rest) p (sym (start_step b rest isnt) ∙ h) in
         subst (IsPlace (b ∷ rest)) (sym found.0) found.1)
 
-last_found : (text : List ℕ) (p : Place) → last_place_at text ≡ Some p → IsPlace text p ⊎ ((text ≡ []) × (p ≡ the_last))
+last_found : (text : List ℕ) (p : RangeEnd) → last_place_at text ≡ Some p → IsPlace text p ⊎ ((text ≡ []) × (p ≡ the_last))
 last_found [] p e = inr (refl, sym (some_same the_last p e))
 last_found (b ∷ rest) p e = inl (place_found (b ∷ rest) p e)
 
@@ -194,12 +194,12 @@ some_piece c text = of_split (split c text)
 abbrev range_or : Bool → List ℕ → Option Range
 range_or t text = if t then Some BlankPage else range_of (pieces 45 text)
 
-no_place_named_blank : (p : Place) → IsPlace (codes "blank") p → ⊥
+no_place_named_blank : (p : RangeEnd) → IsPlace (codes "blank") p → ⊥
 no_place_named_blank (FromStart k) is = true≢false (sym (first_digit 98 (108 ∷ 97 ∷ 110 ∷ 107 ∷ []) k is))
 no_place_named_blank (FromEnd k) (inl (digits, e, is)) = omega (arith, same_head 98 95 (108 ∷ 97 ∷ 110 ∷ 107 ∷ []) digits e)
 no_place_named_blank (FromEnd k) (inr (e, one)) = omega (arith, same_head 98 108 (108 ∷ 97 ∷ 110 ∷ 107 ∷ []) (97 ∷ 115 ∷ 116 ∷ []) e)
 
-no_lone_place : (p : Place) → IsPlace (95 ∷ []) p → ⊥
+no_lone_place : (p : RangeEnd) → IsPlace (95 ∷ []) p → ⊥
 no_lone_place (FromStart k) is = true≢false (sym (first_digit 95 [] k is))
 no_lone_place (FromEnd k) (inl (digits, e, is)) = is.1 (sym (same_tail 95 95 [] digits e))
 no_lone_place (FromEnd k) (inr (e, one)) = omega (arith, same_head 95 108 [] (97 ∷ 115 ∷ 116 ∷ []) e)
@@ -219,7 +219,7 @@ blank_text text is = of_either (either (bytes_eq text (codes "blank")) (bytes_eq
 not_blank : (text : List ℕ) → (IsRange text BlankPage → ⊥) → is_blank_page text ≡ false
 not_blank text h = by_test (is_blank_page text) (λ is. absurd (h (blank_text text is))) (λ isnt. isnt)
 
-place_no_blank : (text : List ℕ) (p : Place) → IsPlace text p → IsRange text BlankPage → ⊥
+place_no_blank : (text : List ℕ) (p : RangeEnd) → IsPlace text p → IsRange text BlankPage → ⊥
 place_no_blank text p is (inl e) = no_place_named_blank p (subst (λ t. IsPlace t p) e is)
 place_no_blank text p is (inr e) = no_lone_place p (subst (λ t. IsPlace t p) e is)
 
@@ -243,13 +243,13 @@ pair_no_blank : (text first second : List ℕ) → text ≡ first ++ 45 ∷ seco
 pair_no_blank text first second e (inl f) = with_minus first second (subst (Without 45) (sym f ∙ e) blank_without)
 pair_no_blank text first second e (inr f) = with_minus first second (subst (Without 45) (sym f ∙ e) lone_without)
 
-one_read : (text : List ℕ) (p : Place) → IsPlace text p → range_at text ≡ Some (FromTo p p)
+one_read : (text : List ℕ) (p : RangeEnd) → IsPlace text p → range_at text ≡ Some (FromTo p p)
 one_read text p is =
     ap (λ t. range_or t text) (not_blank text (place_no_blank text p is))
     ∙ ap range_of (slice_split_none (λ b. b == 45) text (place_without 45 text p minus is))
     ∙ ap (option_map (λ q. FromTo q q)) (place_read text p is)
 
-two_read : (text first second : List ℕ) (p q : Place) → text ≡ first ++ 45 ∷ second → IsPlace first p → Without 45 second
+two_read : (text first second : List ℕ) (p q : RangeEnd) → text ≡ first ++ 45 ∷ second → IsPlace first p → Without 45 second
     → last_place_at second ≡ Some q → range_at text ≡ Some (FromTo p q)
 two_read text first second p q e is clean last =
     ap (λ t. range_or t text) (not_blank text (pair_no_blank text first second e))
@@ -276,7 +276,7 @@ two_found text first second r e h =
     (λ none. absurd (no_some r (sym (ap (option_and_then (λ x. option_map (λ y. FromTo x y) (last_place_at second))) none) ∙ h)))
     (λ p some. of_first p some (sym (ap (option_and_then (λ x. option_map (λ y. FromTo x y) (last_place_at second))) some) ∙ h))
   where
-    of_first : (p : Place) → place_at first ≡ Some p → option_map (λ y. FromTo p y) (last_place_at second) ≡ Some r → IsRange text r
+    of_first : (p : RangeEnd) → place_at first ≡ Some p → option_map (λ y. FromTo p y) (last_place_at second) ≡ Some r → IsRange text r
     of_first p some g =
         by_option (last_place_at second)
         (λ none. absurd (no_some r (sym (ap (option_map (λ y. FromTo p y)) none) ∙ g)))

@@ -8,7 +8,7 @@ use Rattle.std.proofs.lemmas.List.FromFn.{get_or-map-range_with_len, length-map-
 use Rattle.rules.specs.Sheets.{blocks, page_at, sheets_over}
 use Rattle.rules.specs.Signatures.{entry_of, page_in_signature}
 use Rattle.rules.proofs.Signatures.{page_shown, page_hidden, without_sides}
-use Rattle.rules.specs.Rows.{Row, PartsByNumber, PartsOfRow, SheetsOfAll, SignaturesOfAll, all_pages, even_part, interleaved, odd_part, with_numbers}
+use Rattle.rules.specs.Rows.{Row, PartsByNumber, PartsOfRow, SheetsOfAll, SignaturesOfAll, all_pages, even_part, interleaved, odd_part, numbers_that_pass}
 
 all_len : (n : ℕ) → length (all_pages n) ≡ n
 all_len n = length-map-range_with_len {X = Option ℕ} Some 0 n
@@ -60,11 +60,11 @@ is_odd k = k % 2 == 1
 abbrev is_even : ℕ → Bool
 is_even k = k % 2 == 0
 
-kept : (test : ℕ → Bool) (p : ℕ) (row : Row) → test (p + 1) ≡ true → with_numbers test (Some p ∷ row) ≡ Some p ∷ with_numbers test row
-kept test p row e = ap (λ t. if t then Some p ∷ with_numbers test row else with_numbers test row) e
+kept : (test : ℕ → Bool) (p : ℕ) (row : Row) → test (p + 1) ≡ true → numbers_that_pass test (Some p ∷ row) ≡ Some p ∷ numbers_that_pass test row
+kept test p row e = ap (λ t. if t then Some p ∷ numbers_that_pass test row else numbers_that_pass test row) e
 
-left_out : (test : ℕ → Bool) (p : ℕ) (row : Row) → test (p + 1) ≡ false → with_numbers test (Some p ∷ row) ≡ with_numbers test row
-left_out test p row e = ap (λ t. if t then Some p ∷ with_numbers test row else with_numbers test row) e
+left_out : (test : ℕ → Bool) (p : ℕ) (row : Row) → test (p + 1) ≡ false → numbers_that_pass test (Some p ∷ row) ≡ numbers_that_pass test row
+left_out test p row e = ap (λ t. if t then Some p ∷ numbers_that_pass test row else numbers_that_pass test row) e
 
 first_odd : (b : ℕ) → is_odd (2 * b + 1) ≡ true
 first_odd b = let e : (2 * b + 1) % 2 ≡ 1 = omega arith in ap (λ k. k == 1) e
@@ -78,24 +78,24 @@ first_even b = let e : (2 * b + 1) % 2 ≡ 1 = omega arith in ap (λ k. k == 0) 
 second_even : (b : ℕ) → is_even (2 * b + 1 + 1) ≡ true
 second_even b = let e : (2 * b + 1 + 1) % 2 ≡ 0 = omega arith in ap (λ k. k == 0) e
 
-odd_by_number : (b k : ℕ) → odd_part (run (2 * b) k) ≡ with_numbers is_odd (run (2 * b) k)
+odd_by_number : (b k : ℕ) → odd_part (run (2 * b) k) ≡ numbers_that_pass is_odd (run (2 * b) k)
 odd_by_number b zero = refl
 odd_by_number b (suc zero) = sym (kept is_odd (2 * b) [] (first_odd b))
 odd_by_number b (suc (suc k)) =
     let next : 2 * b + 1 + 1 ≡ 2 * (b + 1) = omega arith in
     let rest : Row = run (2 * b + 1 + 1) k in
     ap (λ z. Some (2 * b) ∷ z)
-    (ap (λ a. odd_part (run a k)) next ∙ odd_by_number (b + 1) k ∙ sym (ap (λ a. with_numbers is_odd (run a k)) next) ∙ sym (left_out is_odd (2 * b + 1) rest (second_odd b)))
+    (ap (λ a. odd_part (run a k)) next ∙ odd_by_number (b + 1) k ∙ sym (ap (λ a. numbers_that_pass is_odd (run a k)) next) ∙ sym (left_out is_odd (2 * b + 1) rest (second_odd b)))
     ∙ sym (kept is_odd (2 * b) (Some (2 * b + 1) ∷ rest) (first_odd b))
 
-even_by_number : (b k : ℕ) → even_part (run (2 * b) k) ≡ with_numbers is_even (run (2 * b) k)
+even_by_number : (b k : ℕ) → even_part (run (2 * b) k) ≡ numbers_that_pass is_even (run (2 * b) k)
 even_by_number b zero = refl
 even_by_number b (suc zero) = sym (left_out is_even (2 * b) [] (first_even b))
 even_by_number b (suc (suc k)) =
     let next : 2 * b + 1 + 1 ≡ 2 * (b + 1) = omega arith in
     let rest : Row = run (2 * b + 1 + 1) k in
     ap (λ z. Some (2 * b + 1) ∷ z)
-    (ap (λ a. even_part (run a k)) next ∙ even_by_number (b + 1) k ∙ sym (ap (λ a. with_numbers is_even (run a k)) next))
+    (ap (λ a. even_part (run a k)) next ∙ even_by_number (b + 1) k ∙ sym (ap (λ a. numbers_that_pass is_even (run a k)) next))
     ∙ sym (kept is_even (2 * b + 1) rest (second_even b))
     ∙ sym (left_out is_even (2 * b) (Some (2 * b + 1) ∷ rest) (first_even b))
 

@@ -4,7 +4,7 @@ use Rattle.std.specs.Prelude.{nat_lt}
 use mathlib.Core.List.{IsPrefix}
 use mathlib.Core.Logic.{dite}
 use native.Mathlib.Decide.{ℕ_discrete}
-use Rattle.rules.specs.Seats.{whole_share, longer, total, times}
+use Rattle.rules.specs.Seats.{whole_share, longer, total, occurrences}
 use Rattle.rules.specs.SeatRules.{entry_at, entries_at, IsHeld}
 use Rattle.rules.proofs.SeatTotals.{total-append, times-append, times_push, times_same, times_else, not_pos, pos_or}
 use Rattle.rules.proofs.SeatFronts.{length_begins}
@@ -19,7 +19,7 @@ module _ {E : Type 0} (log more : List E) where
       early (y ∷ l) zero lt = refl
       early (y ∷ l) (suc x) lt = early l x (omega arith)
 
-  pub entries_stay : (places : List ℕ) → ((x : ℕ) → 0 < times x places → x < length log) → entries_at (log ++ more) places ≡ entries_at log places
+  pub entries_stay : (places : List ℕ) → ((x : ℕ) → 0 < occurrences x places → x < length log) → entries_at (log ++ more) places ≡ entries_at log places
   entries_stay [] h = refl
   entries_stay (p ∷ ps) h =
       let here : p < length log = h p (let t = times_same p in omega arith) in
@@ -37,7 +37,7 @@ module _ {E : Type 0} where
   entry_last (x ∷ log) e = entry_last log e
 
   -- one more entry
-  pub entries_added : (front between : List E) (own : List ℕ) (e : E) → ((x : ℕ) → 0 < times x own → x < length front)
+  pub entries_added : (front between : List E) (own : List ℕ) (e : E) → ((x : ℕ) → 0 < occurrences x own → x < length front)
       → entries_at ((front ++ between) ++ e ∷ []) (own ++ length (front ++ between) ∷ []) ≡ entries_at front own ++ e ∷ []
   entries_added front between own e inside =
       let log : List E = front ++ between in
@@ -47,21 +47,21 @@ module _ {E : Type 0} where
       let last : entries_at (log ++ e ∷ []) (length log ∷ []) ≡ e ∷ [] = append-nil (entry_at (log ++ e ∷ []) (length log)) ∙ entry_last log e in
       entries_at-append (log ++ e ∷ []) own (length log ∷ []) ∙ (λ i. first i ++ last i)
 
-  pub entries_longer : (a b : List E) (own : List ℕ) → IsPrefix a b → ((x : ℕ) → 0 < times x own → x < length a) → entries_at b own ≡ entries_at a own
+  pub entries_longer : (a b : List E) (own : List ℕ) → IsPrefix a b → ((x : ℕ) → 0 < occurrences x own → x < length a) → entries_at b own ≡ entries_at a own
   entries_longer a b own p h = ap (λ l. entries_at l own) (sym p.1) ∙ entries_stay a p.0 own h
 
   -- two seats in one
-  pub entries_joined : (a b : List E) (own mine : List ℕ) → IsPrefix a (longer a b) → IsPrefix b (longer a b) → ((x : ℕ) → 0 < times x own → x < length a) → ((x : ℕ) → 0 < times x mine → x < length b)
+  pub entries_joined : (a b : List E) (own mine : List ℕ) → IsPrefix a (longer a b) → IsPrefix b (longer a b) → ((x : ℕ) → 0 < occurrences x own → x < length a) → ((x : ℕ) → 0 < occurrences x mine → x < length b)
       → entries_at (longer a b) (own ++ mine) ≡ entries_at a own ++ entries_at b mine
   entries_joined a b own mine p q h k = entries_at-append (longer a b) own mine ∙ (λ i. entries_longer a (longer a b) own p h i ++ entries_longer b (longer a b) mine q k i)
 
   -- the own places of both are places of the longer front
-  pub joined_inside : (a b : List E) (own mine : List ℕ) → IsPrefix a (longer a b) → IsPrefix b (longer a b) → ((x : ℕ) → 0 < times x own → x < length a) → ((x : ℕ) → 0 < times x mine → x < length b)
-      → (x : ℕ) → 0 < times x (own ++ mine) → x < length (longer a b)
+  pub joined_inside : (a b : List E) (own mine : List ℕ) → IsPrefix a (longer a b) → IsPrefix b (longer a b) → ((x : ℕ) → 0 < occurrences x own → x < length a) → ((x : ℕ) → 0 < occurrences x mine → x < length b)
+      → (x : ℕ) → 0 < occurrences x (own ++ mine) → x < length (longer a b)
   joined_inside a b own mine p q h k x has = let t = times-append x own mine in ⊎_elim
-      (λ (here : 0 < times x own). let i = h x here in let le = length_begins a (longer a b) p in omega arith)
-      (λ (there : 0 < times x mine). let i = k x there in let le = length_begins b (longer a b) q in omega arith)
-      (pos_or (times x own) (times x mine) (omega arith))
+      (λ (here : 0 < occurrences x own). let i = h x here in let le = length_begins a (longer a b) p in omega arith)
+      (λ (there : 0 < occurrences x mine). let i = k x there in let le = length_begins b (longer a b) q in omega arith)
+      (pos_or (occurrences x own) (occurrences x mine) (omega arith))
 
 module _ {E : Type 0} (Legal : List E → Type 0) where
   -- a seat that made an entry
@@ -85,21 +85,21 @@ module _ {E : Type 0} (Legal : List E → Type 0) where
       le : length front ≤ n
       le = omega (arith, length-append front between)
 
-      within : (x : ℕ) → 0 < times x (own ++ n ∷ []) → times x (own ++ n ∷ []) ≡ times x own + times x (n ∷ []) → length (log ++ e ∷ []) ≡ n + 1 → x < length (log ++ e ∷ [])
+      within : (x : ℕ) → 0 < occurrences x (own ++ n ∷ []) → occurrences x (own ++ n ∷ []) ≡ occurrences x own + occurrences x (n ∷ []) → length (log ++ e ∷ []) ≡ n + 1 → x < length (log ++ e ∷ [])
       within x has t len = ⊎_elim
-          (λ (h : 0 < times x own). let i = k.inside x h in let l = le in omega arith)
-          (λ (h : 0 < times x (n ∷ [])). dite (ℕ_discrete n x) (λ same. omega arith) (λ other. let z = times_else x n other in absurd (omega arith)))
-          (pos_or (times x own) (times x (n ∷ [])) (omega arith))
+          (λ (h : 0 < occurrences x own). let i = k.inside x h in let l = le in omega arith)
+          (λ (h : 0 < occurrences x (n ∷ [])). dite (ℕ_discrete n x) (λ same. omega arith) (λ other. let z = times_else x n other in absurd (omega arith)))
+          (pos_or (occurrences x own) (occurrences x (n ∷ [])) (omega arith))
 
-      told : (x : ℕ) → times x (own ++ n ∷ []) ≡ times x own + times x (n ∷ []) → times x (own ++ n ∷ []) ≤ 1
+      told : (x : ℕ) → occurrences x (own ++ n ∷ []) ≡ occurrences x own + occurrences x (n ∷ []) → occurrences x (own ++ n ∷ []) ≤ 1
       told x t = dite (ℕ_discrete n x)
-          (λ same. let z : times x own ≡ 0 = not_pos _ (λ pos. let i = k.inside x pos in let l = le in absurd (omega arith)) in
-          let one : times x (n ∷ []) ≡ 1 = subst (λ y. times x (y ∷ []) ≡ 1) (sym same) (times_same x) in omega arith)
+          (λ same. let z : occurrences x own ≡ 0 = not_pos _ (λ pos. let i = k.inside x pos in let l = le in absurd (omega arith)) in
+          let one : occurrences x (n ∷ []) ≡ 1 = subst (λ y. occurrences x (y ∷ []) ≡ 1) (sym same) (times_same x) in omega arith)
           (λ other. let z = times_else x n other in let o = k.once x in omega arith)
 
-      all : share ≡ whole_share → (x : ℕ) → times x (own ++ n ∷ []) ≡ times x own + times x (n ∷ []) → x < n + 1 → 0 < times x (own ++ n ∷ [])
+      all : share ≡ whole_share → (x : ℕ) → occurrences x (own ++ n ∷ []) ≡ occurrences x own + occurrences x (n ∷ []) → x < n + 1 → 0 < occurrences x (own ++ n ∷ [])
       all whole x t lt = dite (ℕ_discrete n x)
-          (λ same. let one : times x (n ∷ []) ≡ 1 = subst (λ y. times x (y ∷ []) ≡ 1) (sym same) (times_same x) in omega arith)
+          (λ same. let one : occurrences x (n ∷ []) ≡ 1 = subst (λ y. occurrences x (y ∷ []) ≡ 1) (sym same) (times_same x) in omega arith)
           (λ other. let l : length log ≡ length front = ap length (ap (λ b. front ++ b) (alone whole) ∙ append-nil front) in
           let ev = k.every whole x (omega arith) in omega arith)
 
@@ -112,15 +112,15 @@ module _ {E : Type 0} (Legal : List E → Type 0) where
 
   -- two seats in one
   pub held_joined : (a b : List E) (own mine : List ℕ) (share part : ℕ) → IsHeld Legal a own share → IsHeld Legal b mine part → IsPrefix a (longer a b) → IsPrefix b (longer a b)
-      → ((x : ℕ) → times x own + times x mine ≤ 1) → share + part ≤ whole_share → (share + part ≡ whole_share → (x : ℕ) → x < length (longer a b) → 0 < times x own + times x mine)
+      → ((x : ℕ) → occurrences x own + occurrences x mine ≤ 1) → share + part ≤ whole_share → (share + part ≡ whole_share → (x : ℕ) → x < length (longer a b) → 0 < occurrences x own + occurrences x mine)
       → IsHeld Legal (longer a b) (own ++ mine) (share + part)
   held_joined a b own mine share part ka kb p q apart small every = record {
     legal = longer_legal a b ka.legal kb.legal;
     inside = joined_inside a b own mine p q ka.inside kb.inside;
-    once = λ x. let t : times x (own ++ mine) ≡ times x own + times x mine = times-append x own mine in let one = apart x in omega arith;
+    once = λ x. let t : occurrences x (own ++ mine) ≡ occurrences x own + occurrences x mine = times-append x own mine in let one = apart x in omega arith;
     some_share = let s = ka.some_share in omega arith;
     most_share = small;
-    every = λ whole x lt. let t : times x (own ++ mine) ≡ times x own + times x mine = times-append x own mine in let e = every whole x lt in omega arith;
+    every = λ whole x lt. let t : occurrences x (own ++ mine) ≡ occurrences x own + occurrences x mine = times-append x own mine in let e = every whole x lt in omega arith;
   }
 
   -- a seat that has seen more, and doesn't have all shares
@@ -212,7 +212,7 @@ abbrev each : (ℕ → ℕ) → List ℕ → ℕ → ℕ
 each f [] x = 0
 each f (y ∷ ys) x = only y f x + each f ys x
 
-each_total : (f : ℕ → ℕ) (n : ℕ) (ys : List ℕ) → ((x : ℕ) → 0 < times x ys → x < n) → total f ys ≡ below (each f ys) n
+each_total : (f : ℕ → ℕ) (n : ℕ) (ys : List ℕ) → ((x : ℕ) → 0 < occurrences x ys → x < n) → total f ys ≡ below (each f ys) n
 each_total f n [] h = sym (below_zero n)
 each_total f n (y ∷ ys) h =
     let rest = each_total f n ys (λ x has. h x (omega arith)) in
@@ -220,27 +220,27 @@ each_total f n (y ∷ ys) h =
     let cut = below_sum (only y f) (each f ys) n in
     omega arith
 
-each_none : (f : ℕ → ℕ) (ys : List ℕ) (x : ℕ) → times x ys ≡ 0 → each f ys x ≡ 0
+each_none : (f : ℕ → ℕ) (ys : List ℕ) (x : ℕ) → occurrences x ys ≡ 0 → each f ys x ≡ 0
 each_none f [] x t = refl
 each_none f (y ∷ ys) x t = dite (ℕ_discrete y x)
-    (λ same. let o : times x (y ∷ []) ≡ 1 = subst (λ z. times x (z ∷ []) ≡ 1) (sym same) (times_same x) in absurd (omega arith))
+    (λ same. let o : occurrences x (y ∷ []) ≡ 1 = subst (λ z. occurrences x (z ∷ []) ≡ 1) (sym same) (times_same x) in absurd (omega arith))
     (λ other. let o : only y f x ≡ 0 = ap (λ b. if b then f x else 0) (ne_eqb y x other) in
     let r = each_none f ys x (omega arith) in omega arith)
 
-each_once : (f : ℕ → ℕ) (ys : List ℕ) (x : ℕ) → times x ys ≡ 1 → each f ys x ≡ f x
+each_once : (f : ℕ → ℕ) (ys : List ℕ) (x : ℕ) → occurrences x ys ≡ 1 → each f ys x ≡ f x
 each_once f [] x t = absurd (omega arith)
 each_once f (y ∷ ys) x t = dite (ℕ_discrete y x)
-    (λ same. let o : times x (y ∷ []) ≡ 1 = subst (λ z. times x (z ∷ []) ≡ 1) (sym same) (times_same x) in
+    (λ same. let o : occurrences x (y ∷ []) ≡ 1 = subst (λ z. occurrences x (z ∷ []) ≡ 1) (sym same) (times_same x) in
     let v : only y f x ≡ f x = ap (λ b. if b then f x else 0) (eq-eqb y x same) in
     let r = each_none f ys x (omega arith) in omega arith)
-    (λ other. let o : times x (y ∷ []) ≡ 0 = times_else x y other in
+    (λ other. let o : occurrences x (y ∷ []) ≡ 0 = times_else x y other in
     let v : only y f x ≡ 0 = ap (λ b. if b then f x else 0) (ne_eqb y x other) in
     let r = each_once f ys x (omega arith) in omega arith)
 
-each_most : (f : ℕ → ℕ) (ys : List ℕ) (x : ℕ) → times x ys ≤ 1 → each f ys x ≤ f x
-each_most f ys x le = two (times x ys) refl le
+each_most : (f : ℕ → ℕ) (ys : List ℕ) (x : ℕ) → occurrences x ys ≤ 1 → each f ys x ≤ f x
+each_most f ys x le = two (occurrences x ys) refl le
   where
-    two : (n : ℕ) → times x ys ≡ n → n ≤ 1 → each f ys x ≤ f x
+    two : (n : ℕ) → occurrences x ys ≡ n → n ≤ 1 → each f ys x ≤ f x
     two zero e l = let z = each_none f ys x e in omega arith
     two (suc zero) e l = let o = each_once f ys x e in omega arith
     two (suc (suc n)) e l = absurd (omega arith)
@@ -271,7 +271,7 @@ module _ {E : Type 0} (h : E → ℕ) where
       omega arith
 
   -- own entries, each once, weigh no more than all entries
-  pub part_weight : (front : List E) (own : List ℕ) → ((x : ℕ) → 0 < times x own → x < length front) → ((x : ℕ) → times x own ≤ 1) → total h (entries_at front own) ≤ total h front
+  pub part_weight : (front : List E) (own : List ℕ) → ((x : ℕ) → 0 < occurrences x own → x < length front) → ((x : ℕ) → occurrences x own ≤ 1) → total h (entries_at front own) ≤ total h front
   part_weight front own inside once =
       let places = weighed_places front own in
       let sums = each_total (weight_at front) (length front) own inside in

@@ -2,7 +2,7 @@
 use Rattle.std.proofs.Common.{◌≡◌, ℕ, suc, ◌<◌, List, [], ◌∷◌, ◌++◌, length, refl, sym, ap, ◌∙◌, subst, arith, append_assoc, append-nil, length-append}
 use Rattle.std.specs.Prelude.{Some, slice_get}
 use mathlib.Core.List.{IsPrefix}
-use Rattle.rules.specs.Seats.{whole_share, times}
+use Rattle.rules.specs.Seats.{whole_share, occurrences}
 use Rattle.rules.specs.SeatRules.{entries_at, StandAt}
 use Rattle.rules.proofs.SeatFronts.{begins_further}
 use Rattle.rules.proofs.SeatRules.{entries_added}
@@ -12,7 +12,7 @@ module _ {E : Type 0} where
   abbrev pub Runs : (share : ℕ) → List E → List ℕ → List E → List E → List ℕ → Type 0
   Runs share front own [] later more = (front ≡ later) × (own ≡ more)
   Runs share front own (e ∷ es) later more =
-      (between : List E) × (share ≡ whole_share → between ≡ []) × ((x : ℕ) → 0 < times x own → x < length front)
+      (between : List E) × (share ≡ whole_share → between ≡ []) × ((x : ℕ) → 0 < occurrences x own → x < length front)
       × Runs share ((front ++ between) ++ e ∷ []) (own ++ length (front ++ between) ∷ []) es later more
 
   pub run_begins : (share : ℕ) (front : List E) (own : List ℕ) (es later : List E) (more : List ℕ) → Runs share front own es later more → IsPrefix front later

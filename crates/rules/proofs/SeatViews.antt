@@ -3,7 +3,7 @@ use Rattle.std.proofs.Common.{◌≡◌, ℕ, ◌+◌, ◌-◌, ◌<◌, List, [
 use Rattle.atomic_table.specs.Seated.{TableId}
 use Rattle.rules.specs.Seats.{Sight, Adds, Learned, keeps_back, given, absorbed, opening_sight, longer}
 use Rattle.rules.specs.SeatRules.{IsHeld, StandsAlone}
-use Rattle.rules.specs.SeatCalls.{SeatView, seat_view, Agree, Made, Met, Joined, opening}
+use Rattle.rules.specs.SeatCalls.{HistorySeat, seat_view, Agree, Made, Met, Joined, opening}
 use Rattle.rules.proofs.SeatFronts.{both_begin}
 use Rattle.rules.proofs.SeatRules.{held_added, held_keeps, held_given, held_opens, held_joined, held_met}
 use Rattle.rules.proofs.SeatTotals.{times-append}
@@ -30,9 +30,9 @@ module _ {K E : Type 0} (Legal : K → List E → Type 0) where
   pub stands_after : (v w : Sight K E) (share : ℕ) (e : E) → Adds Legal v e w → StandsAlone Legal v share → StandsAlone Legal w share
   stands_after v w share e a s = record { share = s.share ∙ sym (ap (λ (u : Sight K E). u.share) a.grown); held = held_after v w e a s.held }
 
-  pub made : (t t' : TableId) (v w : Sight K E) (e e' : E) (old : SeatView K E) → Adds Legal v e w → Held v → t' ≡ t → e ≡ e' → seat_view t v ≡ old → Made Legal old e' (seat_view t' w)
+  pub made : (t t' : TableId) (v w : Sight K E) (e e' : E) (old : HistorySeat K E) → Adds Legal v e w → Held v → t' ≡ t → e ≡ e' → seat_view t v ≡ old → Made Legal old e' (seat_view t' w)
   made t t' v w e e' old a h same call is =
-      subst (λ (z : TableId × E × SeatView K E). Made Legal z.2 z.1 (seat_view z.0 w)) (λ i. (sym same i, call i, is i))
+      subst (λ (z : TableId × E × HistorySeat K E). Made Legal z.2 z.1 (seat_view z.0 w)) (λ i. (sym same i, call i, is i))
       (record { between = a.between; grown = ap (seat_view t) a.grown; alone = a.alone; before = h; after = held_after v w e a h })
 
   -- a split
@@ -70,9 +70,9 @@ module _ {K E : Type 0} (Legal : K → List E → Type 0) where
   joined_base : (t tw : TableId) (v w : Sight K E) → Learned (absorbed v w) → w.key ≡ v.key → Held v → Held w → Joined Legal (seat_view t v) (seat_view tw w) (seat_view t (absorbed v w))
   joined_base t tw v w l key hv hw = record { joined = refl; agree = agree t tw v w l; seat = held_absorbed v w l key hv hw }
 
-  pub joined : (t tw t' : TableId) (v w u : Sight K E) (a b : SeatView K E) → seat_view t v ≡ a → seat_view tw w ≡ b → u ≡ absorbed v w → Learned u → t' ≡ t → w.key ≡ v.key → Held v → Held w → Joined Legal a b (seat_view t' u)
+  pub joined : (t tw t' : TableId) (v w u : Sight K E) (a b : HistorySeat K E) → seat_view t v ≡ a → seat_view tw w ≡ b → u ≡ absorbed v w → Learned u → t' ≡ t → w.key ≡ v.key → Held v → Held w → Joined Legal a b (seat_view t' u)
   joined t tw t' v w u a b is_a is_b is l same key hv hw =
-      subst (λ (z : SeatView K E × SeatView K E × TableId × Sight K E). Joined Legal z.0 z.1 (seat_view z.2 z.3)) (λ i. (is_a i, is_b i, sym same i, sym is i))
+      subst (λ (z : HistorySeat K E × HistorySeat K E × TableId × Sight K E). Joined Legal z.0 z.1 (seat_view z.2 z.3)) (λ i. (is_a i, is_b i, sym same i, sym is i))
       (joined_base t tw v w (subst Learned is l) key hv hw)
 
   -- a meeting: two seats are joined, and split again, each with its own places and its share
@@ -115,11 +115,11 @@ module _ {K E : Type 0} (Legal : K → List E → Type 0) where
     seats = held_both v w l key hv hw;
   }
 
-  pub met : (t tb t' t'' : TableId) (v w x p q : Sight K E) (places theirs : List ℕ) (give : ℕ) (a b : SeatView K E) → seat_view t v ≡ a → seat_view tb w ≡ b → x ≡ absorbed v w → Learned x
+  pub met : (t tb t' t'' : TableId) (v w x p q : Sight K E) (places theirs : List ℕ) (give : ℕ) (a b : HistorySeat K E) → seat_view t v ≡ a → seat_view tb w ≡ b → x ≡ absorbed v w → Learned x
       → p ≡ keeps_back places give x → q ≡ given theirs give x → places ≡ v.own → theirs ≡ w.own → give ≡ w.share → t' ≡ t → t'' ≡ tb → w.key ≡ v.key → Held v → Held w
       → Met Legal a b (seat_view t' p) (seat_view t'' q)
   met t tb t' t'' v w x p q places theirs give a b is_a is_b is_x l is_p is_q mine others gives same same' key hv hw =
       let first : seat_view t' p ≡ record { table = t; key = v.key; front = longer v.front w.front; own = v.own; share = v.share } = (λ i. seat_view (same i) (first_again v w x p places give is_x is_p mine gives i)) in
       let second : seat_view t'' q ≡ record { table = tb; key = v.key; front = longer v.front w.front; own = w.own; share = w.share } = (λ i. seat_view (same' i) (second_again v w x q theirs give is_x is_q others gives i)) in
-      subst (λ (z : SeatView K E × SeatView K E × SeatView K E × SeatView K E). Met Legal z.0 z.1 z.2 z.3) (λ i. (is_a i, is_b i, sym first i, sym second i))
+      subst (λ (z : HistorySeat K E × HistorySeat K E × HistorySeat K E × HistorySeat K E). Met Legal z.0 z.1 z.2 z.3) (λ i. (is_a i, is_b i, sym first i, sym second i))
       (met_base t tb v w (subst Learned is_x l) key hv hw)

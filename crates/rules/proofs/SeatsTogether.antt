@@ -2,7 +2,7 @@
 use Rattle.std.proofs.Common.{◌≡◌, ⊎_elim, ℕ, suc, ◌<◌, List, [], ◌∷◌, ◌++◌, length, refl, ap, arith}
 use mathlib.Core.Option.{some}
 use lib.ListN.{get_elem?}
-use Rattle.rules.specs.Seats.{Sight, total, times, owned, IsSightOf}
+use Rattle.rules.specs.Seats.{Sight, total, occurrences, owned, IsSightOf}
 use Rattle.rules.specs.SeatRules.{entries_at}
 use Rattle.rules.specs.SeatLaws.{SeatsStandTogether}
 use Rattle.rules.proofs.SeatTotals.{total-append, times-append, pos_or}
@@ -15,22 +15,22 @@ module _ {K E : Type 0} where
   owns [] = []
   owns (v ∷ vs) = v.own ++ owns vs
 
-  times_owns : (x : ℕ) (vs : List (Sight K E)) → times x (owns vs) ≡ total (owned x) vs
+  times_owns : (x : ℕ) (vs : List (Sight K E)) → occurrences x (owns vs) ≡ total (owned x) vs
   times_owns x [] = refl
   times_owns x (v ∷ vs) = let h = times_owns x vs in let t = times-append x v.own (owns vs) in omega arith
 
   abbrev Begin : K → List E → List (Sight K E) → Type 0
   Begin key log vs = (id : ℕ) (v : Sight K E) → get_elem? vs id ≡ some v → IsSightOf key log v
 
-  inside : (key : K) (log : List E) (vs : List (Sight K E)) → Begin key log vs → (x : ℕ) → 0 < times x (owns vs) → x < length log
+  inside : (key : K) (log : List E) (vs : List (Sight K E)) → Begin key log vs → (x : ℕ) → 0 < occurrences x (owns vs) → x < length log
   inside key log [] h x has = absurd (omega arith)
   inside key log (v ∷ vs) h x has =
       let t = times-append x v.own (owns vs) in
       let f = h 0 v refl in
       ⊎_elim
-      (λ (a : 0 < times x v.own). let i = f.inside x a in let le = length_begins v.front log (f.rest, f.begins) in omega arith)
-      (λ (b : 0 < times x (owns vs)). inside key log vs (λ id w e. h (suc id) w e) x b)
-      (pos_or (times x v.own) (times x (owns vs)) (omega arith))
+      (λ (a : 0 < occurrences x v.own). let i = f.inside x a in let le = length_begins v.front log (f.rest, f.begins) in omega arith)
+      (λ (b : 0 < occurrences x (owns vs)). inside key log vs (λ id w e. h (suc id) w e) x b)
+      (pos_or (occurrences x v.own) (occurrences x (owns vs)) (omega arith))
 
   weighed : (key : K) (log : List E) (weight : E → ℕ) (vs : List (Sight K E)) → Begin key log vs
       → total (λ (v : Sight K E). total weight (entries_at v.front v.own)) vs ≡ total weight (entries_at log (owns vs))

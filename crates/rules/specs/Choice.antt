@@ -115,10 +115,10 @@ sides_for (OfSides s) n = s
 sides_for Auto n = auto_sides n
 
 -- in signatures, if any are wanted
-abbrev pub signed : Option Signing → Row → Row
-signed None row = row
-signed (Some how) row = in_order_of (Some (sides_for how (length row))) row
+abbrev pub signed_if : Option Signing → Row → Row
+signed_if None row = row
+signed_if (Some how) row = in_order_of (Some (sides_for how (length row))) row
 
 -- the row that is imposed
 abbrev pub imposed_row : (pages : ℕ) → Choice → Option Signing → Result Row RowFault
-imposed_row pages choice how = chosen pages choice >>= λ row. Ok (signed how row)
+imposed_row pages choice how = chosen pages choice >>= λ row. Ok (signed_if how row)

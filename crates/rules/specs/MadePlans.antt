@@ -22,9 +22,9 @@ page_of Blank = None
 page_of (Placed p item paper) = Some p
 
 -- a page that a document of this many lacks
-abbrev pub is_missing : (pages : ℕ) → MadeSlot → Bool
-is_missing pages Blank = false
-is_missing pages (Placed p item paper) = nat_le pages p
+abbrev pub lacks_page : (pages : ℕ) → MadeSlot → Bool
+lacks_page pages Blank = false
+lacks_page pages (Placed p item paper) = nat_le pages p
 
 abbrev pub slot_count : MadeSheet → ℕ
 slot_count sheet = length sheet.slots
@@ -44,7 +44,7 @@ made_plan_of pages all =
     (refuse_if (nat_lt most_sheets (length all)) MadeTooManySheets
     (refuse_at (position (λ sheet. not (is_slot_count (slot_count sheet))) all) MadeSlotsOutOfRange
     (refuse_if (nat_lt most_places (sum_by slot_count all)) MadeTooManyPlaces
-    (refuse_at (position (λ sheet. list_any (is_missing pages) sheet.slots) all) MadeNoSuchPage
+    (refuse_at (position (λ sheet. list_any (lacks_page pages) sheet.slots) all) MadeNoSuchPage
     (Ok all)))))
 
 -- what is gathered for made sheets: per sheet its slots, each with its page or blank

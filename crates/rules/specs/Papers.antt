@@ -70,5 +70,5 @@ abbrev pub paper_among : List NamedPaper → List ℕ → Option Paper
 paper_among [] name = None
 paper_among (p ∷ ps) name = if bytes_eq (map small name) p.name then Some p.paper else paper_among ps name
 
-abbrev pub paper_named : List ℕ → Option Paper
-paper_named name = paper_among papers name
+abbrev pub paper_with_name : List ℕ → Option Paper
+paper_with_name name = paper_among papers name

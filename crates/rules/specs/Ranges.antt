@@ -13,26 +13,26 @@ use Rattle.rules.specs.Signatures.{entry_of}
 use Rattle.rules.specs.Rows.{Row, all_pages}
 
 -- a page by its number, from the start of the document or from its end. Both are counted from 1
-pub data Place : Type 0 where
-  FromStart : (number : ℕ) → Place
-  FromEnd : (number : ℕ) → Place
+pub data RangeEnd : Type 0 where
+  FromStart : (number : ℕ) → RangeEnd
+  FromEnd : (number : ℕ) → RangeEnd
 
 -- a blank page; or the pages from one to another, up or down
 pub data Range : Type 0 where
   BlankPage : Range
-  FromTo : (first last : Place) → Range
+  FromTo : (first last : RangeEnd) → Range
 
 abbrev pub underscore : ℕ
 underscore = 95
 
 -- the last page of a document
-abbrev pub the_last : Place
+abbrev pub the_last : RangeEnd
 the_last = FromEnd 1
 
 -- ---- texts
 
 -- the text means this place: digits, of which only the value counts; an underscore and digits; or `last` (RULES, 11.1)
-abbrev pub IsPlace : List ℕ → Place → Type 0
+abbrev pub IsPlace : List ℕ → RangeEnd → Type 0
 IsPlace text (FromStart k) = IsDigits text k
 IsPlace text (FromEnd k) =
     ((digits : List ℕ) × (text ≡ underscore ∷ digits) × IsDigits digits k)
@@ -58,16 +58,16 @@ is_number [] = false
 is_number (b ∷ digits) = list_all is_ascii_digit (b ∷ digits)
 
 -- the place of such digits
-abbrev pub by_digits : (ℕ → Place) → List ℕ → Option Place
+abbrev pub by_digits : (ℕ → RangeEnd) → List ℕ → Option RangeEnd
 by_digits place digits = if is_number digits then Some (place (number_of digits)) else None
 
-abbrev pub place_at : List ℕ → Option Place
+abbrev pub place_at : List ℕ → Option RangeEnd
 place_at [] = None
 place_at (b ∷ rest) =
     if bytes_eq (b ∷ rest) (codes "last") then Some the_last
     else (if b == underscore then by_digits FromEnd rest else by_digits FromStart (b ∷ rest))
 
-abbrev pub last_place_at : List ℕ → Option Place
+abbrev pub last_place_at : List ℕ → Option RangeEnd
 last_place_at [] = Some the_last
 last_place_at (b ∷ rest) = place_at (b ∷ rest)
 
@@ -106,12 +106,12 @@ RangesAreRead = (text : List ℕ) (ranges : List Range) → AreRanges text range
 -- ---- what they name in a document of this many pages
 
 -- the number of a page, counted from 1
-abbrev pub number_in : (pages : ℕ) → Place → ℕ
+abbrev pub number_in : (pages : ℕ) → RangeEnd → ℕ
 number_in pages (FromStart k) = k
 number_in pages (FromEnd k) = pages + 1 - k
 
 -- the document has it
-abbrev pub has_place : (pages : ℕ) → Place → Bool
+abbrev pub has_place : (pages : ℕ) → RangeEnd → Bool
 has_place pages (FromStart k) = nat_le 1 k && nat_le k pages
 has_place pages (FromEnd k) = nat_le 1 k && nat_le k pages
 

@@ -39,16 +39,16 @@ abbrev pub PartsOfRow : Type 0
 PartsOfRow = (row : Row) → (interleaved (odd_part row) (even_part row) ≡ row) × (reverse (reverse row) ≡ row)
 
 -- the pages whose number, counted from 1, passes the test; no blanks
-abbrev pub with_numbers : (ℕ → Bool) → Row → Row
-with_numbers test [] = []
-with_numbers test (None ∷ row) = with_numbers test row
-with_numbers test (Some p ∷ row) = if test (p + 1) then Some p ∷ with_numbers test row else with_numbers test row
+abbrev pub numbers_that_pass : (ℕ → Bool) → Row → Row
+numbers_that_pass test [] = []
+numbers_that_pass test (None ∷ row) = numbers_that_pass test row
+numbers_that_pass test (Some p ∷ row) = if test (p + 1) then Some p ∷ numbers_that_pass test row else numbers_that_pass test row
 
 -- a law: of all pages, those in odd places have odd numbers, and those in even places even ones
 abbrev pub PartsByNumber : Type 0
 PartsByNumber = (n : ℕ) →
-    (odd_part (all_pages n) ≡ with_numbers (λ k. k % 2 == 1) (all_pages n))
-    × (even_part (all_pages n) ≡ with_numbers (λ k. k % 2 == 0) (all_pages n))
+    (odd_part (all_pages n) ≡ numbers_that_pass (λ k. k % 2 == 1) (all_pages n))
+    × (even_part (all_pages n) ≡ numbers_that_pass (λ k. k % 2 == 0) (all_pages n))
 
 -- ---- signatures
 

@@ -3,12 +3,12 @@
 use Rattle.std.specs.Prelude.{◌≡◌, ℕ, ◌+◌, ◌-◌, ◌<◌, ◌≤◌, List, [], ◌∷◌, ◌++◌, length}
 use mathlib.Core.List.{IsPrefix}
 use Rattle.atomic_table.specs.Seated.{TableId}
-use Rattle.rules.specs.Seats.{Sight, whole_share, longer, times}
+use Rattle.rules.specs.Seats.{Sight, whole_share, longer, occurrences}
 use Rattle.rules.specs.SeatRules.{entries_at, IsHeld}
 
 -- a seat: its table, the subject of its history, the history that its caller has seen, the places in it of the
 -- caller's own entries, and its share
-pub record SeatView (K E : Type 0) : Type 0 where
+pub record HistorySeat (K E : Type 0) : Type 0 where
   pub table : TableId
   pub key : K
   pub front : List E
@@ -17,30 +17,30 @@ pub record SeatView (K E : Type 0) : Type 0 where
 
 module _ {K E : Type 0} where
   -- the view of a seat of this table that knows this
-  abbrev pub seat_view : TableId → Sight K E → SeatView K E
+  abbrev pub seat_view : TableId → Sight K E → HistorySeat K E
   seat_view table v = record { table = table; key = v.key; front = v.front; own = v.own; share = v.share }
 
-  abbrev pub IsOf : TableId → K → SeatView K E → Type 0
+  abbrev pub IsOf : TableId → K → HistorySeat K E → Type 0
   IsOf table key seat = (seat.table ≡ table) × (seat.key ≡ key)
 
   -- the first seat: it has all shares, and has seen nothing
-  abbrev pub opening : TableId → K → SeatView K E
+  abbrev pub opening : TableId → K → HistorySeat K E
   opening table key = record { table = table; key = key; front = []; own = []; share = whole_share }
 
   -- the seat's own entries
-  abbrev pub own_entries : SeatView K E → List E
+  abbrev pub own_entries : HistorySeat K E → List E
   own_entries seat = entries_at seat.front seat.own
 
   -- two seats of one history: the front of each is a beginning of the longer one, and no place is an own place of
   -- both
-  pub record Agree (a b : SeatView K E) : Type 0 where
+  pub record Agree (a b : HistorySeat K E) : Type 0 where
     pub one : IsPrefix a.front (longer a.front b.front)
     pub two : IsPrefix b.front (longer a.front b.front)
-    pub apart : (x : ℕ) → times x a.own + times x b.own ≤ 1
+    pub apart : (x : ℕ) → occurrences x a.own + occurrences x b.own ≤ 1
     pub shares : a.share + b.share ≤ whole_share
 
   -- one seat with the longer front, the own places of both, and both shares
-  abbrev pub joined : SeatView K E → SeatView K E → SeatView K E
+  abbrev pub joined : HistorySeat K E → HistorySeat K E → HistorySeat K E
   joined a b = record {
     table = a.table;
     key = a.key;
@@ -52,11 +52,11 @@ module _ {K E : Type 0} where
 module _ {K E : Type 0} (Legal : K → List E → Type 0) where
   -- what every seat keeps to: its front is legal, and its own places are places of the front, each once; with all
   -- shares they are all places of it
-  abbrev pub IsSeat : SeatView K E → Type 0
+  abbrev pub IsSeat : HistorySeat K E → Type 0
   IsSeat seat = IsHeld (Legal seat.key) seat.front seat.own seat.share
 
   -- the entry e was made
-  pub record Made (old : SeatView K E) (e : E) (new : SeatView K E) : Type 0 where
+  pub record Made (old : HistorySeat K E) (e : E) (new : HistorySeat K E) : Type 0 where
     -- what others did meanwhile
     pub between : List E
     -- the new front is the old one, then `between`, then e, whose place is one more own place
@@ -71,12 +71,12 @@ module _ {K E : Type 0} (Legal : K → List E → Type 0) where
     pub after : IsSeat new
 
   -- these entries were made, one after the other, and no others
-  abbrev pub Makes : SeatView K E → List E → SeatView K E → Type 0
+  abbrev pub Makes : HistorySeat K E → List E → HistorySeat K E → Type 0
   Makes old [] new = old ≡ new
-  Makes old (e ∷ es) new = (mid : SeatView K E) × Made old e mid × Makes mid es new
+  Makes old (e ∷ es) new = (mid : HistorySeat K E) × Made old e mid × Makes mid es new
 
   -- a seat gave a part of its share to a new one, which has the same front and no own places
-  pub record Split (old kept given : SeatView K E) : Type 0 where
+  pub record Split (old kept given : HistorySeat K E) : Type 0 where
     pub share : ℕ
     pub some_share : (0 < share) × (share < old.share)
     pub keeps : kept ≡ record old { share = old.share - share }
@@ -84,14 +84,14 @@ module _ {K E : Type 0} (Legal : K → List E → Type 0) where
     pub seats : IsSeat kept × IsSeat given
 
   -- both fronts become the longer one
-  pub record Met (a b a' b' : SeatView K E) : Type 0 where
+  pub record Met (a b a' b' : HistorySeat K E) : Type 0 where
     pub one : a' ≡ record a { front = longer a.front b.front }
     pub two : b' ≡ record b { front = longer a.front b.front }
     pub agree : Agree a b
     pub seats : IsSeat a' × IsSeat b'
 
   -- two seats became one
-  pub record Joined (a b new : SeatView K E) : Type 0 where
+  pub record Joined (a b new : HistorySeat K E) : Type 0 where
     pub joined : new ≡ joined a b
     pub agree : Agree a b
     pub seat : IsSeat new

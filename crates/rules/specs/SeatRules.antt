@@ -1,6 +1,6 @@
 -- What every seat keeps to, and its own entries.
 use Rattle.std.specs.Prelude.{ℕ, suc, ◌≡◌, ◌<◌, ◌≤◌, List, [], ◌∷◌, length, take, drop, flat_map, Some, slice_get}
-use Rattle.rules.specs.Seats.{Sight, times, whole_share}
+use Rattle.rules.specs.Seats.{Sight, occurrences, whole_share}
 
 module _ {E : Type 0} where
   -- the entry at a place, as a list of one
@@ -21,11 +21,11 @@ module _ {E : Type 0} where
   -- the front is legal, and the own places are places of it, each once; with all shares they are all places of it
   pub record IsHeld (Legal : List E → Type 0) (front : List E) (own : List ℕ) (share : ℕ) : Type 0 where
     pub legal : Legal front
-    pub inside : (x : ℕ) → 0 < times x own → x < length front
-    pub once : (x : ℕ) → times x own ≤ 1
+    pub inside : (x : ℕ) → 0 < occurrences x own → x < length front
+    pub once : (x : ℕ) → occurrences x own ≤ 1
     pub some_share : 0 < share
     pub most_share : share ≤ whole_share
-    pub every : share ≡ whole_share → (x : ℕ) → x < length front → 0 < times x own
+    pub every : share ≡ whole_share → (x : ℕ) → x < length front → 0 < occurrences x own
 
 -- a seat between two calls: it has this share, and keeps to what every seat keeps to
 pub record StandsAlone {K E : Type 0} (Legal : K → List E → Type 0) (v : Sight K E) (its_share : ℕ) : Type 0 where

@@ -17,8 +17,8 @@ total f [] = 0
 total f (x ∷ xs) = f x + total f xs
 
 -- how often x is in the list
-abbrev pub times : ℕ → List ℕ → ℕ
-times x ys = total (λ y. if y == x then 1 else 0) ys
+abbrev pub occurrences : ℕ → List ℕ → ℕ
+occurrences x ys = total (λ y. if y == x then 1 else 0) ys
 
 -- what a seat knows: the subject of its history, a beginning of it that was seen (the front), the places in it of
 -- the entries that the seat made, and a share. The histories in `met` were seen too, by seats that were joined in
@@ -73,7 +73,7 @@ module _ {K E : Type 0} where
 
   -- how often x is an own place
   abbrev pub owned : ℕ → Sight K E → ℕ
-  owned x v = times x v.own
+  owned x v = occurrences x v.own
 
   abbrev pub share_of : Sight K E → ℕ
   share_of v = v.share
@@ -84,7 +84,7 @@ module _ {K E : Type 0} where
     pub same_key : 0 < v.share → v.key ≡ key
     pub rest : List E
     pub begins : v.front ++ rest ≡ log
-    pub inside : (x : ℕ) → 0 < times x v.own → x < length v.front
+    pub inside : (x : ℕ) → 0 < occurrences x v.own → x < length v.front
     pub idle : v.share ≡ 0 → v.own ≡ []
     pub met : AllBegin log v.met
 
@@ -109,6 +109,6 @@ module _ {K E : Type 0} where
 pub record Learned {K E : Type 0} (v : Sight K E) : Type 0 where
   pub log : List E
   pub met : AllBegin log v.met
-  pub once : (x : ℕ) → times x v.own ≤ 1
+  pub once : (x : ℕ) → occurrences x v.own ≤ 1
   pub shares : v.share ≤ whole_share
-  pub every : v.share ≡ whole_share → (x : ℕ) → x < length v.front → 0 < times x v.own
+  pub every : v.share ≡ whole_share → (x : ℕ) → x < length v.front → 0 < occurrences x v.own

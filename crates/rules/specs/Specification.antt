@@ -131,8 +131,8 @@ quarters (Scaled v ∷ ms) = quarters ms
 quarters (Moved x y ∷ ms) = quarters ms
 
 -- the turn by this many quarters to the left; four of them are none
-abbrev pub turn_of : ℕ → Turn
-turn_of n = if n % 4 == 0 then Upright else (if n % 4 == 1 then Left else (if n % 4 == 2 then Half else Right))
+abbrev pub quarter_turn : ℕ → Turn
+quarter_turn n = if n % 4 == 0 then Upright else (if n % 4 == 1 then Left else (if n % 4 == 2 then Half else Right))
 
 -- the scale, which is 1 if none is written
 abbrev pub scale : List Modifier → ℤ
@@ -161,7 +161,7 @@ abbrev pub settled_item : WrittenItem → Item
 settled_item i = record {
   page = i.page;
   from_end = i.from_end;
-  turn = turn_of (quarters i.modifiers);
+  turn = quarter_turn (quarters i.modifiers);
   scale = scale i.modifiers;
   x = offset_x i.modifiers;
   y = offset_y i.modifiers;

@@ -3,10 +3,10 @@ use Rattle.std.proofs.Common.{◌≡◌, ℕ, zero, suc, ◌+◌, ◌*◌, ◌<�
 use Rattle.std.proofs.Common.{refl, ap, sym, subst, arith}
 use Rattle.std.proofs.lemmas.Bool.{eqb-true}
 use Rattle.rules.specs.Sheets.{Layout}
-use Rattle.gather_table.specs.Table.{TableState, slots, slot_count, group_size, in_group, HasGroup, is_full, is_blank}
+use Rattle.gather_table.specs.Table.{TableState, slots, slots_on, group_size, in_group, HasGroup, is_full, is_blank_slot}
 use Rattle.gather_table.specs.Table.{start}
 use Rattle.gather_table.specs.History.{Entry, Publish, Mark, Look, PageAt, CloseGroup, LookGroup}
-use Rattle.gather_table.specs.History.{Fits, AllFit, IsLegal, after, after_history}
+use Rattle.gather_table.specs.History.{CallFits, AllCallsFit, IsLegal, after, after_history}
 use Rattle.gather_table.specs.Laws.{closes, closings, fillings}
 use Rattle.gather_table.proofs.Groups.{fill_counts}
 use Rattle.gather_table.proofs.Legal.{digit, digit_le, and_true, all_of}
@@ -14,13 +14,13 @@ use Rattle.gather_table.proofs.Widths.{in_sheet}
 
 -- a group with a page in it, of a sheet whose slots are all marked, was filled once
 pub filled_once : (layout : Layout) (log : List Entry) (s g : ℕ) → IsLegal layout log → HasGroup layout s g
-    → is_full layout s g (is_blank (slots layout s)) ≡ false
-    → ((k : ℕ) → k < slot_count layout s → (after_history layout log).marked s k ≡ true)
+    → is_full layout s g (is_blank_slot (slots layout s)) ≡ false
+    → ((k : ℕ) → k < slots_on layout s → (after_history layout log).marked s k ≡ true)
     → fillings s g log ≡ 1
 filled_once layout log s g legal has needed marked =
     let at_end = (after_history layout log).marked s in
     let c = fill_counts layout (start layout) log s g has.wide legal in
-    let none : digit (is_full layout s g (is_blank (slots layout s))) ≡ 0 = ap digit needed in
+    let none : digit (is_full layout s g (is_blank_slot (slots layout s))) ≡ 0 = ap digit needed in
     let full : digit (is_full layout s g at_end) ≡ 1 =
     ap digit (all_of (in_group at_end g) (group_size layout s g)
     (λ j low. marked (64 * g + j) (in_sheet layout s g j low))) in
@@ -28,15 +28,15 @@ filled_once layout log s g legal has needed marked =
 
 -- a group of blank slots alone never is
 never_filled : (layout : Layout) (log : List Entry) (s g : ℕ) → IsLegal layout log → HasGroup layout s g
-    → is_full layout s g (is_blank (slots layout s)) ≡ true → fillings s g log ≡ 0
+    → is_full layout s g (is_blank_slot (slots layout s)) ≡ true → fillings s g log ≡ 0
 never_filled layout log s g legal has blank =
     let c = fill_counts layout (start layout) log s g has.wide legal in
-    let born : digit (is_full layout s g (is_blank (slots layout s))) ≡ 1 = ap digit blank in
+    let born : digit (is_full layout s g (is_blank_slot (slots layout s))) ≡ 1 = ap digit blank in
     let few = digit_le (is_full layout s g ((after_history layout log).marked s)) in
     omega arith
 
 -- a group that is closed is one of its sheet
-one_has : (layout : Layout) (t : TableState) (e : Entry) (s g : ℕ) → Fits layout t e → closes s g e ≡ true
+one_has : (layout : Layout) (t : TableState) (e : Entry) (s g : ℕ) → CallFits layout t e → closes s g e ≡ true
     → HasGroup layout s g
 one_has layout t (Publish p i r) s g f is = absurd (true≢false (sym is))
 one_has layout t (Mark r k q) s g f is = absurd (true≢false (sym is))
@@ -48,7 +48,7 @@ one_has layout t (CloseGroup r j c) s g f is =
     subst (λ (z : ℕ). HasGroup layout z g) (eqb-true r s same.1)
     (subst (λ (z : ℕ). HasGroup layout r z) (eqb-true j g same.0) f.0.group)
 
-closed_has : (layout : Layout) (t : TableState) (es : List Entry) (s g : ℕ) → AllFit layout t es → 0 < closings s g es
+closed_has : (layout : Layout) (t : TableState) (es : List Entry) (s g : ℕ) → AllCallsFit layout t es → 0 < closings s g es
     → HasGroup layout s g
 closed_has layout t [] s g f some = absurd (omega arith)
 closed_has layout t (e ∷ es) s g f some =
@@ -61,7 +61,7 @@ closed_has layout t (e ∷ es) s g f some =
 -- where groups are closed as often as they are filled, no others are closed
 pub never_closed : (layout : Layout) (log : List Entry) (s g : ℕ) → IsLegal layout log
     → closings s g log ≡ fillings s g log
-    → (HasGroup layout s g → is_full layout s g (is_blank (slots layout s)) ≡ true) → closings s g log ≡ 0
+    → (HasGroup layout s g → is_full layout s g (is_blank_slot (slots layout s)) ≡ true) → closings s g log ≡ 0
 never_closed layout log s g legal closed blank = two (closings s g log) refl
   where
     two : (n : ℕ) → closings s g log ≡ n → closings s g log ≡ 0

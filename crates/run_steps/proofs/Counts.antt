@@ -8,7 +8,7 @@ use Rattle.rules.specs.Seats.{whole_share, total}
 use Rattle.sheet_plan.specs.Places.{has_page, places_in, places_from, places_of}
 use Rattle.sheet_plan.specs.Plans.{IsSound}
 use Rattle.std.proofs.lemmas.List.{length-map}
-use Rattle.gather_table.specs.Table.{TableState, slots, slot_count, start, with_mark, is_blank}
+use Rattle.gather_table.specs.Table.{TableState, slots, slots_on, start, with_mark, is_blank_slot}
 use Rattle.gather_table.specs.History.{Entry, Publish, Mark, Look, PageAt, CloseGroup, LookGroup, after, after_all}
 use Rattle.gather_table.specs.History.{after_history, IsLegal, IsComplete}
 use Rattle.gather_table.specs.Laws.{fills, closes}
@@ -174,7 +174,7 @@ some_mark t (e ∷ es) s k h = two (worth (slot_is s k) e) refl (λ less. some_m
     two (suc n) z rest = stays_marked (after t e) es s k (one_mark t e s k (omega arith))
 
 -- a slot is blank or holds a page
-blank_or : (xs : List (Option ℕ)) (k : ℕ) → k < length xs → (is_blank xs k ≡ true) ⊎ ((p : ℕ) × (slice_get xs k ≡ Some (Some p)))
+blank_or : (xs : List (Option ℕ)) (k : ℕ) → k < length xs → (is_blank_slot xs k ≡ true) ⊎ ((p : ℕ) × (slice_get xs k ≡ Some (Some p)))
 blank_or [] k lt = absurd (omega arith)
 blank_or (None ∷ xs) zero lt = inl refl
 blank_or (Some p ∷ xs) zero lt = inr (p, refl)
@@ -199,7 +199,7 @@ gathered layout log legal pages h closed = record {
     once : (s k p : ℕ) → Holds layout s k p → marks s k log ≡ 1
     once s k p holds = h (slot_is s k) ∙ slot_once layout s k p layout.pages holds (pages s k p holds)
 
-    all_marked : (s k : ℕ) → k < slot_count layout s → (after_history layout log).marked s k ≡ true
+    all_marked : (s k : ℕ) → k < slots_on layout s → (after_history layout log).marked s k ≡ true
     all_marked s k below = ⊎_elim
         (λ blank. stays_marked (start layout) log s k blank)
         (λ held. some_mark (start layout) log s k (let o = once s k held.0 held.1 in omega arith))

@@ -8,7 +8,7 @@ use Rattle.handover.specs.declared.ready.Full.{Full}
 use Rattle.handover.specs.Queue.{Put, content}
 use Rattle.gather_table.specs.declared.answers.Reply.{Reply}
 use Rattle.gather_table.specs.declared.answers.Closing.{Closing}
-use Rattle.handover.specs.Passes.{QueueView, PassView, Made, puts_in, room_after}
+use Rattle.handover.specs.Passes.{QueueView, PassView, MadeMove, puts_in, room_after}
 use Rattle.handover.proofs.Rooms.{one_less}
 use Rattle.run_steps.specs.Delivery.{is_filling, place_calls, answer_list, completes_sheet, completed, HandedOn}
 use Rattle.run_steps.specs.Delivery.{NoneHandedBack}
@@ -42,7 +42,7 @@ handed_on queue xs i d rs rs' r cs cs' c b back more all old mid new lt len clos
     (handed-append queue (completed es) _ back more old mid new h k))
 
 -- a sheet was put, or the queue was full
-pub put_or_full : (queue : QueueView) (s : ℕ) (old new : PassView) (answer : Result (Unit {0}) Full) → OnOk answer (Made old (Put s) new)
+pub put_or_full : (queue : QueueView) (s : ℕ) (old new : PassView) (answer : Result (Unit {0}) Full) → OnOk answer (MadeMove old (Put s) new)
     → IfErr answer (λ full. (full.0 ≡ s) × (new ≡ old)) → OnErr answer (old.share ≡ whole_share → length (content old.front) ≡ queue.capacity)
     → OnErr answer (puts_in old.room ≡ 0) → (back : List ℕ) × HandedOn queue (s ∷ []) back old new
 put_or_full queue s old new (Ok x) made full when none = ([], inl (new, made, (refl, refl)))

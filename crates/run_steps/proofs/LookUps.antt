@@ -7,7 +7,7 @@ use Rattle.rules.specs.Sheets.{Layout, Plan, layout}
 use Rattle.sheet_plan.specs.Plans.{pages_on}
 use Rattle.gather_table.specs.Table.{slots}
 use Rattle.gather_table.specs.History.{Entry, PageAt, IsLegal, IsComplete, after_history}
-use Rattle.gather_table.specs.Shared.{TableView, SeatView, IsSeat, IsSeatOf, Made, Makes}
+use Rattle.gather_table.specs.Shared.{TableView, SeatView, IsSeat, IsSeatOf, MadeCall, MakesCalls}
 use Rattle.gather_table.proofs.Groups.{pages_of as index_of}
 use Rattle.gather_table.proofs.Calls.{makes_push, begins_makes, same_makes, complete_stays, finds_index}
 use Rattle.rules.specs.Made.{MadeSlot, Blank, Placed}
@@ -38,7 +38,7 @@ has_index inside job table seat s k p o view same of ok complete read is =
     (ap (λ (l : Layout). slice_get (slots l s) k) same ∙ page_in inside job s k p o view read is)
 
 -- and a look-up finds it
-pub is_found : (table : Layout) (old new : SeatView) (p : ℕ) (found : Option ℕ) → old.key ≡ table → HasIndex table old.front p → Made old (PageAt p found) new → found ≡ None → ⊥
+pub is_found : (table : Layout) (old new : SeatView) (p : ℕ) (found : Option ℕ) → old.key ≡ table → HasIndex table old.front p → MadeCall old (PageAt p found) new → found ≡ None → ⊥
 is_found table old new p found of has made none =
     let at : (after_history old.key old.front).index p ≡ Some has.0 = subst (λ (l : Layout). (after_history l old.front).index p ≡ Some has.0) (sym of) has.1 in
     let is : found ≡ Some has.0 = finds_index old new p has.0 found made at in
@@ -55,11 +55,11 @@ slot_blank job texts s k it text of read at =
     by_slot (Placed p item paper) e = absurd (none-some p (sym e))
 
 -- the seat after some calls
-pub still_seat : (table : TableView) (old new : SeatView) (es : List Entry) → IsSeatOf table old → Makes old es new → IsSeatOf table new
+pub still_seat : (table : TableView) (old new : SeatView) (es : List Entry) → IsSeatOf table old → MakesCalls old es new → IsSeatOf table new
 still_seat table old new es of made =
     let same = same_makes old new es made in (ap (λ (z : SeatView). z.table) same ∙ of.0, ap (λ (z : SeatView). z.key) same ∙ of.1)
 
-pub still_complete : (table : Layout) (old new : SeatView) (es : List Entry) (s : ℕ) → IsComplete table old.front s → Makes old es new → IsComplete table new.front s
+pub still_complete : (table : Layout) (old new : SeatView) (es : List Entry) (s : ℕ) → IsComplete table old.front s → MakesCalls old es new → IsComplete table new.front s
 still_complete table old new es s complete made = complete_stays table old.front new.front s (begins_makes old new es made) complete
 
 -- the pages of the first slots
@@ -111,7 +111,7 @@ look_ups_push (q ∷ ps) qs (j ∷ is) p i e = ap (λ l. PageAt q (Some j) ∷ l
 
 -- no page yet
 pub looks_none : (seat : SeatView) (ps : List ℕ) → LooksUp ps 0 seat seat
-looks_none seat ps = record { within = omega arith; indexes = []; found = refl; made = subst (λ es. Makes seat es seat) (sym (no_indexes ps)) refl }
+looks_none seat ps = record { within = omega arith; indexes = []; found = refl; made = subst (λ es. MakesCalls seat es seat) (sym (no_indexes ps)) refl }
 
 -- a slot more
 module _ where
@@ -119,7 +119,7 @@ module _ where
       → LooksUp (needed xs) (length (needed (take (suc k) xs))) old new
   looks_same old new xs k same looked = subst (λ n. LooksUp (needed xs) n old new) (sym same) looked
 
-  looks_more : (old mid new : SeatView) (xs : List (Option ℕ)) (k p i : ℕ) → slice_get xs k ≡ Some (Some p) → LooksUp (needed xs) (length (needed (take k xs))) old mid → Made mid (PageAt p (Some i)) new
+  looks_more : (old mid new : SeatView) (xs : List (Option ℕ)) (k p i : ℕ) → slice_get xs k ≡ Some (Some p) → LooksUp (needed xs) (length (needed (take k xs))) old mid → MadeCall mid (PageAt p (Some i)) new
       → LooksUp (needed xs) (length (needed (take (suc k) xs))) old new
   looks_more old mid new xs k p i at looked made =
       let all : needed xs ≡ needed (take k xs) ++ p ∷ needed (drop (suc k) xs) = needed_one xs k p at in
@@ -129,7 +129,7 @@ module _ where
         within = needed_few xs (suc k);
         indexes = looked.indexes ++ i ∷ [];
         found = let before = looked.found in let more = some_more xs k p at in omega (arith, length-append looked.indexes (i ∷ []));
-        made = subst (λ es. Makes old es new) (sym grown) (makes_push old mid new (look_ups (needed xs) looked.indexes) (PageAt p (Some i)) looked.made made);
+        made = subst (λ es. MakesCalls old es new) (sym grown) (makes_push old mid new (look_ups (needed xs) looked.indexes) (PageAt p (Some i)) looked.made made);
       }
 
   looks_next : (old mid new : SeatView) (xs : List (Option ℕ)) (k : ℕ) (o : Option (Option ℕ)) → slice_get xs k ≡ o → LooksUp (needed xs) (length (needed (take k xs))) old mid → LooksAt o mid new

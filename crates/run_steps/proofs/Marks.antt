@@ -11,7 +11,7 @@ use Rattle.gather_table.specs.declared.answers.Reply.TheVariants.{Fresh, Repeate
 use Rattle.gather_table.specs.declared.answers.Closing.{Closing}
 use Rattle.gather_table.specs.Laws.{closes_last}
 use Rattle.gather_table.specs.History.{Entry, Publish, Mark, CloseGroup}
-use Rattle.gather_table.specs.Shared.{TableView, SeatView, IsSeatOf, Made, Makes}
+use Rattle.gather_table.specs.Shared.{TableView, SeatView, IsSeatOf, MadeCall, MakesCalls}
 use Rattle.gather_table.proofs.Calls.{makes-append, same_makes}
 use Rattle.run_steps.specs.Delivery.{is_filling, place_calls, answer_list, completes_sheet, delivery_calls, completed_by, completed}
 
@@ -79,7 +79,7 @@ completed-append (x ∷ xs) ys =
     ap (λ l. completed_by x ++ l) (completed-append xs ys)
     ∙ sym (append_assoc (completed_by x) (completed xs) (completed ys))
 
-pub still_seat : (table : TableView) (old new : SeatView) (es : List Entry) → IsSeatOf table old → Makes old es new → IsSeatOf table new
+pub still_seat : (table : TableView) (old new : SeatView) (es : List Entry) → IsSeatOf table old → MakesCalls old es new → IsSeatOf table new
 still_seat table old new es is m = let s = same_makes old new es m in (ap (λ (z : SeatView). z.table) s ∙ is.0, ap (λ (z : SeatView). z.key) s ∙ is.1)
 
 -- the calls for one place more
@@ -94,18 +94,18 @@ on_calls xs i d rs rs' r cs cs' ds lt len all is_r is_c =
 pub places_on : (old mid new : SeatView) (xs : List (ℕ × ℕ)) (i : ℕ) (d : ℕ × ℕ) (rs rs' : List Reply) (r : Reply)
     (cs cs' ds : List Closing) → i < length xs → length rs ≡ i → length cs ≡ length (filter is_filling rs)
     → rs' ≡ rs ++ r ∷ [] → cs' ≡ cs ++ ds
-    → Makes old (place_calls (take i xs) rs cs) mid → Makes mid (place_calls (get_or xs i d ∷ []) (r ∷ []) ds) new
-    → Makes old (place_calls (take (i + 1) xs) rs' cs') new
+    → MakesCalls old (place_calls (take i xs) rs cs) mid → MakesCalls mid (place_calls (get_or xs i d ∷ []) (r ∷ []) ds) new
+    → MakesCalls old (place_calls (take (i + 1) xs) rs' cs') new
 places_on old mid new xs i d rs rs' r cs cs' ds lt len all is_r is_c m one =
-    subst (λ es. Makes old es new) (sym (on_calls xs i d rs rs' r cs cs' ds lt len all is_r is_c))
+    subst (λ es. MakesCalls old es new) (sym (on_calls xs i d rs rs' r cs cs' ds lt len all is_r is_c))
     (makes-append old mid new _ _ m one)
 
 -- a page was published, and its places were marked
 pub delivered : (layout : Layout) (old mid new : SeatView) (p q i j : ℕ) (was : Published) (places : List (ℕ × ℕ)) (rs : List Reply) (cs : List Closing)
-    → q ≡ p → j ≡ i → places ≡ places_of layout p → Made old (Publish q j was) mid → Makes mid (place_calls places rs cs) new
-    → Makes old (delivery_calls layout p i was rs cs) new
+    → q ≡ p → j ≡ i → places ≡ places_of layout p → MadeCall old (Publish q j was) mid → MakesCalls mid (place_calls places rs cs) new
+    → MakesCalls old (delivery_calls layout p i was rs cs) new
 delivered layout old mid new p q i j was places rs cs page index are put marked = (
   mid,
-  subst (λ e. Made old e mid) (λ k. Publish (page k) (index k) was) put,
-  subst (λ xs. Makes mid (place_calls xs rs cs) new) are marked,
+  subst (λ e. MadeCall old e mid) (λ k. Publish (page k) (index k) was) put,
+  subst (λ xs. MakesCalls mid (place_calls xs rs cs) new) are marked,
 )

@@ -6,7 +6,7 @@ use native.Mathlib.Decide.{ℕ_discrete}
 use Rattle.gather_table.specs.declared.answers.Published.{Published}
 use Rattle.gather_table.specs.History.{Publish}
 use Rattle.rules.specs.Sheets.{Layout}
-use Rattle.gather_table.specs.Shared.{SeatView, Made}
+use Rattle.gather_table.specs.Shared.{SeatView, MadeCall}
 use Rattle.gather_table.proofs.Calls.{published_may_be_marked}
 use Rattle.sheet_plan.specs.Places.{has_page, places_in, places_from, places_of}
 use Rattle.run_steps.specs.Delivery.{IsReady}
@@ -62,7 +62,7 @@ pub places_stand : (layout : Layout) (p : ℕ) → Each (StandsIn p layout.sheet
 places_stand layout p = places_from_stand p 0 layout.sheets layout.sheets (omega arith) (λ j. ap (λ n. slice_index_or layout.sheets n []) (omega arith))
 
 -- once the page is published its places may be marked
-pub ready_published : (layout : Layout) (old new : SeatView) (p i : ℕ) (r : Published) (places : List (ℕ × ℕ)) → old.key ≡ layout → Made old (Publish p i r) new → places ≡ places_of layout p → All (IsReady layout new.front) places
+pub ready_published : (layout : Layout) (old new : SeatView) (p i : ℕ) (r : Published) (places : List (ℕ × ℕ)) → old.key ≡ layout → MadeCall old (Publish p i r) new → places ≡ places_of layout p → All (IsReady layout new.front) places
 ready_published layout old new p i r places is m e =
     subst (λ (l : Layout). places ≡ places_of l p → All (IsReady l new.front) places) is (λ e' k d lt.
     let st = each_at (StandsIn p old.key.sheets) (places_of old.key p) k d (places_stand old.key p) (let len = ap length e' in omega arith) in

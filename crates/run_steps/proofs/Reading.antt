@@ -6,7 +6,7 @@ use Rattle.rules.proofs.SeatTotals.{total-append}
 use Rattle.gather_table.specs.History.{Look, IsComplete}
 use Rattle.std.specs.Prelude.{if◌then◌else◌}
 use Rattle.gather_table.specs.Laws.{fills, closes, fillings, closings}
-use Rattle.gather_table.specs.Shared.{TableView, SeatView, IsSeatOf, Made}
+use Rattle.gather_table.specs.Shared.{TableView, SeatView, IsSeatOf, MadeCall}
 use Rattle.gather_table.proofs.Calls.{makes-append, look_shows_seat}
 use Rattle.run_steps.specs.Duty.{Duty, worth}
 use Rattle.run_steps.specs.LookUps.{look_ups, LooksUp, LooksUpUntil}
@@ -16,7 +16,7 @@ use Rattle.run_steps.specs.Reading.{OnlyReads}
 use Rattle.run_steps.proofs.LookUps.{still_seat}
 
 -- a look, look-ups, and reads after reads
-pub reads_look : (old new : SeatView) (s missing : ℕ) → Made old (Look s missing) new → OnlyReads old new
+pub reads_look : (old new : SeatView) (s missing : ℕ) → MadeCall old (Look s missing) new → OnlyReads old new
 reads_look old new s missing made =
     record {
       calls = Look s missing ∷ [];
@@ -64,6 +64,6 @@ pub seat_stays : (table : TableView) (old new : SeatView) → IsSeatOf table old
 seat_stays table old new of reads = still_seat table old new reads.calls of reads.made
 
 -- a look that is answered 0
-pub seen_complete : (table : TableView) (old new : SeatView) (s missing : ℕ) → IsSeatOf table old → Made old (Look s missing) new → missing ≡ 0 → IsComplete table.layout new.front s
+pub seen_complete : (table : TableView) (old new : SeatView) (s missing : ℕ) → IsSeatOf table old → MadeCall old (Look s missing) new → missing ≡ 0 → IsComplete table.layout new.front s
 seen_complete table old new s missing of made zero_is =
-    subst (λ (l : Layout). IsComplete l new.front s) of.1 (look_shows_seat old new s (subst (λ n. Made old (Look s n) new) zero_is made))
+    subst (λ (l : Layout). IsComplete l new.front s) of.1 (look_shows_seat old new s (subst (λ n. MadeCall old (Look s n) new) zero_is made))

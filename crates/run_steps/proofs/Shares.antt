@@ -3,7 +3,7 @@ use Rattle.std.proofs.Common.{◌≡◌, ℕ, zero, suc, ◌+◌, ◌<◌, ◌�
 use Rattle.std.proofs.Common.{[], ◌∷◌, ◌++◌, length, map, arith, refl}
 use Rattle.std.specs.Prelude.{filter}
 use Rattle.rules.specs.Sheets.{Layout}
-use Rattle.rules.specs.Seats.{total, times}
+use Rattle.rules.specs.Seats.{total, occurrences}
 use Rattle.rules.proofs.SeatTotals.{total-append}
 use Rattle.sheet_plan.specs.Places.{places_of}
 use Rattle.gather_table.specs.declared.answers.Reply.{Reply}
@@ -77,11 +77,11 @@ deliveries_close layout p i was rs cs a s g =
     let i = places_close s g (places_of layout p) rs cs a.closes in omega arith
 
 -- what calls completed is counted
-times_where : (s x : ℕ) (b : Bool) → times s (if b then x ∷ [] else []) ≡ (if b && (x == s) then 1 else 0)
+times_where : (s x : ℕ) (b : Bool) → occurrences s (if b then x ∷ [] else []) ≡ (if b && (x == s) then 1 else 0)
 times_where s x true = omega arith
 times_where s x false = refl
 
-one_completed : (s : ℕ) (e : Entry) → times s (completed_by e) ≡ (if completes s e then 1 else 0)
+one_completed : (s : ℕ) (e : Entry) → occurrences s (completed_by e) ≡ (if completes s e then 1 else 0)
 one_completed s (Publish p i r) = refl
 one_completed s (Mark r k reply) = times_where s r (is_completing reply)
 one_completed s (Look r m) = refl
@@ -93,7 +93,7 @@ pub completed_counted : CompletedAreCounted
 completed_counted s [] = refl
 completed_counted s (e ∷ es) =
     let rest = completed_counted s es in
-    let both : times s (completed_by e ++ completed es) ≡ times s (completed_by e) + times s (completed es) =
+    let both : occurrences s (completed_by e ++ completed es) ≡ occurrences s (completed_by e) + occurrences s (completed es) =
     total-append _ (completed_by e) (completed es) in
     let one = one_completed s e in
     omega arith

@@ -2,7 +2,7 @@
 use Rattle.std.specs.Prelude.{◌≡◌, ◌⊎◌, ℕ, ◌+◌, ◌<◌, ◌≤◌, Bool, true, false, List, [], ◌∷◌, ◌++◌, length, filter}
 use Rattle.std.specs.Prelude.{Option, Some, None, if◌then◌else◌}
 use Rattle.rules.specs.Sheets.{Layout}
-use Rattle.rules.specs.Seats.{whole_share, times}
+use Rattle.rules.specs.Seats.{whole_share, occurrences}
 use Rattle.sheet_plan.specs.Places.{places_of}
 use Rattle.gather_table.specs.declared.answers.Published.{Published}
 use Rattle.gather_table.specs.declared.answers.Reply.{Reply}
@@ -12,7 +12,7 @@ use Rattle.gather_table.specs.Table.{IsMarkable}
 use Rattle.gather_table.specs.History.{Entry, Publish, Mark, Look, PageAt, CloseGroup, LookGroup, after_history}
 use Rattle.gather_table.specs.Laws.{is_completing, closes_last, completings, fillings, closings}
 use Rattle.handover.specs.Queue.{Put, content}
-use Rattle.handover.specs.Passes.{QueueView, PassView, Made, puts_in}
+use Rattle.handover.specs.Passes.{QueueView, PassView, MadeMove, puts_in}
 use Rattle.run_steps.specs.declared.delivery.Delivered.{Delivered}
 
 -- a mark that was answered that it fills a group
@@ -92,7 +92,7 @@ completed (e ∷ es) = completed_by e ++ completed es
 
 -- they are as many as there are calls that complete a sheet: a law
 abbrev pub CompletedAreCounted : Type 0
-CompletedAreCounted = (s : ℕ) (es : List Entry) → times s (completed es) ≡ completings s es
+CompletedAreCounted = (s : ℕ) (es : List Entry) → occurrences s (completed es) ≡ completings s es
 
 -- each group that these calls filled they closed
 abbrev pub CloseWhatTheyFill : List Entry → Type 0
@@ -119,7 +119,7 @@ WasRefused queue pass =
 abbrev pub HandedOn : QueueView → (sheets back : List ℕ) → PassView → PassView → Type 0
 HandedOn queue [] back old new = (back ≡ []) × (new ≡ old)
 HandedOn queue (s ∷ sheets) back old new =
-    ((mid : PassView) × Made old (Put s) mid × HandedOn queue sheets back mid new)
+    ((mid : PassView) × MadeMove old (Put s) mid × HandedOn queue sheets back mid new)
     ⊎ ((others : List ℕ) × (back ≡ s ∷ others) × WasRefused queue old × HandedOn queue sheets others old new)
 
 -- of sheets for which the pass has room none is handed back: the puts are made by right, and lower the room by as many. A

@@ -3,7 +3,7 @@ use Rattle.std.specs.Prelude.{◌≡◌, ℕ, ◌<◌, ◌≤◌, List, [], ◌�
 use Rattle.rules.specs.Sheets.{Layout}
 use Rattle.gather_table.specs.Table.{slots}
 use Rattle.gather_table.specs.History.{Entry, PageAt, after_history}
-use Rattle.gather_table.specs.Shared.{SeatView, Made, Makes}
+use Rattle.gather_table.specs.Shared.{SeatView, MadeCall, MakesCalls}
 use Rattle.run_steps.specs.declared.imposition.ImposeError.{ImposeError}
 use Rattle.run_steps.specs.declared.imposition.ImposeError.TheVariants.{NoMemory, NotShown}
 
@@ -28,7 +28,7 @@ pub record LooksUp (pages : List ℕ) (n : ℕ) (old new : SeatView) : Type 0 wh
   pub within : n ≤ length pages
   pub indexes : List ℕ
   pub found : length indexes ≡ n
-  pub made : Makes old (look_ups pages indexes) new
+  pub made : MakesCalls old (look_ups pages indexes) new
 
 -- the first of these pages were looked up, as many as there were until this was answered: if a page isn't shown, one at
 -- least
@@ -41,7 +41,7 @@ LooksUpUntil pages NotShown old new = (n : ℕ) × (0 < n) × LooksUp pages n ol
 abbrev pub LooksAt : Option (Option ℕ) → (old new : SeatView) → Type 0
 LooksAt None old new = new ≡ old
 LooksAt (Some None) old new = new ≡ old
-LooksAt (Some (Some p)) old new = (index : ℕ) × Made old (PageAt p (Some index)) new
+LooksAt (Some (Some p)) old new = (index : ℕ) × MadeCall old (PageAt p (Some index)) new
 
 -- the page has an index after this history
 abbrev pub HasIndex : Layout → List Entry → ℕ → Type 0

@@ -2,7 +2,7 @@
 ghost use Rattle.std.specs.Prelude.{◌≡◌, ℕ, ◌<◌, ◌≤◌, ◌+◌, ◌++◌, [], ◌∷◌, List, length, All, filter};
 ghost use Rattle.std.specs.Prelude.{IfOk, IfErr, OnOk, IsTrue, MatchResult, vec_capacity, if◌then◌else◌};
 ghost use Rattle.rules.specs.Sheets.{layout};
-ghost use Rattle.gather_table.specs.Shared.{IsSeatOf, Makes};
+ghost use Rattle.gather_table.specs.Shared.{IsSeatOf, MakesCalls};
 ghost use Rattle.sheet_plan.specs.Places.{places_of};
 ghost use Rattle.handover.specs.Passes.{IsPassOf, puts_in};
 ghost use Rattle.handover.specs.Shelves.{IsOn, IsOwn};
@@ -76,7 +76,7 @@ pub fn deliver<'d, R: Wait>(
     // At Ok the seat published the page at the receipt's index and marked its places, each once and in order, with the
     // closing of each group directly after the mark that filled it, and called nothing else.
     ensures called { MatchResult result
-        (λ d. Makes seat.old (calls_of table.now.layout prepared.entry.page d) seat.new)
+        (λ d. MakesCalls seat.old (calls_of table.now.layout prepared.entry.page d) seat.new)
         (λ e. seat.new ≡ seat.old) }
     ensures answered { IfOk result (λ d.
         AreAnswered table.now.layout prepared.entry.page d.replies.items d.closings.items) }
@@ -135,7 +135,7 @@ impl<'f, 'p, 't, 'd> Delivery<'f, 'p, 't, 'd> {
         // At Ok the seat published the page at the receipt's index and marked its places, each once and in order, with
         // the closing of each group directly after the mark that filled it, and called nothing else.
         ensures called { MatchResult result
-            (λ d. Makes seat.old (calls_of self.now.table.now.layout prepared.entry.page d) seat.new)
+            (λ d. MakesCalls seat.old (calls_of self.now.table.now.layout prepared.entry.page d) seat.new)
             (λ e. seat.new ≡ seat.old) }
         ensures answered { IfOk result (λ d.
             AreAnswered self.now.table.now.layout prepared.entry.page d.replies.items d.closings.items) }
@@ -201,7 +201,7 @@ impl<'f, 'p, 't, 'd> Delivery<'f, 'p, 't, 'd> {
         requires closings { (answers.old.closings.items ≡ []) × (length places.now ≤ vec_capacity answers.old.closings) }
         requires handed_back { (answers.old.handed_back.items ≡ [])
             × (length places.now ≤ vec_capacity answers.old.handed_back) }
-        ensures called { Makes seat.old (place_calls places.now answers.new.replies.items answers.new.closings.items)
+        ensures called { MakesCalls seat.old (place_calls places.now answers.new.replies.items answers.new.closings.items)
             seat.new }
         ensures replies { length answers.new.replies.items ≡ length places.now }
         ensures closings { length answers.new.closings.items ≡ length (filter is_filling answers.new.replies.items) }
@@ -286,7 +286,7 @@ fn mark_and_close(
 ) -> (Reply, Option<Closing>)
     requires seat { IsSeatOf table.now seat.old }
     requires place { IsReady table.now.layout seat.old.front place }
-    ensures called { Makes seat.old (place_calls (place ∷ []) (result.0 ∷ []) (answer_list result.1)) seat.new }
+    ensures called { MakesCalls seat.old (place_calls (place ∷ []) (result.0 ∷ []) (answer_list result.1)) seat.new }
     ensures answered { length (answer_list result.1) ≡ length (filter is_filling (result.0 ∷ [])) }
 {
     let (sheet, slot) = place;

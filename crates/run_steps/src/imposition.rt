@@ -7,7 +7,7 @@ ghost use Rattle.rules.specs.Made.{MadeSlot};
 ghost use Rattle.rules.specs.MadeOutput.{made_slot_text};
 ghost use Rattle.sheet_plan.specs.Plans.{pages_on};
 ghost use Rattle.gather_table.specs.History.{Look, PageAt, IsComplete};
-ghost use Rattle.gather_table.specs.Shared.{IsSeatOf, Made};
+ghost use Rattle.gather_table.specs.Shared.{IsSeatOf, MadeCall};
 ghost use Rattle.handover.specs.Pages.{IsPrepared};
 ghost use Rattle.handover.specs.Shelves.{IsShelfOf, IsOwn};
 ghost use Rattle.sheet_text.specs.Jobs.{slots_of, slots_text, text_of};
@@ -222,7 +222,7 @@ pub fn is_complete(seat: &mut Seat, table: &GatherTable<'_>, sheet: u32) -> bool
     requires seat { IsSeatOf table.now seat.old }
     requires sheet { sheet < length table.now.layout.sheets }
     ensures seat { IsSeatOf table.now seat.new }
-    ensures looked { (missing : ℕ) × Made seat.old (Look sheet missing) seat.new × (IsTrue result ↔ missing ≡ 0) }
+    ensures looked { (missing : ℕ) × MadeCall seat.old (Look sheet missing) seat.new × (IsTrue result ↔ missing ≡ 0) }
     ensures reads { OnlyReads seat.old seat.new }
     ensures complete { result ≡ true → IsComplete table.now.layout seat.new.front sheet }
 {

@@ -11,7 +11,7 @@ use Rattle.rules.specs.Papers.{points}
 use Rattle.rules.specs.Sheets.{Plan, Slot, layout}
 use Rattle.rules.specs.Run.{refuse_if}
 use Rattle.rules.specs.Made.{MadeSlot, Blank, Placed, MadeSheet}
-use Rattle.rules.specs.MadePlans.{MadeFault, MadeTooManyPages, MadeTooManySheets, MadeSlotsOutOfRange, MadeTooManyPlaces, MadeNoSuchPage, page_of, is_missing, slot_count, is_slot_count, refuse_at, made_plan_of, made_layout}
+use Rattle.rules.specs.MadePlans.{MadeFault, MadeTooManyPages, MadeTooManySheets, MadeSlotsOutOfRange, MadeTooManyPlaces, MadeNoSuchPage, page_of, lacks_page, slot_count, is_slot_count, refuse_at, made_plan_of, made_layout}
 use Rattle.sheet_plan.specs.OfSheets.{slots_at, item_in, slot_in, made_plan}
 use Rattle.sheet_plan.specs.Plans.{pages_on, items_on, IsSound}
 use Rattle.sheet_plan.proofs.Admitted.{none_passes}
@@ -62,7 +62,7 @@ abbrev pub uneven : MadeSheet → Bool
 uneven sheet = not (is_slot_count (slot_count sheet))
 
 abbrev pub lacks : ℕ → MadeSheet → Bool
-lacks pages sheet = list_any (is_missing pages) sheet.slots
+lacks pages sheet = list_any (lacks_page pages) sheet.slots
 
 abbrev pages_tested : ℕ → List MadeSheet → Result (List MadeSheet) MadeFault
 pages_tested pages all = refuse_at (position (lacks pages) all) MadeNoSuchPage (Ok all)
@@ -200,14 +200,14 @@ in_range n e = (grind (arith, nat_tests), grind (arith, nat_tests))
 below_limit : (n p : ℕ) → nat_le n p ≡ false → p < n
 below_limit n p e = grind (arith, nat_tests)
 
-slot_paged : (n p : ℕ) (slot : MadeSlot) → is_missing n slot ≡ false → page_of slot ≡ Some p → p < n
+slot_paged : (n p : ℕ) (slot : MadeSlot) → lacks_page n slot ≡ false → page_of slot ≡ Some p → p < n
 slot_paged n p Blank e is = absurd (none-some p is)
 slot_paged n p (Placed q item paper) e is = subst (λ k. k < n) (same_Some q p is) (below_limit n q e)
 
-slots_paged : (n k p : ℕ) (slots : List MadeSlot) → list_any (is_missing n) slots ≡ false → slice_get (map page_of slots) k ≡ Some (Some p) → p < n
+slots_paged : (n k p : ℕ) (slots : List MadeSlot) → list_any (lacks_page n) slots ≡ false → slice_get (map page_of slots) k ≡ Some (Some p) → p < n
 slots_paged n k p [] e at = absurd (none-some (Some p) at)
-slots_paged n zero p (x ∷ xs) e at = slot_paged n p x (first_false (is_missing n x) (list_any (is_missing n) xs) e).0 (same_Some (page_of x) (Some p) at)
-slots_paged n (suc k) p (x ∷ xs) e at = slots_paged n k p xs (first_false (is_missing n x) (list_any (is_missing n) xs) e).1 at
+slots_paged n zero p (x ∷ xs) e at = slot_paged n p x (first_false (lacks_page n x) (list_any (lacks_page n) xs) e).0 (same_Some (page_of x) (Some p) at)
+slots_paged n (suc k) p (x ∷ xs) e at = slots_paged n k p xs (first_false (lacks_page n x) (list_any (lacks_page n) xs) e).1 at
 
 pub sound_made : (pages : ℕ) (all : List MadeSheet) → made_plan_of pages all ≡ Ok all → IsSound (made_plan pages all)
 sound_made pages all e =

@@ -4,7 +4,7 @@ use Rattle.std.specs.Prelude.{◌==◌, is_none, filter, slice_get, slice_index_
 use Rattle.std.specs.List.{AllByRecursion, list_all, range_with_len}
 use Rattle.std.proofs.lemmas.Grind.{common_steps}
 use Rattle.rules.specs.Sheets.{Layout}
-use Rattle.sheet_plan.specs.Places.{has_page, places_in, places_from, places_of, is_blank, born_complete}
+use Rattle.sheet_plan.specs.Places.{has_page, places_in, places_from, places_of, is_blank_sheet, born_complete}
 use Rattle.sheet_plan.specs.Laws.{IsAmong, Ascend, IsLower, ArePlaces, PlacesAreExact, AreWithoutPages, BornCompleteAreWithoutPages}
 
 -- ---- rows one after another
@@ -204,16 +204,16 @@ passing_ascend test a (suc n) = by_test (test a) (passing_ascend test (a + 1) n)
         (all_weaker (λ s. a + 1 ≤ s) (λ s. a < s) (λ s h. omega (arith, h)) (filter test (range_with_len (a + 1) n)) (passing_above test (a + 1) n), behind)
     by_test false behind = behind
 
-blank_found : (layout : Layout) (s : ℕ) → s < length layout.sheets → is_blank layout s ≡ true → IsAmong s (born_complete layout)
+blank_found : (layout : Layout) (s : ℕ) → s < length layout.sheets → is_blank_sheet layout s ≡ true → IsAmong s (born_complete layout)
 blank_found layout s lt blank =
     let from_0 : s ≡ 0 + s = omega arith in
-    subst (λ t. IsAmong t (born_complete layout)) (sym from_0) (passing_found (is_blank layout) 0 (length layout.sheets) s lt (subst (λ t. is_blank layout t ≡ true) from_0 blank))
+    subst (λ t. IsAmong t (born_complete layout)) (sym from_0) (passing_found (is_blank_sheet layout) 0 (length layout.sheets) s lt (subst (λ t. is_blank_sheet layout t ≡ true) from_0 blank))
 
 pub blank_exact : BornCompleteAreWithoutPages
 blank_exact layout = record {
-  ascend = passing_ascend (is_blank layout) 0 (length layout.sheets);
+  ascend = passing_ascend (is_blank_sheet layout) 0 (length layout.sheets);
   exact = λ s. (
-    λ h. (let (blank, low, high) = passing_pass (is_blank layout) 0 (length layout.sheets) s h in
+    λ h. (let (blank, low, high) = passing_pass (is_blank_sheet layout) 0 (length layout.sheets) s h in
         (omega (arith, high), λ p k found. no_page (slice_index_or layout.sheets s []) p k blank found)),
     λ h. blank_found layout s h.0 (all_blank (slice_index_or layout.sheets s []) h.1),
   );

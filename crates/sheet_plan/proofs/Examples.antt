@@ -5,7 +5,7 @@ use Rattle.std.specs.Prelude.{pos, replicate}
 use Rattle.rules.specs.Specification.{Item, Upright, zero_points}
 use Rattle.rules.specs.Sheets.{Layout, Plan}
 use Rattle.sheet_plan.specs.Plans.{slot_groups, needs_page}
-use Rattle.sheet_plan.specs.Places.{places_of, is_blank, born_complete}
+use Rattle.sheet_plan.specs.Places.{places_of, is_blank_sheet, born_complete}
 
 abbrev three_sheets : Layout
 three_sheets = record { pages = 2; sheets = (Some 1 ∷ None ∷ Some 1 ∷ []) ∷ (None ∷ None ∷ []) ∷ (Some 0 ∷ Some 1 ∷ []) ∷ [] }
@@ -25,7 +25,7 @@ blank_sheet : born_complete three_sheets ≡ 1 ∷ []
 blank_sheet = refl
 
 -- one blank slot doesn't make a sheet blank
-one_blank_slot : is_blank three_sheets 0 ≡ false
+one_blank_slot : is_blank_sheet three_sheets 0 ≡ false
 one_blank_slot = refl
 
 -- a sheet whose slots all have this page

@@ -7,7 +7,7 @@ use Rattle.rules.specs.Specification.{Item, Left}
 use Rattle.rules.specs.Made.{Blank, Placed, MadeSheet}
 use Rattle.sheet_plan.specs.Nothing.{nothing}
 use Rattle.sheet_plan.specs.OfSheets.{made_plan, slots_at}
-use Rattle.sheet_plan.specs.Store.{end_of, start_of}
+use Rattle.sheet_plan.specs.Store.{slots_end, slots_start}
 
 abbrev turned : Item
 turned = record { page = 7; from_end = false; turn = Left; scale = pos 500_000_000; x = record { number = pos 0; unit = Pt }; y = record { number = pos 0; unit = Pt } }
@@ -30,8 +30,8 @@ second_alone : slots_at (first ∷ second ∷ []) 1 ≡ Blank ∷ []
 second_alone = refl
 
 -- sheets of three slots, none, and two: where the last of them begins, and where it ends
-last_begins : start_of 0 (record { end = 3; paper = 0 } ∷ record { end = 3; paper = 1 } ∷ record { end = 5; paper = 0 } ∷ []) 2 ≡ 3
+last_begins : slots_start 0 (record { end = 3; paper = 0 } ∷ record { end = 3; paper = 1 } ∷ record { end = 5; paper = 0 } ∷ []) 2 ≡ 3
 last_begins = refl
 
-last_ends : end_of 0 (record { end = 3; paper = 0 } ∷ record { end = 3; paper = 1 } ∷ record { end = 5; paper = 0 } ∷ []) ≡ 5
+last_ends : slots_end 0 (record { end = 3; paper = 0 } ∷ record { end = 3; paper = 1 } ∷ record { end = 5; paper = 0 } ∷ []) ≡ 5
 last_ends = refl

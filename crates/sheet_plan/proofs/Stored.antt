@@ -14,7 +14,7 @@ use Rattle.sheet_plan.specs.declared.made.KeptSlot.{KeptSlot}
 use Rattle.sheet_plan.specs.declared.made.KeptSheet.{KeptSheet}
 use Rattle.sheet_plan.specs.declared.made.MadeSlot as code
 use Rattle.sheet_plan.specs.OfSheets.{slots_at, slot_of}
-use Rattle.sheet_plan.specs.Store.{placed_by, slot_by, slot_kept, paper_by, sheets_from, end_of, start_of, AreInOrder, is_named, AreKept, Begins, IsGrown, added_to}
+use Rattle.sheet_plan.specs.Store.{placed_by, slot_by, slot_kept, paper_by, sheets_from, slots_end, slots_start, AreInOrder, is_named, AreKept, Begins, IsGrown, added_to}
 
 -- ---- lists that begin with others
 get_taken : {X : Type 0} (n k : ℕ) (xs : List X) → k < n → slice_get (take n xs) k ≡ slice_get xs k
@@ -85,15 +85,15 @@ pub range_get : {X : Type 0} (xs : List X) (a b k : ℕ) (d : X) → b ≤ lengt
 range_get xs a b k d bn lt = get_taken (b - a) k (drop a xs) lt ∙ get_dropped a k xs ∙ slice_get-get_or xs (a + k) d (omega arith)
 
 -- ---- sheets in order
-pub end_within : (p n a : ℕ) (ss : List KeptSheet) → AreInOrder p n a ss → (a ≤ end_of a ss) × (end_of a ss ≤ n)
+pub end_within : (p n a : ℕ) (ss : List KeptSheet) → AreInOrder p n a ss → (a ≤ slots_end a ss) × (slots_end a ss ≤ n)
 end_within p n a [] h = (omega arith, h)
 end_within p n a (s ∷ ss) h = let r = end_within p n s.end ss h.2 in (let f = h.0 in let g = r.0 in omega arith, r.1)
 
-pub still_ordered : (p q n m a : ℕ) (ss : List KeptSheet) → AreInOrder p n a ss → p ≤ q → end_of a ss ≤ m → AreInOrder q m a ss
+pub still_ordered : (p q n m a : ℕ) (ss : List KeptSheet) → AreInOrder p n a ss → p ≤ q → slots_end a ss ≤ m → AreInOrder q m a ss
 still_ordered p q n m a [] h pq e = e
 still_ordered p q n m a (s ∷ ss) h pq e = (h.0, let g = h.1 in omega arith, still_ordered p q n m s.end ss h.2 pq e)
 
-pub ordered_more : (p n a : ℕ) (ss : List KeptSheet) (s : KeptSheet) → AreInOrder p n a ss → end_of a ss ≤ s.end → s.paper < p → s.end ≤ n → AreInOrder p n a (ss ++ s ∷ [])
+pub ordered_more : (p n a : ℕ) (ss : List KeptSheet) (s : KeptSheet) → AreInOrder p n a ss → slots_end a ss ≤ s.end → s.paper < p → s.end ≤ n → AreInOrder p n a (ss ++ s ∷ [])
 ordered_more p n a [] s h from paper le = (from, paper, le)
 ordered_more p n a (t ∷ ss) s h from paper le = (h.0, h.1, ordered_more p n t.end ss s h.2 from paper le)
 
@@ -117,9 +117,9 @@ pub record IsStill (old new : List Placing) (slots slots_new : List KeptSlot) (s
   pub same : sheets_from new slots_new 0 sheets ≡ sheets_from old slots 0 sheets
 
 pub still : (old new : List Placing) (slots slots_new : List KeptSlot) (sheets : List KeptSheet) → AreKept old slots sheets → Begins old new
-    → Begins (take (end_of 0 sheets) slots) slots_new → All (is_named (length new)) slots_new → IsStill old new slots slots_new sheets
+    → Begins (take (slots_end 0 sheets) slots) slots_new → All (is_named (length new)) slots_new → IsStill old new slots slots_new sheets
 still old new slots slots_new sheets k b front named =
-    let e = end_of 0 sheets in
+    let e = slots_end 0 sheets in
     let within = end_within (length old) (length slots) 0 sheets k.ordered in
     let long : length (take e slots) ≡ e = length-take-le e slots within.1 in
     let more : length (take e slots) ≤ length slots_new = begins_len (take e slots) slots_new front in
@@ -131,7 +131,7 @@ still old new slots slots_new sheets k b front named =
 
 -- ---- one more sheet
 sheets_more : (placings : List Placing) (slots : List KeptSlot) (a : ℕ) (ss : List KeptSheet) (s : KeptSheet)
-    → sheets_from placings slots a (ss ++ s ∷ []) ≡ sheets_from placings slots a ss ++ record { paper = paper_by (slice_get placings s.paper); slots = map (slot_kept placings) (slice_range slots (end_of a ss) s.end) } ∷ []
+    → sheets_from placings slots a (ss ++ s ∷ []) ≡ sheets_from placings slots a ss ++ record { paper = paper_by (slice_get placings s.paper); slots = map (slot_kept placings) (slice_range slots (slots_end a ss) s.end) } ∷ []
 sheets_more placings slots a [] s = refl
 sheets_more placings slots a (t ∷ ss) s = ap (λ xs. record { paper = paper_by (slice_get placings t.paper); slots = map (slot_kept placings) (slice_range slots a t.end) } ∷ xs) (sheets_more placings slots t.end ss s)
 
@@ -141,13 +141,13 @@ kept_more placings slots sheets s k e paper =
     record { named = k.named; ordered = ordered_more (length placings) (length slots) 0 sheets s k.ordered (let w = within.1 in omega arith) paper (omega arith) }
 
 pub pushed : (placings : List Placing) (front slots : List KeptSlot) (sheets : List KeptSheet) (s : KeptSheet) (placing : Placing) (row : List MadeSlot) (all : List MadeSheet)
-    → sheets_from placings slots 0 sheets ≡ all → s.end ≡ length slots → slice_get placings s.paper ≡ Some placing → length front ≡ end_of 0 sheets → added_to placings front slots ≡ row
+    → sheets_from placings slots 0 sheets ≡ all → s.end ≡ length slots → slice_get placings s.paper ≡ Some placing → length front ≡ slots_end 0 sheets → added_to placings front slots ≡ row
     → sheets_from placings slots 0 (sheets ++ s ∷ []) ≡ all ++ record { paper = placing.paper; slots = row } ∷ []
 pushed placings front slots sheets s placing row all same e paper len added =
-    let cut : slice_range slots (end_of 0 sheets) s.end ≡ drop (length front) slots = ap (λ k. slice_range slots k s.end) (sym len) ∙ ap (λ k. slice_range slots (length front) k) e ∙ take_rest slots (length front) in
+    let cut : slice_range slots (slots_end 0 sheets) s.end ≡ drop (length front) slots = ap (λ k. slice_range slots k s.end) (sym len) ∙ ap (λ k. slice_range slots (length front) k) e ∙ take_rest slots (length front) in
     sheets_more placings slots 0 sheets s
-    ∙ ap (λ xs. xs ++ record { paper = paper_by (slice_get placings s.paper); slots = map (slot_kept placings) (slice_range slots (end_of 0 sheets) s.end) } ∷ []) same
-    ∙ ap (λ p. all ++ record { paper = paper_by p; slots = map (slot_kept placings) (slice_range slots (end_of 0 sheets) s.end) } ∷ []) paper
+    ∙ ap (λ xs. xs ++ record { paper = paper_by (slice_get placings s.paper); slots = map (slot_kept placings) (slice_range slots (slots_end 0 sheets) s.end) } ∷ []) same
+    ∙ ap (λ p. all ++ record { paper = paper_by p; slots = map (slot_kept placings) (slice_range slots (slots_end 0 sheets) s.end) } ∷ []) paper
     ∙ ap (λ xs. all ++ record { paper = placing.paper; slots = map (slot_kept placings) xs } ∷ []) cut
     ∙ ap (λ xs. all ++ record { paper = placing.paper; slots = xs } ∷ []) added
 
@@ -166,7 +166,7 @@ pub grown_placings : (p q : List Placing) (slots : List KeptSlot) → Begins p q
 grown_placings p q slots b = record { placings_begin = b; slots_begin = take-length slots; named = named_more p q slots b }
 
 -- ---- what is read back
-pub sheet_total : (placings : List Placing) (slots : List KeptSlot) (a n : ℕ) (ss : List KeptSheet) → n ≤ length slots → AreInOrder (length placings) n a ss → sum_by slot_count (sheets_from placings slots a ss) + a ≡ end_of a ss
+pub sheet_total : (placings : List Placing) (slots : List KeptSlot) (a n : ℕ) (ss : List KeptSheet) → n ≤ length slots → AreInOrder (length placings) n a ss → sum_by slot_count (sheets_from placings slots a ss) + a ≡ slots_end a ss
 sheet_total placings slots a n [] le h = omega arith
 sheet_total placings slots a n (s ∷ ss) le h =
     let within = end_within (length placings) n s.end ss h.2 in
@@ -182,24 +182,24 @@ pub sheets_len : (placings : List Placing) (slots : List KeptSlot) (a : ℕ) (ss
 sheets_len placings slots a [] = refl
 sheets_len placings slots a (s ∷ ss) = ap suc (sheets_len placings slots s.end ss)
 
-pub start_next : (a k : ℕ) (ss : List KeptSheet) (d : KeptSheet) → k < length ss → start_of a ss (suc k) ≡ (get_or ss k d).end
+pub start_next : (a k : ℕ) (ss : List KeptSheet) (d : KeptSheet) → k < length ss → slots_start a ss (suc k) ≡ (get_or ss k d).end
 start_next a k [] d lt = absurd (omega arith)
 start_next a zero (s ∷ []) d lt = refl
 start_next a zero (s ∷ t ∷ ss) d lt = refl
 start_next a (suc k) (s ∷ ss) d lt = start_next s.end k ss d (omega arith)
 
-pub start_first : (a : ℕ) (ss : List KeptSheet) → start_of a ss 0 ≡ a
+pub start_first : (a : ℕ) (ss : List KeptSheet) → slots_start a ss 0 ≡ a
 start_first a [] = refl
 start_first a (s ∷ ss) = refl
 
 -- sheet k of those that are kept
 pub record IsSheetAt (placings : List Placing) (slots : List KeptSlot) (a : ℕ) (ss : List KeptSheet) (k : ℕ) (s : KeptSheet) : Type 0 where
-  pub row : slots_at (sheets_from placings slots a ss) k ≡ map (slot_kept placings) (slice_range slots (start_of a ss k) s.end)
-  pub ordered : start_of a ss k ≤ s.end
+  pub row : slots_at (sheets_from placings slots a ss) k ≡ map (slot_kept placings) (slice_range slots (slots_start a ss k) s.end)
+  pub ordered : slots_start a ss k ≤ s.end
   pub within : s.end ≤ length slots
   pub paper : s.paper < length placings
   pub paper_is : slice_get (map (λ sheet. sheet.paper) (sheets_from placings slots a ss)) k ≡ Some (paper_by (slice_get placings s.paper))
-  pub count : length (slots_at (sheets_from placings slots a ss) k) ≡ s.end - start_of a ss k
+  pub count : length (slots_at (sheets_from placings slots a ss) k) ≡ s.end - slots_start a ss k
 
 count_of : (placings : List Placing) (slots : List KeptSlot) (from to : ℕ) (row : List MadeSlot) → row ≡ map (slot_kept placings) (slice_range slots from to) → from ≤ to → to ≤ length slots → length row ≡ to - from
 count_of placings slots from to row is le lt = ap length is ∙ length-map (slice_range slots from to) (slot_kept placings) ∙ range_len slots from to le lt
@@ -216,13 +216,13 @@ sheet_at placings slots a n (suc k) (s ∷ ss) d le h lt =
 
 -- a slot of a sheet
 pub slot_read : (placings : List Placing) (slots : List KeptSlot) (all : List MadeSheet) (a k j : ℕ) (ss : List KeptSheet) (s : KeptSheet) (slot : KeptSlot) → sheets_from placings slots a ss ≡ all → IsSheetAt placings slots a ss k s
-    → j < length (slots_at all k) → slot ≡ get_or slots (start_of a ss k + j) slot → slice_get (slots_at all k) j ≡ Some (slot_kept placings slot)
+    → j < length (slots_at all k) → slot ≡ get_or slots (slots_start a ss k + j) slot → slice_get (slots_at all k) j ≡ Some (slot_kept placings slot)
 slot_read placings slots all a k j ss s slot view at lt is =
     let count = ap (λ xs. length (slots_at xs k)) (sym view) ∙ at.count in
     ap (λ xs. slice_get (slots_at xs k) j) (sym view)
     ∙ ap (λ xs. slice_get xs j) at.row
-    ∙ slice_get-map (slot_kept placings) (slice_range slots (start_of a ss k) s.end) j
-    ∙ ap (option_map (slot_kept placings)) (range_get slots (start_of a ss k) s.end j slot at.within (omega arith) ∙ ap Some (sym is))
+    ∙ slice_get-map (slot_kept placings) (slice_range slots (slots_start a ss k) s.end) j
+    ∙ ap (option_map (slot_kept placings)) (range_get slots (slots_start a ss k) s.end j slot at.within (omega arith) ∙ ap Some (sym is))
 
 -- a placing by its number
 pub number_read : (placings : List Placing) (page n : ℕ) (placing : Placing) → 0 < n → slice_get placings (n - 1) ≡ Some placing → slot_by placings page n ≡ placed_by page (Some placing)
@@ -238,7 +238,7 @@ pub number_none : (placings : List Placing) (page n : ℕ) → n ≡ 0 → slot_
 number_none placings page n is = ap (slot_by placings page) is
 
 -- ---- the last of them
-pub end_last : (a k : ℕ) (ss : List KeptSheet) (s : KeptSheet) → k ≡ length ss - 1 → slice_get ss k ≡ Some s → s.end ≡ end_of a ss
+pub end_last : (a k : ℕ) (ss : List KeptSheet) (s : KeptSheet) → k ≡ length ss - 1 → slice_get ss k ≡ Some s → s.end ≡ slots_end a ss
 end_last a k [] s e at = absurd (none-some s at)
 end_last a zero (x ∷ []) s e at = ap (λ (t : KeptSheet). t.end) (sym (same_Some x s at))
 end_last a (suc k) (x ∷ []) s e at = absurd (omega arith)
@@ -246,8 +246,8 @@ end_last a zero (x ∷ y ∷ ys) s e at = absurd (omega arith)
 end_last a (suc k) (x ∷ y ∷ ys) s e at = end_last x.end k (y ∷ ys) s (omega arith) at
 
 -- a sheet begins where the one before it ends
-pub start_before : (ss : List KeptSheet) (k j : ℕ) (s : KeptSheet) → k ≡ suc j → j < length ss → s ≡ get_or ss j s → s.end ≡ start_of 0 ss k
-start_before ss k j s e lt is = ap (λ (t : KeptSheet). t.end) is ∙ sym (start_next 0 j ss s lt) ∙ ap (start_of 0 ss) (sym e)
+pub start_before : (ss : List KeptSheet) (k j : ℕ) (s : KeptSheet) → k ≡ suc j → j < length ss → s ≡ get_or ss j s → s.end ≡ slots_start 0 ss k
+start_before ss k j s e lt is = ap (λ (t : KeptSheet). t.end) is ∙ sym (start_next 0 j ss s lt) ∙ ap (slots_start 0 ss) (sym e)
 
 -- ---- what was read back
 pub read_sheet : (placings : List Placing) (slots : List KeptSlot) (sheets : List KeptSheet) (k : ℕ) (s : KeptSheet) → AreKept placings slots sheets → slice_get sheets k ≡ Some s → IsSheetAt placings slots 0 sheets k s
@@ -273,7 +273,7 @@ sheet_there placings slots sheets all view = ap length (sym view) ∙ sheets_len
 
 -- a slot of a sheet is in the block
 pub slot_there : (placings : List Placing) (slots : List KeptSlot) (sheets : List KeptSheet) (all : List MadeSheet) (k j : ℕ) → AreKept placings slots sheets → sheets_from placings slots 0 sheets ≡ all → k < length all
-    → j < length (slots_at all k) → start_of 0 sheets k + j < length slots
+    → j < length (slots_at all k) → slots_start 0 sheets k + j < length slots
 slot_there placings slots sheets all k j kept view lt lj =
     let len = sheet_there placings slots sheets all view in
     let found = some_sheet placings slots sheets k kept (omega arith) in
@@ -288,20 +288,20 @@ number_there placings slots sheets k slot kept at = subst (is_named (length plac
 
 -- a slot that was read
 pub placed_read : (placings : List Placing) (slots : List KeptSlot) (sheets : List KeptSheet) (all : List MadeSheet) (k j : ℕ) (slot : KeptSlot) → AreKept placings slots sheets → sheets_from placings slots 0 sheets ≡ all → k < length all
-    → j < length (slots_at all k) → slice_get slots (start_of 0 sheets k + j) ≡ Some slot → slice_get (slots_at all k) j ≡ Some (slot_kept placings slot)
+    → j < length (slots_at all k) → slice_get slots (slots_start 0 sheets k + j) ≡ Some slot → slice_get (slots_at all k) j ≡ Some (slot_kept placings slot)
 placed_read placings slots sheets all k j slot kept view lt lj at =
     let len = sheet_there placings slots sheets all view in
     let found = some_sheet placings slots sheets k kept (omega arith) in
-    slot_read placings slots all 0 k j sheets found.0 slot view found.1 lj (sym (get_or_from_slice_get slots (start_of 0 sheets k + j) slot slot at))
+    slot_read placings slots all 0 k j sheets found.0 slot view found.1 lj (sym (get_or_from_slice_get slots (slots_start 0 sheets k + j) slot slot at))
 
-pub total_read : (placings : List Placing) (slots : List KeptSlot) (sheets : List KeptSheet) (all : List MadeSheet) → AreKept placings slots sheets → sheets_from placings slots 0 sheets ≡ all → end_of 0 sheets ≡ sum_by slot_count all
+pub total_read : (placings : List Placing) (slots : List KeptSlot) (sheets : List KeptSheet) (all : List MadeSheet) → AreKept placings slots sheets → sheets_from placings slots 0 sheets ≡ all → slots_end 0 sheets ≡ sum_by slot_count all
 total_read placings slots sheets all kept view =
     let total = sheet_total placings slots 0 (length slots) sheets (omega arith) kept.ordered in
     let same = ap (sum_by slot_count) view in
     omega arith
 
 pub count_read : (placings : List Placing) (slots : List KeptSlot) (sheets : List KeptSheet) (all : List MadeSheet) (k : ℕ) (s : KeptSheet) → AreKept placings slots sheets → sheets_from placings slots 0 sheets ≡ all → slice_get sheets k ≡ Some s
-    → (start_of 0 sheets k ≤ s.end) × (s.end - start_of 0 sheets k ≡ length (slots_at all k)) × (s.paper < length placings)
+    → (slots_start 0 sheets k ≤ s.end) × (s.end - slots_start 0 sheets k ≡ length (slots_at all k)) × (s.paper < length placings)
 count_read placings slots sheets all k s kept view at =
     let r = read_sheet placings slots sheets k s kept at in
     (r.ordered, sym (ap (λ xs. length (slots_at xs k)) (sym view) ∙ r.count), r.paper)
@@ -340,17 +340,17 @@ added_more p q xs ys zs row more g named b first next =
 pub cut_named : (placings : List Placing) (slots : List KeptSlot) (sheets : List KeptSheet) (n : ℕ) → AreKept placings slots sheets → All (is_named (length placings)) (take n slots)
 cut_named placings slots sheets n kept = All-take (is_named (length placings)) n slots kept.named
 
-pub still_grown : (p q r : List Placing) (slots slots_new : List KeptSlot) (sheets : List KeptSheet) → AreKept p slots sheets → Begins p q → IsGrown q r (take (end_of 0 sheets) slots) slots_new → IsStill p r slots slots_new sheets
+pub still_grown : (p q r : List Placing) (slots slots_new : List KeptSlot) (sheets : List KeptSheet) → AreKept p slots sheets → Begins p q → IsGrown q r (take (slots_end 0 sheets) slots) slots_new → IsStill p r slots slots_new sheets
 still_grown p q r slots slots_new sheets kept b g =
     still p r slots slots_new sheets kept (begins_more p q r b g.placings_begin) g.slots_begin
-    (g.named (named_more p q (take (end_of 0 sheets) slots) b (cut_named p slots sheets (end_of 0 sheets) kept)))
+    (g.named (named_more p q (take (slots_end 0 sheets) slots) b (cut_named p slots sheets (slots_end 0 sheets) kept)))
 
 pub record IsPut (placings : List Placing) (slots : List KeptSlot) (sheets : List KeptSheet) (all : List MadeSheet) : Type 0 where
   pub kept : AreKept placings slots sheets
   pub view : sheets_from placings slots 0 sheets ≡ all
 
 pub put_behind : (p q r : List Placing) (slots slots_new : List KeptSlot) (sheets : List KeptSheet) (s : KeptSheet) (placing : Placing) (row : List MadeSlot) (all : List MadeSheet) → AreKept p slots sheets → sheets_from p slots 0 sheets ≡ all
-    → Begins p q → slice_get q s.paper ≡ Some placing → IsGrown q r (take (end_of 0 sheets) slots) slots_new → s.end ≡ length slots_new → added_to r (take (end_of 0 sheets) slots) slots_new ≡ row
+    → Begins p q → slice_get q s.paper ≡ Some placing → IsGrown q r (take (slots_end 0 sheets) slots) slots_new → s.end ≡ length slots_new → added_to r (take (slots_end 0 sheets) slots) slots_new ≡ row
     → IsPut r slots_new (sheets ++ s ∷ []) (all ++ record { paper = placing.paper; slots = row } ∷ [])
 put_behind p q r slots slots_new sheets s placing row all kept view b at g e added =
     let now = still_grown p q r slots slots_new sheets kept b g in
@@ -358,17 +358,17 @@ put_behind p q r slots slots_new sheets s placing row all kept view b at g e add
     let found : slice_get r s.paper ≡ Some placing = begins_get q r s.paper g.placings_begin (slice_get_within q s.paper placing at) ∙ at in
     record {
       kept = kept_more r slots_new sheets s now.kept e (slice_get_within r s.paper placing found);
-      view = pushed r (take (end_of 0 sheets) slots) slots_new sheets s placing row all (now.same ∙ view) e found (length-take-le (end_of 0 sheets) slots within) added;
+      view = pushed r (take (slots_end 0 sheets) slots) slots_new sheets s placing row all (now.same ∙ view) e found (length-take-le (slots_end 0 sheets) slots within) added;
     }
 
-pub still_after : (p q r : List Placing) (slots cut slots_new : List KeptSlot) (sheets : List KeptSheet) → AreKept p slots sheets → Begins p q → cut ≡ take (end_of 0 sheets) slots → IsGrown q r cut slots_new → IsStill p r slots slots_new sheets
+pub still_after : (p q r : List Placing) (slots cut slots_new : List KeptSlot) (sheets : List KeptSheet) → AreKept p slots sheets → Begins p q → cut ≡ take (slots_end 0 sheets) slots → IsGrown q r cut slots_new → IsStill p r slots slots_new sheets
 still_after p q r slots cut slots_new sheets kept b front g = still_grown p q r slots slots_new sheets kept b (subst (λ xs. IsGrown q r xs slots_new) front g)
 
-pub named_after : (p q : List Placing) (slots cut : List KeptSlot) (sheets : List KeptSheet) → AreKept p slots sheets → Begins p q → cut ≡ take (end_of 0 sheets) slots → All (is_named (length q)) cut
-named_after p q slots cut sheets kept b front = subst (All (is_named (length q))) (sym front) (named_more p q (take (end_of 0 sheets) slots) b (cut_named p slots sheets (end_of 0 sheets) kept))
+pub named_after : (p q : List Placing) (slots cut : List KeptSlot) (sheets : List KeptSheet) → AreKept p slots sheets → Begins p q → cut ≡ take (slots_end 0 sheets) slots → All (is_named (length q)) cut
+named_after p q slots cut sheets kept b front = subst (All (is_named (length q))) (sym front) (named_more p q (take (slots_end 0 sheets) slots) b (cut_named p slots sheets (slots_end 0 sheets) kept))
 
 pub put_after : (p q r : List Placing) (slots cut slots_new : List KeptSlot) (sheets sheets_new : List KeptSheet) (s : KeptSheet) (placing : Placing) (row : List MadeSlot) (all : List MadeSheet) → AreKept p slots sheets → sheets_from p slots 0 sheets ≡ all
-    → Begins p q → cut ≡ take (end_of 0 sheets) slots → slice_get q s.paper ≡ Some placing → IsGrown q r cut slots_new → s.end ≡ length slots_new → added_to r cut slots_new ≡ row → sheets_new ≡ sheets ++ s ∷ []
+    → Begins p q → cut ≡ take (slots_end 0 sheets) slots → slice_get q s.paper ≡ Some placing → IsGrown q r cut slots_new → s.end ≡ length slots_new → added_to r cut slots_new ≡ row → sheets_new ≡ sheets ++ s ∷ []
     → IsPut r slots_new sheets_new (all ++ record { paper = placing.paper; slots = row } ∷ [])
 put_after p q r slots cut slots_new sheets sheets_new s placing row all kept view b front at g e added is =
     subst (λ ss. IsPut r slots_new ss (all ++ record { paper = placing.paper; slots = row } ∷ [])) (sym is)

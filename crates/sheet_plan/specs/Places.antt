@@ -23,9 +23,9 @@ abbrev pub places_of : Layout → ℕ → List (ℕ × ℕ)
 places_of layout p = places_from p 0 layout.sheets
 
 -- all slots of sheet s are blank
-abbrev pub is_blank : Layout → ℕ → Bool
-is_blank layout s = list_all is_none (slice_index_or layout.sheets s [])
+abbrev pub is_blank_sheet : Layout → ℕ → Bool
+is_blank_sheet layout s = list_all is_none (slice_index_or layout.sheets s [])
 
 -- the sheets that are complete before any page has come, ascending
 abbrev pub born_complete : Layout → List ℕ
-born_complete layout = filter (is_blank layout) (range_with_len 0 (length layout.sheets))
+born_complete layout = filter (is_blank_sheet layout) (range_with_len 0 (length layout.sheets))

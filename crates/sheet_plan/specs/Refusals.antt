@@ -16,8 +16,8 @@ RefusesIn sides spec n TooManySheets = plan_in sides spec n ≡ Err rules.TooMan
 RefusesIn sides spec n TooManyPlaces = plan_in sides spec n ≡ Err rules.TooManyPlaces
 RefusesIn sides spec n NoMemory = plan_in sides spec n ≡ Ok (sheets_in sides spec n)
 
-abbrev pub Refuses : Spec → ℕ → PlanError → Type 0
-Refuses spec n error = RefusesIn None spec n error
+abbrev pub RefusesPlan : Spec → ℕ → PlanError → Type 0
+RefusesPlan spec n error = RefusesIn None spec n error
 
 -- the sides are valid, the specification is admissible, and the limits of a plan hold on n pages
 pub record IsAccepted (sides : Option ℕ) (spec : Spec) (n : ℕ) : Type 0 where

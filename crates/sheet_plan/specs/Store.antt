@@ -33,15 +33,15 @@ sheets_from placings slots start (s ∷ ss) = record {
 } ∷ sheets_from placings slots s.end ss
 
 -- where the last of them ends
-abbrev pub end_of : (start : ℕ) → List KeptSheet → ℕ
-end_of start [] = start
-end_of start (s ∷ ss) = end_of s.end ss
+abbrev pub slots_end : (start : ℕ) → List KeptSheet → ℕ
+slots_end start [] = start
+slots_end start (s ∷ ss) = slots_end s.end ss
 
 -- where sheet k of them begins
-abbrev pub start_of : (start : ℕ) → List KeptSheet → ℕ → ℕ
-start_of start [] k = start
-start_of start (s ∷ ss) zero = start
-start_of start (s ∷ ss) (suc k) = start_of s.end ss k
+abbrev pub slots_start : (start : ℕ) → List KeptSheet → ℕ → ℕ
+slots_start start [] k = start
+slots_start start (s ∷ ss) zero = start
+slots_start start (s ∷ ss) (suc k) = slots_start s.end ss k
 
 -- each ends after the one before it, the last within this many slots, and its paper is one of this many
 abbrev pub AreInOrder : (placings slots start : ℕ) → List KeptSheet → Type 0

@@ -1,7 +1,7 @@
 //! The sheets that have no page.
 ghost use Rattle.std.specs.Prelude.{◌≡◌, ◌<◌, length, IfOk};
 ghost use Rattle.rules.specs.Sheets.{layout};
-ghost use Rattle.sheet_plan.specs.Places.{is_blank, born_complete};
+ghost use Rattle.sheet_plan.specs.Places.{is_blank_sheet, born_complete};
 ghost use Rattle.sheet_plan.specs.Sources.{plan_from, IsPlannable};
 
 use crate::source::PlanSource;
@@ -14,7 +14,7 @@ pub fn blank_sheets_in(alloc: Global, source: &PlanSource) -> Result<Vec<u32>, A
 {
     let mut blank_sheets = Vec::new(alloc);
     for sheet in 0..source.sheets() {
-        if is_blank(source, sheet) {
+        if is_blank_sheet(source, sheet) {
             blank_sheets.push(sheet)?;
         }
     }
@@ -22,10 +22,10 @@ pub fn blank_sheets_in(alloc: Global, source: &PlanSource) -> Result<Vec<u32>, A
 }
 
 /// Tests that no slot of a sheet has a page.
-fn is_blank(source: &PlanSource, sheet: u32) -> bool
+fn is_blank_sheet(source: &PlanSource, sheet: u32) -> bool
     requires plannable { IsPlannable source.now }
     requires sheet { sheet < length (plan_from source.now).sheets }
-    ensures { result ≡ is_blank (layout (plan_from source.now)) sheet }
+    ensures { result ≡ is_blank_sheet (layout (plan_from source.now)) sheet }
 {
     for slot in 0..source.slots(sheet) {
         if source.page_of(sheet, slot).is_some() {

@@ -5,7 +5,7 @@ ghost use Rattle.rules.specs.MadePlans.{slot_count};
 ghost use Rattle.pagespec.specs.Items.{item_of};
 ghost use Rattle.sheet_plan.specs.Nothing.{nothing as no_item};
 ghost use Rattle.sheet_plan.specs.OfSheets.{slot_of, slots_at, placed_of};
-ghost use Rattle.sheet_plan.specs.Store.{Begins, IsGrown, end_of, start_of, added_to, is_named};
+ghost use Rattle.sheet_plan.specs.Store.{Begins, IsGrown, slots_end, slots_start, added_to, is_named};
 
 use lengths::{Number, Paper};
 use pagespec::{Item, Measure, Turn};
@@ -123,9 +123,9 @@ impl MadeSheets {
             item: self.nothing,
             paper: *paper,
         };
-        let paper = keep(&mut self.placings, 0, &placing)?;
+        let paper = keep_placing(&mut self.placings, 0, &placing)?;
         keep_slots(&mut self.placings, &mut self.slots, slots)?;
-        let end = count_of(self.slots.len())?;
+        let end = count_in_u32(self.slots.len())?;
         self.sheets.push(KeptSheet { end, paper })?;
         Ok(())
     }
@@ -202,7 +202,7 @@ impl MadeSheets {
 
 /// Where the slots of the last sheet end.
 fn last_end(sheets: &[KeptSheet]) -> u32
-    ensures { result ≡ end_of 0 sheets.now }
+    ensures { result ≡ slots_end 0 sheets.now }
 {
     match sheets.last() {
         Some(sheet) => sheet.end,
@@ -213,7 +213,7 @@ fn last_end(sheets: &[KeptSheet]) -> u32
 /// Where the slots of a sheet begin.
 fn start_at(sheets: &[KeptSheet], sheet: u32) -> u32
     requires { sheet < length sheets.now }
-    ensures { result ≡ start_of 0 sheets.now sheet }
+    ensures { result ≡ slots_start 0 sheets.now sheet }
 {
     if sheet == 0 {
         return 0;
@@ -245,7 +245,7 @@ fn placing_at(placings: &[Placing], k: u32) -> &Placing
 }
 
 /// A count in four bytes.
-fn count_of(count: usize) -> Result<u32, AllocError>
+fn count_in_u32(count: usize) -> Result<u32, AllocError>
     ensures value { IfOk result (λ n. n ≡ count) }
     ensures many { OnErr result (u32.MAX < count) }
 {
@@ -293,10 +293,10 @@ fn keep_slot(
                 item: *item,
                 paper: *paper,
             };
-            let place = keep(placings, near, &placing)?;
+            let place = keep_placing(placings, near, &placing)?;
             KeptSlot {
                 page: *page,
-                placing: count_of(place as usize + 1)?,
+                placing: count_in_u32(place as usize + 1)?,
             }
         }
     };
@@ -313,22 +313,26 @@ fn number_behind(slots: &[KeptSlot]) -> u32 {
 }
 
 /// The place of a placing, which is added if it isn't found nearby. One of the first is found.
-fn keep(placings: &mut Vec<Placing>, near: u32, placing: &Placing) -> Result<u32, AllocError>
+fn keep_placing(
+    placings: &mut Vec<Placing>,
+    near: u32,
+    placing: &Placing,
+) -> Result<u32, AllocError>
     ensures begins { Begins placings.old.items placings.new.items }
     ensures there { IfOk result (λ k. slice_get placings.new.items k ≡ Some placing.now) }
     ensures once { (k : ℕ) → k < 64 → slice_get placings.old.items k ≡ Some placing.now
         → placings.new.items ≡ placings.old.items }
 {
-    if let Some(place) = find(placings.as_slice(), near, placing) {
+    if let Some(place) = find_placing(placings.as_slice(), near, placing) {
         return Ok(place);
     }
-    let place = count_of(placings.len())?;
+    let place = count_in_u32(placings.len())?;
     placings.push(*placing)?;
     Ok(place)
 }
 
 /// The place of a placing, if it is near or among the first.
-fn find(placings: &[Placing], near: u32, placing: &Placing) -> Option<u32>
+fn find_placing(placings: &[Placing], near: u32, placing: &Placing) -> Option<u32>
     ensures found { IfSome result (λ k. slice_get placings.now k ≡ Some placing.now) }
     ensures not_near { IsNone result → slice_get placings.now near ≢ Some placing.now }
     ensures not_first { IsNone result → (k : ℕ) → k < 64 → slice_get placings.now k ≢ Some placing.now }
@@ -351,11 +355,11 @@ fn is_at(placings: &[Placing], place: u32, placing: &Placing) -> bool
     if place as usize >= placings.len() {
         return false;
     }
-    is_same(placing_at(placings, place), placing)
+    is_same_measure(placing_at(placings, place), placing)
 }
 
 /// Whether both have the same parts.
-fn is_same(one: &Placing, other: &Placing) -> bool
+fn is_same_measure(one: &Placing, other: &Placing) -> bool
     ensures { IsTrue result ↔ one.now ≡ other.now }
 {
     *one == *other

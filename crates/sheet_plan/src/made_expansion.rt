@@ -3,7 +3,7 @@ ghost use Rattle.std.specs.Prelude.{◌≡◌, ◌≢◌, ◌<◌, ◌≤◌, le
 ghost use Rattle.std.specs.List.{list_any};
 ghost use Rattle.rules.specs.Run.{most_sheets};
 ghost use Rattle.rules.specs.Made.{MadeSlot};
-ghost use Rattle.rules.specs.MadePlans.{made_plan_of, is_slot_count, slot_count, is_missing};
+ghost use Rattle.rules.specs.MadePlans.{made_plan_of, is_slot_count, slot_count, lacks_page};
 ghost use Rattle.sheet_plan.specs.OfSheets.{made_plan, slots_at};
 ghost use Rattle.sheet_plan.specs.MadeRefusals.{RefusesMade};
 ghost use Rattle.sheet_plan.specs.Sources.{plan_from, IsPlannable};
@@ -80,7 +80,7 @@ fn is_slot_count(slots: u32) -> bool
 /// The first sheet with a page that the document lacks.
 fn first_missing(pages: u32, made: &MadeSheets) -> Option<u32>
     requires { length made.now ≤ most_sheets }
-    ensures { result ≡ position (λ sheet. list_any (is_missing pages) sheet.slots) made.now }
+    ensures { result ≡ position (λ sheet. list_any (lacks_page pages) sheet.slots) made.now }
 {
     for sheet in 0..made.len() as u32 {
         if is_page_missing(pages, made, sheet) {
@@ -93,7 +93,7 @@ fn first_missing(pages: u32, made: &MadeSheets) -> Option<u32>
 /// Whether this sheet has a page that the document lacks.
 fn is_page_missing(pages: u32, made: &MadeSheets, sheet: u32) -> bool
     requires { sheet < length made.now }
-    ensures { result ≡ list_any (is_missing pages) (slots_at made.now sheet) }
+    ensures { result ≡ list_any (lacks_page pages) (slots_at made.now sheet) }
 {
     for slot in 0..made.slots(sheet) {
         if is_missing_in(pages, made, sheet, slot) {
@@ -107,7 +107,7 @@ fn is_page_missing(pages: u32, made: &MadeSheets, sheet: u32) -> bool
 fn is_missing_in(pages: u32, made: &MadeSheets, sheet: u32, slot: u32) -> bool
     requires sheet { sheet < length made.now }
     requires slot { slot < length (slots_at made.now sheet) }
-    ensures { (it : MadeSlot) → slice_get (slots_at made.now sheet) slot ≡ Some it → result ≡ is_missing pages it }
+    ensures { (it : MadeSlot) → slice_get (slots_at made.now sheet) slot ≡ Some it → result ≡ lacks_page pages it }
 {
     match made.placed(sheet, slot) {
         Some(placed) => pages <= placed.page,

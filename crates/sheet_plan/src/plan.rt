@@ -15,7 +15,7 @@ ghost use Rattle.sheet_plan.specs.OfSheets.{made_plan, IsOfSheets};
 ghost use Rattle.sheet_plan.specs.MadeRefusals.{RefusesMade};
 ghost use Rattle.sheet_plan.specs.Places.{places_of, born_complete};
 ghost use Rattle.sheet_plan.specs.Laws.{ArePlaces, AreWithoutPages};
-ghost use Rattle.sheet_plan.specs.Refusals.{Refuses, RefusesIn};
+ghost use Rattle.sheet_plan.specs.Refusals.{RefusesPlan, RefusesIn};
 ghost use Rattle.sheet_plan.specs.Sources.{plan_from, IsPlannable};
 
 use crate::blank_sheets::blank_sheets_in;
@@ -70,7 +70,7 @@ impl<'s> Plan<'s> {
     pub fn new(alloc: Global, spec: &'s Spec, pages: u32) -> Result<Plan<'s>, PlanError>
         ensures planned { IfOk result (λ plan. plan ≡ planned spec.now pages) }
         ensures accepted { OnOk result (plan_of spec.now pages ≡ Ok (sheets spec.now pages)) }
-        ensures refused { IfErr result (Refuses spec.now pages) }
+        ensures refused { IfErr result (RefusesPlan spec.now pages) }
     {
         Plan::over(alloc, spec, Row { pages, sides: None })
     }

@@ -8,7 +8,7 @@ ghost use Rattle.sheet_plan.specs.Sources.{plan_from, IsPlannable};
 
 use crate::made::MadeSheets;
 use crate::row::Row;
-use crate::spec_expansion::{item_at, place_of};
+use crate::spec_expansion::{item_at, item_place};
 use pagespec::Item;
 
 /// A specification over a row of pages, or sheets that were made, over this many pages.
@@ -95,7 +95,7 @@ impl<'s> PlanSource<'s> {
             } => {
                 let item = item_at(groups, sheet, slot);
                 let block = sheet / groups.len() as u32;
-                let place = place_of(*modulo, *blocks, block, item);
+                let place = item_place(*modulo, *blocks, block, item);
                 row.page_at(place)
             }
             PlanSource::Made { made, .. } => match made.placed(sheet, u32::from(slot)) {

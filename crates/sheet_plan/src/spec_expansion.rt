@@ -46,7 +46,7 @@ pub fn item_at<'s>(groups: &'s [Vec<Item>], sheet: u32, slot: u16) -> &'s Item
 }
 
 /// The place that an item names in a block.
-pub fn place_of(modulo: u32, blocks: u32, block: u32, item: &Item) -> u32
+pub fn item_place(modulo: u32, blocks: u32, block: u32, item: &Item) -> u32
     requires fits { modulo * blocks < 2 ^ 32 }
     requires block { block < blocks }
     requires page { item.now.page < modulo }

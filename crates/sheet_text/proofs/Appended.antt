@@ -6,7 +6,7 @@ use Rattle.std.proofs.lemmas.Option.{none-some, same_Some}
 use Rattle.rules.specs.Bytes.{line}
 use Rattle.rules.specs.Numbers.{points_text}
 use Rattle.rules.specs.Dress.{lines_text}
-use Rattle.sheet_text.specs.PageNumbers.{point_text}
+use Rattle.sheet_text.specs.PageNumbers.{number_point_text}
 
 -- three pieces after a text
 pub three : (o a p b l m text : List ℕ) → l ≡ o ++ a → m ≡ l ++ p → text ≡ m ++ b → text ≡ o ++ (a ++ (p ++ b))
@@ -41,12 +41,12 @@ line_of o a b c d l m n q text one two next four last =
 
 -- a point after a text, and what follows it
 pub point_and : (x y x' y' : ℤ) (o b l m n text : List ℕ) → x ≡ x' → y ≡ y' → l ≡ o ++ points_text x → m ≡ l ++ codes " " → n ≡ m ++ points_text y → text ≡ n ++ b
-    → text ≡ o ++ (point_text x' y' ++ b)
+    → text ≡ o ++ (number_point_text x' y' ++ b)
 point_and x y x' y' o b l m n text is_x is_y one two more last =
     last
     ∙ ap (λ (t : List ℕ). t ++ b) (three o (points_text x) (codes " ") (points_text y) l m n one two more)
-    ∙ append_assoc o (point_text x y) b
-    ∙ ap₂ (λ (v w : ℤ). o ++ (point_text v w ++ b)) is_x is_y
+    ∙ append_assoc o (number_point_text x y) b
+    ∙ ap₂ (λ (v w : ℤ). o ++ (number_point_text v w ++ b)) is_x is_y
 
 flat : {X : Type 0} (f : X → List (List ℕ)) (i : ℕ) (xs : List X) (x : X) → slice_get xs i ≡ Some x
     → flat_map f (take i xs) ++ f x ≡ flat_map f (take (suc i) xs)

@@ -8,9 +8,9 @@ use Rattle.std.proofs.lemmas.List.Concat.{flat_map-append}
 use Rattle.std.proofs.Math.Seq.{take-length, drop-append_seam}
 use Rattle.lengths.proofs.Numbers.{same_byte}
 use Rattle.sheet_text.specs.declared.texts.TextPart.{TextPart}
-use Rattle.sheet_text.specs.declared.rope.Placed.{Placed}
+use Rattle.sheet_text.specs.declared.rope.Borrowed.{Borrowed}
 use Rattle.sheet_text.specs.Ropes.{woven, AreInPlace}
-use Rattle.sheet_text.specs.Texts.{TextsView, sheets_of, joined, text_in, texts_in, IsIn, AreIn}
+use Rattle.sheet_text.specs.Texts.{TextsView, sheets_of, joined_texts, text_in, texts_in, IsIn, AreIn}
 
 -- more bytes after those of a part
 pub text_more : (own more : List ℕ) (p : TextPart) → IsIn own p → text_in (own ++ more) p ≡ text_in own p
@@ -52,14 +52,14 @@ is_behind own more p start end h =
     (omega (arith, start, end, len), omega (arith, end), subst (λ n. AreInPlace 0 n p.slices.items) (sym count) h)
 
 -- a text that was added
-pub pushed_in : (own more own_now : List ℕ) (ps ps_now : List TextPart) (p : TextPart) {ss : List Placed} → own_now ≡ own ++ more → ps_now ≡ ps ++ p ∷ []
+pub pushed_in : (own more own_now : List ℕ) (ps ps_now : List TextPart) (p : TextPart) {ss : List Borrowed} → own_now ≡ own ++ more → ps_now ≡ ps ++ p ∷ []
     → p.start ≡ length own → p.end ≡ length own_now → p.slices.items ≡ ss → AreIn own ps → AreInPlace 0 (length more) ss → AreIn own_now ps_now
 pushed_in own more own_now ps ps_now p {ss} grown added start end same h placed =
     subst (λ xs. AreIn xs ps_now) (sym grown) (subst (λ qs. AreIn (own ++ more) qs) (sym added)
     (are_in_with (own ++ more) ps p (are_in_more own more ps h)
     (is_behind own more p start (end ∙ ap (λ x. length x) grown) (subst (λ xs. AreInPlace 0 (length more) xs) (sym same) placed))))
 
-pub pushed_behind : (own more own_now : List ℕ) (ps ps_now : List TextPart) (p : TextPart) {ss : List Placed} {texts : TextsView} {text : List ℕ}
+pub pushed_behind : (own more own_now : List ℕ) (ps ps_now : List TextPart) (p : TextPart) {ss : List Borrowed} {texts : TextsView} {text : List ℕ}
     → own_now ≡ own ++ more → ps_now ≡ ps ++ p ∷ [] → p.start ≡ length own → p.end ≡ length own_now → p.slices.items ≡ ss → AreIn own ps
     → texts_in own ps ≡ texts → woven 0 more ss ≡ text → texts_in own_now ps_now ≡ texts ++ (p.sheet, text) ∷ []
 pushed_behind own more own_now ps ps_now p {ss} {texts} {text} grown added start end same h view one =
@@ -107,16 +107,16 @@ row_more first n = let next : n + 1 ≡ suc n = omega arith in ap (λ k. range_w
     last (suc n) first = ap (λ xs. first ∷ xs) (last n (first + 1) ∙ ap (λ k. range_with_len (first + 1) n ++ k ∷ []) (omega arith))
 
 -- from this index on so many sheets follow each other, and their texts are the bytes between these two places, with these slices
-pub record AreNeighbours (own : List ℕ) (ps : List TextPart) (sheet : ℕ) (ss : List Placed) (n count start end : ℕ) : Type 0 where
+pub record AreNeighbours (own : List ℕ) (ps : List TextPart) (sheet : ℕ) (ss : List Borrowed) (n count start end : ℕ) : Type 0 where
   pub some : 0 < count
   pub up : start ≤ end
   pub within : end ≤ length own
   pub placed : AreInPlace 0 (end - start) ss
   pub row : sheets_of (take count (drop n (texts_in own ps))) ≡ range_with_len sheet count
-  pub bytes : joined (take count (drop n (texts_in own ps))) ≡ woven 0 (take (end - start) (drop start own)) ss
+  pub bytes : joined_texts (take count (drop n (texts_in own ps))) ≡ woven 0 (take (end - start) (drop start own)) ss
 
 -- one is
-pub one_alone : (own : List ℕ) (ps : List TextPart) (sheet : ℕ) (ss : List Placed) (n : ℕ) (p : TextPart) → n < length ps → AreIn own ps → p ≡ slice_index_or ps n p
+pub one_alone : (own : List ℕ) (ps : List TextPart) (sheet : ℕ) (ss : List Borrowed) (n : ℕ) (p : TextPart) → n < length ps → AreIn own ps → p ≡ slice_index_or ps n p
     → slice_get (sheets_of (texts_in own ps)) n ≡ Some sheet → ss ≡ p.slices.items → AreNeighbours own ps sheet ss n 1 p.start p.end
 one_alone own ps sheet ss n p lt h is at same =
     let fits : IsIn own p = subst (λ q. IsIn own q) (sym is) (is_in_at own n ps p lt h) in
@@ -127,12 +127,12 @@ one_alone own ps sheet ss n p lt h is at same =
       within = fits.1;
       placed = subst (λ xs. AreInPlace 0 (p.end - p.start) xs) (sym same) fits.2;
       row = ap (λ ts. sheets_of (take 1 ts)) (text_at own n ps p lt) ∙ ap (λ k. k ∷ []) number;
-      bytes = ap (λ ts. joined (take 1 ts)) (text_at own n ps p lt) ∙ append-nil (text_in own (slice_index_or ps n p)) ∙ ap (λ q. text_in own q) (sym is)
+      bytes = ap (λ ts. joined_texts (take 1 ts)) (text_at own n ps p lt) ∙ append-nil (text_in own (slice_index_or ps n p)) ∙ ap (λ q. text_in own q) (sym is)
           ∙ ap (λ xs. woven 0 (take (p.end - p.start) (drop p.start own)) xs) (sym same);
     }
 
 -- and one more right after them, if none has slices
-pub one_more : (own : List ℕ) (ps : List TextPart) (sheet : ℕ) (ss : List Placed) (n count start end next : ℕ) (p : TextPart) → next < length ps → n + count ≡ next → AreIn own ps
+pub one_more : (own : List ℕ) (ps : List TextPart) (sheet : ℕ) (ss : List Borrowed) (n count start end next : ℕ) (p : TextPart) → next < length ps → n + count ≡ next → AreIn own ps
     → AreNeighbours own ps sheet ss n count start end → p ≡ slice_index_or ps next p → p.sheet ≡ sheet + count → p.start ≡ end → ss ≡ [] → p.slices.items ≡ []
     → AreNeighbours own ps sheet ss n (count + 1) start p.end
 one_more own ps sheet ss n count start end next p lt comes h before is number at nil no_slices =
@@ -154,7 +154,7 @@ one_more own ps sheet ss n count start end next p lt comes h before is number at
       placed = subst (λ xs. AreInPlace 0 (p.end - start) xs) (sym nil) (omega arith);
       row = ap sheets_of more ∙ map-append (λ (t : ℕ × List ℕ). t.0) (take count (drop n texts)) ((p.sheet, text_in own p) ∷ []) ∙ ap (λ xs. xs ++ p.sheet ∷ []) before.row
           ∙ ap (λ k. range_with_len sheet count ++ k ∷ []) number ∙ sym (row_more sheet count);
-      bytes = ap joined more ∙ flat_map-append (λ (t : ℕ × List ℕ). t.1) (take count (drop n texts)) ((p.sheet, text_in own p) ∷ [])
+      bytes = ap joined_texts more ∙ flat_map-append (λ (t : ℕ × List ℕ). t.1) (take count (drop n texts)) ((p.sheet, text_in own p) ∷ [])
           ∙ ap (λ x. x ++ (text_in own p ++ [])) before.bytes
           ∙ subst (λ xs. woven 0 (take (end - start) (drop start own)) xs ++ (text_in own p ++ []) ≡ woven 0 (take (p.end - start) (drop start own)) xs) (sym nil) all;
     }
@@ -163,7 +163,7 @@ pub nil_told : {X : Type 0} (xs : List X) (b : Bool) → b ≡ (length xs == 0) 
 nil_told xs b is told = nil_from_length xs (same_byte (length xs) 0 (sym is ∙ told))
 
 -- their slices lie between their bytes
-pub piece_placed : {own : List ℕ} {ps : List TextPart} {sheet : ℕ} {ss : List Placed} {n count start end : ℕ} → AreNeighbours own ps sheet ss n count start end
+pub piece_placed : {own : List ℕ} {ps : List TextPart} {sheet : ℕ} {ss : List Borrowed} {n count start end : ℕ} → AreNeighbours own ps sheet ss n count start end
     → AreInPlace 0 (0 + length (take (end - start) (drop start own))) (drop 0 ss)
 piece_placed {own} {ps} {sheet} {ss} {n} {count} {start} {end} are =
     let rest_len : length (drop start own) ≡ length own - start = length-drop start own in

@@ -8,8 +8,8 @@ use Rattle.rules.specs.Made.{MadeSlot, Blank, Placed}
 use Rattle.sheet_plan.specs.OfSheets.{slots_at}
 use Rattle.sheet_text.specs.declared.numbers.Numbers.{Numbers}
 
-abbrev pub point_text : (x y : ℤ) → List ℕ
-point_text x y = points_text x ++ (codes " " ++ points_text y)
+abbrev pub number_point_text : (x y : ℤ) → List ℕ
+number_point_text x y = points_text x ++ (codes " " ++ points_text y)
 
 -- a number stands 18 points above the foot of its cell; in grains (RULES, 15)
 abbrev pub above_foot : ℕ
@@ -39,11 +39,11 @@ font_text size = codes "gsave 0 setgray /Times-Roman findfont " ++ (points_text 
 -- from the page's lower left corner on, turned as the page is
 abbrev pub corner_text : Paper → Item → List ℕ
 corner_text paper item =
-    point_text (offset paper item).x (offset paper item).y ++ (codes " translate " ++ (degrees item.turn ++ codes " rotate "))
+    number_point_text (offset paper item).x (offset paper item).y ++ (codes " translate " ++ (degrees item.turn ++ codes " rotate "))
 
 -- to the middle of its lower edge, and so far up
 abbrev pub foot_text : (below : Option ℤ) → Paper → Item → List ℕ
-foot_text below paper item = point_text (pos (middle item.scale paper.width)) (rise below paper item) ++ codes " moveto ("
+foot_text below paper item = number_point_text (pos (middle item.scale paper.width)) (rise below paper item) ++ codes " moveto ("
 
 -- the number, with as much of it on the left of that as on the right
 abbrev pub shown_text : ℕ → List ℕ

@@ -12,8 +12,8 @@ abbrev pub sheets_of : TextsView → List ℕ
 sheets_of texts = map (λ (t : ℕ × List ℕ). t.0) texts
 
 -- one text after the other
-abbrev pub joined : TextsView → List ℕ
-joined texts = flat_map (λ (t : ℕ × List ℕ). t.1) texts
+abbrev pub joined_texts : TextsView → List ℕ
+joined_texts texts = flat_map (λ (t : ℕ × List ℕ). t.1) texts
 
 -- the text of a part: its own bytes, and its slices between them
 abbrev pub text_in : List ℕ → TextPart → List ℕ

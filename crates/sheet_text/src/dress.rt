@@ -1,19 +1,19 @@
 //! The lines that an output gets besides its pages.
 ghost use Rattle.std.specs.Prelude.{◌≡◌, ◌++◌, OnOk};
 ghost use Rattle.rules.specs.Dress.{lines_text};
-ghost use Rattle.sheet_text.specs.Dressings.{told_if, with_numbers};
+ghost use Rattle.sheet_text.specs.Dressings.{report_lines_if, with_numbers};
 
 use crate::lines::Lines;
 use crate::numbers::{Numbers, append_numbers};
 use crate::rope::Rope;
-use crate::told::append_told;
+use crate::told::append_paper_report;
 use lengths::Paper;
 use std::alloc::AllocError;
 
 /// The lines of an output: those of its header, after the count of sheets, and those of its sheets. Of these only what all
 /// have is kept: the others are made when a sheet is written.
 #[derive(Drop)]
-pub struct Dress {
+pub struct SheetExtras {
     pub header: Lines,
     /// Whether each sheet names its paper at its start, after its page line, and sets the device's page size.
     pub tells_papers: bool,
@@ -23,13 +23,13 @@ pub struct Dress {
     pub numbers: Option<Numbers>,
 }
 
-impl Dress {
+impl SheetExtras {
     /// Appends the lines at the start of a sheet of this paper.
     pub(crate) fn append_start(&self, paper: &Paper, text: &mut Rope<'_>) -> Result<(), AllocError>
-        ensures { OnOk result (text.new ≡ text.old ++ lines_text (told_if self.now.tells_papers paper.now)) }
+        ensures { OnOk result (text.new ≡ text.old ++ lines_text (report_lines_if self.now.tells_papers paper.now)) }
     {
         if self.tells_papers {
-            append_told(paper, text)?;
+            append_paper_report(paper, text)?;
         }
         Ok(())
     }

@@ -13,7 +13,7 @@ mod sheet_papers;
 mod texts;
 mod told;
 
-pub use dress::Dress;
+pub use dress::SheetExtras;
 pub use job::Job;
 pub use lines::Lines;
 pub use numbers::Numbers;

@@ -42,13 +42,13 @@ pub(crate) fn append_numbers(
         return Ok(());
     }
     for slot in 0..numbers.places.slots(sheet) {
-        append_slot(numbers, numbers.places.placed(sheet, slot), text)?;
+        append_slot_number(numbers, numbers.places.placed(sheet, slot), text)?;
     }
     Ok(())
 }
 
 /// Appends the line of a slot; a blank has none.
-fn append_slot(
+fn append_slot_number(
     numbers: &Numbers,
     slot: Option<PlacedSlot<'_>>,
     text: &mut Rope<'_>,
@@ -56,13 +56,13 @@ fn append_slot(
     ensures { OnOk result (text.new ≡ text.old ++ lines_text (slot_lines numbers.now (placed_of slot.entry))) }
 {
     match slot {
-        Some(placed) => append_number(numbers, &placed, text),
+        Some(placed) => append_number_line(numbers, &placed, text),
         None => Ok(()),
     }
 }
 
 /// Appends the line that draws a page's number.
-fn append_number(
+fn append_number_line(
     numbers: &Numbers,
     placed: &PlacedSlot<'_>,
     text: &mut Rope<'_>,
@@ -71,7 +71,7 @@ fn append_number(
         ≡ text.old ++ lines_text (number_line numbers.now placed.now.page (item_of placed.now.item.now) placed.now.paper.now ∷ [])) }
 {
     append_font(numbers.size, text)?;
-    append_corner(placed, text)?;
+    append_page_corner(placed, text)?;
     append_foot(numbers.below, placed, text)?;
     append_shown(u64::from(numbers.first) + u64::from(placed.page), text)?;
     text.append(b"\n")?;
@@ -89,7 +89,7 @@ fn append_font(size: Grains, text: &mut Rope<'_>) -> Result<(), AllocError>
 }
 
 /// Where a page's lower left corner is, and how the page is turned.
-fn append_corner(placed: &PlacedSlot<'_>, text: &mut Rope<'_>) -> Result<(), AllocError>
+fn append_page_corner(placed: &PlacedSlot<'_>, text: &mut Rope<'_>) -> Result<(), AllocError>
     ensures { OnOk result (text.new ≡ text.old ++ corner_text placed.now.paper.now (item_of placed.now.item.now)) }
 {
     let (x, y) = placed.item.offset;

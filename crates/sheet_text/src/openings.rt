@@ -129,8 +129,8 @@ impl Opening {
     {
         if self.item.turn == item.turn
             && self.item.scale == item.scale
-            && is_same(self.item.offset.0, item.offset.0)
-            && is_same(self.item.offset.1, item.offset.1)
+            && are_equal_measures(self.item.offset.0, item.offset.0)
+            && are_equal_measures(self.item.offset.1, item.offset.1)
             && self.paper == *paper
             && self.border == job.border
             && self.inset == job.inset
@@ -143,7 +143,7 @@ impl Opening {
 }
 
 /// Whether both are the same number of the same unit.
-fn is_same(one: Measure, other: Measure) -> bool
+fn are_equal_measures(one: Measure, other: Measure) -> bool
     ensures { result ≡ true → one ≡ other }
 {
     one == other

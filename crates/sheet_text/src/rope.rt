@@ -16,12 +16,12 @@ pub(crate) const LEAST_BORROWED: usize = 4_096;
 #[derive(Drop)]
 pub struct Rope<'r> {
     pub(crate) own: Vec<u8>,
-    pub(crate) slices: Vec<Placed<'r>>,
+    pub(crate) slices: Vec<Borrowed<'r>>,
 }
 
 /// A slice that comes before the byte `at` of a rope's own bytes, or after all of them.
 #[derive(Clone, Copy)]
-pub(crate) struct Placed<'r> {
+pub(crate) struct Borrowed<'r> {
     pub(crate) at: usize,
     pub(crate) bytes: &'r [u8],
 }
@@ -80,7 +80,7 @@ impl<'r> Rope<'r> {
         if bytes.len() < LEAST_BORROWED {
             return self.append(bytes);
         }
-        let placed = Placed {
+        let placed = Borrowed {
             at: self.own.len(),
             bytes,
         };
@@ -146,7 +146,7 @@ pub struct Pieces<'p, 'r> {
     /// The place of the first of its own bytes that are left.
     pub(crate) from: usize,
     pub(crate) own: &'p [u8],
-    pub(crate) slices: &'p [Placed<'r>],
+    pub(crate) slices: &'p [Borrowed<'r>],
     /// The index of the first slice that is left.
     pub(crate) next: usize,
 }

@@ -1,5 +1,5 @@
 //! The papers of a job's pages.
-use crate::dress::Dress;
+use crate::dress::SheetExtras;
 use lengths::Paper;
 use sheet_plan::MadeSheets;
 
@@ -7,5 +7,5 @@ use sheet_plan::MadeSheets;
 #[derive(Drop)]
 pub(crate) enum SheetPapers<'j> {
     One(Paper),
-    Made(&'j MadeSheets, &'j Dress),
+    Made(&'j MadeSheets, &'j SheetExtras),
 }

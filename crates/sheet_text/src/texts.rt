@@ -1,9 +1,9 @@
 //! Texts of several sheets in the same memory.
 ghost use Rattle.std.specs.Prelude.{◌≡◌, ◌≢◌, ◌<◌, ◌≤◌, ◌++◌, ◌∷◌, [], length, take, drop, IfSome, IsNone, OnOk, OnErr, Some, slice_get};
 ghost use Rattle.std.specs.List.{range_with_len};
-ghost use Rattle.sheet_text.specs.Texts.{sheets_of, joined, texts_in, AreIn};
+ghost use Rattle.sheet_text.specs.Texts.{sheets_of, joined_texts, texts_in, AreIn};
 
-use crate::rope::{Pieces, Placed, Rope};
+use crate::rope::{Borrowed, Pieces, Rope};
 use std::alloc::{AllocError, Global};
 use std::marker::Model;
 use std::mem;
@@ -24,7 +24,7 @@ struct TextPart<'r> {
     sheet: u32,
     start: usize,
     end: usize,
-    slices: Vec<Placed<'r>>,
+    slices: Vec<Borrowed<'r>>,
 }
 
 impl<'r> Model for Texts<'r> {
@@ -99,7 +99,7 @@ impl<'r> Texts<'r> {
         requires most { 0 < most }
         ensures count { IfSome result (λ j. (0 < j.0) × (j.0 ≤ most)) }
         ensures row { IfSome result (λ j. sheets_of (take j.0 (drop nth self.now)) ≡ range_with_len sheet j.0) }
-        ensures text { IfSome result (λ j. j.1 ≡ joined (take j.0 (drop nth self.now))) }
+        ensures text { IfSome result (λ j. j.1 ≡ joined_texts (take j.0 (drop nth self.now))) }
         ensures found { IfSome result (λ j. slice_get (sheets_of self.now) nth ≡ Some sheet) }
         ensures none { IsNone result → slice_get (sheets_of self.now) nth ≢ Some sheet }
     {
@@ -128,7 +128,7 @@ fn neighbours<'p, 'r>(
     requires sheet { slice_get (sheets_of (texts_in own.now parts.now)) nth ≡ Some sheet }
     ensures count { (0 < result.0) × (result.0 ≤ most) }
     ensures row { sheets_of (take result.0 (drop nth (texts_in own.now parts.now))) ≡ range_with_len sheet result.0 }
-    ensures text { result.1 ≡ joined (take result.0 (drop nth (texts_in own.now parts.now))) }
+    ensures text { result.1 ≡ joined_texts (take result.0 (drop nth (texts_in own.now parts.now))) }
 {
     let part = &parts[nth];
     let first = u64::from(sheet);

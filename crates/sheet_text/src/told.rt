@@ -9,7 +9,7 @@ use lengths::Paper;
 use std::alloc::AllocError;
 
 /// Appends the lines of a sheet of this paper, if sheets have several.
-pub(crate) fn append_told(paper: &Paper, text: &mut Rope<'_>) -> Result<(), AllocError>
+pub(crate) fn append_paper_report(paper: &Paper, text: &mut Rope<'_>) -> Result<(), AllocError>
     ensures { OnOk result (text.new ≡ text.old ++ lines_text (sheet_lines paper.now)) }
 {
     append_medium(paper, text)?;
@@ -38,13 +38,13 @@ fn append_size_if_shown(paper: &Paper, text: &mut Rope<'_>) -> Result<(), AllocE
     ensures { OnOk result (text.new ≡ text.old ++ line (setting_line paper.now)) }
 {
     text.append(b"systemdict /setpagedevice known and {1 dict dup /PageSize [")?;
-    append_size(paper, text)?;
+    append_page_size(paper, text)?;
     text.append(b"] put systemdict /setpagedevice get exec} if\n")?;
     Ok(())
 }
 
 /// Both sides, in points.
-fn append_size(paper: &Paper, text: &mut Rope<'_>) -> Result<(), AllocError>
+fn append_page_size(paper: &Paper, text: &mut Rope<'_>) -> Result<(), AllocError>
     ensures { OnOk result (text.new ≡ text.old ++ size_text paper.now) }
 {
     text.append_points(paper.width())?;

@@ -11,7 +11,7 @@ use Rattle.rules.specs.Filters.{trailer_text}
 use Rattle.rules.specs.MadeOutput.{dressed_preamble}
 use Rattle.sheet_text.specs.Jobs.{JobView, text_of, output_of}
 use Rattle.sheet_writer.specs.Sinks.{SinkView, Took, FailedBehind, IsUntouched}
-use Rattle.sheet_writer.specs.Writing.{front_text, WroteFirst, AfterHalt, Halts, Handed, HasFront, HasAll, Stands, Ends, HaveTexts, AreEarly, texts_from}
+use Rattle.sheet_writer.specs.Writing.{front_text, WroteFirst, AfterHalt, Halts, Handed, HasFront, HasAll, IsProgress, Ends, HaveTexts, AreEarly, texts_from}
 use Rattle.sheet_text.specs.Texts.{TextsView}
 use Rattle.sheet_writer.specs.declared.writing.Halt.{Halt}
 use Rattle.sheet_writer.specs.declared.writing.Halt.TheVariants.{Failed, NoMemory}
@@ -88,7 +88,7 @@ if_starved job old new p Goes starved is =
 -- a text that makes the front of m sheets from that of n
 handed_behind : (job : JobView) (start old new : SinkView) (p q : Progress) (text : List ℕ)
     → front_text job p.next ++ text ≡ front_text job q.next → q.next ≤ length job.plan.sheets → p.halted ≡ None
-    → Handed text old new p q → Stands job start old p → Stands job start new q
+    → Handed text old new p q → IsProgress job start old p → IsProgress job start new q
 handed_behind job start old new p q text grown within none handed stands =
     let front = front_text job p.next in
     let was = while_going job start old p (HasFront job start old p) none stands in
@@ -119,7 +119,7 @@ front_more job n (suc count) within =
 -- the next sheets were given to the sink
 pub sheets_handed : (job : JobView) (start old new : SinkView) (p q : Progress) (text : List ℕ) (count : ℕ)
     → q.next ≡ p.next + count → p.next + count ≤ length job.plan.sheets → text ≡ texts_from job p.next count → p.halted ≡ None
-    → Handed text old new p q → Stands job start old p → Stands job start new q
+    → Handed text old new p q → IsProgress job start old p → IsProgress job start new q
 sheets_handed job start old new p q text count next within is =
     handed_behind job start old new p q text
     (ap (λ t. front_text job p.next ++ t) is ∙ front_more job p.next count within ∙ ap (front_text job) (sym next))
@@ -128,7 +128,7 @@ sheets_handed job start old new p q text count next within is =
 -- the header was given to it, before anything else
 pub header_handed : (job : JobView) (old new : SinkView) (p q : Progress) (text : List ℕ)
     → p.written ≡ 0 → q.next ≡ 0 → text ≡ dressed_preamble (length job.plan.sheets) job.header job.units
-    → Handed text old new p q → Stands job old new q
+    → Handed text old new p q → IsProgress job old new q
 header_handed job old new p q text fresh first is handed =
     let whole : text ≡ front_text job q.next = is ∙ sym (append-nil _) ∙ ap (front_text job) (sym first) in
     after_handed job old old new p q text (HasFront job old new q)
@@ -178,14 +178,14 @@ early_taken job places j left none early k m at = ⊎_elim
 
 -- the next sheet couldn't be made
 pub starves : (job : JobView) (start now : SinkView) (p q : Progress) (swept : ℕ) → p.halted ≡ None → q ≡ record p { swept = swept; halted = Some NoMemory }
-    → Stands job start now p → Stands job start now q
+    → IsProgress job start now p → IsProgress job start now q
 starves job start now p q swept none is stands =
     let was = while_going job start now p (HasFront job start now p) none stands in
-    subst (λ r. Stands job start now r) (sym is)
+    subst (λ r. IsProgress job start now r) (sym is)
     (subst (WroteFirst job start now) (sym was.1) (wrote_front job start now now p.next was.2.0 (Keeps-refl now.bytes)), was.2.1)
 
 -- what was halted has ended
-pub halted_ends : (job : JobView) (start now : SinkView) (p : Progress) → is_some p.halted ≡ true → Stands job start now p → Ends job start now p
+pub halted_ends : (job : JobView) (start now : SinkView) (p : Progress) → is_some p.halted ≡ true → IsProgress job start now p → Ends job start now p
 halted_ends job start now p some stands = halts p.halted _ _ _ _ some stands
   where
     halts : (h : Option Halt) (Goes Goes' Fails Starves : Type 0) → is_some h ≡ true → AfterHalt h Goes Fails Starves → AfterHalt h Goes' Fails Starves
@@ -200,7 +200,7 @@ whole_output job n text all is = output_is job (length job.plan.sheets) n _ _ _ 
 -- the trailer was handed to the sink, after all sheets
 pub trailer_handed : (job : JobView) (start old new : SinkView) (p q : Progress) (text : List ℕ)
     → p.next ≡ length job.plan.sheets → text ≡ trailer_text job.units → p.halted ≡ None
-    → Handed text old new p q → Stands job start old p → Ends job start new q
+    → Handed text old new p q → IsProgress job start old p → Ends job start new q
 trailer_handed job start old new p q text all is none handed stands =
     let front = front_text job p.next in
     let whole : front ++ text ≡ output_of job = whole_output job p.next text all is in

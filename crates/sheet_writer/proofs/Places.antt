@@ -4,16 +4,16 @@ use Rattle.std.proofs.Common.{if◌then◌else◌, arith, zero, ◌%◌, true, f
 use Rattle.std.specs.Prelude.{All, slice_get, is_some, IfSome, IsNone, MatchOption}
 use Rattle.std.proofs.lemmas.Option.{slice_get_read, slice_get-get_or}
 use Rattle.sheet_text.specs.Texts.{TextsView, sheets_of}
-use Rattle.sheet_writer.specs.declared.early.Place.{Place}
-use Rattle.sheet_writer.specs.Places.{place_of, in_place, is_number, is_nth, is_there}
-use Rattle.sheet_writer.specs.declared.early.Early.{Early}
+use Rattle.sheet_writer.specs.declared.reorder_buffer.Place.{Place}
+use Rattle.sheet_writer.specs.Places.{buffer_place, in_place, is_of_sheet, is_nth, is_there}
+use Rattle.sheet_writer.specs.declared.reorder_buffer.ReorderBuffer.{ReorderBuffer}
 use Rattle.sheet_writer.specs.Places.{has_come, not_come}
 
 -- one more sheet that didn't come
 abbrev pub one_without : Bool → ℕ
 one_without b = if b then 0 else 1
 
-pub count_next : (early : Early) (first sheet counted : ℕ) → first ≤ sheet → counted ≡ not_come early first (sheet - first)
+pub count_next : (early : ReorderBuffer) (first sheet counted : ℕ) → first ≤ sheet → counted ≡ not_come early first (sheet - first)
     → counted + one_without (has_come early sheet) ≡ not_come early first (sheet + 1 - first)
 count_next early first sheet counted le is =
     let there : first + (sheet - first) ≡ sheet = omega (arith, le) in
@@ -27,31 +27,31 @@ pub lies_at : (groups : List (Option TextsView)) (k : ℕ) (o : Option TextsView
 lies_at groups k o finished lt is holds = slice_get_read groups (length groups) k o refl lt is ∙ ap (λ x. Some x) holds
 
 -- whether the sheet came, if this is its place and what is there
-pub comes_by : (early : Early) (sheet place : ℕ) (p : Place) (o : Option TextsView) (finished : TextsView)
-    → place ≡ place_of early sheet → place < length early.places.items → p ≡ slice_index_or early.places.items place p
+pub comes_by : (early : ReorderBuffer) (sheet place : ℕ) (p : Place) (o : Option TextsView) (finished : TextsView)
+    → place ≡ buffer_place early sheet → place < length early.places.items → p ≡ slice_index_or early.places.items place p
     → p.group < length early.groups.items → o ≡ slice_index_or early.groups.items p.group o → o ≡ Some finished
-    → has_come early sheet ≡ is_number sheet (slice_get (sheets_of finished) p.nth)
+    → has_come early sheet ≡ is_of_sheet sheet (slice_get (sheets_of finished) p.nth)
 comes_by early sheet place p o finished at lt is group_lt group_is holds =
-    let its : slice_get early.places.items (place_of early sheet) ≡ Some p =
+    let its : slice_get early.places.items (buffer_place early sheet) ≡ Some p =
     ap (λ k. slice_get early.places.items k) (sym at) ∙ slice_get_read early.places.items (length early.places.items) place p refl lt is in
     let those = lies_at early.groups.items p.group o finished group_lt group_is holds in
     ap (λ x. is_there sheet early.groups.items x) its ∙ ap (λ x. is_nth sheet p.nth x) those
 
-pub number_is : (sheet : ℕ) (at : Option ℕ) → at ≡ Some sheet → is_number sheet at ≡ true
-number_is sheet at is = ap (λ x. is_number sheet x) is ∙ eq-eqb sheet sheet refl
+pub number_is : (sheet : ℕ) (at : Option ℕ) → at ≡ Some sheet → is_of_sheet sheet at ≡ true
+number_is sheet at is = ap (λ x. is_of_sheet sheet x) is ∙ eq-eqb sheet sheet refl
 
-pub number_is_not : (sheet : ℕ) (at : Option ℕ) → (at ≡ Some sheet → ⊥) → is_number sheet at ≡ false
+pub number_is_not : (sheet : ℕ) (at : Option ℕ) → (at ≡ Some sheet → ⊥) → is_of_sheet sheet at ≡ false
 number_is_not sheet None other = refl
 number_is_not sheet (Some number) other = ne_eqb number sheet (λ same. other (ap (λ x. Some x) same))
 
 -- the answer says whether it came
-pub told_by : {X : Type 0} (o : Option X) (come : Bool) (sheet : ℕ) (at : Option ℕ) → come ≡ is_number sheet at
+pub told_by : {X : Type 0} (o : Option X) (come : Bool) (sheet : ℕ) (at : Option ℕ) → come ≡ is_of_sheet sheet at
     → IfSome o (λ x. at ≡ Some sheet) → (IsNone o → at ≡ Some sheet → ⊥) → MatchOption o (come ≡ false) (λ x. come ≡ true)
 told_by None come sheet at is found none = is ∙ number_is_not sheet at (none refl)
 told_by (Some x) come sheet at is found none = is ∙ number_is sheet at found
 
 -- what is in the place of a sheet, if that is free, or if it isn't
-pub free_place : (early : Early) (sheet place : ℕ) (o : Option TextsView) → place ≡ place_of early sheet → place < length early.groups.items
+pub free_place : (early : ReorderBuffer) (sheet place : ℕ) (o : Option TextsView) → place ≡ buffer_place early sheet → place < length early.groups.items
     → o ≡ slice_index_or early.groups.items place o → in_place early sheet ≡ Some o
 free_place early sheet place o at lt is =
     ap (λ k. slice_get early.groups.items k) (sym at) ∙ slice_get_read early.groups.items (length early.groups.items) place o refl lt is
@@ -74,8 +74,8 @@ get_other (y ∷ xs) zero (suc j) x other = refl
 get_other (y ∷ xs) (suc k) zero x other = refl
 get_other (y ∷ xs) (suc k) (suc j) x other = get_other xs k j x (λ same. other (ap suc same))
 
-pub filled_place : (early : Early) (sheet place : ℕ) (finished : TextsView) {groups : List (Option TextsView)} → groups ≡ early.groups.items
-    → place ≡ place_of early sheet → place < length early.groups.items
+pub filled_place : (early : ReorderBuffer) (sheet place : ℕ) (finished : TextsView) {groups : List (Option TextsView)} → groups ≡ early.groups.items
+    → place ≡ buffer_place early sheet → place < length early.groups.items
     → slice_get (slice_set groups place (Some finished)) (sheet % length (slice_set groups place (Some finished))) ≡ Some (Some finished)
 filled_place early sheet place finished {groups} same at lt =
     let len : length (slice_set groups place (Some finished)) ≡ length early.groups.items = length_filled groups place (Some finished) ∙ ap (λ xs. length xs) same in

@@ -50,12 +50,12 @@ HasFront job old new p = (p.next ≤ length job.plan.sheets) × (p.written ≡ l
     × Took old new (front_text job p.next)
 
 -- they are written so far, or it halted
-abbrev pub Stands : JobView → (old new : SinkView) → Progress → Type 0
-Stands job old new p = Halts job old new p (HasFront job old new p)
+abbrev pub IsProgress : JobView → (old new : SinkView) → Progress → Type 0
+IsProgress job old new p = Halts job old new p (HasFront job old new p)
 
 -- wherever the writing began, it is still right
 abbrev pub GoesOn : JobView → (old new : SinkView) → Progress → Progress → Type 0
-GoesOn job old new p q = (start : SinkView) → Stands job start old p → Stands job start new q
+GoesOn job old new p q = (start : SinkView) → IsProgress job start old p → IsProgress job start new q
 
 -- the whole output was written
 abbrev pub HasAll : JobView → (old new : SinkView) → Progress → Type 0
@@ -67,7 +67,7 @@ Ends job old new p = Halts job old new p (HasAll job old new p)
 
 -- wherever the writing began, its end is correct
 abbrev pub EndsAfter : JobView → (old new : SinkView) → Progress → Progress → Type 0
-EndsAfter job old new p q = (start : SinkView) → Stands job start old p → Ends job start new q
+EndsAfter job old new p q = (start : SinkView) → IsProgress job start old p → Ends job start new q
 
 -- each of these sheets has its own text
 abbrev pub HaveTexts : (text : ℕ → List ℕ) → TextsView → Type 0

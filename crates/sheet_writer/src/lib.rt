@@ -1,10 +1,10 @@
 //! Writes the sheets of a run to a sink, in order. It knows no threads.
 #![tactic(auto)]
 
-mod early;
+mod reorder_buffer;
 mod sink;
 mod writing;
 
-pub use early::{Early, Spent};
+pub use reorder_buffer::{ReorderBuffer, Spent};
 pub use sink::{MemorySink, Sink, SinkFault, WriteSink};
 pub use writing::{Halt, Progress, write_early, write_in_pieces, write_rest, write_text};

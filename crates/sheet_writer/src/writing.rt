@@ -7,7 +7,7 @@ ghost use Rattle.sheet_writer.specs.Sinks.{IsCountable};
 ghost use Rattle.sheet_writer.specs.Writing.{Handed, GoesOn, AreEarly, EndsAfter, texts_from};
 ghost use Rattle.sheet_writer.specs.Places.{has_come, not_come};
 
-use crate::early::{Early, Spent};
+use crate::reorder_buffer::{ReorderBuffer, Spent};
 use crate::sink::{Sink, Stopped, write_all, write_pieces};
 use sheet_text::{Job, Pieces, sheet_rope};
 use std::alloc::Global;
@@ -41,7 +41,7 @@ pub fn write_text<S: Sink>(sink: &mut S, progress: Progress, text: &[u8]) -> Pro
     let Some(total) = progress.written.checked_add(text.len() as u64) else {
         return halted(progress, progress.written, Halt::NoMemory);
     };
-    counted(progress, total, write_all(sink, text))
+    advanced(progress, total, write_all(sink, text))
 }
 
 /// Gives the sink a text in pieces, and counts its bytes.
@@ -55,14 +55,14 @@ pub fn write_in_pieces<S: Sink>(sink: &mut S, progress: Progress, text: Pieces<'
         .len()
         .and_then(|len| progress.written.checked_add(len as u64));
     match total {
-        Some(total) => counted(progress, total, write_pieces(sink, text)),
+        Some(total) => advanced(progress, total, write_pieces(sink, text)),
         None => halted(progress, progress.written, Halt::NoMemory),
     }
 }
 
 /// How far the output is written after a text was given to the sink; with the whole text it would have this many
 /// bytes.
-fn counted(progress: Progress, total: u64, handed: Result<(), Stopped>) -> Progress
+fn advanced(progress: Progress, total: u64, handed: Result<(), Stopped>) -> Progress
     requires { IfErr handed (λ e. progress.written + e.written ≤ total) }
     ensures written { OnOk handed (result ≡ record progress { written = total; halted = None }) }
     ensures stopped { IfErr handed (λ e. result
@@ -122,7 +122,7 @@ pub fn write_early<'r, S: Sink, B: Spent<'r>>(
     job: &Job<'_, '_>,
     sink: &mut S,
     progress: Progress,
-    early: &mut Early<'r>,
+    early: &mut ReorderBuffer<'r>,
     spent: &mut B,
 ) -> Progress
     requires countable { IsCountable (S.seen sink.old) }
@@ -160,7 +160,7 @@ pub fn write_rest<S: Sink>(
     job: &Job<'_, '_>,
     sink: &mut S,
     progress: Progress,
-    early: &Early<'_>,
+    early: &ReorderBuffer<'_>,
     trailer: &[u8],
 ) -> Progress
     requires countable { progress.halted ≡ None → IsCountable (S.seen sink.old) }
@@ -196,7 +196,7 @@ fn write_next<S: Sink>(
     job: &Job<'_, '_>,
     sink: &mut S,
     progress: Progress,
-    early: &Early<'_>,
+    early: &ReorderBuffer<'_>,
 ) -> Progress
     requires countable { IsCountable (S.seen sink.old) }
     requires going { progress.halted ≡ None }

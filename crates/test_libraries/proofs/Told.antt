@@ -4,13 +4,13 @@ use Rattle.std.specs.Prelude.{if◌then◌else◌}
 use Rattle.std.proofs.lemmas.Bool.{ne_eqb}
 use Rattle.rules.specs.Output.{output}
 use Rattle.imposer.specs.Runs.{Accepted, frame_of}
-use Rattle.world.specs.Outputs.{OutputView, bytes_in, spelled, told_if}
+use Rattle.world.specs.Outputs.{OutputView, reported_bytes, spelled, told_if}
 use Rattle.world.specs.Rests.{shown}
 use Rattle.world.proofs.Naming.{spelled_bytes}
 use Rattle.world.specs.declared.output.WriteOutput.{WriteOutput}
 use Rattle.world.specs.declared.rest.Rest.{Rest}
 use Rattle.world.specs.declared.rest.Rest.TheVariants as rest
-use Rattle.pstops_cli.specs.Programs.{CarriesOut}
+use Rattle.pstops_cli.specs.Programs.{CarriesOutWords}
 use Rattle.pstops_cli.specs.RequestRuns.{asked_by}
 use Rattle.test_tools.specs.Files.{read_by}
 use Rattle.test_tools.specs.declared.files.GivenFile.{GivenFile}
@@ -52,7 +52,7 @@ same_name name name' bytes bytes' e = sym (name_found name bytes) ∙ ap name_in
 
 same_bytes : (name name' : Option (List ℕ)) (bytes bytes' : List ℕ) → spelled name ++ bytes ≡ spelled name' ++ bytes' → bytes ≡ bytes'
 same_bytes name name' bytes bytes' e =
-    some_same bytes bytes' (sym (spelled_bytes name bytes) ∙ ap bytes_in e ∙ spelled_bytes name' bytes')
+    some_same bytes bytes' (sym (spelled_bytes name bytes) ∙ ap reported_bytes e ∙ spelled_bytes name' bytes')
 
 -- ---- the run
 
@@ -68,7 +68,7 @@ told_again : (name : Option (List ℕ)) (text told : List ℕ) → told ≡ (spe
 told_again name text told e = e ∙ ap (λ xs. xs ++ text) (append-nil (spelled name))
 
 pub in_memory : {W : Type 0} (words : List (List ℕ)) (files : List GivenFile) (rest : Rest W (WriteOutput Written))
-    → CarriesOut words (λ name. Some (read_by files name)) true (shown told_by rest) → HasWritten words files rest
+    → CarriesOutWords words (λ name. Some (read_by files name)) true (shown told_by rest) → HasWritten words files rest
 in_memory words files (rest.World world) h = absurd h.3.3
 in_memory words files (rest.Output file) h =
     let r = h.0 in

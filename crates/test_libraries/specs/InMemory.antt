@@ -6,7 +6,7 @@ use Rattle.world.specs.Input.{most_bytes}
 use Rattle.world.specs.declared.output.WriteOutput.{WriteOutput}
 use Rattle.world.specs.declared.rest.Rest.{Rest}
 use Rattle.world.specs.declared.rest.Rest.TheVariants.{Output}
-use Rattle.pstops_cli.specs.Programs.{Makes}
+use Rattle.pstops_cli.specs.Programs.{MakesRequest}
 use Rattle.pstops_cli.specs.RequestRuns.{asked_by}
 use Rattle.pstops_cli.specs.declared.command.Request.{Request}
 use Rattle.test_tools.specs.Files.{read_by}
@@ -17,7 +17,7 @@ use Rattle.test_tools.specs.declared.in_memory.Written.{Written}
 -- by the name that they give for the input.
 abbrev pub HasWritten : (words : List (List ℕ)) → List GivenFile → {W : Type 0} → Rest W (WriteOutput Written) → Type 0
 HasWritten words files rest =
-    (r : Request) × (file : WriteOutput Written) × Makes words r × (rest ≡ Output file)
+    (r : Request) × (file : WriteOutput Written) × MakesRequest words r × (rest ≡ Output file)
     × (option_map string_bytes file.writer.name ≡ option_map string_bytes r.outfile)
     × Accepted (asked_by r (take most_bytes (read_by files (option_map string_bytes r.infile))))
     (λ spec us. file.writer.bytes.items ≡ output (frame_of r.options) r.options.sides spec us)

@@ -23,13 +23,13 @@ IsFrontOf now None = ⊤
 IsFrontOf now (Some all) = (front rest : List ℕ) × (now ≡ Some front) × (all ≡ front ++ rest)
 
 -- the bytes after the name that an output reports, if it reports one
-abbrev pub bytes_in : (told : List ℕ) → Option (List ℕ)
-bytes_in [] = None
-bytes_in (b ∷ bs) = if b == 0 then Some bs else bytes_in bs
+abbrev pub reported_bytes : (told : List ℕ) → Option (List ℕ)
+reported_bytes [] = None
+reported_bytes (b ∷ bs) = if b == 0 then Some bs else reported_bytes bs
 
 -- what is reported, if it begins with a name
 abbrev pub named : (told : Option (List ℕ)) → Option (List ℕ)
-named told = option_and_then (λ all. if is_some (bytes_in all) then Some all else None) told
+named told = option_and_then (λ all. if is_some (reported_bytes all) then Some all else None) told
 
 -- ---- what is seen of it
 

@@ -9,7 +9,7 @@ use Rattle.guard.specs.Guard.{guarded}
 use Rattle.pictures.specs.Objects.{Shows}
 use Rattle.pictures.specs.Machine.{State, Painting}
 use Rattle.pictures.specs.Scanner.{tokens}
-use Rattle.pictures.specs.Documents.{started, page_of, all_sheets, sheet_pictures}
+use Rattle.pictures.specs.Documents.{started, document_page, all_sheets, sheet_pictures}
 use Rattle.pictures.proofs.Examples.TwoUp.{far}
 use Rattle.pictures.proofs.Examples.Premises.{document_with, half, frame, outline, placed}
 use Rattle.pictures.proofs.Examples.Applied.{units}
@@ -17,7 +17,7 @@ use Rattle.pictures.specs.Shelter.{sheltered}
 use Rattle.pictures.specs.Pages.{IsGuarded, outline_of}
 use Rattle.pictures.proofs.Examples.GuardedApplied.{paper, behind, guarded_behind}
 use Rattle.open_pictures.specs.Machine.{Further}
-use Rattle.open_pictures.specs.Operators.{Blind, Stop, AtName, AtOperands, Answer, by_table, only_names, entry, answering}
+use Rattle.open_pictures.specs.Operators.{Blind, Stop, AtName, AtOperands, Answer, by_table, only_names, table_entry, answering}
 use Rattle.open_pictures.specs.Documents.{plain_work, OpenPreambleRuns, OpenIsPrinted}
 use Rattle.open_pictures.proofs.Operators.{tables_are_placeless, names_take_others}
 use Rattle.open_pictures.specs.Blindness.{RunsPreambles}
@@ -51,7 +51,7 @@ sees_if true f e = subst (λ g. SeesNoMatrices g) (ap blind_of e) (answers_see_n
     blind_of None = xyshow
     blind_of (Some g) = g
 
-all_see : (stop : Stop) (f : Blind) → entry (only_names names) stop ≡ Some f → SeesNoMatrices f
+all_see : (stop : Stop) (f : Blind) → table_entry (only_names names) stop ≡ Some f → SeesNoMatrices f
 all_see (AtName name) f e = sees_if (bytes_eq name (codes "xyshow")) f e
 all_see (AtOperands name kind) f e = absurd (never f e)
 
@@ -73,7 +73,7 @@ unfolding digits
 preamble_runs = (refl, open_runs x (started (tokens (bytes_of (preamble (units_of (guarded paper text)))))) behind (268, refl), refl, refl, refl, guarded_behind)
 
 abbrev end : State
-end = far (open_shelter_step x [] (outline_of frame)) 17 (sheltered [] behind (outline_of frame) (tokens (page_of us 0)))
+end = far (open_shelter_step x [] (outline_of frame)) 17 (sheltered [] behind (outline_of frame) (tokens (document_page us 0)))
 
 abbrev picture : ℕ → List Painting
 picture p = end.painted

@@ -9,18 +9,18 @@ use Rattle.dsc.specs.Units.{units_of}
 use Rattle.guard.specs.Guard.{guarded}
 use Rattle.pictures.specs.Machine.{State, Painting}
 use Rattle.pictures.specs.Scanner.{tokens}
-use Rattle.pictures.specs.Documents.{started, page_of, all_sheets, sheet_pictures}
+use Rattle.pictures.specs.Documents.{started, document_page, all_sheets, sheet_pictures}
 use Rattle.pictures.proofs.Examples.TwoUp.{far}
 use Rattle.pictures.proofs.Examples.Premises.{document_with, half, frame, outline, placed}
 use Rattle.pictures.proofs.Examples.Applied.{units}
 use Rattle.pictures.specs.Shelter.{sheltered}
 use Rattle.pictures.specs.Lines.{with_asking}
-use Rattle.pictures.specs.Pages.{outline_of, shown_at}
+use Rattle.pictures.specs.Pages.{outline_of, state_after_sheets}
 use Rattle.pictures.specs.OwnShowpage.{HasItsOwn, asking}
 use Rattle.pictures.proofs.Examples.GuardedApplied.{paper}
 use Rattle.pictures.proofs.Examples.AppliedOwn.{behind, own_behind}
 use Rattle.open_pictures.specs.Machine.{OpenRuns}
-use Rattle.open_pictures.specs.Documents.{begun, plain_work, OpenPreambleRuns}
+use Rattle.open_pictures.specs.Documents.{begun_machine, plain_work, OpenPreambleRuns}
 use Rattle.open_pictures.proofs.Runs.{open_runs}
 use Rattle.open_pictures.specs.Shelter.{open_shelter_step}
 use Rattle.open_pictures.specs.Pages.{OpenGuardedPagePaints}
@@ -42,7 +42,7 @@ abbrev there : State
 there = with_asking 4 behind
 
 abbrev end : State
-end = far (open_shelter_step x [] (outline_of frame)) 19 (sheltered [] there (outline_of frame) (tokens (page_of us 0)))
+end = far (open_shelter_step x [] (outline_of frame)) 19 (sheltered [] there (outline_of frame) (tokens (document_page us 0)))
 
 abbrev picture : ℕ → List Painting
 picture p = end.painted
@@ -61,8 +61,8 @@ page = (
 )
 
 -- so the sheet shows the page
-shown : OpenRuns x false (begun plain_work (tokens (output frame None half (units_of (guarded paper text)))))
-    (shown_at (asking 4 behind) None (units_of (guarded paper text)) picture (all_sheets frame None half us))
+shown : OpenRuns x false (begun_machine plain_work (tokens (output frame None half (units_of (guarded paper text)))))
+    (state_after_sheets (asking 4 behind) None (units_of (guarded paper text)) picture (all_sheets frame None half us))
 unfolding digits
 shown = open_own_showpage_is_shown x x plain_work paper frame None half text us picture 4 behind placeless runs refl (omega arith) refl preamble_runs (omega arith) ((page, tt), tt)
 

@@ -9,7 +9,7 @@ use Rattle.pictures.specs.Sheets.{in_userdict}
 use Rattle.pictures.proofs.Examples.TwoUp.{number, end_by}
 use Rattle.open_pictures.specs.Machine.{Further, open_step}
 use Rattle.open_pictures.specs.Operators.{Answer, by_table, only_names, answering}
-use Rattle.open_pictures.specs.Documents.{begun, plain_work}
+use Rattle.open_pictures.specs.Documents.{begun_machine, plain_work}
 
 -- `languagelevel` answers 3
 abbrev three : Answer
@@ -22,7 +22,7 @@ abbrev there : Work
 there = record plain_work { entries = in_userdict (codes "languagelevel") (Operator (codes "languagelevel") (Looks CopiesPage)) ∷ [] }
 
 abbrev left_by : Work → List ℕ → Option (List Object)
-left_by w text = option_map (λ s. s.work.operands) (end_by (open_step x false) 1000 (begun w (tokens text)))
+left_by w text = option_map (λ s. s.work.operands) (end_by (open_step x false) 1000 (begun_machine w (tokens text)))
 
 called : left_by plain_work (codes "languagelevel") ≡ Some (number (codes "3") ∷ [])
 called = refl

@@ -8,11 +8,11 @@ use Rattle.rules.specs.MadeOutput.{made_output}
 use Rattle.dsc.specs.Units.{units_of}
 use Rattle.guard.specs.Guard.{guarded}
 use Rattle.papers.specs.Told.{telling}
-use Rattle.dressing.specs.Drawn.{marked}
+use Rattle.dressing.specs.Drawn.{strokes_added}
 use Rattle.dressing.specs.declared.strokes.Stroke.{Stroke}
 use Rattle.pictures.specs.Machine.{State, Runs}
 use Rattle.pictures.specs.Scanner.{tokens}
-use Rattle.pictures.specs.Documents.{started, page_of}
+use Rattle.pictures.specs.Documents.{started, document_page}
 use Rattle.pictures.proofs.Examples.Premises.{frame}
 use Rattle.pictures.specs.Shelter.{sheltered}
 use Rattle.pictures.specs.Pages.{GuardedPagePaints, outline_of}
@@ -44,7 +44,7 @@ takes = record {
 
 -- the pages paint the same in the states in which they begin
 abbrev end_in : State → ℕ → ℕ → State
-end_in s p n = at_most [] (outline_of frame) n (sheltered [] s (outline_of frame) (tokens (page_of us p)))
+end_in s p n = at_most [] (outline_of frame) n (sheltered [] s (outline_of frame) (tokens (document_page us p)))
 
 first_on_wide : GuardedPagePaints frame us (sized wide behind) 0 (picture 0)
 unfolding digits
@@ -86,6 +86,6 @@ first_on_its_own = (
 )
 
 -- so the sheets show the pages, each with its stroke
-shown : Runs false (started (tokens (made_output None (marked marks (telling all)) all (units_of (guarded paper text))))) (dressed_at None marks (units_of (guarded paper text)) picture behind all)
+shown : Runs false (started (tokens (made_output None (strokes_added marks (telling all)) all (units_of (guarded paper text))))) (dressed_at None marks (units_of (guarded paper text)) picture behind all)
 unfolding digits
 shown = dressed_document_is_shown paper None marks all text us picture behind refl (omega arith) refl preamble_runs takes ((second_on_wide, (first_on_wide, tt)), ((first_on_its_own, tt), tt))

@@ -7,7 +7,7 @@ use Rattle.rules.specs.Parts.{preamble, bytes_of}
 use Rattle.rules.specs.Made.{Placed, MadeSheet}
 use Rattle.rules.specs.MadeOutput.{made_output}
 use Rattle.papers.specs.Told.{telling}
-use Rattle.dressing.specs.Drawn.{marked}
+use Rattle.dressing.specs.Drawn.{strokes_added}
 use Rattle.pictures.specs.Objects.{Call}
 use Rattle.pictures.specs.Machine.{State, Graphics, Runs, step}
 use Rattle.pictures.specs.Scanner.{tokens}
@@ -70,7 +70,7 @@ first_on_its_own =
     page_prints (step false) unaware_step us on_its_own 0 9 gray (picture 0) (ground_still on_wide own plain_on_wide) refl refl refl refl refl refl
 
 -- so the sheets show the pages, each with its stroke
-shown : Runs false (started (tokens (made_output None (marked marks (telling all)) all us))) (dressed_at None marks us picture ready all)
+shown : Runs false (started (tokens (made_output None (strokes_added marks (telling all)) all us))) (dressed_at None marks us picture ready all)
 unfolding digits
 shown =
     dressed_sheets_show_the_pages None marks all document us picture ready refl refl preamble_runs takes

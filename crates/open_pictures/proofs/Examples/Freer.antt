@@ -3,19 +3,19 @@
 use Rattle.std.proofs.Common.{◌≡◌, ℕ, List, [], ◌∷◌, refl, Some, None, false, ap, sym, subst, true≢false, is_none}
 use Rattle.std.specs.Prelude.{codes, Option, option_map}
 use Rattle.pictures.specs.Objects.{Token, Number, Object, Array, Mark, Kind, Computes, CloseArray, Font}
-use Rattle.pictures.specs.Dictionaries.{Entry}
+use Rattle.pictures.specs.Dictionaries.{DictionaryEntry}
 use Rattle.pictures.specs.Operators.{with_operands, collected, gathered}
-use Rattle.pictures.specs.Shifted.{ups, Agree, up_work}
+use Rattle.pictures.specs.Shifted.{ups, AgreeShifted, up_work}
 use Rattle.pictures.specs.Scanner.{tokens}
 use Rattle.pictures.specs.Documents.{started}
 use Rattle.open_pictures.specs.Machine.{open_step}
 use Rattle.open_pictures.specs.Blindness.{IsBlind}
-use Rattle.open_pictures.specs.Operators.{Table, Blind, Sight, Outcome, AtName, AtOperands, by_table, TakesOthers, AsksForNone, AllAskForNone}
+use Rattle.open_pictures.specs.Operators.{Table, Blind, Visible, Outcome, AtName, AtOperands, by_table, TakesOthers, AsksForNone, AllAskForNone}
 use Rattle.open_pictures.proofs.Operators.{tables_are_blind}
 use Rattle.pictures.proofs.Examples.TwoUp.{end_by}
 
 -- `[ [..] ]`, and no more: a value that is known by what it was made of
-abbrev nested : List Object → Sight → Option Outcome
+abbrev nested : List Object → Visible → Option Outcome
 nested (Array ts ∷ Mark ∷ os) sight =
     Some (record { next = []; past = None; work = with_operands sight.work (Font ts ∷ os); kept = sight.kept; strokes = [] })
 nested os sight = None
@@ -40,7 +40,7 @@ close_is f e = ap blind_of e
     blind_of None = close
     blind_of (Some g) = g
 
-outside : (os : List Object) (sight : Sight) (o : Outcome) → nested os sight ≡ Some o → gathered (collected [] os) sight.work ≡ None
+outside : (os : List Object) (sight : Visible) (o : Outcome) → nested os sight ≡ Some o → gathered (collected [] os) sight.work ≡ None
 outside (Array ts ∷ Mark ∷ os) sight o e = refl
 outside os sight o e = absurd (never o e)
 
@@ -49,13 +49,13 @@ takes_others name (Computes CloseArray) f sight o e k =
     outside sight.work.operands sight o (subst (λ g. g sight ≡ Some o) (sym (close_is f e)) k)
 takes_others name kind f sight o e k = absurd (never f e)
 
-abbrev made_of : List Token → List Object → Sight → Outcome
+abbrev made_of : List Token → List Object → Visible → Outcome
 made_of ts os sight = record { next = []; past = None; work = with_operands sight.work (Font ts ∷ os); kept = sight.kept; strokes = [] }
 
-asks_on : (n : ℕ) (os : List Object) (sight : Sight) (o : Outcome) (es : List Entry) → Agree n es sight.work.entries → nested os sight ≡ Some o
-    → (fs : List Entry) × (nested (ups os) (record sight { work = up_work es sight.work }) ≡ Some (record o { work = up_work fs o.work })) × Agree n fs o.work.entries
+asks_on : (n : ℕ) (os : List Object) (sight : Visible) (o : Outcome) (es : List DictionaryEntry) → AgreeShifted n es sight.work.entries → nested os sight ≡ Some o
+    → (fs : List DictionaryEntry) × (nested (ups os) (record sight { work = up_work es sight.work }) ≡ Some (record o { work = up_work fs o.work })) × AgreeShifted n fs o.work.entries
 asks_on n (Array ts ∷ Mark ∷ os) sight o es a e =
-    subst (λ z. (fs : List Entry) × (nested (Array ts ∷ Mark ∷ ups os) (record sight { work = up_work es sight.work }) ≡ Some (record z { work = up_work fs z.work })) × Agree n fs z.work.entries)
+    subst (λ z. (fs : List DictionaryEntry) × (nested (Array ts ∷ Mark ∷ ups os) (record sight { work = up_work es sight.work }) ≡ Some (record z { work = up_work fs z.work })) × AgreeShifted n fs z.work.entries)
     (ap (outcome_or (made_of ts os sight)) e) (es, refl, a)
   where
     outcome_or : Outcome → Option Outcome → Outcome

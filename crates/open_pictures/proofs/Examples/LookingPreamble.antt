@@ -4,7 +4,7 @@ use Rattle.std.specs.Prelude.{codes, Option, bytes_eq, if◌then◌else◌, deci
 use Rattle.std.specs.Fmt.{digits}
 use Rattle.rules.specs.Parts.{NestedUnit, preamble, bytes_of}
 use Rattle.pictures.specs.Objects.{Token, Number, Plain, Name, Object}
-use Rattle.pictures.specs.Dictionaries.{Entry, meaning}
+use Rattle.pictures.specs.Dictionaries.{DictionaryEntry, meaning}
 use Rattle.pictures.specs.Machine.{State, Graphics, Painting, push, meant, step_on}
 use Rattle.pictures.specs.Sheets.{IsGround, sheet_names, in_userdict, with_more}
 use Rattle.pictures.specs.Unaware.{IsPlainGround}
@@ -62,7 +62,7 @@ document = document_with (codes "/h transform def") (codes "0 0 moveto 9 h linet
 abbrev us : List NestedUnit
 us = units document
 
-abbrev prolog : List Entry
+abbrev prolog : List DictionaryEntry
 prolog = in_userdict (codes "h") (number (codes "0")) ∷ []
 
 abbrev ready : State

@@ -8,7 +8,7 @@ use Rattle.pictures.specs.Scanner.{tokens}
 use Rattle.pictures.proofs.Examples.TwoUp.{number, end_by}
 use Rattle.open_pictures.specs.Machine.{open_step}
 use Rattle.open_pictures.specs.Blindness.{IsBlind}
-use Rattle.open_pictures.specs.Documents.{begun, plain_work}
+use Rattle.open_pictures.specs.Documents.{begun_machine, plain_work}
 use Rattle.open_pictures.specs.Operators.{Blind, AsksForNone, by_table}
 use Rattle.open_pictures.specs.Stores.{Given, Change, Valued, by_store}
 use Rattle.open_pictures.specs.Composites.{run_next}
@@ -70,7 +70,7 @@ blind =
     (λ name f e. one_asks (bytes_eq name (codes "loop") || bytes_eq name loop_end) (bytes_eq name (codes "exit")) (bytes_eq name (codes "eexec")) f e)
 
 abbrev left_by : List ℕ → Option (List Object)
-left_by text = option_map (λ s. s.work.operands) (end_by (open_step (by_table (values_with others)) false) 1000 (begun plain_work (tokens text)))
+left_by text = option_map (λ s. s.work.operands) (end_by (open_step (by_table (values_with others)) false) 1000 (begun_machine plain_work (tokens text)))
 
 counted : left_by (codes "0 {1 add dup 3 eq {exit} if} loop") ≡ Some (number (codes "3") ∷ [])
 unfolding digits

@@ -9,7 +9,7 @@ use Rattle.pictures.specs.Operators.{Work}
 use Rattle.pictures.specs.Machine.{State, Painting, Clip, step}
 use Rattle.pictures.specs.Scanner.{tokens}
 use Rattle.pictures.specs.Sheets.{IsGround, sheet_names, in_userdict, run_of}
-use Rattle.pictures.specs.Documents.{started, page_of, sheet_pictures, all_sheets}
+use Rattle.pictures.specs.Documents.{started, document_page, sheet_pictures, all_sheets}
 use Rattle.pictures.specs.Unaware.{IsPlainGround}
 use Rattle.pictures.proofs.Opening.{name_other, is_apart}
 use Rattle.pictures.proofs.Examples.TwoUp.{lines, two_up, frame, call, number, segment, far}
@@ -107,7 +107,7 @@ unfolding digits
 preamble_runs = (refl, (4, refl), refl, refl, refl, ground)
 
 abbrev picture : ℕ → List Painting
-picture p = (far (open_unaware_step x) 20 (run_of (tokens (page_of us 0)) after_preamble)).painted
+picture p = (far (open_unaware_step x) 20 (run_of (tokens (document_page us 0)) after_preamble)).painted
 
 page_prints : OpenPagePrints x us after_preamble 0 (picture 0)
 unfolding digits
@@ -115,7 +115,7 @@ page_prints = (
   refl,
   refl,
   record {
-    at = far (open_unaware_step x) 20 (run_of (tokens (page_of us 0)) after_preamble);
+    at = far (open_unaware_step x) 20 (run_of (tokens (document_page us 0)) after_preamble);
     count = 20;
     run = refl;
     after = [];
@@ -123,7 +123,7 @@ page_prints = (
     has_userdict = refl;
     showpage = refl;
     picture_is = refl;
-    ends = nothing_behind (open_step x false) (open_unaware_step x) after_preamble (far (open_unaware_step x) 20 (run_of (tokens (page_of us 0)) after_preamble)) refl refl refl refl refl;
+    ends = nothing_behind (open_step x false) (open_unaware_step x) after_preamble (far (open_unaware_step x) 20 (run_of (tokens (document_page us 0)) after_preamble)) refl refl refl refl refl;
   },
 )
 

@@ -7,16 +7,16 @@ use Rattle.pictures.specs.Machine.{Painting}
 use Rattle.pictures.specs.Scanner.{tokens}
 use Rattle.pictures.proofs.Examples.TwoUp.{number, end_by}
 use Rattle.open_pictures.specs.Machine.{open_step}
-use Rattle.open_pictures.specs.Documents.{begun, plain_work}
+use Rattle.open_pictures.specs.Documents.{begun_machine, plain_work}
 use Rattle.open_pictures.specs.Values.{values}
 
 -- what a text leaves on the operand stack, the topmost first
 abbrev pub left_by : List ℕ → Option (List Object)
-left_by text = option_map (λ s. s.work.operands) (end_by (open_step values false) 1000 (begun plain_work (tokens text)))
+left_by text = option_map (λ s. s.work.operands) (end_by (open_step values false) 1000 (begun_machine plain_work (tokens text)))
 
 -- what it paints, with which operands, the latest first
 abbrev painted_by : List ℕ → Option (List (List Object))
-painted_by text = option_map (λ s. calls s.painted) (end_by (open_step values false) 1000 (begun plain_work (tokens text)))
+painted_by text = option_map (λ s. calls s.painted) (end_by (open_step values false) 1000 (begun_machine plain_work (tokens text)))
   where
     calls : List Painting → List (List Object)
     calls [] = []

@@ -5,12 +5,12 @@ use Rattle.std.specs.Prelude.{codes, Result, Ok, Err, Option}
 use Rattle.rules.specs.Parts.{NestedUnit}
 use Rattle.rules.specs.Run.{document_of, DocumentFault}
 use Rattle.pictures.specs.Objects.{Name, Call}
-use Rattle.pictures.specs.Dictionaries.{Entry, meaning, system, entry_of}
+use Rattle.pictures.specs.Dictionaries.{DictionaryEntry, meaning, system, dictionary_entry}
 use Rattle.pictures.specs.Machine.{State, Graphics, Painting, fonts, steps}
-use Rattle.pictures.specs.Scanner.{tokens, IsComplete}
+use Rattle.pictures.specs.Scanner.{tokens, EndsBetweenTokens}
 use Rattle.pictures.specs.Kept.{page_comments_apart}
 use Rattle.pictures.specs.Sheets.{IsGround, run_of}
-use Rattle.pictures.specs.Documents.{started, page_of}
+use Rattle.pictures.specs.Documents.{started, document_page}
 use Rattle.pictures.specs.Unaware.{IsPlainGround, PagePrintsBy, absent, none_before, no_saved_in}
 use Rattle.pictures.proofs.Own.{nothing_behind}
 
@@ -22,15 +22,15 @@ abbrev pub units : List ℕ → List NestedUnit
 units document = units_of (document_of document)
 
 -- the state after a preamble that has set this and defined these names
-abbrev pub behind : (settings : List Call) → List Entry → State
+abbrev pub behind : (settings : List Call) → List DictionaryEntry → State
 behind settings es = record (started []) {
   work = record { operands = []; dictionaries = 0 ∷ []; entries = es; made = 0 };
   graphics = record { chain = []; path = []; clip = []; settings = settings };
 }
 
 pub plain_ground :
-    (settings : List Call) (es : List Entry) → IsGround (behind settings es) → no_saved_in es ≡ true
-    → entry_of 0 (codes "showpage") es ≡ None → entry_of 0 (codes "ImposeSave") es ≡ None
+    (settings : List Call) (es : List DictionaryEntry) → IsGround (behind settings es) → no_saved_in es ≡ true
+    → dictionary_entry 0 (codes "showpage") es ≡ None → dictionary_entry 0 (codes "ImposeSave") es ≡ None
     → IsPlainGround (behind settings es)
 plain_ground settings es ground saved showpage save = record {
   ground = ground;
@@ -58,8 +58,8 @@ pub page_prints :
     → absent s.work.dictionaries s.work.entries (codes "showpage") ≡ true
     → absent s.work.dictionaries s.work.entries (codes "ImposeSave") ≡ true
     → meaning s.work.dictionaries s.work.entries (codes "restore") ≡ system (codes "restore")
-    → IsComplete (page_of us p) → page_comments_apart (page_of us p) ≡ true
-    → steps unaware count (run_of (tokens (page_of us p)) s)
+    → EndsBetweenTokens (document_page us p) → page_comments_apart (document_page us p) ≡ true
+    → steps unaware count (run_of (tokens (document_page us p)) s)
     ≡ Some (record s { left = Name (codes "showpage") ∷ []; graphics = graphics; painted = picture })
     → PagePrintsBy free unaware us s p picture
 page_prints free unaware us s p count graphics picture ground showpage save restore complete apart run = (

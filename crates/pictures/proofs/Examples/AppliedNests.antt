@@ -6,7 +6,7 @@ use Rattle.pictures.specs.Objects.{Token}
 use Rattle.pictures.specs.Machine.{State, Painting, Runs}
 use Rattle.pictures.specs.Scanner.{tokens}
 use Rattle.pictures.specs.Sheets.{run_of, Numbers, Shown}
-use Rattle.pictures.specs.Pictures.{printed, sheets_tokens}
+use Rattle.pictures.specs.Pictures.{printed_sheets, sheets_tokens}
 use Rattle.pictures.proofs.Examples.Premises.{outline}
 use Rattle.pictures.specs.Shelter.{Outer, outline_tokens, beginning, sheltered, PaintsSheltered}
 use Rattle.pictures.specs.SheetsOfSheets.{page_round, page_begun, Nest, nest_as_page}
@@ -70,10 +70,10 @@ abbrev all : List (List Shown)
 all = (nest_as_page 2 (beginning behind) nest ∷ []) ∷ []
 
 -- so a sheet is printed with it
-shown : Runs false (run_of (sheets_tokens all) behind) (record behind { sheets = printed behind.graphics all [] })
+shown : Runs false (run_of (sheets_tokens all) behind) (record behind { sheets = printed_sheets behind.graphics all [] })
 shown = nests_are_printed 2 behind ((nest ∷ []) ∷ []) [] guarded_behind takes_sheets refl (((((page_paints, tt), tt), tt), tt))
 
 -- in all three places, clipped by all three papers
-seen : outline (printed behind.graphics all [])
+seen : outline (printed_sheets behind.graphics all [])
     ≡ ((codes "concat" ∷ codes "concat" ∷ codes "concat" ∷ [], codes "clip" ∷ codes "clip" ∷ codes "clip" ∷ []) ∷ []) ∷ []
 seen = refl

@@ -11,13 +11,13 @@ use Rattle.pictures.specs.Objects.{Procedure, Dictionary}
 use Rattle.pictures.specs.Machine.{State, Painting, Runs}
 use Rattle.pictures.specs.Scanner.{tokens}
 use Rattle.pictures.specs.Sheets.{in_userdict}
-use Rattle.pictures.specs.Documents.{started, page_of, PreambleRuns, all_sheets}
+use Rattle.pictures.specs.Documents.{started, document_page, PreambleRuns, all_sheets}
 use Rattle.pictures.proofs.Examples.Premises.{document_with, half, frame, stroke}
 use Rattle.pictures.proofs.Examples.Applied.{units}
 use Rattle.pictures.specs.Behind.{behind_guard}
 use Rattle.pictures.specs.Shelter.{sheltered}
 use Rattle.pictures.specs.Lines.{with_asking}
-use Rattle.pictures.specs.Pages.{GuardedPagePaints, outline_of, shown_at}
+use Rattle.pictures.specs.Pages.{GuardedPagePaints, outline_of, state_after_sheets}
 use Rattle.pictures.specs.OwnShowpage.{HasItsOwn, asking}
 use Rattle.pictures.proofs.OwnShowpage.{own_showpage_is_shown}
 use Rattle.pictures.proofs.Examples.GuardedApplied.{paper, at_most}
@@ -64,8 +64,8 @@ abbrev second_state : State
 second_state = with_asking 4 first_state
 
 abbrev end : ℕ → State
-end zero = at_most [] (outline_of frame) 12 (sheltered [] first_state (outline_of frame) (tokens (page_of us 0)))
-end (suc p) = at_most [] (outline_of frame) 13 (sheltered [] second_state (outline_of frame) (tokens (page_of us 1)))
+end zero = at_most [] (outline_of frame) 12 (sheltered [] first_state (outline_of frame) (tokens (document_page us 0)))
+end (suc p) = at_most [] (outline_of frame) 13 (sheltered [] second_state (outline_of frame) (tokens (document_page us 1)))
 
 abbrev picture : ℕ → List Painting
 picture p = (end p).painted
@@ -98,6 +98,6 @@ second_page = (
 
 -- so the sheets show both pages
 shown : Runs false (started (tokens (output frame None half (units_of (guarded paper text)))))
-    (shown_at (asking 4 behind) None (units_of (guarded paper text)) picture (all_sheets frame None half us))
+    (state_after_sheets (asking 4 behind) None (units_of (guarded paper text)) picture (all_sheets frame None half us))
 unfolding digits
 shown = own_showpage_is_shown paper frame None half text us picture 4 behind refl (omega arith) refl preamble_runs (omega arith) ((first_page, tt), ((second_page, tt), tt))

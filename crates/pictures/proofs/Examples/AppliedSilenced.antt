@@ -11,13 +11,13 @@ use Rattle.pictures.specs.Objects.{Procedure}
 use Rattle.pictures.specs.Machine.{State, Painting, Runs}
 use Rattle.pictures.specs.Scanner.{tokens}
 use Rattle.pictures.specs.Sheets.{in_userdict}
-use Rattle.pictures.specs.Documents.{started, page_of, PreambleRuns, all_sheets}
+use Rattle.pictures.specs.Documents.{started, document_page, PreambleRuns, all_sheets}
 use Rattle.pictures.proofs.Examples.Premises.{document_with, half, frame, stroke}
 use Rattle.pictures.proofs.Examples.Applied.{units}
 use Rattle.pictures.specs.Behind.{behind_guard, showpage_tokens}
 use Rattle.pictures.specs.Shelter.{sheltered}
-use Rattle.pictures.specs.Pages.{GuardedPagePaints, outline_of, shown_at}
-use Rattle.pictures.specs.Silenced.{IsSilenced, with_showpage, showing}
+use Rattle.pictures.specs.Pages.{GuardedPagePaints, outline_of, state_after_sheets}
+use Rattle.pictures.specs.Silenced.{IsSilenced, with_showpage, after_pages}
 use Rattle.pictures.proofs.Silenced.{silenced_document_is_shown}
 use Rattle.pictures.proofs.Examples.GuardedApplied.{paper, at_most}
 
@@ -55,8 +55,8 @@ unfolding digits
 preamble_runs = (refl, (273, refl), refl, refl, refl, silenced_behind)
 
 abbrev end : ℕ → State
-end zero = at_most [] (outline_of frame) 12 (sheltered [] (with_showpage behind) (outline_of frame) (tokens (page_of us 0)))
-end (suc p) = at_most [] (outline_of frame) 9 (sheltered [] (with_showpage behind) (outline_of frame) (tokens (page_of us 1)))
+end zero = at_most [] (outline_of frame) 12 (sheltered [] (with_showpage behind) (outline_of frame) (tokens (document_page us 0)))
+end (suc p) = at_most [] (outline_of frame) 9 (sheltered [] (with_showpage behind) (outline_of frame) (tokens (document_page us 1)))
 
 abbrev picture : ℕ → List Painting
 picture p = (end p).painted
@@ -89,6 +89,6 @@ second_page = (
 
 -- so the sheets show both pages
 shown : Runs false (started (tokens (output frame None half (units_of (guarded paper text)))))
-    (shown_at (showing behind) None (units_of (guarded paper text)) picture (all_sheets frame None half us))
+    (state_after_sheets (after_pages behind) None (units_of (guarded paper text)) picture (all_sheets frame None half us))
 unfolding digits
 shown = silenced_document_is_shown paper frame None half text us picture behind refl (omega arith) refl preamble_runs (omega arith) ((first_page, tt), ((second_page, tt), tt))

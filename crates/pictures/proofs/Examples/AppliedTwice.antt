@@ -7,7 +7,7 @@ use Rattle.rules.specs.Parts.{NestedUnit, preamble, bytes_of}
 use Rattle.guard.specs.Guard.{guarded}
 use Rattle.pictures.specs.Machine.{State, Painting}
 use Rattle.pictures.specs.Scanner.{tokens}
-use Rattle.pictures.specs.Documents.{numbers_of, page_of, PreambleRuns, all_sheets, IsPrinted}
+use Rattle.pictures.specs.Documents.{numbers_of, document_page, PreambleRuns, all_sheets, IsPrintedSheets}
 use Rattle.pictures.proofs.Examples.Premises.{document_with, half, frame}
 use Rattle.pictures.proofs.Examples.Applied.{units}
 use Rattle.pictures.specs.Shelter.{Outer, sheltered}
@@ -39,14 +39,14 @@ abbrev round : Item → List Outer
 round item = page_round [] behind (numbers_of frame item) ∷ []
 
 abbrev begun : Item → State
-begun item = sheltered (round item) (page_begun [] behind (numbers_of frame item)) (outline_of frame) (tokens (page_of us 0))
+begun item = sheltered (round item) (page_begun [] behind (numbers_of frame item)) (outline_of frame) (tokens (document_page us 0))
 
 abbrev end : Item → State
 end item = at_most (round item) (outline_of frame) 12 (begun item)
 
 -- within another page it paints what it paints outside all
 abbrev pub picture : ℕ → List Painting
-picture p = (at_most [] (outline_of frame) 12 (sheltered [] behind (outline_of frame) (tokens (page_of us 0)))).painted
+picture p = (at_most [] (outline_of frame) 12 (sheltered [] behind (outline_of frame) (tokens (document_page us 0)))).painted
 
 pub page_paints : PagePaintsWithin frame us frame behind 0 (picture 0)
 unfolding digits
@@ -62,7 +62,7 @@ page_paints = (
 )
 
 -- so the sheets of the second run show those of the first one
-shown : IsPrinted frame None half again (made_run_picture None us picture behind (all_sheets frame None half us)) behind
+shown : IsPrintedSheets frame None half again (made_run_picture None us picture behind (all_sheets frame None half us)) behind
 unfolding digits
 shown =
     two_runs_are_shown paper frame frame None None half half text us picture behind refl refl (omega arith) (omega arith) (omega arith) (omega arith) refl preamble_runs takes_sheets

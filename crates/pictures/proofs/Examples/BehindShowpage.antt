@@ -8,7 +8,7 @@ use Rattle.pictures.specs.Objects.{Name, Procedure}
 use Rattle.pictures.specs.Machine.{State, Painting, shipped, step}
 use Rattle.pictures.specs.Scanner.{tokens}
 use Rattle.pictures.specs.Sheets.{IsGround, run_of}
-use Rattle.pictures.specs.Documents.{page_of, PreambleRuns, IsPrinted}
+use Rattle.pictures.specs.Documents.{document_page, PreambleRuns, IsPrintedSheets}
 use Rattle.pictures.specs.Unaware.{IsPlainGround, PagePrints, unaware_step}
 use Rattle.pictures.proofs.Own.{nothing_behind}
 use Rattle.pictures.proofs.Imposed.{sheets_show_the_pages}
@@ -46,7 +46,7 @@ preamble_runs = (refl, (0, refl), refl, refl, refl, bare_ground [] refl)
 -- as far as a machine gets that uses none of the sheet's names
 
 abbrev at_showpage : ℕ → State
-at_showpage p = far unaware_step 100 (run_of (tokens (page_of us p)) ready)
+at_showpage p = far unaware_step 100 (run_of (tokens (document_page us p)) ready)
 
 first : PagePrints us ready 0 (at_showpage 0).painted
 first = (
@@ -54,7 +54,7 @@ first = (
   refl,
   record {
     at = at_showpage 0;
-    count = count unaware_step 100 (run_of (tokens (page_of us 0)) ready);
+    count = count unaware_step 100 (run_of (tokens (document_page us 0)) ready);
     run = refl;
     after = Name (codes "restore") ∷ [];
     last = refl;
@@ -140,7 +140,7 @@ third = (
   refl,
   record {
     at = at_showpage 2;
-    count = count unaware_step 100 (run_of (tokens (page_of us 2)) ready);
+    count = count unaware_step 100 (run_of (tokens (document_page us 2)) ready);
     run = refl;
     after = [];
     last = refl;
@@ -156,7 +156,7 @@ picture zero = (at_showpage 0).painted
 picture (suc zero) = line ∷ []
 picture (suc (suc p)) = (at_showpage 2).painted
 
-by_the_law : IsPrinted frame None half us picture ready
+by_the_law : IsPrintedSheets frame None half us picture ready
 unfolding digits
 by_the_law =
     sheets_show_the_pages frame None half document us picture ready refl refl preamble_runs plain

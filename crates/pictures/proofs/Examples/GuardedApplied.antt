@@ -10,12 +10,12 @@ use Rattle.pictures.specs.Objects.{Token, Procedure, Name}
 use Rattle.pictures.specs.Machine.{State, Painting}
 use Rattle.pictures.specs.Scanner.{tokens}
 use Rattle.pictures.specs.Sheets.{in_userdict}
-use Rattle.pictures.specs.Documents.{page_of, PreambleRuns, IsPrinted}
+use Rattle.pictures.specs.Documents.{document_page, PreambleRuns, IsPrintedSheets}
 use Rattle.pictures.proofs.Examples.TwoUp.{far}
 use Rattle.pictures.proofs.Examples.Premises.{document_with, half, frame, stroke}
 use Rattle.pictures.proofs.Examples.Applied.{units}
 use Rattle.pictures.specs.Behind.{behind_guard}
-use Rattle.pictures.specs.Shelter.{Outer, sheltered, step_on}
+use Rattle.pictures.specs.Shelter.{Outer, sheltered, step_sheltered}
 use Rattle.pictures.specs.Pages.{IsGuarded, defined, GuardedPagePaints, outline_of}
 use Rattle.pictures.proofs.Ground.{guard_is_enough, stays_guarded}
 use Rattle.pictures.proofs.Documents.{guarded_document_is_shown}
@@ -44,11 +44,11 @@ preamble_runs = (refl, (268, refl), refl, refl, refl, guarded_behind)
 
 -- within these pages, on a paper with this outline
 abbrev pub at_most : List Outer → List Token → ℕ → State → State
-at_most outers outline n s = far (λ t. step_on outers outline t.left t) n s
+at_most outers outline n s = far (λ t. step_sheltered outers outline t.left t) n s
 
 abbrev end : ℕ → State
-end zero = at_most [] (outline_of frame) 12 (sheltered [] behind (outline_of frame) (tokens (page_of us 0)))
-end (suc p) = at_most [] (outline_of frame) 9 (sheltered [] behind (outline_of frame) (tokens (page_of us 1)))
+end zero = at_most [] (outline_of frame) 12 (sheltered [] behind (outline_of frame) (tokens (document_page us 0)))
+end (suc p) = at_most [] (outline_of frame) 9 (sheltered [] behind (outline_of frame) (tokens (document_page us 1)))
 
 abbrev pub picture : ℕ → List Painting
 picture p = (end p).painted
@@ -80,6 +80,6 @@ second_page = (
 )
 
 -- so the sheets show both pages
-shown : IsPrinted frame None half (units_of (guarded paper text)) picture behind
+shown : IsPrintedSheets frame None half (units_of (guarded paper text)) picture behind
 unfolding digits
 shown = guarded_document_is_shown paper frame None half text us picture behind refl (omega arith) refl preamble_runs ((first_page, tt), ((second_page, tt), tt))

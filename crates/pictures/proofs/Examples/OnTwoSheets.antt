@@ -8,7 +8,7 @@ use Rattle.rules.proofs.Examples.Written.{item, written}
 use Rattle.pictures.specs.Objects.{Call}
 use Rattle.pictures.specs.Machine.{State, Graphics, Clip, Painting, step}
 use Rattle.pictures.specs.Sheets.{IsGround}
-use Rattle.pictures.specs.Documents.{PreambleRuns, IsPrinted, sheet_pictures, all_sheets}
+use Rattle.pictures.specs.Documents.{PreambleRuns, IsPrintedSheets, sheet_pictures, all_sheets}
 use Rattle.pictures.specs.Unaware.{IsPlainGround, PagePrints, unaware_step}
 use Rattle.pictures.proofs.Imposed.{sheets_show_the_pages}
 use Rattle.pictures.proofs.Examples.TwoUp.{lines}
@@ -93,7 +93,7 @@ pub second : PagePrints us ready 1 (picture 1)
 unfolding digits
 second = page_prints (step false) unaware_step us ready 1 7 (set_to []) (picture 1) plain refl refl refl refl refl refl
 
-by_the_law : IsPrinted paper None twice us picture ready
+by_the_law : IsPrintedSheets paper None twice us picture ready
 unfolding digits
 by_the_law =
     sheets_show_the_pages paper None twice document us picture ready refl refl preamble_runs plain

@@ -8,7 +8,7 @@ use Rattle.rules.specs.Units.{◌>>=◌}
 use Rattle.rules.specs.Output.{output}
 use Rattle.pictures.specs.Objects.{Object, Plain, Text}
 use Rattle.pictures.specs.Machine.{Painting}
-use Rattle.pictures.specs.Scanner.{IsComplete}
+use Rattle.pictures.specs.Scanner.{EndsBetweenTokens}
 use Rattle.pictures.specs.Documents.{body_of_page}
 use Rattle.pictures.proofs.Examples.TwoUp.{lines, sheets_of}
 use Rattle.pictures.proofs.Examples.Applied.{units}
@@ -91,7 +91,7 @@ word_at_the_end : outline_of (ended_by (codes "showpage"))
 unfolding digits
 word_at_the_end = refl
 
-word_is_complete : IsComplete (body_of_page (units (ended_by (codes "showpage"))) 0)
+word_is_complete : EndsBetweenTokens (body_of_page (units (ended_by (codes "showpage"))) 0)
 word_is_complete = refl
 
 comment_at_the_end : outline_of (ended_by (codes "showpage % (so"))
@@ -99,5 +99,5 @@ comment_at_the_end : outline_of (ended_by (codes "showpage % (so"))
 unfolding digits
 comment_at_the_end = refl
 
-comment_is_complete : IsComplete (body_of_page (units (ended_by (codes "showpage % (so"))) 0)
+comment_is_complete : EndsBetweenTokens (body_of_page (units (ended_by (codes "showpage % (so"))) 0)
 comment_is_complete = refl

@@ -11,7 +11,7 @@ use Rattle.rules.specs.Output.{Frame, output}
 use Rattle.rules.proofs.Examples.Written.{item, written}
 use Rattle.pictures.specs.Machine.{State, Painting, step, and_then}
 use Rattle.pictures.specs.Scanner.{tokens}
-use Rattle.pictures.specs.Sheets.{alone}
+use Rattle.pictures.specs.Sheets.{running_alone}
 use Rattle.pictures.proofs.Examples.TwoUp.{lines, sheets_of, end_by, to_the_end}
 use Rattle.pictures.specs.Documents.{started}
 
@@ -51,7 +51,7 @@ imposed prolog pages = sheets_by half prolog pages >>= λ sheets. Ok (option_map
 -- a page by itself, held, after a prolog
 abbrev pub by_itself : List ℕ → List ℕ → Option State
 by_itself prolog page =
-    and_then (λ s. end_by (step true) 100 (alone s (tokens page))) (to_the_end 100 (started (tokens prolog)))
+    and_then (λ s. end_by (step true) 100 (running_alone s (tokens page))) (to_the_end 100 (started (tokens prolog)))
 
 abbrev pub stroke : List ℕ
 stroke = codes "0 0 moveto 9 9 lineto stroke"

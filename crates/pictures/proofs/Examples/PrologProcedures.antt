@@ -7,10 +7,10 @@ use Rattle.rules.specs.Parts.{NestedUnit, preamble, bytes_of}
 use Rattle.rules.specs.Specification.{Scaled, Spec, settled}
 use Rattle.rules.proofs.Examples.Written.{item, written}
 use Rattle.pictures.specs.Objects.{Number, Name, Bound, Procedure, Call}
-use Rattle.pictures.specs.Dictionaries.{Entry}
+use Rattle.pictures.specs.Dictionaries.{DictionaryEntry}
 use Rattle.pictures.specs.Machine.{State, Graphics, Clip, Painting, step}
 use Rattle.pictures.specs.Sheets.{IsGround, sheet_names, in_userdict}
-use Rattle.pictures.specs.Documents.{PreambleRuns, IsPrinted, sheet_pictures, all_sheets}
+use Rattle.pictures.specs.Documents.{PreambleRuns, IsPrintedSheets, sheet_pictures, all_sheets}
 use Rattle.pictures.specs.Unaware.{IsPlainGround, PagePrints, unaware_step}
 use Rattle.pictures.proofs.Opening.{name_other, is_apart}
 use Rattle.pictures.proofs.Imposed.{sheets_show_the_pages}
@@ -82,18 +82,18 @@ abbrev us : List NestedUnit
 us = units document
 
 -- what the prolog defines, the latest first
-abbrev begins : Entry
+abbrev begins : DictionaryEntry
 begins = in_userdict (codes "bop") (Procedure (
     Name (codes "gsave") ∷ Number (codes "2") ∷ Number (codes "2") ∷ Name (codes "scale") ∷ []))
 
-abbrev draws : Entry
+abbrev draws : DictionaryEntry
 draws = in_userdict (codes "l") (Procedure (
     Bound (codes "moveto") ∷ Bound (codes "lineto") ∷ Bound (codes "stroke") ∷ []))
 
-abbrev ends : Entry
+abbrev ends : DictionaryEntry
 ends = in_userdict (codes "eop") (Procedure (Name (codes "grestore") ∷ Name (codes "showpage") ∷ []))
 
-abbrev prolog : List Entry
+abbrev prolog : List DictionaryEntry
 prolog = ends ∷ draws ∷ begins ∷ []
 
 abbrev ready : State
@@ -133,7 +133,7 @@ second : PagePrints us ready 1 (picture 1)
 unfolding digits
 second = page_prints (step false) unaware_step us ready 1 34 as_before (picture 1) plain refl refl refl refl refl refl
 
-by_the_law : IsPrinted paper None exchanged us picture ready
+by_the_law : IsPrintedSheets paper None exchanged us picture ready
 unfolding digits
 by_the_law = sheets_show_the_pages paper None exchanged document us picture ready refl refl preamble_runs plain ((second, (first, tt)), tt)
 

@@ -9,7 +9,7 @@ use Rattle.rules.proofs.Examples.Written.{item, written}
 use Rattle.pictures.specs.Objects.{Number, Literal, Text, Plain, Font, Call}
 use Rattle.pictures.specs.Machine.{State, Graphics, Clip, Painting, step}
 use Rattle.pictures.specs.Sheets.{IsGround}
-use Rattle.pictures.specs.Documents.{PreambleRuns, IsPrinted, sheet_pictures, all_sheets}
+use Rattle.pictures.specs.Documents.{PreambleRuns, IsPrintedSheets, sheet_pictures, all_sheets}
 use Rattle.pictures.specs.Unaware.{IsPlainGround, PagePrints, unaware_step}
 use Rattle.pictures.proofs.Imposed.{sheets_show_the_pages}
 use Rattle.pictures.proofs.Examples.TwoUp.{lines, call}
@@ -112,7 +112,7 @@ third : PagePrints us ready 2 (picture 2)
 unfolding digits
 third = page_prints (step false) unaware_step us ready 2 5 (behind_word (codes "Three")) (picture 2) plain refl refl refl refl refl refl
 
-by_the_law : IsPrinted paper (Some 4) two_up us picture ready
+by_the_law : IsPrintedSheets paper (Some 4) two_up us picture ready
 unfolding digits
 by_the_law =
     sheets_show_the_pages paper (Some 4) two_up document us picture ready refl refl preamble_runs plain

@@ -9,7 +9,7 @@ use Rattle.rules.proofs.Examples.Written.{item, written}
 use Rattle.pictures.specs.Objects.{Text, Plain, Call}
 use Rattle.pictures.specs.Machine.{State, Segment, Clip, Graphics, Painting, step}
 use Rattle.pictures.specs.Sheets.{IsGround}
-use Rattle.pictures.specs.Documents.{PreambleRuns, IsPrinted, sheet_pictures, all_sheets}
+use Rattle.pictures.specs.Documents.{PreambleRuns, IsPrintedSheets, sheet_pictures, all_sheets}
 use Rattle.pictures.specs.Unaware.{IsPlainGround, PagePrints, unaware_step}
 use Rattle.pictures.proofs.Imposed.{sheets_show_the_pages}
 use Rattle.pictures.proofs.Examples.TwoUp.{lines, call}
@@ -104,7 +104,7 @@ page : PagePrints us ready 0 (picture 0)
 unfolding digits
 page = page_prints (step false) unaware_step us ready 0 9 at_the_end (picture 0) plain refl refl refl refl refl refl
 
-by_the_law : IsPrinted paper None moved us picture ready
+by_the_law : IsPrintedSheets paper None moved us picture ready
 unfolding digits
 by_the_law = sheets_show_the_pages paper None moved document us picture ready refl refl preamble_runs plain ((page, tt), tt)
 

@@ -7,8 +7,8 @@ use Rattle.rules.specs.Filters.{preamble_text}
 use Rattle.pictures.specs.Objects.{Procedure, Bound}
 use Rattle.pictures.specs.Machine.{State, Graphics, Painting, step}
 use Rattle.pictures.specs.Scanner.{tokens}
-use Rattle.pictures.specs.Sheets.{IsGround, sheet_names, alone, in_userdict, run_of}
-use Rattle.pictures.specs.Documents.{IsPrinted, page_of, body_of_page, PreambleRuns, PagePaints, sheet_pictures, all_sheets}
+use Rattle.pictures.specs.Sheets.{IsGround, sheet_names, running_alone, in_userdict, run_of}
+use Rattle.pictures.specs.Documents.{IsPrintedSheets, document_page, body_of_page, PreambleRuns, PagePaints, sheet_pictures, all_sheets}
 use Rattle.pictures.specs.Unaware.{IsPlainGround, PagePrints, unaware_step}
 use Rattle.pictures.proofs.Kept.{kept_runs_alike}
 use Rattle.pictures.proofs.Opening.{name_other, is_apart}
@@ -39,7 +39,7 @@ unfolding digits
 preamble_runs = (refl, (4, refl), refl, refl, refl, ground)
 
 abbrev end : ℕ → State
-end p = far (step true) 100 (alone behind_preamble (tokens (body_of_page us p)))
+end p = far (step true) 100 (running_alone behind_preamble (tokens (body_of_page us p)))
 
 abbrev picture : ℕ → List Painting
 picture zero = (end 0).painted
@@ -69,7 +69,7 @@ second_page = (
   },
 )
 
-two_pages_are_printed : IsPrinted frame None two_up us picture behind_preamble
+two_pages_are_printed : IsPrintedSheets frame None two_up us picture behind_preamble
 unfolding digits
 two_pages_are_printed =
     output_is_printed frame None two_up us picture behind_preamble preamble_runs ((first_page, (second_page, tt)), tt)
@@ -91,7 +91,7 @@ plain = plain_ground [] (in_userdict (codes "m") (Procedure (Bound (codes "movet
 
 -- at its showpage
 abbrev at_showpage : ℕ → Graphics
-at_showpage p = (far unaware_step 100 (run_of (tokens (page_of us p)) behind_preamble)).graphics
+at_showpage p = (far unaware_step 100 (run_of (tokens (document_page us p)) behind_preamble)).graphics
 
 first_page_prints : PagePrints us behind_preamble 0 (picture 0)
 unfolding digits
@@ -101,7 +101,7 @@ second_page_prints : PagePrints us behind_preamble 1 (picture 1)
 unfolding digits
 second_page_prints = page_prints (step false) unaware_step us behind_preamble 1 16 (at_showpage 1) (picture 1) plain refl refl refl refl refl refl
 
-sheets_show_them : IsPrinted frame None two_up us picture behind_preamble
+sheets_show_them : IsPrintedSheets frame None two_up us picture behind_preamble
 unfolding digits
 sheets_show_them =
     sheets_show_the_pages frame None two_up document us picture behind_preamble refl refl own_preamble_runs plain
@@ -109,6 +109,6 @@ sheets_show_them =
 
 -- What is kept of the first page has the page's tokens.
 
-kept_alike : tokens (body_of_page us 0) ≡ tokens (page_of us 0)
+kept_alike : tokens (body_of_page us 0) ≡ tokens (document_page us 0)
 unfolding digits
-kept_alike = (kept_runs_alike (page_of us 0) refl refl).0
+kept_alike = (kept_runs_alike (document_page us 0) refl refl).0

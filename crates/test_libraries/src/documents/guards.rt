@@ -76,7 +76,7 @@ fn put_into_roomy(
     text: &[u8],
     paper: Option<&Paper>,
 ) -> Result<Vec<u8>, AllocError> {
-    let mut roomy = RoomyText::behind(room, behind_room(alloc, room, text)?);
+    let mut roomy = RoomyText::with_headroom(room, behind_room(alloc, room, text)?);
     roomy.put_guard(paper)?;
     Vec::from_slice(alloc, roomy.as_slice())
 }

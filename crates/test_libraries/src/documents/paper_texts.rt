@@ -3,7 +3,7 @@ use crate::answer::Answer;
 use crate::words::{paper, papers_of, word};
 use dsc::{Document, DscError, comment_value, trailer_box};
 use lengths::{Paper, a4, paper_by_name};
-use papers::{Cut, as_one, cut_by, document_paper, first_instead_of, own_papers};
+use papers::{Cut, cut_by, document_paper, first_instead_of, merge_near_sizes, page_papers};
 use std::alloc::Global;
 
 /// A paper: its name if it is one of a few, otherwise its width and height in points.
@@ -50,7 +50,7 @@ pub fn counted(out: &mut Answer, text: &[u8]) -> Option<()> {
 }
 
 fn counted_lines(out: &mut Answer, own: &[Paper]) {
-    match as_one(out.alloc, own, own) {
+    match merge_near_sizes(out.alloc, own, own) {
         Ok(papers) => paper_lines(out, papers.as_slice()),
         Err(_) => out.note(false),
     }
@@ -63,7 +63,7 @@ fn papers_at(
     home: &Paper,
 ) -> Result<Vec<Paper>, DscError> {
     let document = Document::read(alloc, text)?;
-    match own_papers(alloc, &document, asked, home) {
+    match page_papers(alloc, &document, asked, home) {
         Ok(papers) => Ok(papers),
         Err(_) => Err(DscError::NoMemory),
     }

@@ -3,7 +3,8 @@ use crate::answer::Answer;
 use crate::specifications::specifications::written;
 use crate::words::{billionths, count, count_in, length, paper, word};
 use layouts::{
-    Arrangement, ArrangementError, Binding, Cells, Free, Order, Papers, Run, Turned, arrange, bind,
+    Arrangement, ArrangementError, Binding, Cells, FillOrder, Free, Order, Papers, Turned, arrange,
+    bind,
 };
 use lengths::a4;
 use pagespec::Spec;
@@ -106,7 +107,7 @@ fn ask(arrangement: &mut Arrangement, text: &str) -> Option<()> {
 
 fn put_in_order(order: &mut Order, text: &str) -> Option<()> {
     match text {
-        "columns" => order.run = Run::Columns,
+        "columns" => order.run = FillOrder::Columns,
         "right_to_left" => order.right_to_left = true,
         "left" => order.turned = Turned::Left,
         "right" => order.turned = Turned::Right,

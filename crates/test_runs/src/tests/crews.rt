@@ -4,7 +4,7 @@ ghost use Rattle.std.specs.Prelude.{◌≡◌, ⊤};
 
 use super::checks::assert_that;
 use super::wait_for;
-use imposer::{Collector, Crew, Imposing, Supplies, Work, gather_by};
+use imposer::{Collector, Imposing, ThreadCounts, ThreadInputs, Work, run_threads};
 use std::alloc::{AllocError, Global};
 use std::process::Abort;
 use std::sync::Wait;
@@ -169,8 +169,8 @@ fn gather<R: Threads + Wait + Abort + Sync>(
     imposers: usize,
 ) -> Option<u64> {
     let fates = Fates::new(rt, preparers, imposers);
-    let supplies = Supplies {
-        crew: Crew {
+    let supplies = ThreadInputs {
+        crew: ThreadCounts {
             alloc,
             preparers: WORKERS,
             imposers: WORKERS,
@@ -180,7 +180,7 @@ fn gather<R: Threads + Wait + Abort + Sync>(
     };
     let mut ended = None;
     let state = Collected { times: 0 };
-    let state = gather_by(rt, &fates, &fates, supplies, state, &mut ended);
+    let state = run_threads(rt, &fates, &fates, supplies, state, &mut ended);
     let begun = [
         fates.begun_preparers.load(SeqCst),
         fates.begun_imposers.load(SeqCst),

@@ -6,7 +6,9 @@ ghost use Rattle.sheet_writer.specs.Writing.{AreEarly, HaveTexts};
 use super::jobs::{Task, with_job};
 use crate::tests::checks::{assert_that, done};
 use sheet_text::{Job, Openings, Rope, Texts, append_placed, begin_sheet, end_sheet, sheet_text};
-use sheet_writer::{Early, MemorySink, Progress, Sink, Spent, WriteSink, write_early, write_rest};
+use sheet_writer::{
+    MemorySink, Progress, ReorderBuffer, Sink, Spent, WriteSink, write_early, write_rest,
+};
 use std::alloc::{AllocError, Global};
 use std::io::{self, ErrorKind, Write};
 use std::process::Abort;
@@ -94,7 +96,7 @@ fn put_sheets<'r, R: Abort>(
     alloc: Global,
     job: &Job<'r, '_>,
     bodies: &[&'r str; 4],
-    early: &mut Early<'r>,
+    early: &mut ReorderBuffer<'r>,
     sheets: &[u32],
 )
     requires { AreEarly job.now early.old.groups.items }
@@ -118,10 +120,10 @@ fn early_with<'r, R: Abort>(
     job: &Job<'r, '_>,
     bodies: &[&'r str; 4],
     sheets: &[u32],
-) -> Early<'r>
+) -> ReorderBuffer<'r>
     ensures { AreEarly job.now result.groups.items }
 {
-    let mut early = done(rt, Early::new(alloc, 4));
+    let mut early = done(rt, ReorderBuffer::new(alloc, 4));
     put_sheets(rt, alloc, job, bodies, &mut early, sheets);
     early
 }

@@ -20,11 +20,11 @@ loop-walk-preserved c =
       placed = still_placed p c.step.new.self (unit_of c.in_ok-step.step.unit) _ step.place step.piece.within c.loop-walk.invariant.placed;
       so_far =
           scan_more 1_000_001 (omega arith) c.loop-walk.seen.starts.items _ c.loop-walk.seen.stop _ p c.step.new.self (unit_of c.in_ok-step.step.unit) c.in_ok-step.step.at _ _ _ some step.piece step.place step.at
-          step.page step.trailer c.in_ok-note.ensures.starts c.in_ok-note.ensures.stop c.loop-walk.invariant.so_far;
+          step.page step.trailer c.in_ok-note_unit.ensures.starts c.in_ok-note_unit.ensures.stop c.loop-walk.invariant.so_far;
       bodies = λ few.
           sought_more c.loop-walk.bodies _ p c.step.new.self (unit_of c.in_ok-step.step.unit) c.in_ok-step.step.at _ _ _ _ some step.piece step.place step.at
           step.page step.trailer (ap (λ d. is_dropped PageSetup c.loop-walk.bodies.was (at_depth d (unit_of c.in_ok-step.step.unit))) step.depth)
-          (c.in_ok-note.ensures.bodies few) (c.loop-walk.invariant.bodies (fewer 1_000_001 1_000_001 _ _ _ _ _ _ c.in_ok-note.ensures.starts few));
+          (c.in_ok-note_unit.ensures.bodies few) (c.loop-walk.invariant.bodies (fewer 1_000_001 1_000_001 _ _ _ _ _ _ c.in_ok-note_unit.ensures.starts few));
     }
 
 pub returns-clause-bodies : goal.returns-clause-bodies

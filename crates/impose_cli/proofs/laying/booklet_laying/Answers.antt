@@ -2,12 +2,12 @@ use Rattle.std.proofs.Common.{◌≡◌, ◌∙◌, ap, ap₂, rules, subst, sym
 use Rattle.std.specs.Prelude.{option_map}
 use Rattle.layouts.specs.Fitted.{binding_setting_of}
 use Rattle.layouts.specs.Grids.{leaf_order}
-use Rattle.layouts.specs.Refusals.{first_of, is_length, why_not_bound}
+use Rattle.layouts.specs.Refusals.{error_unless, is_length, why_not_bound}
 use Rattle.layouts.specs.declared.error.ArrangementError.TheVariants as why
-use Rattle.row_runs.specs.declared.asked.Laying.TheVariants as laying
-use Rattle.row_runs.specs.declared.asked.Scheme.TheVariants as scheme
+use Rattle.row_runs.specs.declared.sheet_request.Laying.TheVariants as laying
+use Rattle.row_runs.specs.declared.sheet_request.Scheme.TheVariants as scheme
 use Rattle.impose_words.specs.Spacings.{binding_in}
-use Rattle.impose_said.specs.declared.fault.ImposeFault.TheVariants as fault
+use Rattle.impose_messages.specs.declared.fault.ImposeFault.TheVariants as fault
 use Rattle.impose_cli.proofs.laying.booklet_laying.Goals as goal
 
 pub returns-then-not-is_length-clause-refused : goal.returns-then-not-is_length-clause-refused
@@ -15,7 +15,7 @@ returns-then-not-is_length-clause-refused c =
     let papers = c.args.papers.now in
     let s = c.args.spacing.now in
     let too_long : is_length s.creep ≡ false = search rules in
-    ap (λ b. option_map fault.Layout (first_of b why.LengthOutOfRange (why_not_bound papers.page papers.sheet (binding_in s c.args.long_edge)))) too_long
+    ap (λ b. option_map fault.Layout (error_unless b why.LengthOutOfRange (why_not_bound papers.page papers.sheet (binding_in s c.args.long_edge)))) too_long
 
 pub returns-in-Ok-clause-laying : goal.returns-in-Ok-clause-laying
 returns-in-Ok-clause-laying c =
@@ -36,7 +36,7 @@ returns-in-Ok-clause-possible c =
     let s = c.args.spacing.now in
     let short : is_length s.creep ≡ true = search rules in
     ap (option_map fault.Layout)
-    (ap (λ b. first_of b why.LengthOutOfRange (why_not_bound papers.page papers.sheet (binding_in s c.args.long_edge))) short
+    (ap (λ b. error_unless b why.LengthOutOfRange (why_not_bound papers.page papers.sheet (binding_in s c.args.long_edge))) short
     ∙ subst (λ b. why_not_bound papers.page papers.sheet b ≡ None) c.binding.ensures c.in-Ok.ensures.possible)
 
 pub returns-in-Err-clause-refused : goal.returns-in-Err-clause-refused
@@ -45,5 +45,5 @@ returns-in-Err-clause-refused c =
     let s = c.args.spacing.now in
     let short : is_length s.creep ≡ true = search rules in
     ap (option_map fault.Layout)
-    (ap (λ b. first_of b why.LengthOutOfRange (why_not_bound papers.page papers.sheet (binding_in s c.args.long_edge))) short
+    (ap (λ b. error_unless b why.LengthOutOfRange (why_not_bound papers.page papers.sheet (binding_in s c.args.long_edge))) short
     ∙ subst (λ b. why_not_bound papers.page papers.sheet b ≡ Some c.in-Err.error) c.binding.ensures c.in-Err.ensures.refused)

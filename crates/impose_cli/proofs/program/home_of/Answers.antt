@@ -23,7 +23,7 @@ counted old opened closed failed n same sum is = omega (arith, same, sum, is)
 
 pub returns-then-not-is_file-clause-home : goal.returns-then-not-is_file-clause-home
 returns-then-not-is_file-clause-home g c =
-    ([], inl (refl, is_none _ c.is_file.result c.is_file.ensures c.if-not-is_file.true, refl), c.home_paper.ensures)
+    ([], inl (refl, is_none _ c.is_file.result c.is_file.ensures c.if-not-is_file.true, refl), c.default_paper.ensures)
 
 pub returns-in-Ok-read-clause-home : goal.returns-in-Ok-read-clause-home
 returns-in-Ok-read-clause-home g c =
@@ -38,7 +38,7 @@ returns-in-Ok-read-clause-home g c =
         ),
         subst (λ given. IsFirst most_home_bytes given (take c.in-Ok-read.count c.read_front-read.new.buffer)) (c.new-source.ensures.remaining ∙ c.in-Ok.ensures.given) read.read,
       )),
-      c.home_paper-in-Ok-read.ensures,
+      c.default_paper-in-Ok-read.ensures,
     )
 
 pub returns-in-Err-clause-home : goal.returns-in-Err-clause-home
@@ -52,5 +52,5 @@ returns-in-Err-clause-home g c =
         counted _ _ _ _ 1 asked.1 c.close.ensures.counted (omega (arith, c.in-Err.ensures.counted, fresh)),
         refl,
       )),
-      c.home_paper-in-Err.ensures,
+      c.default_paper-in-Err.ensures,
     )

@@ -1,6 +1,6 @@
 use Rattle.std.proofs.Common.{map, ap, subst, sym}
 use Rattle.std.specs.Prelude.{string_bytes}
-use Rattle.impose_cli.specs.Endings.{edge, shown}
+use Rattle.impose_cli.specs.Endings.{edge_of_world, shown}
 use Rattle.impose_cli.specs.Programs.{FindsHome}
 use Rattle.impose_words.proofs.Found.{entered_at_home}
 use Rattle.impose_cli.proofs.Programs.{at_home, created_for, may_be_made_at_home}
@@ -9,16 +9,16 @@ use Rattle.impose_cli.proofs.program.impose.Goals as goal
 pub returns-in-Ok : goal.returns-in-Ok
 returns-in-Ok g c =
     let left = c.carry_out-left.result in
-    let carried = at_home g.W.World.seen c.at_home-request.result (g.W.World.gives c.args.world) _ (edge (g.W.World.tells c.args.world) g.W.World.seen g.W.Output.Output.seen) _ left.outcome c.home_of.new.world left.rest
-    (shown g.W.Output.Output.seen left.rest) c.home_of.ensures.again (ap (λ t. edge t g.W.World.seen g.W.Output.Output.seen) c.home_of.ensures.tells) c.carry_out-left.ensures in record {
+    let carried = at_home g.W.World.seen c.at_home-request.result (g.W.World.gives c.args.world) _ (edge_of_world (g.W.World.tells c.args.world) g.W.World.seen g.W.Output.Output.seen) _ left.outcome c.home_of.new.world left.rest
+    (shown g.W.Output.Output.seen left.rest) c.home_of.ensures.again (ap (λ t. edge_of_world t g.W.World.seen g.W.Output.Output.seen) c.home_of.ensures.tells) c.carry_out-left.ensures in record {
       ended = (
         entered_at_home (map string_bytes c.args.words.now) c.in-Ok.read c.at_home-request.result c.home_of.result c.at_home-request.ensures c.in-Ok.ensures.read,
         c.home_of.new.world,
         subst (λ p. FindsHome c.args.paper_size.now (g.W.World.gives c.args.world) (g.W.World.regular c.args.world) (g.W.World.seen c.args.world) (g.W.World.seen c.home_of.new.world) p)
-            (sym (ap (λ r. r.home_paper) c.at_home-request.ensures)) c.home_of.ensures.home,
+            (sym (ap (λ r. r.default_paper) c.at_home-request.ensures)) c.home_of.ensures.home,
         carried,
       );
-      created = created_for g.W.World.seen c.at_home-request.result (g.W.World.gives c.args.world) (edge (g.W.World.tells c.args.world) g.W.World.seen g.W.Output.Output.seen) left.outcome c.home_of.new.world left.rest
+      created = created_for g.W.World.seen c.at_home-request.result (g.W.World.gives c.args.world) (edge_of_world (g.W.World.tells c.args.world) g.W.World.seen g.W.Output.Output.seen) left.outcome c.home_of.new.world left.rest
           (shown g.W.Output.Output.seen left.rest) carried;
     }
 

@@ -10,5 +10,5 @@ room_within n xs room =
     = ap length (sym (take-append-drop n xs)) ∙ length-append (take n xs) (drop n xs) in
     omega (arith, front, whole)
 
-pub behind-requires : goal.behind-requires
-behind-requires g c = omega (arith, room_within 2560 c.in-Ok.bytes.items c.in-Ok.ensures.room, c.in-Ok.bytes.ok.0)
+pub with_headroom-requires : goal.with_headroom-requires
+with_headroom-requires g c = omega (arith, room_within 2560 c.in-Ok.bytes.items c.in-Ok.ensures.room, c.in-Ok.bytes.ok.0)

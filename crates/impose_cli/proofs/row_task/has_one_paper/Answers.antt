@@ -1,6 +1,6 @@
 use Rattle.std.proofs.Common.{◌≡◌, ◌⊎◌, inl, inr}
 use Rattle.layouts.proofs.Fitting.{handed_on}
-use Rattle.impose_said.specs.Faults.{without_memory}
+use Rattle.impose_messages.specs.Faults.{without_memory}
 use Rattle.impose_cli.specs.Refusals.{RefusesDocument}
 use Rattle.impose_cli.proofs.OnePaper.{tells_one}
 use Rattle.impose_cli.proofs.row_task.has_one_paper.Goals as goal

@@ -1,11 +1,11 @@
 use Rattle.std.proofs.Common.{inl, inr, refl}
-use Rattle.impose_said.specs.Faults.{without_memory}
+use Rattle.impose_messages.specs.Faults.{without_memory}
 use Rattle.layouts.proofs.Fitting.{handed_on}
 use Rattle.impose_cli.proofs.Rows.{accepted_has_pages, are_papers, are_parts, has_behind, has_reach, is_row_paper}
 use Rattle.impose_cli.proofs.row_task.papers_of.Goals as goal
 
 pub returns-in-Err-clause-refused : goal.returns-in-Err-clause-refused
-returns-in-Err-clause-refused c = inl (c.in-Err.error, c.of_document.ensures, c.in-Err.ensures.answer, c.in-Err.ensures.first_checks)
+returns-in-Err-clause-refused c = inl (c.in-Err.error, c.refused_document.ensures, c.in-Err.ensures.answer, c.in-Err.ensures.first_checks)
 
 pub returns-clause-found : goal.returns-clause-found
 returns-clause-found c = are_papers c.args.request.now c.args.input.now _ _ _ c.in-Ok.ensures.answer c.in_ok-found.ensures.papers c.in_ok-found.ensures.cut

@@ -2,7 +2,7 @@ use Rattle.std.proofs.Common.{◌≡◌, ◌∙◌, ap, inl, inr, length, None, 
 use Rattle.rules.specs.Choice.{imposed_row}
 use Rattle.impose_words.specs.Choices.{choice_in}
 use Rattle.layouts.proofs.Fitting.{handed_on}
-use Rattle.impose_said.specs.Faults.{without_memory}
+use Rattle.impose_messages.specs.Faults.{without_memory}
 use Rattle.impose_cli.specs.Tasks.{taken_text}
 use Rattle.impose_cli.specs.RowTasks.{IsRowPaper, first_paper, guarded_in, why_no_row}
 use Rattle.impose_cli.proofs.Rows.{refused_after, refused_found}

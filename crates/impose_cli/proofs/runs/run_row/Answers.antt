@@ -1,14 +1,14 @@
-use Rattle.impose_cli.specs.Endings.{edge, shown}
+use Rattle.impose_cli.specs.Endings.{edge_of_world, shown}
 use Rattle.impose_cli.proofs.Rows.{row_runs, row_stops}
 use Rattle.impose_cli.proofs.runs.run_row.Goals as goal
 
 pub returns-in-Err : goal.returns-in-Err
 returns-in-Err g c =
-    row_stops c.args.request.now c.args.input.items (edge (g.W.World.tells c.args.world) g.W.World.seen g.W.Output.Output.seen) c.in-Err.fault c.stopped.result.outcome c.args.world c.stopped.result.rest
-    (shown g.W.Output.Output.seen c.stopped.result.rest) c.requires.rows c.stopped.ensures.outcome c.stopped.ensures.rest c.in-Err.ensures.refused
+    row_stops c.args.request.now c.args.input.items (edge_of_world (g.W.World.tells c.args.world) g.W.World.seen g.W.Output.Output.seen) c.in-Err.fault c.refused_before.result.outcome c.args.world c.refused_before.result.rest
+    (shown g.W.Output.Output.seen c.refused_before.result.rest) c.requires.rows c.refused_before.ensures.outcome c.refused_before.ensures.rest c.in-Err.ensures.refused
 
 pub returns : goal.returns
 returns g c =
     let left = c.impose_task-left.result in
-    row_runs c.args.request.now c.args.input.items c.in-Ok.found.0 c.told_by-told.result (edge (g.W.World.tells c.args.world) g.W.World.seen g.W.Output.Output.seen) c.reported.result left.outcome c.args.world left.rest
-    (shown g.W.Output.Output.seen left.rest) c.requires.rows c.in-Ok.ensures.is_task (rw c.as_slice.ensures.value at c.told_by-told.ensures) c.reported.ensures c.impose_task-left.ensures
+    row_runs c.args.request.now c.args.input.items c.in-Ok.found.0 c.claims_of-told.result (edge_of_world (g.W.World.tells c.args.world) g.W.World.seen g.W.Output.Output.seen) c.reported.result left.outcome c.args.world left.rest
+    (shown g.W.Output.Output.seen left.rest) c.requires.rows c.in-Ok.ensures.is_task (rw c.as_slice.ensures.value at c.claims_of-told.ensures) c.reported.ensures c.impose_task-left.ensures

@@ -1,12 +1,12 @@
 use Rattle.std.proofs.Common.{option_map}
-use Rattle.impose_cli.specs.Endings.{edge, shown}
+use Rattle.impose_cli.specs.Endings.{edge_of_world, shown}
 use Rattle.impose_cli.proofs.Ending.{sides_of, spec_runs, spec_stops, workers_of}
 use Rattle.impose_cli.proofs.runs.run_spec.Goals as goal
 
 pub returns-in-Err : goal.returns-in-Err
 returns-in-Err g c =
-    spec_stops c.args.request.now c.args.input.items (edge (g.W.World.tells c.args.world) g.W.World.seen g.W.Output.Output.seen) c.in-Err.fault c.stopped.result.outcome c.args.world c.stopped.result.rest
-    (shown g.W.Output.Output.seen c.stopped.result.rest) c.requires.spec c.stopped.ensures.outcome c.stopped.ensures.rest c.in-Err.ensures.refused
+    spec_stops c.args.request.now c.args.input.items (edge_of_world (g.W.World.tells c.args.world) g.W.World.seen g.W.Output.Output.seen) c.in-Err.fault c.refused_before.result.outcome c.args.world c.refused_before.result.rest
+    (shown g.W.Output.Output.seen c.refused_before.result.rest) c.requires.spec c.refused_before.ensures.outcome c.refused_before.ensures.rest c.in-Err.ensures.refused
 
 pub impose_by_spec-left-requires-clause-sides : goal.impose_by_spec-left-requires-clause-sides
 impose_by_spec-left-requires-clause-sides g c κs bounds = sides_of c.args.request.now c.args.input.items c.in-Ok.found.0 c.requires.spec c.in-Ok.ensures.is_task
@@ -17,6 +17,6 @@ impose_by_spec-left-requires-clause-workers g c κs bounds = workers_of c.args.r
 pub returns : goal.returns
 returns g c =
     let left = c.impose_by_spec-left.result in
-    spec_runs c.args.request.now c.args.input.items c.in-Ok.found.0 c.told_by-told.result (edge (g.W.World.tells c.args.world) g.W.World.seen g.W.Output.Output.seen) c.reported.result left.outcome c.args.world left.rest
-    (option_map (λ n. n.now) c.name_of.result) (shown g.W.Output.Output.seen left.rest) c.requires.spec c.in-Ok.ensures.is_task (rw c.as_slice.ensures.value at c.told_by-told.ensures) c.reported.ensures c.name_of.ensures
+    spec_runs c.args.request.now c.args.input.items c.in-Ok.found.0 c.claims_of-told.result (edge_of_world (g.W.World.tells c.args.world) g.W.World.seen g.W.Output.Output.seen) c.reported.result left.outcome c.args.world left.rest
+    (option_map (λ n. n.now) c.name_of.result) (shown g.W.Output.Output.seen left.rest) c.requires.spec c.in-Ok.ensures.is_task (rw c.as_slice.ensures.value at c.claims_of-told.ensures) c.reported.ensures c.name_of.ensures
     c.impose_by_spec-left.ensures

@@ -1,17 +1,17 @@
 use Rattle.std.proofs.Common.{inl, inr, refl}
 use Rattle.layouts.proofs.Fitting.{handed_on}
 use Rattle.impose_cli.specs.SpecRows.{RefusesSpecRowTask}
-use Rattle.impose_cli.specs.Tasks.{HasPages}
+use Rattle.impose_cli.specs.Tasks.{HasPageCount}
 use Rattle.impose_cli.proofs.spec_row.spec_row_task.Goals as goal
 
 pub returns-in_err-spec-clause-refused : goal.returns-in_err-spec-clause-refused
 returns-in_err-spec-clause-refused c =
-    let has : HasPages c.args.input.items c.in_ok-counted.counted.pages = rw c.as_slice-2.ensures.value at c.in_ok-counted.ensures.counted in
+    let has : HasPageCount c.args.input.items c.in_ok-counted.counted.pages = rw c.as_slice-2.ensures.value at c.in_ok-counted.ensures.counted in
     handed_on c.from_residual-in_err-spec.result _ _ c.from_residual-in_err-spec.ensures.1 (inr (c.in_ok-counted.counted.pages, has, inr (inl c.in_err-spec.ensures.refused)))
 
 pub returns-in_err-signing-clause-refused : goal.returns-in_err-signing-clause-refused
 returns-in_err-signing-clause-refused c =
-    let has : HasPages c.args.input.items c.in_ok-counted.counted.pages = rw c.as_slice-2.ensures.value at c.in_ok-counted.ensures.counted in
+    let has : HasPageCount c.args.input.items c.in_ok-counted.counted.pages = rw c.as_slice-2.ensures.value at c.in_ok-counted.ensures.counted in
     handed_on c.from_residual-in_err-signing.result _ _ c.from_residual-in_err-signing.ensures.1
     (inr (c.in_ok-counted.counted.pages, has, inr (inr (c.in_ok-spec.spec, c.in_ok-spec.ensures.named, c.in_err-signing.ensures.refused))))
 
@@ -32,7 +32,7 @@ returns-clause-is_task c = record {
 
 pub returns-in_err-text-clause-refused : goal.returns-in_err-text-clause-refused
 returns-in_err-text-clause-refused c =
-    let has : HasPages c.args.input.items c.in_ok-counted.counted.pages = rw c.as_slice-2.ensures.value at c.in_ok-counted.ensures.counted in
+    let has : HasPageCount c.args.input.items c.in_ok-counted.counted.pages = rw c.as_slice-2.ensures.value at c.in_ok-counted.ensures.counted in
     handed_on c.from_residual-in_err-text.result _ _ c.from_residual-in_err-text.ensures.1 (inr (c.in_ok-counted.counted.pages, has, inl refl))
 
 pub returns-in_err-counted-clause-refused : goal.returns-in_err-counted-clause-refused

@@ -4,10 +4,10 @@ use Rattle.std.proofs.lemmas.Result.{IfOk-weaker}
 use Rattle.layouts.specs.Laws.{IsBound}
 use Rattle.layouts.specs.Refusals.{why_not_bound}
 use Rattle.layouts.specs.declared.error.ArrangementError.{ArrangementError}
-use Rattle.impose_said.specs.Faults.{without_memory}
+use Rattle.impose_messages.specs.Faults.{without_memory}
 use Rattle.impose_cli.specs.Tasks.{IsWritten}
-use Rattle.impose_said.specs.declared.fault.ImposeFault.{ImposeFault}
-use Rattle.impose_said.specs.declared.fault.ImposeFault.TheVariants as fault
+use Rattle.impose_messages.specs.declared.fault.ImposeFault.{ImposeFault}
+use Rattle.impose_messages.specs.declared.fault.ImposeFault.TheVariants as fault
 use Rattle.impose_cli.proofs.Placing.{if_there, ok_both, refuses_layout}
 use Rattle.impose_cli.proofs.task.booklet_placing.Goals as goal
 

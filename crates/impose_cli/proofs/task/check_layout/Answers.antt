@@ -6,16 +6,16 @@ use Rattle.rows.specs.declared.sewing.Signing.{Signing}
 use Rattle.impose_words.specs.declared.request.Layout.{Layout}
 use Rattle.impose_words.specs.declared.request.Layout.TheVariants as layout
 use Rattle.impose_words.specs.declared.request.Spacing.{Spacing}
-use Rattle.impose_cli.specs.RowTasks.{cells_paper, sheet_paper_in, why_not_laid}
-use Rattle.impose_cli.specs.Refusals.{RefusesLaying}
-use Rattle.impose_cli.specs.Unread.{IsPossible, RefusesUnread, why_no_sheets}
-use Rattle.impose_said.specs.declared.fault.ImposeFault.{ImposeFault}
+use Rattle.impose_cli.specs.RowTasks.{cells_paper, sheet_paper_in, why_no_layout}
+use Rattle.impose_cli.specs.Refusals.{RefusesLayout}
+use Rattle.impose_cli.specs.Precheck.{IsPossible, RefusesUnread, why_no_sheets}
+use Rattle.impose_messages.specs.declared.fault.ImposeFault.{ImposeFault}
 use Rattle.impose_cli.proofs.task.check_layout.Goals as goal
 
 -- pages of a paper that is named, in a layout without a specification
 laid : (l : Layout) (s : Spacing) (page : Paper) (sheet : Option Paper) → ((x : String Global) → l ≡ layout.Spec x → ⊥)
     → ((x : String Global) (signing : Option Signing) → l ≡ layout.SpecRow x signing → ⊥)
-    → why_not_laid l s page (sheet_paper_in l sheet page) ≡ None → IsPossible l s (Some page) sheet
+    → why_no_layout l s page (sheet_paper_in l sheet page) ≡ None → IsPossible l s (Some page) sheet
 laid (layout.Spec x) s page sheet no_spec no_row e = absurd (no_spec x refl)
 laid (layout.SpecRow x signing) s page sheet no_spec no_row e = absurd (no_row x signing refl)
 laid other s page sheet no_spec no_row e = e
@@ -36,7 +36,7 @@ narrow other s sheet f no_spec no_row e = e
 -- and a fault is why it can't be laid
 unlaid : (l : Layout) (s : Spacing) (page : Paper) (sheet : Option Paper) (f : ImposeFault) → ((x : String Global) → l ≡ layout.Spec x → ⊥)
     → ((x : String Global) (signing : Option Signing) → l ≡ layout.SpecRow x signing → ⊥)
-    → RefusesLaying l s page (sheet_paper_in l sheet page) f → RefusesUnread l s (Some page) sheet f
+    → RefusesLayout l s page (sheet_paper_in l sheet page) f → RefusesUnread l s (Some page) sheet f
 unlaid (layout.Spec x) s page sheet f no_spec no_row e = absurd (no_spec x refl)
 unlaid (layout.SpecRow x signing) s page sheet f no_spec no_row e = absurd (no_row x signing refl)
 unlaid other s page sheet f no_spec no_row e = e

@@ -3,13 +3,13 @@ use Rattle.std.specs.Prelude.{option_map, string_bytes}
 use Rattle.std.proofs.lemmas.Result.{IfOk-weaker}
 use Rattle.layouts.specs.Grids.{arranged}
 use Rattle.layouts.specs.Laws.{IsArranged}
-use Rattle.layouts.specs.Refusals.{IsFault, why_not_arranged}
+use Rattle.layouts.specs.Refusals.{IsArrangementFault, why_not_arranged}
 use Rattle.impose_words.specs.Spacings.{arrangement_in}
-use Rattle.impose_said.specs.Faults.{of_layout}
+use Rattle.impose_messages.specs.Faults.{of_layout}
 use Rattle.impose_cli.specs.Tasks.{IsWritten}
 use Rattle.impose_cli.specs.Refusals.{RefusesFor, why_not_specified}
 use Rattle.impose_words.specs.declared.request.Layout.TheVariants as layout
-use Rattle.impose_said.specs.declared.fault.ImposeFault.TheVariants as fault
+use Rattle.impose_messages.specs.declared.fault.ImposeFault.TheVariants as fault
 use Rattle.impose_cli.proofs.Placing.{if_there, ok_both, refuses_laid, refuses_layout}
 use Rattle.impose_cli.proofs.task.nup_placing.Goals as goal
 
@@ -17,7 +17,7 @@ pub returns-in-Err-clause-refused : goal.returns-in-Err-clause-refused
 returns-in-Err-clause-refused c =
     let papers = c.args.papers.now in
     let a = arrangement_in c.args.spacing.now c.args.cells in
-    let found = subst (λ b. IsFault (why_not_arranged papers.page papers.sheet b) c.in-Err.error) c.arrangement.ensures c.in-Err.ensures.refused in
+    let found = subst (λ b. IsArrangementFault (why_not_arranged papers.page papers.sheet b) c.in-Err.error) c.arrangement.ensures c.in-Err.ensures.refused in
     subst (RefusesFor (why_not_specified (layout.NUp c.args.cells) c.args.spacing.now papers.page papers.sheet)) (sym c.from.ensures)
     (refuses_laid (why_not_arranged papers.page papers.sheet a) (of_layout c.in-Err.error) (refuses_layout (why_not_arranged papers.page papers.sheet a) c.in-Err.error found))
 

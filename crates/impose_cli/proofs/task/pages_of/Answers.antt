@@ -5,7 +5,7 @@ use Rattle.impose_cli.proofs.Rows.{accepted_has_pages, are_parts, has_reach_over
 use Rattle.impose_cli.proofs.task.pages_of.Goals as goal
 
 pub returns-in-Err-clause-refused : goal.returns-in-Err-clause-refused
-returns-in-Err-clause-refused c = inl (c.in-Err.error, c.of_document.ensures, c.in-Err.ensures.answer, c.in-Err.ensures.first_checks)
+returns-in-Err-clause-refused c = inl (c.in-Err.error, c.refused_document.ensures, c.in-Err.ensures.answer, c.in-Err.ensures.first_checks)
 
 pub returns-clause-some : goal.returns-clause-some
 returns-clause-some c =

@@ -1,7 +1,7 @@
 use Rattle.std.proofs.Common.{◌≡◌, None, refl}
 use Rattle.std.specs.Prelude.{pos, string_bytes}
 use Rattle.std.proofs.lemmas.Result.{IfErr-weaker, IfOk-weaker, on_ok_weaker}
-use Rattle.impose_said.specs.declared.fault.ImposeFault.TheVariants as fault
+use Rattle.impose_messages.specs.declared.fault.ImposeFault.TheVariants as fault
 use Rattle.impose_cli.proofs.Placing.{at_rest, creeping, placed_booklet, refuses_booklet, still_booklet}
 use Rattle.impose_cli.proofs.task.placing.Goals as goal
 
@@ -16,7 +16,7 @@ returns-else-creeps-clause-placed c =
     let papers = c.args.papers.now in
     let still : s.creep ≡ pos 0 = at_rest s c.creeps.result c.creeps.ensures c.if-creeps.false in
     let placed = IfOk-weaker c.booklet_placing.result _ _
-    (λ p h. placed_booklet c.in-Booklet.signing c.in-Booklet.long_edge s papers.page papers.sheet c.args.pages c.binding.result c.sides_of-sides.result (string_bytes p.0) p.1 still c.binding.ensures c.sides_of-sides.ensures h) c.booklet_placing.ensures.placed in
+    (λ p h. placed_booklet c.in-Booklet.signing c.in-Booklet.long_edge s papers.page papers.sheet c.args.pages c.binding.result c.signature_sides-sides.result (string_bytes p.0) p.1 still c.binding.ensures c.signature_sides-sides.ensures h) c.booklet_placing.ensures.placed in
     rw c.in-Booklet.is placed
 
 pub returns-else-creeps-clause-possible : goal.returns-else-creeps-clause-possible

@@ -1,13 +1,13 @@
 use Rattle.std.proofs.Common.{◌≡◌, None, true, false, refl, subst, rules}
 use Rattle.rules.specs.Papers.{Paper}
 use Rattle.std.specs.Prelude.{◌⊎◌}
-use Rattle.impose_said.specs.Faults.{without_memory}
-use Rattle.impose_said.specs.declared.fault.ImposeFault.TheVariants as fault
+use Rattle.impose_messages.specs.Faults.{without_memory}
+use Rattle.impose_messages.specs.declared.fault.ImposeFault.TheVariants as fault
 use Rattle.impose_cli.specs.Tasks.{is_said, page_paper_found, sheet_paper_found}
 use Rattle.impose_cli.specs.Refusals.{HasOnePaper, HasOtherPapers, RefusesDocument, RefusesFor, why_not_specified}
 use Rattle.layouts.proofs.Fitting.{handed_on}
 use Rattle.impose_cli.proofs.OnePaper.{no_fault, refused_check, refused_count, refused_late, refused_part, refused_placing}
-use Rattle.impose_said.specs.declared.finished.PaperOrigin.{PaperOrigin}
+use Rattle.impose_messages.specs.declared.finished.PaperOrigin.{PaperOrigin}
 use Rattle.impose_cli.proofs.task.task_for.Goals as goal
 
 pub returns-clause-is_task : goal.returns-clause-is_task
@@ -32,7 +32,7 @@ returns-in_err-counted-clause-refused c =
 pub returns-in_err-spec-clause-refused : goal.returns-in_err-spec-clause-refused
 returns-in_err-spec-clause-refused c =
     let request = c.args.request.now in
-    let found : c.paper_of_pages-page_paper.result ≡ page_paper_found request.page_paper request.home_paper c.args.input.items = rw c.as_slice.ensures.value at c.paper_of_pages-page_paper.ensures in
+    let found : c.paper_of_pages-page_paper.result ≡ page_paper_found request.page_paper request.default_paper c.args.input.items = rw c.as_slice.ensures.value at c.paper_of_pages-page_paper.ensures in
     let said : is_said request ≡ true = search rules in
     let one = subst (λ (p : Paper × PaperOrigin). HasOnePaper request c.args.input.items p.0) found (rw c.as_slice-3.ensures.value at c.in_ok-check_one_paper.ensures.one) in
     let refused = rw c.paper_of_sheets.ensures at c.in_err-spec.ensures.refused in
@@ -53,7 +53,7 @@ returns-in_err-text-clause-refused c =
 pub returns-clause-accepted : goal.returns-clause-accepted
 returns-clause-accepted c =
     let request = c.args.request.now in
-    let found : c.paper_of_pages-page_paper.result ≡ page_paper_found request.page_paper request.home_paper c.args.input.items = rw c.as_slice.ensures.value at c.paper_of_pages-page_paper.ensures in
+    let found : c.paper_of_pages-page_paper.result ≡ page_paper_found request.page_paper request.default_paper c.args.input.items = rw c.as_slice.ensures.value at c.paper_of_pages-page_paper.ensures in
     let said : is_said request ≡ true = search rules in
     let one = subst (λ (p : Paper × PaperOrigin). HasOnePaper request c.args.input.items p.0) found (rw c.as_slice-3.ensures.value at c.in_ok-check_one_paper.ensures.one) in
     let possible = rw c.paper_of_sheets.ensures at c.in_ok-spec.ensures.possible in
@@ -63,7 +63,7 @@ returns-clause-accepted c =
 pub returns-in_err-check_one_paper-clause-refused : goal.returns-in_err-check_one_paper-clause-refused
 returns-in_err-check_one_paper-clause-refused c =
     let request = c.args.request.now in
-    let found : c.paper_of_pages-page_paper.result ≡ page_paper_found request.page_paper request.home_paper c.args.input.items = rw c.as_slice.ensures.value at c.paper_of_pages-page_paper.ensures in
+    let found : c.paper_of_pages-page_paper.result ≡ page_paper_found request.page_paper request.default_paper c.args.input.items = rw c.as_slice.ensures.value at c.paper_of_pages-page_paper.ensures in
     let said : is_said request ≡ true = search rules in
     let refused = rw c.as_slice-3.ensures.value at c.in_err-check_one_paper.ensures.refused in
     handed_on c.from_residual-in_err-check_one_paper.result _ _ c.from_residual-in_err-check_one_paper.ensures.1

@@ -1,6 +1,6 @@
 use Rattle.std.proofs.Common.{ap₂}
 use Rattle.clap.specs.Words.{found_of, rows_of}
-use Rattle.impose_words.specs.Arranging.{with_numbers}
+use Rattle.impose_words.specs.Arranging.{marks_and_numbers}
 use Rattle.layouts.proofs.Fitting.{handed_on}
 use Rattle.impose_words.proofs.Found.{at_once, lines_right, next}
 use Rattle.impose_words.proofs.command.marks_of.Goals as goal
@@ -14,4 +14,4 @@ returns-in_err-numbers-clause-refused c =
     (next (lines_right c.args.layout.now (rows_of (found_of c.args.found.now)) c.in_ok-lines.lines c.in_ok-lines.ensures.read) c.in_err-numbers.ensures.refused)
 
 pub returns-clause-read : goal.returns-clause-read
-returns-clause-read c = ap₂ with_numbers c.in_ok-lines.ensures.read c.in_ok-numbers.ensures.read
+returns-clause-read c = ap₂ marks_and_numbers c.in_ok-lines.ensures.read c.in_ok-numbers.ensures.read

@@ -18,7 +18,7 @@ returns-in-Some-clause-read c =
     let found = rows_of (found_of c.in-Some.found.now) in
     let entered = sym c.in_ok-matches.ensures.found ∙ met c.in_ok-matches.matches name found (sym c.in-Some.ensures.name) (sym c.in-Some.ensures.rows) in
     let enters : Enters words name found = record { taken = c.in_ok-matches.ensures.taken; entered = entered } in
-    IfOk-weaker c.request_of.result _ _ (λ r h. (name, found, enters, h)) c.request_of.ensures.read
+    IfOk-weaker c.subcommand_request.result _ _ (λ r h. (name, found, enters, h)) c.subcommand_request.ensures.read
 
 pub returns-in-Some-clause-refused : goal.returns-in-Some-clause-refused
 returns-in-Some-clause-refused c =
@@ -27,7 +27,7 @@ returns-in-Some-clause-refused c =
     let found = rows_of (found_of c.in-Some.found.now) in
     let entered = sym c.in_ok-matches.ensures.found ∙ met c.in_ok-matches.matches name found (sym c.in-Some.ensures.name) (sym c.in-Some.ensures.rows) in
     let enters : Enters words name found = record { taken = c.in_ok-matches.ensures.taken; entered = entered } in
-    IfErr-weaker c.request_of.result _ _ (λ f h. refuses_words words name found f enters h) c.request_of.ensures.refused
+    IfErr-weaker c.subcommand_request.result _ _ (λ f h. refuses_words words name found f enters h) c.subcommand_request.ensures.refused
 
 pub returns-clause-refused : goal.returns-clause-refused
 returns-clause-refused c = inl (c.in_ok-matches.ensures.taken, sym c.in_ok-matches.ensures.found ∙ unmet c.in_ok-matches.matches c.in-None.ensures.name)

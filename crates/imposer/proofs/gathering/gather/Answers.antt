@@ -13,9 +13,9 @@ second_and_last (Some t) A B C D all = (all.1, all.3)
 pub returns-clause-handed_on : goal.returns-clause-handed_on
 returns-clause-handed_on g c =
     let layout = c.args.table.now.layout in
-    second_and_last c.gather_on.result.tokens
+    second_and_last c.gather_objects.result.tokens
     (λ t. AreWhole c.args.table.now c.args.ready.now t.0 t.1)
     (λ t. IsHandedOn t.1.front)
-    (λ t. IsNone c.gather_on.result.unshelved → IsGathered layout t.0.front)
+    (λ t. IsNone c.gather_objects.result.unshelved → IsGathered layout t.0.front)
     (λ t. HasRoomForAll layout c.args.workers.preparers c.args.pass → AreAllPut layout t.0.front t.1.front)
-    c.gather_on.ensures.whole
+    c.gather_objects.ensures.whole

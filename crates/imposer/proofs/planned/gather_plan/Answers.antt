@@ -6,7 +6,7 @@ use Rattle.imposer.proofs.planned.gather_plan.Goals as goal
 
 pub returns-clause-of_job : goal.returns-clause-of_job
 returns-clause-of_job g c =
-    let gathered = c.gather_on-gathered in
+    let gathered = c.gather_objects-gathered in
     let room : HasRoomForAll c.in_ok-table.table.layout c.args.workers.preparers c.in_ok-table.tokens.pass = search rules in
     record {
       own_table = search rules;

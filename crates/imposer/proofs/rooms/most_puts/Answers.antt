@@ -14,8 +14,8 @@ pub loop-page-preserved : goal.loop-page-preserved
 loop-page-preserved c =
     let some : 0 < c.args.count = omega (arith, c.requires.number) in
     record {
-      value = most_next (layout c.args.plan.now) c.args.count c.args.number c.loop-page.page c.args.plan.now.pages c.loop-page.puts c.with_page-puts.result _
-          some c.loop-page.invariant.own (omega arith) c.loop-page.invariant.value c.with_page-puts.ensures;
+      value = most_next (layout c.args.plan.now) c.args.count c.args.number c.loop-page.page c.args.plan.now.pages c.loop-page.puts c.with_puts_of-puts.result _
+          some c.loop-page.invariant.own (omega arith) c.loop-page.invariant.value c.with_puts_of-puts.ensures;
       own = own_next c.args.count c.args.number c.loop-page.page some c.loop-page.invariant.own;
     }
 
@@ -24,6 +24,6 @@ returns c = most_of_all c.args.plan.now c.args.count c.args.number c.loop-page.p
 
 pub returns-2 : goal.returns-2
 returns-2 c =
-    most_of_all c.args.plan.now c.args.count c.args.number (c.loop-page.page + c.args.count) c.with_page-puts.result (omega arith)
-    (most_next (layout c.args.plan.now) c.args.count c.args.number c.loop-page.page c.args.plan.now.pages c.loop-page.puts c.with_page-puts.result _
-    (omega (arith, c.requires.number)) c.loop-page.invariant.own (omega arith) c.loop-page.invariant.value c.with_page-puts.ensures)
+    most_of_all c.args.plan.now c.args.count c.args.number (c.loop-page.page + c.args.count) c.with_puts_of-puts.result (omega arith)
+    (most_next (layout c.args.plan.now) c.args.count c.args.number c.loop-page.page c.args.plan.now.pages c.loop-page.puts c.with_puts_of-puts.result _
+    (omega (arith, c.requires.number)) c.loop-page.invariant.own (omega arith) c.loop-page.invariant.value c.with_puts_of-puts.ensures)

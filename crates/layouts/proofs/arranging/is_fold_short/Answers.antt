@@ -8,9 +8,9 @@ pub returns-then-width-height : goal.returns-then-width-height
 returns-then-width-height c =
     let page = c.args.page.now in
     let room = c.args.room.now in
-    let wide : c.side-width.result ≡ nat_abs room.paper.width = search rules in
-    let high : c.side-height.result ≡ nat_abs room.paper.height = search rules in
-    let most : c.side-width.result ≤ c.side-height.result = search rules in
-    folds_is page room c.side-width.result c.side-height.result c.scale_in-upright.result c.scale_in-turned.result
+    let wide : c.extent-width.result ≡ nat_abs room.paper.width = search rules in
+    let high : c.extent-height.result ≡ nat_abs room.paper.height = search rules in
+    let most : c.extent-width.result ≤ c.extent-height.result = search rules in
+    folds_is page room c.extent-width.result c.extent-height.result c.scale_in-upright.result c.scale_in-turned.result
     wide high most
     (c.scale_in-upright.ensures ∙ ap (scale_in page room) c.beside.ensures) (c.scale_in-turned.ensures ∙ ap (scale_in page room) c.beside-2.ensures)

@@ -1,6 +1,6 @@
 use Rattle.pagespec.proofs.AllGroups.{all_there, all_stuck, bare_outcome, stuck_at}
 use Rattle.pagespec.specs.Reading.{whole_groups_at}
-use Rattle.pagespec.specs.Groups.{AreWhole}
+use Rattle.pagespec.specs.Groups.{AreWholeGroups}
 use Rattle.pagespec.proofs.groups.read_all_groups.Goals as goal
 
 pub returns-in-Ok : goal.returns-in-Ok
@@ -12,4 +12,4 @@ returns-in-Ok-read_groups_to_end c = all_there c.args.bytes.now _ c.in-Ok-read_g
 pub returns-in-Err-Stuck : goal.returns-in-Err-Stuck
 returns-in-Err-Stuck c =
     all_stuck c.args.bytes.now _ _ _ c.in-Err.ensures
-    (stuck_at AreWhole whole_groups_at c.args.bytes.now c.in-Err-Stuck.field-0 c.in-Err-Stuck.stuck c.in-Err-Stuck.field-0-is c.in-Err-Stuck.ensures) c.farther.ensures
+    (stuck_at AreWholeGroups whole_groups_at c.args.bytes.now c.in-Err-Stuck.field-0 c.in-Err-Stuck.stuck c.in-Err-Stuck.field-0-is c.in-Err-Stuck.ensures) c.later_stop.ensures

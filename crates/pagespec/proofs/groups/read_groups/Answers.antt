@@ -1,6 +1,6 @@
 use Rattle.std.proofs.Common.{arith, ◌-◌, ◌+◌, length}
 use Rattle.pagespec.specs.Reading.{group_at, groups_at}
-use Rattle.pagespec.specs.Groups.{IsGroup, AreWhole}
+use Rattle.pagespec.specs.Groups.{IsGroup, AreWholeGroups}
 use Rattle.pagespec.proofs.GroupLoops.{groups_more, groups_last, groups_stuck, groups_ended, groups_out, stop_same, handed_on}
 use Rattle.pagespec.proofs.groups.read_groups.Goals as goal
 
@@ -19,4 +19,4 @@ returns c = groups_out _ _ _ _ _ _ (omega arith) c.loop.invariant
 
 pub returns-in_err-length : goal.returns-in_err-length
 returns-in_err-length c =
-    handed_on _ _ _ _ c.from_residual.ensures.1 (stop_same IsGroup group_at c.loop.rest.now AreWhole groups_at c.args.bytes.now _ (λ left s. groups_stuck _ left _ _ _ _ c.loop.invariant s) c.in_err-length.ensures)
+    handed_on _ _ _ _ c.from_residual.ensures.1 (stop_same IsGroup group_at c.loop.rest.now AreWholeGroups groups_at c.args.bytes.now _ (λ left s. groups_stuck _ left _ _ _ _ c.loop.invariant s) c.in_err-length.ensures)

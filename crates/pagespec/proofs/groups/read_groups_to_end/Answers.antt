@@ -1,5 +1,5 @@
 use Rattle.pagespec.specs.Reading.{groups_at, whole_groups_at}
-use Rattle.pagespec.specs.Groups.{AreWhole}
+use Rattle.pagespec.specs.Groups.{AreWholeGroups}
 use Rattle.pagespec.proofs.GroupLoops.{stop_same, handed_on, nil_told, some_told}
 use Rattle.pagespec.proofs.AllGroups.{whole_there, whole_ended, whole_stuck}
 use Rattle.pagespec.proofs.groups.read_groups_to_end.Goals as goal
@@ -12,4 +12,4 @@ returns-else-is_empty c = whole_ended c.args.bytes.now _ _ _ c.in_ok-parsed.ensu
 
 pub returns-in_err-parsed : goal.returns-in_err-parsed
 returns-in_err-parsed c =
-    handed_on _ _ _ _ c.from_residual.ensures.1 (stop_same AreWhole groups_at c.args.bytes.now AreWhole whole_groups_at c.args.bytes.now _ (λ left s. whole_stuck c.args.bytes.now left s) c.in_err-parsed.ensures)
+    handed_on _ _ _ _ c.from_residual.ensures.1 (stop_same AreWholeGroups groups_at c.args.bytes.now AreWholeGroups whole_groups_at c.args.bytes.now _ (λ left s. whole_stuck c.args.bytes.now left s) c.in_err-parsed.ensures)

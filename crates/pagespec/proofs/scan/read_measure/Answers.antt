@@ -4,8 +4,8 @@ use Rattle.pagespec.proofs.MeasureStuck.{measure_stuck, measure_ended, UnitStuck
 use Rattle.pagespec.proofs.Scans.{not_number}
 use Rattle.pagespec.proofs.scan.read_measure.Goals as goal
 
-pub stuck_in_number-requires : goal.stuck_in_number-requires
-stuck_in_number-requires c = not_number _ c.in-Err-NotANumber.field-0 c.in-Err-NotANumber.field-0-is c.in-Err-NotANumber.ensures.none
+pub stop_in_number-requires : goal.stop_in_number-requires
+stop_in_number-requires c = not_number _ c.in-Err-NotANumber.field-0 c.in-Err-NotANumber.field-0-is c.in-Err-NotANumber.ensures.none
 
 pub returns-in-Ok : goal.returns-in-Ok
 returns-in-Ok c = (
@@ -22,4 +22,4 @@ returns-in-Err-TooLarge c = (
 )
 
 pub returns-in-Err-NotANumber : goal.returns-in-Err-NotANumber
-returns-in-Err-NotANumber c = measure_stuck c.args.bytes.now _ c.stuck_in_number.ensures
+returns-in-Err-NotANumber c = measure_stuck c.args.bytes.now _ c.stop_in_number.ensures

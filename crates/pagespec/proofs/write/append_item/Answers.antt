@@ -12,5 +12,5 @@ returns c =
     IfOk-equal _ _ _ _ c.append_offset.ensures
     (five_joined c.args.out.now.items (minus_text i.from_end) (decimal i.page) (turn_text (turn_of i.turn)) (scale_part i.scale)
     (offset_part (measure_of i.offset.0) (measure_of i.offset.1)) _ _ _ _
-    (c.in_ok-append.ensures ∙ ap (λ t. c.args.out.now.items ++ t) c.minus.ensures) c.in_ok-append_count.ensures
-    (c.in_ok-append-2.ensures ∙ ap (λ t. c.append_count.new.out.items ++ t) c.turn_letter.ensures) c.in_ok-append_scale.ensures)
+    (c.in_ok-append_bytes.ensures ∙ ap (λ t. c.args.out.now.items ++ t) c.minus.ensures) c.in_ok-append_count.ensures
+    (c.in_ok-append_bytes-2.ensures ∙ ap (λ t. c.append_count.new.out.items ++ t) c.turn_letter.ensures) c.in_ok-append_scale_modifier.ensures)

@@ -10,40 +10,40 @@ use Rattle.placement.proofs.texts.append_border.Goals as goal
 pub returns-clause-appended : goal.returns-clause-appended
 returns-clause-appended c =
     rw c.in-Some.is
-    (IfOk-equal _ _ _ _ c.append_text-2.ensures.appended
-    (border_joined c.args.out.now.items (points_text c.in-Some.width) (path_text c.args.inset (c.args.paper.now.width -ℤ c.args.inset) (c.args.paper.now.height -ℤ c.args.inset)) _ _ _ c.in_ok-append_points.ensures.appended c.in_ok-append_text.ensures.appended c.in_ok-append_inner.ensures.appended))
+    (IfOk-equal _ _ _ _ c.append_plain_text-2.ensures.appended
+    (border_joined c.args.out.now.items (points_text c.in-Some.width) (path_text c.args.inset (c.args.paper.now.width -ℤ c.args.inset) (c.args.paper.now.height -ℤ c.args.inset)) _ _ _ c.in_ok-append_length.ensures.appended c.in_ok-append_plain_text.ensures.appended c.in_ok-append_inner.ensures.appended))
 
 pub returns-clause-full : goal.returns-clause-full
 returns-clause-full c =
     rw c.in-Some.is
     (on_err_weaker _
     (full_behind c.args.out.now _ _ _
-    (keeps_more _ _ _ c.in_ok-append_points.ensures.kept (keeps_more _ _ _ c.in_ok-append_text.ensures.kept c.in_ok-append_inner.ensures.kept))
-    (border_joined c.args.out.now.items (points_text c.in-Some.width) (path_text c.args.inset (c.args.paper.now.width -ℤ c.args.inset) (c.args.paper.now.height -ℤ c.args.inset)) _ _ _ c.in_ok-append_points.ensures.appended c.in_ok-append_text.ensures.appended c.in_ok-append_inner.ensures.appended))
-    c.append_text-2.ensures.full)
+    (keeps_more _ _ _ c.in_ok-append_length.ensures.kept (keeps_more _ _ _ c.in_ok-append_plain_text.ensures.kept c.in_ok-append_inner.ensures.kept))
+    (border_joined c.args.out.now.items (points_text c.in-Some.width) (path_text c.args.inset (c.args.paper.now.width -ℤ c.args.inset) (c.args.paper.now.height -ℤ c.args.inset)) _ _ _ c.in_ok-append_length.ensures.appended c.in_ok-append_plain_text.ensures.appended c.in_ok-append_inner.ensures.appended))
+    c.append_plain_text-2.ensures.full)
 
 pub returns-clause-kept : goal.returns-clause-kept
 returns-clause-kept c =
-    keeps_more _ _ _ c.in_ok-append_points.ensures.kept (keeps_more _ _ _ c.in_ok-append_text.ensures.kept
-    (keeps_more _ _ _ c.in_ok-append_inner.ensures.kept c.append_text-2.ensures.kept))
+    keeps_more _ _ _ c.in_ok-append_length.ensures.kept (keeps_more _ _ _ c.in_ok-append_plain_text.ensures.kept
+    (keeps_more _ _ _ c.in_ok-append_inner.ensures.kept c.append_plain_text-2.ensures.kept))
 
-pub returns-in_err-append_points-clause-full : goal.returns-in_err-append_points-clause-full
-returns-in_err-append_points-clause-full c =
+pub returns-in_err-append_length-clause-full : goal.returns-in_err-append_length-clause-full
+returns-in_err-append_length-clause-full c =
     let fits = border_fits (points_text c.in-Some.width) (path_text c.args.inset (c.args.paper.now.width -ℤ c.args.inset) (c.args.paper.now.height -ℤ c.args.inset)) in
-    rw c.in-Some.is (on_err _ (full_first c.args.out.now _ _ c.in_err-append_points.ensures.full fits.0))
+    rw c.in-Some.is (on_err _ (full_first c.args.out.now _ _ c.in_err-append_length.ensures.full fits.0))
 
-pub returns-in_err-append_text-clause-full : goal.returns-in_err-append_text-clause-full
-returns-in_err-append_text-clause-full c =
+pub returns-in_err-append_plain_text-clause-full : goal.returns-in_err-append_plain_text-clause-full
+returns-in_err-append_plain_text-clause-full c =
     let fits = border_fits (points_text c.in-Some.width) (path_text c.args.inset (c.args.paper.now.width -ℤ c.args.inset) (c.args.paper.now.height -ℤ c.args.inset)) in
-    rw c.in-Some.is (on_err _ (full_later c.args.out.now _ _ _ _ (grown _ _ _ c.in_ok-append_points.ensures.kept c.in_ok-append_points.ensures.appended) c.in_err-append_text.ensures.full fits.1))
+    rw c.in-Some.is (on_err _ (full_later c.args.out.now _ _ _ _ (grown _ _ _ c.in_ok-append_length.ensures.kept c.in_ok-append_length.ensures.appended) c.in_err-append_plain_text.ensures.full fits.1))
 
 pub returns-in_err-append_inner-clause-full : goal.returns-in_err-append_inner-clause-full
 returns-in_err-append_inner-clause-full c =
     let fits = border_fits (points_text c.in-Some.width) (path_text c.args.inset (c.args.paper.now.width -ℤ c.args.inset) (c.args.paper.now.height -ℤ c.args.inset)) in
-    rw c.in-Some.is (on_err _ (full_later c.args.out.now _ _ _ _ (grown_more _ _ _ _ _ (grown _ _ _ c.in_ok-append_points.ensures.kept c.in_ok-append_points.ensures.appended) c.in_ok-append_text.ensures.kept c.in_ok-append_text.ensures.appended) c.in_err-append_inner.ensures.full fits.2))
+    rw c.in-Some.is (on_err _ (full_later c.args.out.now _ _ _ _ (grown_more _ _ _ _ _ (grown _ _ _ c.in_ok-append_length.ensures.kept c.in_ok-append_length.ensures.appended) c.in_ok-append_plain_text.ensures.kept c.in_ok-append_plain_text.ensures.appended) c.in_err-append_inner.ensures.full fits.2))
 
-pub returns-in_err-append_text-clause-kept : goal.returns-in_err-append_text-clause-kept
-returns-in_err-append_text-clause-kept c = keeps_more _ _ _ c.in_ok-append_points.ensures.kept c.in_err-append_text.ensures.kept
+pub returns-in_err-append_plain_text-clause-kept : goal.returns-in_err-append_plain_text-clause-kept
+returns-in_err-append_plain_text-clause-kept c = keeps_more _ _ _ c.in_ok-append_length.ensures.kept c.in_err-append_plain_text.ensures.kept
 
 pub returns-in_err-append_inner-clause-kept : goal.returns-in_err-append_inner-clause-kept
-returns-in_err-append_inner-clause-kept c = keeps_more _ _ _ c.in_ok-append_points.ensures.kept (keeps_more _ _ _ c.in_ok-append_text.ensures.kept c.in_err-append_inner.ensures.kept)
+returns-in_err-append_inner-clause-kept c = keeps_more _ _ _ c.in_ok-append_length.ensures.kept (keeps_more _ _ _ c.in_ok-append_plain_text.ensures.kept c.in_err-append_inner.ensures.kept)

@@ -6,14 +6,14 @@ use Rattle.placement.proofs.texts.append_path.Goals as goal
 
 pub returns-clause-appended : goal.returns-clause-appended
 returns-clause-appended c =
-    IfOk-equal _ _ _ _ c.append_text.ensures.appended
+    IfOk-equal _ _ _ _ c.append_plain_text.ensures.appended
     (path_joined c.args.out.now.items (point_text c.args.low c.args.low) (point_text c.args.right c.args.low) (point_text c.args.right c.args.top) (point_text c.args.low c.args.top) _ _ _ _
     c.in_ok-append_corner.ensures.appended c.in_ok-append_corner-2.ensures.appended c.in_ok-append_corner-3.ensures.appended c.in_ok-append_corner-4.ensures.appended)
 
 pub returns-clause-kept : goal.returns-clause-kept
 returns-clause-kept c =
     keeps_more _ _ _ c.in_ok-append_corner.ensures.kept (keeps_more _ _ _ c.in_ok-append_corner-2.ensures.kept (keeps_more _ _ _ c.in_ok-append_corner-3.ensures.kept
-    (keeps_more _ _ _ c.in_ok-append_corner-4.ensures.kept c.append_text.ensures.kept)))
+    (keeps_more _ _ _ c.in_ok-append_corner-4.ensures.kept c.append_plain_text.ensures.kept)))
 
 pub returns-clause-full : goal.returns-clause-full
 returns-clause-full c =
@@ -22,7 +22,7 @@ returns-clause-full c =
     (keeps_more _ _ _ c.in_ok-append_corner.ensures.kept (keeps_more _ _ _ c.in_ok-append_corner-2.ensures.kept (keeps_more _ _ _ c.in_ok-append_corner-3.ensures.kept c.in_ok-append_corner-4.ensures.kept)))
     (path_joined c.args.out.now.items (point_text c.args.low c.args.low) (point_text c.args.right c.args.low) (point_text c.args.right c.args.top) (point_text c.args.low c.args.top) _ _ _ _
     c.in_ok-append_corner.ensures.appended c.in_ok-append_corner-2.ensures.appended c.in_ok-append_corner-3.ensures.appended c.in_ok-append_corner-4.ensures.appended))
-    c.append_text.ensures.full
+    c.append_plain_text.ensures.full
 
 pub returns-in_err-append_corner-clause-full : goal.returns-in_err-append_corner-clause-full
 returns-in_err-append_corner-clause-full c =

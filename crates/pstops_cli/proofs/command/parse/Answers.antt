@@ -9,31 +9,31 @@ use Rattle.clap.specs.declared.builder.arg.Arg.{Arg}
 use Rattle.clap.specs.declared.builder.command.Command.{Command}
 use Rattle.clap.specs.declared.error.kind.ErrorKind.{ErrorKind}
 use Rattle.clap.specs.declared.parser.matches.ArgMatches.{ArgMatches}
-use Rattle.command_words.specs.Arguments.{are_distinct, fits}
+use Rattle.command_words.specs.Arguments.{are_distinct, stands_by_itself}
 use Rattle.command_words.proofs.Chain.{chain_app, distinct, each_fits, takes_a_value}
-use Rattle.pstops_cli.specs.Command.{IsChain, positional_rule, pstops, rules}
+use Rattle.pstops_cli.specs.Command.{IsChain, word_rule, pstops, rules}
 use Rattle.pstops_cli.proofs.SimpleCommand.{each_rule_fits, pstops_is_free, pstops_is_made, pstops_is_simple, rules_are_distinct}
 use Rattle.pstops_cli.proofs.WorkerNumbers.{sides_in_range, some_arg, workers_in_range}
 use Rattle.pstops_cli.proofs.command.parse.Goals as goal
 use Rattle.pstops_cli.proofs.command.parse.Goals.{in-Some-2, in-None-2}
 
 is_pstops : (c : Command) → IsChain c → app_of c ≡ pstops
-is_pstops c h = chain_app h.start c h.args h.chain (ap (list_all fits) h.are ∙ each_rule_fits) ∙ ap₂ (fold with_rule) h.app h.are ∙ pstops_is_made
+is_pstops c h = chain_app h.start c h.args h.chain (ap (list_all stands_by_itself) h.are ∙ each_rule_fits) ∙ ap₂ (fold with_rule) h.app h.are ∙ pstops_is_made
 
 abbrev first_rule : Rule
-first_rule = record (positional_rule (codes "specs")) { required = true }
+first_rule = record (word_rule (codes "specs")) { required = true }
 
 first_is : (xs : List Arg) (d : Arg) → map rule_of xs ≡ rules → (0 < length xs) × TakesValue (get_or xs 0 d) × ((get_or xs 0 d).id.now ≡ codes "specs")
 first_is [] d e = let bad : 0 ≡ 11 = ap length e in absurd (omega (arith, bad))
 first_is (x ∷ xs) d e =
     let is : rule_of x ≡ first_rule = ap (λ l. get_or l 0 first_rule) e in
-    (omega arith, takes_a_value x (ap (λ r. r.required) is) (ap (λ r. r.action) is) (ap (λ r. r.range) is) (ap fits is), ap (λ r. r.id) is)
+    (omega arith, takes_a_value x (ap (λ r. r.required) is) (ap (λ r. r.action) is) (ap (λ r. r.range) is) (ap stands_by_itself is), ap (λ r. r.id) is)
 
 has_specs : (c : Command) (m : ArgMatches) → IsChain c → IsParsedFrom c m → is_some (first_value (found_of m) (codes "specs")) ≡ true
 has_specs c m h p =
     let d = some_arg h.args h.are in
     let first = first_is h.args d h.are in
-    let fit = each_fits h.args (ap (list_all fits) h.are ∙ each_rule_fits) in
+    let fit = each_fits h.args (ap (list_all stands_by_itself) h.are ∙ each_rule_fits) in
     let apart = distinct h.args (ap are_distinct h.are ∙ rules_are_distinct) in
     let given = required_in_chain h.start c h.args 0 d m h.chain h.no_args h.no_groups h.no_globals h.negates fit apart first.0 first.1 p in
     subst (λ id. is_some (first_value (found_of m) id) ≡ true) first.2 given

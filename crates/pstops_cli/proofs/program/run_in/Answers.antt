@@ -11,13 +11,13 @@ returns-then-not-is_whole g c =
     let tells = g.W.World.tells c.args.world in
     let seen = g.W.Output.Output.seen in
     subst (λ o. CreatesAndRuns g.W.World.seen c.args.request.now c.args.input.now tells c.args.world o (shown seen o) (failures_in seen o)
-    c.stop-then-not-is_whole.result.status c.stop-then-not-is_whole.result.line.items)
-    (sym c.stop-then-not-is_whole.ensures.rest)
+    c.ended_with-then-not-is_whole.result.status c.ended_with-then-not-is_whole.result.line.items)
+    (sym c.ended_with-then-not-is_whole.ensures.rest)
     (inr (
       refl,
       cut c.args.request.now c.args.input.now tells _ _ _ _ h.0 _ _ _ _
           (c.in-Ok.ensures.told ∙ ap (λ n. told_if tells n []) c.name_of-name.ensures) c.in-Ok.ensures.fresh
-          h.1 h.2 c.if-status-eq0.true c.finish-is_whole.ensures.part (c.finish-is_whole.ensures.failed (search rules)) c.stop-then-not-is_whole.ensures.said,
+          h.1 h.2 c.if-status-eq0.true c.finish-is_whole.ensures.part (c.finish-is_whole.ensures.failed (search rules)) c.ended_with-then-not-is_whole.ensures.said,
     ))
 
 pub returns : goal.returns

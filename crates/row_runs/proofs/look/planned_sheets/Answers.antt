@@ -3,7 +3,7 @@ use Rattle.layouts.proofs.Fitting.{handed_on}
 use Rattle.row_runs.specs.Runs.{AreTurned, RefusesRun}
 use Rattle.sheet_plan.specs.MadeRefusals.{RefusesMade}
 use Rattle.pagespec.specs.Items.{turn_of}
-use Rattle.row_runs.specs.Mirrored.{mirrored}
+use Rattle.row_runs.specs.SwappedMargins.{swapped}
 use Rattle.row_runs.specs.Reaching.{are_reached}
 use Rattle.row_runs.specs.Sheets.{AreAsked}
 use Rattle.row_runs.specs.Turning.{turned_sheet}
@@ -19,8 +19,8 @@ returns-in_err-sheets-clause-refused c =
 pub returns-in_err-check_reach-clause-refused : goal.returns-in_err-check_reach-clause-refused
 returns-in_err-check_reach-clause-refused c =
     handed_on c.from_residual-in_err-check_reach.result c.in_err-check_reach.field-0.0 (RefusesRun c.args.job.now) c.from_residual-in_err-check_reach.ensures.1
-    (reach_refused c.args.job.now c.pages-count.result c.mirror_in-mirror.result c.in_ok-sheets.sheets c.in_err-check_reach.field-0.0 c.pages-count.ensures.count
-    c.mirror_in-mirror.ensures c.pages-count.ensures.few c.in_ok-sheets.ensures.made c.in_err-check_reach.ensures.refused)
+    (reach_refused c.args.job.now c.pages-count.result c.swapped_room_in-swap.result c.in_ok-sheets.sheets c.in_err-check_reach.field-0.0 c.pages-count.ensures.count
+    c.swapped_room_in-swap.ensures c.pages-count.ensures.few c.in_ok-sheets.ensures.made c.in_err-check_reach.ensures.refused)
 
 pub returns-in-Err-clause-refused : goal.returns-in-Err-clause-refused
 returns-in-Err-clause-refused c =
@@ -30,8 +30,8 @@ returns-in-Err-clause-refused c =
       laid = c.in_ok-sheets.sheets;
       asked = subst (λ n. AreAsked n j.papers.now j.asked c.in_ok-sheets.sheets) c.pages-count.ensures.count c.in_ok-sheets.ensures.made;
       stand = c.in_ok-sheets.ensures.stands;
-      reached = subst (λ m. are_reached (turn_of j.turn) m c.in_ok-sheets.sheets ≡ true) c.mirror_in-mirror.ensures c.in_ok-check_reach.ensures.reached;
-      turned = c.in-Ok.ensures ∙ ap (λ m. map (turned_sheet (turn_of j.turn)) (mirrored m c.in_ok-sheets.sheets)) c.mirror_in-mirror.ensures;
+      reached = subst (λ m. are_reached (turn_of j.turn) m c.in_ok-sheets.sheets ≡ true) c.swapped_room_in-swap.ensures c.in_ok-check_reach.ensures.reached;
+      turned = c.in-Ok.ensures ∙ ap (λ m. map (turned_sheet (turn_of j.turn)) (swapped m c.in_ok-sheets.sheets)) c.swapped_room_in-swap.ensures;
     } in
     subst (RefusesRun j) (sym c.plan_error.ensures)
     (sheets_refused j c.in-Ok.sheets c.in-Err.error are

@@ -12,8 +12,8 @@ returns-then-not-is_sheet_reached c =
     let s = c.loop-sheet.sheet in
     let t = turn_of c.args.turn in
     let within : s < length all = search rules in
-    sym (not_reached t c.args.mirror.now s all within
-    (subst (λ k. list_all (is_slot_reached t k) (slots_at all s) ≡ false) c.mirror_on.ensures
+    sym (not_reached t c.args.swap.now s all within
+    (subst (λ k. list_all (is_slot_reached t k) (slots_at all s) ≡ false) c.swapped_room_on.ensures
     (sym c.is_sheet_reached.ensures ∙ c.if-not-is_sheet_reached.true)))
 
 pub loop-sheet-preserved : goal.loop-sheet-preserved
@@ -22,6 +22,6 @@ loop-sheet-preserved c =
     let s = c.loop-sheet.sheet in
     let t = turn_of c.args.turn in
     let within : s < length all = search rules in
-    sheet_reached t c.args.mirror.now s all within c.loop-sheet.invariant
-    (subst (λ k. list_all (is_slot_reached t k) (slots_at all s) ≡ true) c.mirror_on.ensures
+    sheet_reached t c.args.swap.now s all within c.loop-sheet.invariant
+    (subst (λ k. list_all (is_slot_reached t k) (slots_at all s) ≡ true) c.swapped_room_on.ensures
     (sym c.is_sheet_reached.ensures ∙ c.if-not-is_sheet_reached.false))

@@ -8,12 +8,12 @@ use Rattle.row_runs.proofs.reaching.is_sheet_reached.Goals as goal
 
 pub returns-then-not-is_slot_reached : goal.returns-then-not-is_slot_reached
 returns-then-not-is_slot_reached c =
-    sym (not_all (is_slot_reached (turn_of c.args.turn) c.args.mirror.now) c.loop-slot.slot (slots_at c.args.sheets.now c.args.sheet) _ c.placed.ensures
+    sym (not_all (is_slot_reached (turn_of c.args.turn) c.args.swap.now) c.loop-slot.slot (slots_at c.args.sheets.now c.args.sheet) _ c.placed.ensures
     (sym c.is_slot_reached.ensures ∙ c.if-not-is_slot_reached.true))
 
 pub loop-slot-preserved : goal.loop-slot-preserved
 loop-slot-preserved c =
-    let p = is_slot_reached (turn_of c.args.turn) c.args.mirror.now in
+    let p = is_slot_reached (turn_of c.args.turn) c.args.swap.now in
     let slots = slots_at c.args.sheets.now c.args.sheet in
     let next : suc c.loop-slot.slot ≡ c.loop-slot.slot + 1 = omega arith in
     subst (λ n. list_all p (take n slots) ≡ true) next

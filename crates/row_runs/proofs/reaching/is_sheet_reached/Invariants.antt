@@ -6,4 +6,4 @@ use Rattle.row_runs.specs.Reaching.{is_slot_reached}
 use Rattle.row_runs.proofs.reaching.is_sheet_reached.Given as goal
 
 abbrev pub invariant-loop-slot : goal.invariant-loop-slot
-invariant-loop-slot l = list_all (is_slot_reached (turn_of l.turn) l.mirror) (take l.slot (slots_at l.sheets l.sheet)) ≡ true
+invariant-loop-slot l = list_all (is_slot_reached (turn_of l.turn) l.swap) (take l.slot (slots_at l.sheets l.sheet)) ≡ true

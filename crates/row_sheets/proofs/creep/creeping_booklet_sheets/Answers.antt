@@ -30,8 +30,8 @@ half_before-before-requires-clause-cell c =
 pub creeping_slot-requires-clause-before : goal.creeping_slot-requires-clause-before
 creeping_slot-requires-clause-before c =
     let f = filling c.args.setting.now c.args.papers.now in
-    half_before f c.args.turned_backs c.args.creep.innermost c.args.creep.leaves c.args.row.now c.loop-s.made c.loop-s.s _ c.is_turned-by_half.result c.creep_on-by.result c.half_before-before.result c.loop-s.invariant.made
-    c.loop-s.invariant.fits (omega arith) c.is_turned-by_half.ensures c.creep_on-by.ensures c.half_before-before.ensures
+    half_before f c.args.turned_backs c.args.creep.innermost c.args.creep.leaves c.args.row.now c.loop-s.made c.loop-s.s _ c.is_half_turned-by_half.result c.creep_on-by.result c.half_before-before.result c.loop-s.invariant.made
+    c.loop-s.invariant.fits (omega arith) c.is_half_turned-by_half.ensures c.creep_on-by.ensures c.half_before-before.ensures
 
 pub half_before-before_next-requires-clause-sheet : goal.half_before-before_next-requires-clause-sheet
 half_before-before_next-requires-clause-sheet c =
@@ -47,8 +47,8 @@ half_before-before_next-requires-clause-cell c =
 pub creeping_slot-requires-in-loop-s-clause-before : goal.creeping_slot-requires-in-loop-s-clause-before
 creeping_slot-requires-in-loop-s-clause-before c =
     let f = filling c.args.setting.now c.args.papers.now in
-    half_before f c.args.turned_backs c.args.creep.innermost c.args.creep.leaves c.args.row.now c.loop-s.made c.loop-s.s _ c.is_turned-by_half.result c.creep_on-by.result c.half_before-before_next.result c.loop-s.invariant.made
-    c.loop-s.invariant.fits (omega arith) c.is_turned-by_half.ensures c.creep_on-by.ensures c.half_before-before_next.ensures
+    half_before f c.args.turned_backs c.args.creep.innermost c.args.creep.leaves c.args.row.now c.loop-s.made c.loop-s.s _ c.is_half_turned-by_half.result c.creep_on-by.result c.half_before-before_next.result c.loop-s.invariant.made
+    c.loop-s.invariant.fits (omega arith) c.is_half_turned-by_half.ensures c.creep_on-by.ensures c.half_before-before_next.ensures
 
 pub returns-in_err-first-clause-refused : goal.returns-in_err-first-clause-refused
 returns-in_err-first-clause-refused c =
@@ -79,8 +79,8 @@ loop-s-preserved c =
     let by = creep_on c.args.creep.innermost c.args.creep.leaves s in
     let one = slot_of c.in_ok-first.first in
     let other = slot_of c.in_ok-second.second in
-    let first = entry_is f row c.is_turned-by_half.result half 0 c.creep_on-by.result by _ (s * 2 + 0) c.entry_at-entry.result one c.in_ok-first.ensures.made c.is_turned-by_half.ensures c.creep_on-by.ensures c.entry_at-entry.ensures (omega arith) in
-    let second = entry_is f row c.is_turned-by_half.result half 1 c.creep_on-by.result by _ (s * 2 + 1) c.entry_at-next.result other c.in_ok-second.ensures.made c.is_turned-by_half.ensures c.creep_on-by.ensures c.entry_at-next.ensures (omega arith) in
+    let first = entry_is f row c.is_half_turned-by_half.result half 0 c.creep_on-by.result by _ (s * 2 + 0) c.entry_at-entry.result one c.in_ok-first.ensures.made c.is_half_turned-by_half.ensures c.creep_on-by.ensures c.entry_at-entry.ensures (omega arith) in
+    let second = entry_is f row c.is_half_turned-by_half.result half 1 c.creep_on-by.result by _ (s * 2 + 1) c.entry_at-next.result other c.in_ok-second.ensures.made c.is_half_turned-by_half.ensures c.creep_on-by.ensures c.entry_at-next.ensures (omega arith) in
     let e : c.push.new.self ≡ c.loop-s.made ++ sheet t.room.paper (one ∷ other ∷ []) ∷ [] = search rules in
     let fits_one = entry_creeps f row c.creep_on-by.result by _ (s * 2 + 0) c.entry_at-entry.result c.in_ok-first.ensures.fits c.creep_on-by.ensures c.entry_at-entry.ensures (omega arith) in
     let fits_other = entry_creeps f row c.creep_on-by.result by _ (s * 2 + 1) c.entry_at-next.result c.in_ok-second.ensures.fits c.creep_on-by.ensures c.entry_at-next.ensures (omega arith) in

@@ -2,12 +2,12 @@ use Rattle.std.proofs.Common.{◌≡◌, ℕ, ◌<◌, length}
 use Rattle.std.specs.Prelude.{map}
 use Rattle.std.specs.List.{range_with_len}
 use Rattle.sheet_plan.specs.OfSheets.{slot_of}
-use Rattle.row_sheets.specs.Shapes.{filling, entry_in, slot_by}
+use Rattle.row_sheets.specs.Shapes.{filling, entry_in_cell, cell_slot}
 use Rattle.row_sheets.specs.Standing.{EntryFits}
 use Rattle.row_sheets.proofs.fill.fill_slots.Given as goal
 
 abbrev pub invariant-loop-c : goal.invariant-loop-c
 invariant-loop-c l = record {
-  filled : map slot_of l.slots.items ≡ map (λ c. slot_by l.shape.kind (filling l.setting l.papers) c (entry_in l.shape l.setting l.row (length l.made) c)) (range_with_len 0 l.c);
-  fits : (c : ℕ) → c < l.c → EntryFits (filling l.setting l.papers) (entry_in l.shape l.setting l.row (length l.made) c);
+  filled : map slot_of l.slots.items ≡ map (λ c. cell_slot l.shape.kind (filling l.setting l.papers) c (entry_in_cell l.shape l.setting l.row (length l.made) c)) (range_with_len 0 l.c);
+  fits : (c : ℕ) → c < l.c → EntryFits (filling l.setting l.papers) (entry_in_cell l.shape l.setting l.row (length l.made) c);
 }

@@ -5,14 +5,14 @@ use Rattle.rows.proofs.found_ranges.read_range.Goals as goal
 
 pub returns-in-Some-more : goal.returns-in-Some-more
 returns-in-Some-more c =
-    too_many c.args.pages c.args.text.now c.cut.result.0.now c.in-Some.rest.now c.cut-2.result.0.now c.in-Some-more.field-0.now (sym c.is_blank.ensures ∙ c.if-is_blank.false)
-    (c.cut.ensures.parts ∙ ap (λ o. c.cut.result.0.now ∷ parts_left 45 o) c.in-Some.is)
-    (c.cut-2.ensures.parts ∙ ap (λ o. c.cut-2.result.0.now ∷ parts_left 45 o) c.in-Some-more.is)
+    too_many c.args.pages c.args.text.now c.split_at_byte.result.0.now c.in-Some.rest.now c.split_at_byte-2.result.0.now c.in-Some-more.field-0.now (sym c.means_blank.ensures ∙ c.if-means_blank.false)
+    (c.split_at_byte.ensures.parts ∙ ap (λ o. c.split_at_byte.result.0.now ∷ parts_left 45 o) c.in-Some.is)
+    (c.split_at_byte-2.ensures.parts ∙ ap (λ o. c.split_at_byte-2.result.0.now ∷ parts_left 45 o) c.in-Some-more.is)
 
 pub returns-in-None-more : goal.returns-in-None-more
 returns-in-None-more c =
     c.from_to.ensures
-    ∙ two_places c.args.pages c.args.text.now c.cut.result.0.now c.in-Some.rest.now c.cut-2.result.0.now _ _ (sym c.is_blank.ensures ∙ c.if-is_blank.false)
-    (c.cut.ensures.parts ∙ ap (λ o. c.cut.result.0.now ∷ parts_left 45 o) c.in-Some.is)
-    (c.cut-2.ensures.parts ∙ ap (λ o. c.cut-2.result.0.now ∷ parts_left 45 o) c.in-None-more.is)
+    ∙ two_places c.args.pages c.args.text.now c.split_at_byte.result.0.now c.in-Some.rest.now c.split_at_byte-2.result.0.now _ _ (sym c.means_blank.ensures ∙ c.if-means_blank.false)
+    (c.split_at_byte.ensures.parts ∙ ap (λ o. c.split_at_byte.result.0.now ∷ parts_left 45 o) c.in-Some.is)
+    (c.split_at_byte-2.ensures.parts ∙ ap (λ o. c.split_at_byte-2.result.0.now ∷ parts_left 45 o) c.in-None-more.is)
     c.read_place-in-None-more.ensures c.read_last_place.ensures

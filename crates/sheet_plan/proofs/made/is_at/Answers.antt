@@ -10,6 +10,6 @@ returns-then-place-placings c = (
 
 pub returns : goal.returns
 returns c = (
-  λ is. c.placing_at.ensures ∙ ap Some (c.is_same.ensures.0 is),
-  λ e. c.is_same.ensures.1 (same_Some _ _ (sym c.placing_at.ensures ∙ e)),
+  λ is. c.placing_at.ensures ∙ ap Some (c.is_same_measure.ensures.0 is),
+  λ e. c.is_same_measure.ensures.1 (same_Some _ _ (sym c.placing_at.ensures ∙ e)),
 )

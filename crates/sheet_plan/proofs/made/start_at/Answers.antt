@@ -1,13 +1,13 @@
 use Rattle.std.proofs.Common.{arith, ◌≡◌, suc, ◌-◌, sym, ap, ◌∙◌}
 use Rattle.std.proofs.lemmas.Option.{get_or_from_slice_get, slice_get_within}
-use Rattle.sheet_plan.specs.Store.{start_of}
+use Rattle.sheet_plan.specs.Store.{slots_start}
 use Rattle.sheet_plan.proofs.Stored.{start_first, start_before}
 use Rattle.sheet_plan.proofs.made.start_at.Goals as goal
 
 pub returns-then-sheet-eq0 : goal.returns-then-sheet-eq0
 returns-then-sheet-eq0 c =
     let e : c.args.sheet ≡ 0 = omega arith in
-    sym (ap (start_of 0 c.args.sheets.now) e ∙ start_first 0 c.args.sheets.now)
+    sym (ap (slots_start 0 c.args.sheets.now) e ∙ start_first 0 c.args.sheets.now)
 
 pub returns : goal.returns
 returns c =

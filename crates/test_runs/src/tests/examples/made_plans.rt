@@ -1,7 +1,7 @@
 //! A run over sheets that were made: pages and sheets with papers of their own, and lines in the header and on each sheet.
 use crate::tests::checks::{assert_bytes, assert_that, done};
 use dsc::Document;
-use imposer::{Dress, Job, Lines, MemorySink, Nobody, Open, Workers, run_plan};
+use imposer::{Job, Lines, MemorySink, NoListener, Open, SheetExtras, Workers, run_plan};
 use lengths::{Grains, Number, Paper, a4, paper_by_name};
 use pagespec::{Item, Measure, Turn};
 use sheet_plan::{MadeSheets, MadeSlot, Plan};
@@ -88,12 +88,12 @@ fn two_sheets<R: Abort>(rt: &R, alloc: Global) -> MadeSheets {
 }
 
 /// The dress of sheets that report their papers, and end with the same line.
-fn lines<R: Abort>(rt: &R, alloc: Global) -> Dress {
+fn lines<R: Abort>(rt: &R, alloc: Global) -> SheetExtras {
     let mut header = Lines::new(alloc);
     done(rt, header.push(b"%%DocumentMedia: x"));
     let mut finish = Lines::new(alloc);
     done(rt, finish.push(b"% end"));
-    Dress {
+    SheetExtras {
         header,
         tells_papers: true,
         finish,
@@ -108,7 +108,7 @@ fn run_job<R: Threads + Wait + Sync + Abort>(rt: &R, alloc: Global, job: &Job<'_
         imposers: 1,
     };
     let mut sink = done(rt, MemorySink::new(alloc, 3_000, 1_000, 100));
-    let answer = run_plan(rt, alloc, job, workers, &Open, &mut sink, &mut Nobody);
+    let answer = run_plan(rt, alloc, job, workers, &Open, &mut sink, &mut NoListener);
     let report = done(rt, answer);
     assert_bytes(rt, sink.bytes(), OUTPUT.as_bytes());
     assert_that(rt, (report.pages, report.sheets, report.born) == (2, 2, 0));
@@ -119,7 +119,7 @@ fn run_dressed<R: Threads + Wait + Sync + Abort>(
     rt: &R,
     alloc: Global,
     sheets: &MadeSheets,
-    dress: &Dress,
+    dress: &SheetExtras,
 ) {
     let document = done(rt, Document::read(alloc, TWO_PAGES.as_bytes()));
     let plan = done(rt, Plan::of_sheets(alloc, document.pages(), sheets));

@@ -3,7 +3,7 @@
 use crate::tests::callers::stories::{Called, first_word, number, show, tell};
 use crate::tests::checks::{assert_that, done};
 use sheet_text::{Pieces, Rope, Texts};
-use sheet_writer::Early;
+use sheet_writer::ReorderBuffer;
 use std::alloc::{AllocError, Global};
 use std::mem;
 use std::process::Abort;
@@ -17,7 +17,7 @@ struct InTexts<'r> {
     longer: &'r [u8],
     text: Rope<'r>,
     texts: Texts<'r>,
-    early: Early<'r>,
+    early: ReorderBuffer<'r>,
 }
 
 /// How many pieces are shown of a text.
@@ -187,7 +187,7 @@ struct Story<'s> {
 impl<'s> Story<'s> {
     /// No sheet is finished, and the text has some room.
     fn called<R: Abort>(&self, rt: &R, alloc: Global) -> InTexts<'s> {
-        let early = done(rt, Early::new(alloc, self.places));
+        let early = done(rt, ReorderBuffer::new(alloc, self.places));
         let mut text = Rope::new(alloc);
         done(rt, text.reserve(1_000));
         InTexts {

@@ -5,7 +5,7 @@ use gather_table::{GatherTable, PlainTable};
 use handover::{Ready, Shelf};
 use pagespec::read_spec;
 use sheet_plan::Plan;
-use sheet_writer::Early;
+use sheet_writer::ReorderBuffer;
 use std::alloc::Global;
 use std::process::Abort;
 use test_tools::{BOOKLET, Refused, has_refused, refuse, refuse_each};
@@ -28,7 +28,7 @@ fn make_all<R: Abort>(rt: &R, alloc: Global, number: u32, plan: &Plan<'_>) -> bo
     refuse(alloc, number);
     let is_shelf_refused = is_refused(rt, alloc, Shelf::new(alloc));
     refuse(alloc, number);
-    let are_places_refused = is_refused(rt, alloc, Early::new(alloc, 10));
+    let are_places_refused = is_refused(rt, alloc, ReorderBuffer::new(alloc, 10));
     is_plain_refused
         || is_shared_refused
         || is_queue_refused

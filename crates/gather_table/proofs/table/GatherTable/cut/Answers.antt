@@ -1,5 +1,5 @@
 use Rattle.std.proofs.Common.{refl, arith, sym, ap, ◌∙◌, []}
-use Rattle.rules.specs.Seats.{keeps_back, given, times}
+use Rattle.rules.specs.Seats.{keeps_back, given, occurrences}
 use Rattle.rules.proofs.SeatViews.{stands_kept, stands_given}
 use Rattle.gather_table.specs.History.{IsLegal}
 use Rattle.gather_table.proofs.RuleKept.{some_word, splits}
@@ -14,7 +14,7 @@ split_seat-token-requires g c =
     let room = some_word c.self.invariant in
     let mine = c.requires.first ∙ sym (ap (λ t. t.own) c.seat.view_is) in
     let none_given = c.requires.second in
-    (ours, room, splits _ _ c.seat.inside.token.me.0 _ _ _ (λ x. let a = ap (times x) mine in let b = ap (times x) none_given in omega arith) (omega arith) (omega arith))
+    (ours, room, splits _ _ c.seat.inside.token.me.0 _ _ _ (λ x. let a = ap (occurrences x) mine in let b = ap (occurrences x) none_given in omega arith) (omega arith) (omega arith))
 
 pub invariant_of-seat : goal.invariant_of-seat
 invariant_of-seat g c =

@@ -1,7 +1,7 @@
 use Rattle.std.proofs.Common.{arith, false, sym, ap, ◌∙◌, subst, ◌≡◌, ◌<◌, ◌+◌, ◌-◌, ◌^◌, length}
 use Rattle.std.proofs.lemmas.Nat.{one_shl}
 use Rattle.rules.specs.Sheets.{Layout, layout as layout_of}
-use Rattle.gather_table.specs.Table.{slot_count, is_wide, IsMarkable}
+use Rattle.gather_table.specs.Table.{slots_on, is_wide, IsMarkable}
 use Rattle.gather_table.specs.Lanes.{lane}
 use Rattle.gather_table.specs.Homes.{IsHome}
 use Rattle.gather_table.specs.History.{after_history, IsLegal}
@@ -22,7 +22,7 @@ fetch_or-found-requires g c =
     let markable : IsMarkable layout (after_history layout c.seat.inside.token.me.0.front) c.args.sheet c.args.slot =
     subst (λ (f : _). IsMarkable layout (after_history layout f) c.args.sheet c.args.slot) (sym (ap (λ t. t.front) c.seat.view_is))
     (subst (λ (p : Layout). IsMarkable p (after_history p c.args.seat.now.front) c.args.sheet c.args.slot) (sym same) c.requires.slot) in
-    let in_sheet : c.args.slot < slot_count layout c.args.sheet = below_length _ c.args.slot _ markable.needed in
+    let in_sheet : c.args.slot < slots_on layout c.args.sheet = below_length _ c.args.slot _ markable.needed in
     let home : IsHome layout c.args.sheet c.index-home.result.now = subst (IsHome layout c.args.sheet) (sym c.index-home.ensures) (c.self.invariant.homes_are c.args.sheet _ below) in
     let at = home.lane slim in
     let room = lane_below layout c.args.sheet (length layout.sheets) below in
@@ -46,7 +46,7 @@ returns g c =
     let layout = layout_of c.self.inside.table.shared.key in
     let below : c.args.sheet < length layout.sheets = subst (λ p. c.args.sheet < length p.sheets) (sym same) c.requires.sheet in
     let slim : is_wide layout c.args.sheet ≡ false = subst (λ (p : Layout). is_wide p c.args.sheet ≡ false) (sym same) c.requires.narrow in
-    let in_sheet : c.args.slot < slot_count layout c.args.sheet = subst (λ (p : Layout). c.args.slot < slot_count p c.args.sheet) (sym same) (below_length _ c.args.slot _ c.requires.slot.needed) in
+    let in_sheet : c.args.slot < slots_on layout c.args.sheet = subst (λ (p : Layout). c.args.slot < slots_on p c.args.sheet) (sym same) (below_length _ c.args.slot _ c.requires.slot.needed) in
     let le = slim_le layout c.args.sheet slim in
     let home : IsHome layout c.args.sheet c.index-home.result.now = subst (IsHome layout c.args.sheet) (sym c.index-home.ensures) (c.self.invariant.homes_are c.args.sheet _ below) in
     let full = c.full_bits-full.ensures ∙ ap (λ (n : _). 2 ^ n - 1) home.slots in
@@ -71,7 +71,7 @@ full_bits-full-requires g c =
     let layout = layout_of c.self.inside.table.shared.key in
     let below : c.args.sheet < length layout.sheets = subst (λ p. c.args.sheet < length p.sheets) (sym same) c.requires.sheet in
     let slim : is_wide layout c.args.sheet ≡ false = subst (λ (p : Layout). is_wide p c.args.sheet ≡ false) (sym same) c.requires.narrow in
-    let in_sheet : c.args.slot < slot_count layout c.args.sheet = subst (λ (p : Layout). c.args.slot < slot_count p c.args.sheet) (sym same) (below_length _ c.args.slot _ c.requires.slot.needed) in
+    let in_sheet : c.args.slot < slots_on layout c.args.sheet = subst (λ (p : Layout). c.args.slot < slots_on p c.args.sheet) (sym same) (below_length _ c.args.slot _ c.requires.slot.needed) in
     let home : IsHome layout c.args.sheet c.index-home.result.now = subst (IsHome layout c.args.sheet) (sym c.index-home.ensures) (c.self.invariant.homes_are c.args.sheet _ below) in
     let le = slim_le layout c.args.sheet slim in
     (omega (arith, home.slots, in_sheet), omega (arith, home.slots, le))
@@ -82,7 +82,7 @@ overflow_shl-place g c =
     let layout = layout_of c.self.inside.table.shared.key in
     let below : c.args.sheet < length layout.sheets = subst (λ p. c.args.sheet < length p.sheets) (sym same) c.requires.sheet in
     let slim : is_wide layout c.args.sheet ≡ false = subst (λ (p : Layout). is_wide p c.args.sheet ≡ false) (sym same) c.requires.narrow in
-    let in_sheet : c.args.slot < slot_count layout c.args.sheet = subst (λ (p : Layout). c.args.slot < slot_count p c.args.sheet) (sym same) (below_length _ c.args.slot _ c.requires.slot.needed) in
+    let in_sheet : c.args.slot < slots_on layout c.args.sheet = subst (λ (p : Layout). c.args.slot < slots_on p c.args.sheet) (sym same) (below_length _ c.args.slot _ c.requires.slot.needed) in
     let home : IsHome layout c.args.sheet c.index-home.result.now = subst (IsHome layout c.args.sheet) (sym c.index-home.ensures) (c.self.invariant.homes_are c.args.sheet _ below) in
     let first = (home.lane slim).1 in
     let inner = inside layout (λ q _. width_le layout q) c.args.sheet below in
@@ -95,7 +95,7 @@ overflow_shr-found g c =
     let layout = layout_of c.self.inside.table.shared.key in
     let below : c.args.sheet < length layout.sheets = subst (λ p. c.args.sheet < length p.sheets) (sym same) c.requires.sheet in
     let slim : is_wide layout c.args.sheet ≡ false = subst (λ (p : Layout). is_wide p c.args.sheet ≡ false) (sym same) c.requires.narrow in
-    let in_sheet : c.args.slot < slot_count layout c.args.sheet = subst (λ (p : Layout). c.args.slot < slot_count p c.args.sheet) (sym same) (below_length _ c.args.slot _ c.requires.slot.needed) in
+    let in_sheet : c.args.slot < slots_on layout c.args.sheet = subst (λ (p : Layout). c.args.slot < slots_on p c.args.sheet) (sym same) (below_length _ c.args.slot _ c.requires.slot.needed) in
     let home : IsHome layout c.args.sheet c.index-home.result.now = subst (IsHome layout c.args.sheet) (sym c.index-home.ensures) (c.self.invariant.homes_are c.args.sheet _ below) in
     let first = (home.lane slim).1 in
     let inner = inside layout (λ q _. width_le layout q) c.args.sheet below in
@@ -108,5 +108,5 @@ overflow_shl-slot g c =
     let layout = layout_of c.self.inside.table.shared.key in
     let below : c.args.sheet < length layout.sheets = subst (λ p. c.args.sheet < length p.sheets) (sym same) c.requires.sheet in
     let slim : is_wide layout c.args.sheet ≡ false = subst (λ (p : Layout). is_wide p c.args.sheet ≡ false) (sym same) c.requires.narrow in
-    let in_sheet : c.args.slot < slot_count layout c.args.sheet = subst (λ (p : Layout). c.args.slot < slot_count p c.args.sheet) (sym same) (below_length _ c.args.slot _ c.requires.slot.needed) in
+    let in_sheet : c.args.slot < slots_on layout c.args.sheet = subst (λ (p : Layout). c.args.slot < slots_on p c.args.sheet) (sym same) (below_length _ c.args.slot _ c.requires.slot.needed) in
     omega (arith, in_sheet, slim_le layout c.args.sheet slim)

@@ -1,7 +1,7 @@
 use Rattle.std.proofs.Common.{rules, arith, true, sym, ap, ◌∙◌, subst, ◌≡◌, ◌<◌, ◌+◌, ◌-◌, ◌*◌, ◌/◌, ◌%◌, ◌^◌, length, nat_lt, if◌then◌else◌}
 use Rattle.std.proofs.lemmas.Nat.{one_shl}
 use Rattle.rules.specs.Sheets.{Layout, layout as layout_of}
-use Rattle.gather_table.specs.Table.{slot_count, is_wide, IsMarkable}
+use Rattle.gather_table.specs.Table.{slots_on, is_wide, IsMarkable}
 use Rattle.gather_table.specs.Homes.{IsHome}
 use Rattle.gather_table.specs.History.{after_history, IsLegal}
 use Rattle.gather_table.specs.Steps.{wide_mark_of}
@@ -20,7 +20,7 @@ fetch_or-found-requires g c =
     let markable : IsMarkable layout (after_history layout c.seat.inside.token.me.0.front) c.args.sheet c.args.slot =
     subst (λ (f : _). IsMarkable layout (after_history layout f) c.args.sheet c.args.slot) (sym (ap (λ t. t.front) c.seat.view_is))
     (subst (λ (p : Layout). IsMarkable p (after_history p c.args.seat.now.front) c.args.sheet c.args.slot) (sym same) c.requires.slot) in
-    let in_sheet : c.args.slot < slot_count layout c.args.sheet = below_length _ c.args.slot _ markable.needed in
+    let in_sheet : c.args.slot < slots_on layout c.args.sheet = below_length _ c.args.slot _ markable.needed in
     let home : IsHome layout c.args.sheet c.index-home.result.now = subst (IsHome layout c.args.sheet) (sym c.index-home.ensures) (c.self.invariant.homes_are c.args.sheet _ below) in
     let word = home.wide wide in
     let room = wide_room layout c.args.sheet c.self.inside.table.shared.table_id.words wide below (let are = c.self.invariant.words_are in omega arith) in
@@ -36,7 +36,7 @@ overflow_cast-group g c =
     let same = ap (λ t. t.layout) c.self.view_is in
     let layout = layout_of c.self.inside.table.shared.key in
     let below : c.args.sheet < length layout.sheets = subst (λ p. c.args.sheet < length p.sheets) (sym same) c.requires.sheet in
-    let in_sheet : c.args.slot < slot_count layout c.args.sheet = subst (λ (p : Layout). c.args.slot < slot_count p c.args.sheet) (sym same) (below_length _ c.args.slot _ c.requires.slot.needed) in
+    let in_sheet : c.args.slot < slots_on layout c.args.sheet = subst (λ (p : Layout). c.args.slot < slots_on p c.args.sheet) (sym same) (below_length _ c.args.slot _ c.requires.slot.needed) in
     let narrow = c.self.invariant.sound.narrow c.args.sheet below in
     let low : c.args.slot / 64 < 256 = omega arith in
     search rules

@@ -1,6 +1,6 @@
 use Rattle.std.proofs.Common.{ℕ, List, Result, Ok, Err, OnErr, ◌≡◌, ◌∙◌, sym, ap, arith, true, false}
 use Rattle.std.specs.FinSet as set
-use Rattle.imposer.specs.SheetNumbers.{has_bit}
+use Rattle.imposer.specs.SheetNumbers.{has_number}
 use Rattle.imposer.proofs.Passing.{same_numbers, one_more, there_already}
 use Rattle.imposer.proofs.Counted.{blank_words_more, counted_more, count_is_small}
 use Rattle.imposer.proofs.sheet_set.SheetSet.insert.Goals as goal
@@ -22,7 +22,7 @@ overflow_add-self c = let s = count_is_small c.self.inside.words.items c.self.in
 pub invariant_of-self-then-not-has_bit : goal.invariant_of-self-then-not-has_bit
 invariant_of-self-then-not-has_bit c =
     let kept = blank_words_more c.self.inside.words.items c.cover.new.words.items c.self.inside.first c.self.inside.count c.self.invariant c.cover.ensures.same c.cover.ensures.few in
-    let absent : has_bit c.cover.new.words.items c.args.sheet ≡ false = ap (λ (xs : List ℕ). has_bit xs c.args.sheet) (sym c.deref.ensures.value) ∙ sym c.has_bit.ensures ∙ c.if-not-has_bit.true in
+    let absent : has_number c.cover.new.words.items c.args.sheet ≡ false = ap (λ (xs : List ℕ). has_number xs c.args.sheet) (sym c.deref.ensures.value) ∙ sym c.has_bit.ensures ∙ c.if-not-has_bit.true in
     rw c.min-self-inside.ensures (counted_more c.cover.new.words.items c.set_bit.new.words.items c.self.inside.first c.self.inside.count c.args.sheet kept c.set_bit.ensures.len c.set_bit.ensures.set absent)
 
 pub invariant_of-self-else-not-has_bit : goal.invariant_of-self-else-not-has_bit
@@ -36,6 +36,6 @@ returns-then-not-has_bit-clause-inserted c =
 
 pub returns-else-not-has_bit-clause-inserted : goal.returns-else-not-has_bit-clause-inserted
 returns-else-not-has_bit-clause-inserted c =
-    let there : has_bit c.cover.new.words.items c.args.sheet ≡ true = ap (λ (xs : List ℕ). has_bit xs c.args.sheet) (sym c.deref.ensures.value) ∙ sym c.has_bit.ensures ∙ c.if-not-has_bit.false in
+    let there : has_number c.cover.new.words.items c.args.sheet ≡ true = ap (λ (xs : List ℕ). has_number xs c.args.sheet) (sym c.deref.ensures.value) ∙ sym c.has_bit.ensures ∙ c.if-not-has_bit.false in
     sym (there_already c.cover.new.words.items c.args.sheet there)
     ∙ ap (λ s. set.insert s c.args.sheet) (same_numbers c.self.inside.words.items c.cover.new.words.items c.cover.ensures.same ∙ c.self.view_is)

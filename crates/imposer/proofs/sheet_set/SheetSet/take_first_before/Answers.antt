@@ -1,15 +1,15 @@
 use Rattle.std.proofs.Common.{◌≡◌, ℕ, List, length, vec_len, false, ◌+◌, ◌*◌, ◌<◌, ◌≤◌, ◌∙◌, sym, ap, subst, arith, rules, w64, get_or}
 use Rattle.std.specs.Int.{trailing_zeros}
 use Rattle.std.specs.FinSet as set
-use Rattle.imposer.specs.SheetNumbers.{IsFirst, HasNoneBelow, numbers, has_bit}
+use Rattle.imposer.specs.SheetNumbers.{IsSmallest, HasNoneBelow, numbers, has_number}
 use Rattle.imposer.proofs.Passing.{one_less}
 use Rattle.imposer.proofs.Counted.{moved_on, filled, blank_word, none_past, none_before, none_below_first, some_counted, counted_less}
 use Rattle.imposer.proofs.sheet_set.SheetSet.take_first_before.Goals as goal
 
 -- `next_filled` was given the words
-by_words : (given words : List ℕ) (first next : ℕ) → given ≡ words → ((k : ℕ) → 64 * first ≤ k → k < 64 * next → has_bit given k ≡ false)
-    → (k : ℕ) → 64 * first ≤ k → k < 64 * next → has_bit words k ≡ false
-by_words given words first next e h k low high = ap (λ (xs : List ℕ). has_bit xs k) (sym e) ∙ h k low high
+by_words : (given words : List ℕ) (first next : ℕ) → given ≡ words → ((k : ℕ) → 64 * first ≤ k → k < 64 * next → has_number given k ≡ false)
+    → (k : ℕ) → 64 * first ≤ k → k < 64 * next → has_number words k ≡ false
+by_words given words first next e h k low high = ap (λ (xs : List ℕ). has_number xs k) (sym e) ∙ h k low high
 
 behind_words : (given words : List ℕ) (next end : ℕ) → given ≡ words → (get_or given next 0 ≡ 0 → next < length given → end ≤ 64 * next)
     → get_or words next 0 ≡ 0 → next < length words → end ≤ 64 * next
@@ -72,7 +72,7 @@ returns-clause-first c =
     let a = moved_on c.self.inside.words.items c.self.inside.first c.next_filled-self-inside.result c.self.inside.count c.self.invariant blank in
     let len = counted_words c.self.inside.words.items c.deref.result.now (vec_len c.self.inside.words) c.deref.ensures.value c.deref.ensures.len in
     let there : c.next_filled-self-inside.result < length c.self.inside.words.items = within_words c.self.inside.words.items c.next_filled-self-inside.result c.len.result (vec_len c.self.inside.words) len c.len.ensures c.if-self-len.false in
-    subst (λ s. IsFirst s (c.next_filled-self-inside.result * 64 + trailing_zeros w64 c.index-bits.result.now)) c.self.view_is (filled c.self.inside.words.items c.next_filled-self-inside.result c.self.inside.count c.index-bits.result.now a c.index-bits.ensures there c.if-bits-eq0.false (search rules))
+    subst (λ s. IsSmallest s (c.next_filled-self-inside.result * 64 + trailing_zeros w64 c.index-bits.result.now)) c.self.view_is (filled c.self.inside.words.items c.next_filled-self-inside.result c.self.inside.count c.index-bits.result.now a c.index-bits.ensures there c.if-bits-eq0.false (search rules))
 
 pub returns-clause-taken : goal.returns-clause-taken
 returns-clause-taken c =

@@ -6,7 +6,7 @@ use Rattle.layouts.specs.declared.setting.Setting.{Setting}
 use Rattle.layouts.specs.Cells.{back_in, size}
 use Rattle.layouts.specs.Fitted.{scale_on, why_no_scale_on}
 use Rattle.layouts.specs.Laws.{IsPaper, HasPlace}
-use Rattle.layouts.specs.Refusals.{is_near}
+use Rattle.layouts.specs.Refusals.{within_reach}
 use Rattle.layouts.proofs.Fitting.{StandsBack, stands_back, has_scale}
 use Rattle.layouts.proofs.setting.Setting.back_item.Goals as goal
 
@@ -25,7 +25,7 @@ pub back_in-requires-clause-near : goal.back_in-requires-clause-near
 back_in-requires-clause-near c =
     let t = c.args.self.now in
     let page = c.args.page_paper.now in
-    subst (λ s. IsTrue (is_near t.room s)) (sym c.in_ok-scale.ensures.value) (has_scale t page c.in_ok-scale.ensures.possible).near
+    subst (λ s. IsTrue (within_reach t.room s)) (sym c.in_ok-scale.ensures.value) (has_scale t page c.in_ok-scale.ensures.possible).near
 
 pub back_in-requires-clause-scale : goal.back_in-requires-clause-scale
 back_in-requires-clause-scale c =

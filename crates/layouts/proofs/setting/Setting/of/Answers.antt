@@ -1,11 +1,11 @@
 use Rattle.std.proofs.Common.{arith, rules, ◌≡◌, ◌≤◌, false}
-use Rattle.layouts.specs.Grids.{count_of, is_itself}
+use Rattle.layouts.specs.Grids.{cells_per_sheet, is_itself}
 use Rattle.layouts.proofs.Possible.{sheet_refused, scale_refused}
 use Rattle.layouts.proofs.Fitting.{chosen_as, enough_in, handed_on}
 use Rattle.layouts.proofs.setting.Setting.of.Goals as goal
 
-pub returns-then-is_itself-clause-chosen : goal.returns-then-is_itself-clause-chosen
-returns-then-is_itself-clause-chosen c =
+pub returns-then-is_identity-clause-chosen : goal.returns-then-is_identity-clause-chosen
+returns-then-is_identity-clause-chosen c =
     let a = c.args.arrangement.now in
     chosen_as c.args.papers.now.page c.in_ok-room.room a.order.turned a.cells c.grid_of-grid.result (omega (arith, c.count-count.ensures)) c.grid_of-grid.ensures
 
@@ -29,7 +29,7 @@ returns-in_err-scale_found-clause-refused c =
     let page = c.args.papers.now.page in
     let sheet = c.args.papers.now.sheet in
     let a = c.args.arrangement.now in
-    let some : 1 ≤ count_of a.cells = omega (arith, c.count-count.ensures) in
-    let few : count_of a.cells ≤ 1_024 = omega (arith, c.count-count.ensures) in
+    let some : 1 ≤ cells_per_sheet a.cells = omega (arith, c.count-count.ensures) in
+    let few : cells_per_sheet a.cells ≤ 1_024 = omega (arith, c.count-count.ensures) in
     let not : is_itself page sheet a ≡ false = search rules in
     handed_on _ _ _ c.from_residual-in_err-scale_found.ensures.1 (scale_refused page sheet a c.in_ok-room.room c.grid_of-grid.result c.scale_in-largest.result c.in_err-scale_found.field-0.0 some few c.in_ok-room.ensures.possible not c.in_ok-room.ensures.room c.grid_of-grid.ensures c.scale_in-largest.ensures c.in_err-scale_found.ensures.refused)

@@ -5,7 +5,7 @@ use Rattle.pagespec.specs.Items.{turn_of}
 use Rattle.sheet_text.specs.declared.numbers.Numbers.{Numbers}
 use Rattle.dressing.specs.Numbered.{drawn_on}
 use Rattle.dressing.specs.declared.strokes.Stroke.{Stroke}
-use Rattle.row_runs.specs.Mirrored.{mirrored}
+use Rattle.row_runs.specs.SwappedMargins.{swapped}
 use Rattle.row_runs.specs.Numbers.{numbers_asked}
 use Rattle.row_runs.specs.Reaching.{are_reached}
 use Rattle.row_runs.specs.Turning.{turned_sheet}
@@ -23,8 +23,8 @@ returns-in_err-sheets-clause-refused c =
 pub returns-in_err-check_reach-clause-refused : goal.returns-in_err-check_reach-clause-refused
 returns-in_err-check_reach-clause-refused c =
     handed_on c.from_residual-in_err-check_reach.result c.in_err-check_reach.field-0.0 (RefusesRun c.args.self.now) c.from_residual-in_err-check_reach.ensures.1
-    (reach_refused c.args.self.now c.pages-count.result c.mirror_in-mirror.result c.in_ok-sheets.sheets c.in_err-check_reach.field-0.0 c.pages-count.ensures.count
-    c.mirror_in-mirror.ensures c.pages-count.ensures.few c.in_ok-sheets.ensures.made c.in_err-check_reach.ensures.refused)
+    (reach_refused c.args.self.now c.pages-count.result c.swapped_room_in-swap.result c.in_ok-sheets.sheets c.in_err-check_reach.field-0.0 c.pages-count.ensures.count
+    c.swapped_room_in-swap.ensures c.pages-count.ensures.few c.in_ok-sheets.ensures.made c.in_err-check_reach.ensures.refused)
 
 pub returns-in-Ok-dress_of-clause-turned : goal.returns-in-Ok-dress_of-clause-turned
 returns-in-Ok-dress_of-clause-turned c = record {
@@ -32,9 +32,9 @@ returns-in-Ok-dress_of-clause-turned c = record {
   laid = c.in_ok-sheets.sheets;
   asked = rw c.pages-count.ensures.count at c.in_ok-sheets.ensures.made;
   stand = c.in_ok-sheets.ensures.stands;
-  reached = subst (λ m. are_reached (turn_of c.args.self.now.turn) m c.in_ok-sheets.sheets ≡ true) c.mirror_in-mirror.ensures c.in_ok-check_reach.ensures.reached;
+  reached = subst (λ m. are_reached (turn_of c.args.self.now.turn) m c.in_ok-sheets.sheets ≡ true) c.swapped_room_in-swap.ensures c.in_ok-check_reach.ensures.reached;
   turned = c.in-Ok-turned_sheets.ensures
-      ∙ ap (λ m. map (turned_sheet (turn_of c.args.self.now.turn)) (mirrored m c.in_ok-sheets.sheets)) c.mirror_in-mirror.ensures;
+      ∙ ap (λ m. map (turned_sheet (turn_of c.args.self.now.turn)) (swapped m c.in_ok-sheets.sheets)) c.swapped_room_in-swap.ensures;
 }
 
 pub returns-in-Ok-dress_of-clause-dressed : goal.returns-in-Ok-dress_of-clause-dressed
@@ -42,6 +42,6 @@ returns-in-Ok-dress_of-clause-dressed c =
     let j = c.args.self.now in
     let strokes = c.as_slice.ensures.value ∙ c.in-Ok.ensures in
     let numbers = c.in_ok-numbers.ensures.made
-    ∙ ap₂ (λ (n : ℕ) (m : Option Room). numbers_asked n j.papers.now j.asked m j.marks.numbers) c.pages-count.ensures.count c.mirror_in-mirror.ensures in
+    ∙ ap₂ (λ (n : ℕ) (m : Option Room). numbers_asked n j.papers.now j.asked m j.marks.numbers) c.pages-count.ensures.count c.swapped_room_in-swap.ensures in
     c.in-Ok-dress_of.ensures
     ∙ ap₂ (λ (s : List Stroke) (n : Option Numbers). drawn_on (record { strokes = s; numbers = n }) (telling c.in-Ok-turned_sheets.sheets)) strokes numbers

@@ -1,6 +1,6 @@
 use Rattle.std.proofs.Common.{arith, refl, subst, sym, ap, ◌∙◌, ◌+◌, length, filter}
 use Rattle.std.proofs.lemmas.List.{length_push, take_all}
-use Rattle.gather_table.specs.Shared.{Makes}
+use Rattle.gather_table.specs.Shared.{MakesCalls}
 use Rattle.gather_table.proofs.Calls.{markable_stays, begins_makes}
 use Rattle.run_steps.specs.Delivery.{HandedOn, answer_list, completed, is_filling, place_calls}
 use Rattle.run_steps.proofs.Marks.{places_on, closed_push, still_seat}
@@ -75,7 +75,7 @@ hand_on_completed-requires-clause-room g c = let was = c.loop-place.invariant in
 pub returns-clause-called : goal.returns-clause-called
 returns-clause-called g c =
     let was = c.loop-place.invariant in
-    subst (λ xs. Makes c.args.seat.now (place_calls xs c.loop-place.answers.replies.items c.loop-place.answers.closings.items) c.loop-place.seat)
+    subst (λ xs. MakesCalls c.args.seat.now (place_calls xs c.loop-place.answers.replies.items c.loop-place.answers.closings.items) c.loop-place.seat)
     (take_all c.loop-place.place-index c.args.places.now (omega (arith, c.loop-place-test.false))) was.called
 
 pub returns-clause-replies : goal.returns-clause-replies

@@ -19,15 +19,15 @@ item_at-item-requires-clause-slot c =
     let at = at_sheet c.in-Spec.row.sides c.in-Spec.modulo c.in-Spec.row.pages c.in-Spec.groups.now _ view c.args.sheet c.requires.sheet in
     subst (λ n. c.args.slot < n) at.slots c.requires.slot
 
-pub place_of-place-requires-clause-block : goal.place_of-place-requires-clause-block
-place_of-place-requires-clause-block c =
+pub item_place-place-requires-clause-block : goal.item_place-place-requires-clause-block
+item_place-place-requires-clause-block c =
     let view = ap plan_from (sym c.in-Spec.is) in
     let kept = subst IsPlannable c.in-Spec.is c.requires.plannable in
     let at = at_sheet c.in-Spec.row.sides c.in-Spec.modulo c.in-Spec.row.pages c.in-Spec.groups.now _ view c.args.sheet c.requires.sheet in
     subst (λ n. c.args.sheet / length c.in-Spec.groups.now < n) (sym kept.1) at.block
 
-pub place_of-place-requires-clause-page : goal.place_of-place-requires-clause-page
-place_of-place-requires-clause-page c =
+pub item_place-place-requires-clause-page : goal.item_place-place-requires-clause-page
+item_place-place-requires-clause-page c =
     let view = ap plan_from (sym c.in-Spec.is) in
     let kept = subst IsPlannable c.in-Spec.is c.requires.plannable in
     let at = at_sheet c.in-Spec.row.sides c.in-Spec.modulo c.in-Spec.row.pages c.in-Spec.groups.now _ view c.args.sheet c.requires.sheet in
@@ -41,7 +41,7 @@ page_at-requires-clause-few c =
     let at = at_sheet c.in-Spec.row.sides c.in-Spec.modulo c.in-Spec.row.pages c.in-Spec.groups.now _ view c.args.sheet c.requires.sheet in
     let l = length-map c.in-Spec.groups.now (λ g. map item_of g.items) in
     let paged = paged_item c.in-Spec.row.sides (spec_of c.in-Spec.modulo c.in-Spec.groups.now) c.in-Spec.row.pages kept.0 (c.args.sheet % length c.in-Spec.groups.now) c.args.slot (let g = at.group in omega arith) (item_of c.item_at-item.result.now) c.item_at-item.ensures in
-    let few = entry_few c.in-Spec.row.sides (spec_of c.in-Spec.modulo c.in-Spec.groups.now) c.in-Spec.row.pages (c.args.sheet / length c.in-Spec.groups.now) c.place_of-place.result (item_of c.item_at-item.result.now) kept.0 at.block paged (c.place_of-place.ensures _ kept.1) in
+    let few = entry_few c.in-Spec.row.sides (spec_of c.in-Spec.modulo c.in-Spec.groups.now) c.in-Spec.row.pages (c.args.sheet / length c.in-Spec.groups.now) c.item_place-place.result (item_of c.item_at-item.result.now) kept.0 at.block paged (c.item_place-place.ensures _ kept.1) in
     omega arith
 
 pub returns-in-Spec : goal.returns-in-Spec
@@ -49,7 +49,7 @@ returns-in-Spec c =
     let view = ap plan_from (sym c.in-Spec.is) in
     let kept = subst IsPlannable c.in-Spec.is c.requires.plannable in
     let at = at_sheet c.in-Spec.row.sides c.in-Spec.modulo c.in-Spec.row.pages c.in-Spec.groups.now _ view c.args.sheet c.requires.sheet in
-    record { value = page_shown c.in-Spec.row.sides (spec_of c.in-Spec.modulo c.in-Spec.groups.now) c.in-Spec.row.pages (length c.in-Spec.groups.now) _ c.args.sheet c.args.slot (item_of c.item_at-item.result.now) c.place_of-place.result c.page_at.result at c.item_at-item.ensures (c.place_of-place.ensures _ kept.1) c.page_at.ensures }
+    record { value = page_shown c.in-Spec.row.sides (spec_of c.in-Spec.modulo c.in-Spec.groups.now) c.in-Spec.row.pages (length c.in-Spec.groups.now) _ c.args.sheet c.args.slot (item_of c.item_at-item.result.now) c.item_place-place.result c.page_at.result at c.item_at-item.ensures (c.item_place-place.ensures _ kept.1) c.page_at.ensures }
 
 pub placed-requires-clause-slot : goal.placed-requires-clause-slot
 placed-requires-clause-slot c =

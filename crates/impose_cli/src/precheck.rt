@@ -1,0 +1,149 @@
+//! The checks of a request that don't ask for its document.
+ghost use Rattle.std.specs.Prelude.{◌≡◌, option_map, IfErr, OnOk};
+ghost use Rattle.impose_cli.specs.Precheck as meaning;
+ghost use Rattle.impose_cli.specs.Precheck.{AreGoodRanges, MayBeRead, RefusesRanges, RefusesRequest};
+
+use crate::task::check_layout;
+use command_words::name_of;
+use impose_messages::{IdleOption, ImposeFault};
+use impose_words::{ImposeRequest, Layout, PageChoice, Product, Spacing};
+use layouts::Free;
+use lengths::Grains;
+use rows::{RowError, read_row};
+use std::alloc::Global;
+
+/// The checks that don't ask for the document, so that a mistake is found before a byte is read: whether a picture would go
+/// over it, then whether all options do something, then those of the layout, then whether pages are named by ranges.
+pub fn check_request(alloc: Global, request: &ImposeRequest) -> Result<(), ImposeFault>
+    ensures possible { OnOk result (MayBeRead request.now) }
+    ensures refused { IfErr result (RefusesRequest request.now) }
+{
+    if let Some(fault) = option_fault(request) {
+        return Err(fault);
+    }
+    check_layout(alloc, request)?;
+    check_ranges(alloc, &request.choice)
+}
+
+/// Why the options are refused, if they are.
+fn option_fault(request: &ImposeRequest) -> Option<ImposeFault>
+    ensures { result ≡ meaning.option_fault request.now }
+{
+    if is_drawn_over(&request.product, name_of(&request.infile)) {
+        return Some(ImposeFault::OverInput);
+    }
+    match idle_option(request) {
+        Some(option) => Some(ImposeFault::Idle(option)),
+        None => None,
+    }
+}
+
+/// Whether the picture of the sheets is to be written to the file that is read.
+fn is_drawn_over(product: &Product, infile: Option<&str>) -> bool
+    ensures { result ≡ meaning.is_drawn_over product.now (option_map (λ n. n.now) infile.entry) }
+{
+    match product {
+        Product::Picture(file) => is_one_file(name_of(file), infile),
+        Product::Sheets | Product::Specification | Product::Plan => false,
+    }
+}
+
+/// Whether two files have one name.
+fn is_one_file(one: Option<&str>, other: Option<&str>) -> bool
+    ensures { result ≡ meaning.is_one_file (option_map (λ n. n.now) one.entry) (option_map (λ n. n.now) other.entry) }
+{
+    match (one, other) {
+        (Some(one), Some(other)) => one == other,
+        _ => false,
+    }
+}
+
+/// The first option that would do nothing, or not what it says: a paper for sheets that keep their own; a margin at an edge
+/// that there isn't, or that has another; marks that aren't where that margin is; and marks outside of pages that have no room
+/// for them.
+fn idle_option(request: &ImposeRequest) -> Option<IdleOption>
+    ensures { result ≡ meaning.idle_option request.now }
+{
+    if keeps_papers(&request.layout) && request.sheet_paper.is_some() {
+        Some(IdleOption::Sheet)
+    } else if request.spacing.inner.is_some() && !is_bound(&request.layout) {
+        Some(IdleOption::Inner)
+    } else if has_two_left(&request.layout, &request.spacing) {
+        Some(IdleOption::Left)
+    } else if request.marks.cut && request.spacing.inner.is_some() {
+        Some(IdleOption::InnerMarks)
+    } else if request.marks.cut
+        && (is_cut_outside(&request.layout) && !has_margins(&request.spacing.free))
+    {
+        Some(IdleOption::CutMarks)
+    } else {
+        None
+    }
+}
+
+/// Whether each page is left on its own paper.
+fn keeps_papers(layout: &Layout) -> bool
+    ensures { result ≡ meaning.keeps_papers layout.now }
+{
+    matches!(layout, Layout::Selection)
+}
+
+/// Whether what is laid so is bound, and has an inner edge there.
+fn is_bound(layout: &Layout) -> bool
+    ensures { result ≡ meaning.is_bound layout.now }
+{
+    matches!(layout, Layout::NUp(_) | Layout::Booklet { .. })
+}
+
+/// Whether a left margin is asked for, where the left edge is the inner one of fronts, which has its own.
+fn has_two_left(layout: &Layout, spacing: &Spacing) -> bool
+    ensures { result ≡ meaning.has_two_left layout.now spacing.now }
+{
+    match layout {
+        Layout::NUp(_) => spacing.inner.is_some() && spacing.free.left.get() != 0,
+        _ => false,
+    }
+}
+
+/// Whether sheets are cut outside their cells alone: they have one cell, or are folded between them.
+fn is_cut_outside(layout: &Layout) -> bool
+    ensures { result ≡ meaning.is_cut_outside layout.now }
+{
+    match layout {
+        Layout::NUp(cells) | Layout::Cards(cells) => cells.count() == 1,
+        Layout::Stack { cells, .. } => cells.count() == 1,
+        Layout::Booklet { .. } => true,
+        Layout::Notes { .. } | Layout::Poster { .. } | Layout::Zine | Layout::Selection => false,
+        Layout::Spec(_) | Layout::SpecRow { .. } => false,
+    }
+}
+
+/// Whether there are margins, of half the gap at least.
+fn has_margins(free: &Free) -> bool
+    ensures { result ≡ meaning.has_margins free.now }
+{
+    let beside = fits_half_gap(free.left, free.across) && fits_half_gap(free.right, free.across);
+    let above = fits_half_gap(free.bottom, free.up) && fits_half_gap(free.top, free.up);
+    beside && above
+}
+
+fn fits_half_gap(margin: Grains, gap: Grains) -> bool
+    ensures { result ≡ meaning.fits_half_gap margin gap }
+{
+    let margin = margin.get();
+    0 < margin && gap.get() <= margin + margin
+}
+
+/// Whether pages are named by ranges. What is no range in a document without pages is none in any other.
+fn check_ranges(alloc: Global, choice: &PageChoice) -> Result<(), ImposeFault>
+    ensures ranges { OnOk result (AreGoodRanges choice.now) }
+    ensures refused { IfErr result (RefusesRanges choice.now) }
+{
+    match &choice.ranges {
+        None => Ok(()),
+        Some(ranges) => match read_row(alloc, 0, ranges.as_str().as_bytes()) {
+            Err(RowError::NotARange(at)) => Err(ImposeFault::Row(RowError::NotARange(at))),
+            _ => Ok(()),
+        },
+    }
+}

@@ -1,0 +1,316 @@
+-- What is said on standard error of how the program ended: which lines, in which order, and what is in those of a finished run. Of
+-- messages of faults only one is here, and nothing of what is said of words that the command doesn't take.
+use Rattle.std.specs.Prelude.{⊤, ◌≡◌, ◌==◌, ◌⊎◌, ◌++◌, if◌then◌else◌, ℕ, List, [], Bool, true, false, Option, Some, None, Result, Ok, Err}
+use Rattle.std.specs.Prelude.{◌+◌, ◌-◌, ◌*◌, ◌/◌, ℤ, pos, int_le, codes, decimal, nat_abs, nat_eq, nat_le, nat_lt, ◌||◌, ◌&&◌, option_map, string_bytes}
+use Rattle.std.specs.Prelude.{String, length, map, min, take}
+use Rattle.std.specs.declared.alloc.Global.{Global}
+use Rattle.std.specs.List.{ends_with}
+use Rattle.std.specs.IoError.{error_kind}
+use Rattle.std.specs.declared.io.ErrorKind.{ErrorKind}
+use Rattle.std.specs.declared.io.ErrorKind.TheVariants.{BrokenPipe}
+use Rattle.clap.specs.Words.{kind_of}
+use Rattle.clap.specs.declared.error.Error.{Error as WordsError}
+use Rattle.rules.specs.Bytes.{line}
+use Rattle.rules.specs.Numbers.{points_text}
+use Rattle.rules.specs.Papers.{Paper}
+use Rattle.layouts.specs.Grids.{cells_per_sheet, is_same}
+use Rattle.layouts.specs.Placed.{Room}
+use Rattle.papers.specs.declared.media.Comment.TheVariants as comment
+use Rattle.papers.specs.declared.boxes.Edges.{Edges}
+use Rattle.papers.specs.declared.cuts.Cut.{Cut}
+use Rattle.papers.specs.declared.reach.Reach.{Reach}
+use Rattle.imposer.specs.declared.outcome.Report.{Report}
+use Rattle.impose_messages.specs.Statuses.{words_status}
+use Rattle.impose_words.specs.declared.fault.RequestFault.TheVariants as command
+use Rattle.impose_messages.specs.declared.fault.ImposeFault.{ImposeFault}
+use Rattle.impose_messages.specs.declared.fault.ImposeFault.TheVariants as fault
+use Rattle.impose_messages.specs.declared.finished.Done.{Done}
+use Rattle.impose_messages.specs.declared.finished.Done.TheVariants as done
+use Rattle.impose_words.specs.Choices.{is_all_pages}
+use Rattle.impose_words.specs.declared.request.ImposeRequest.{ImposeRequest}
+use Rattle.impose_words.specs.Spacings.{swaps_margins}
+use Rattle.impose_words.specs.declared.request.Spacing.{Spacing}
+use Rattle.impose_words.specs.declared.request.Layout.{Layout}
+use Rattle.impose_words.specs.declared.request.Layout.TheVariants as layout
+use Rattle.impose_messages.specs.declared.finished.Finished.{Finished}
+use Rattle.impose_messages.specs.declared.finished.PaperOrigin.{PaperOrigin}
+use Rattle.impose_messages.specs.declared.finished.PaperOrigin.TheVariants as origin
+
+-- ---- messages of a finished run
+
+-- where the paper of the pages was found (RULES, 17)
+abbrev pub origin_text : PaperOrigin → List ℕ
+origin_text origin.Named = codes "as named"
+origin_text (origin.ByComment comment.DocumentMedia) = codes "by its %%DocumentMedia"
+origin_text (origin.ByComment comment.DocumentPaperSizes) = codes "by its %%DocumentPaperSizes"
+origin_text (origin.ByComment comment.BoundingBox) = codes "by its %%BoundingBox"
+origin_text (origin.ByComment comment.Setup) = codes "by its setup"
+origin_text origin.ByDefault = codes "the usual one here, as the document names none"
+origin_text origin.FirstPage = codes "that of the first page taken, as none has the document's"
+
+-- both sides of a paper, and how far something reaches, in points
+abbrev pub sides_text : (width height : ℤ) → List ℕ
+sides_text width height = points_text width ++ (codes " x " ++ points_text height)
+
+abbrev pub paper_size_text : Paper → List ℕ
+paper_size_text paper = sides_text paper.width paper.height
+
+-- how many places each sheet has, if all have equally many
+abbrev pub places_per_sheet : Layout → ℕ
+places_per_sheet (layout.NUp cells) = cells_per_sheet cells
+places_per_sheet (layout.Notes pages) = pages
+places_per_sheet (layout.Booklet signing long_edge) = 2
+places_per_sheet layout.Zine = 8
+places_per_sheet other = 0
+
+-- how many of them have no page, if all pages are taken, each once
+abbrev pub blank_count : ImposeRequest → Report → ℕ
+blank_count r report = if is_all_pages r.choice then places_per_sheet r.layout * report.sheets - report.pages else 0
+
+abbrev pub blanks_text : (blanks : ℕ) → List ℕ
+blanks_text blanks = if blanks == 0 then [] else codes ", blanks " ++ decimal blanks
+
+-- the sheets are sides of leaves of paper
+abbrev pub prints_leaves : Layout → Spacing → Bool
+prints_leaves (layout.Booklet signing long_edge) s = true
+prints_leaves (layout.Stack cells duplex) s = duplex
+prints_leaves other s = swaps_margins other s
+
+-- so many of something: a text of its own for one, or else the number with these texts before and after it
+abbrev pub count_text : (count : ℕ) → (one before behind : List ℕ) → List ℕ
+count_text count one before behind = if count == 1 then one else before ++ (decimal count ++ behind)
+
+abbrev pub leaf_count_text : (leaves : ℕ) → List ℕ
+leaf_count_text leaves = count_text leaves (codes " (1 leaf)") (codes " (") (codes " leaves)")
+
+-- how many pages, sheets and bytes there are; after the pages the blanks, and after the sheets the leaves
+abbrev pub counts_text : Report → ImposeRequest → List ℕ
+counts_text report r = codes "pages " ++ (decimal report.pages ++ (blanks_text (blank_count r report)
+    ++ (codes ", sheets " ++ (decimal report.sheets ++ ((if prints_leaves r.layout r.spacing then leaf_count_text ((report.sheets + 1) / 2) else [])
+    ++ (codes ", bytes " ++ decimal report.bytes))))))
+
+-- the size of the sheets
+abbrev pub sheet_text : (sheet : Paper) → List ℕ
+sheet_text sheet = codes "; sheets of " ++ (paper_size_text sheet ++ codes " pt")
+
+-- the size of the sheets, if another paper is named for them than the pages have
+abbrev pub sheets_text : (named : Option Paper) → (page_paper : Paper) → List ℕ
+sheets_text None page_paper = []
+sheets_text (Some sheet) page_paper = if is_same sheet page_paper then [] else sheet_text sheet
+
+-- the report: the counts, the size of the pages' paper with where it was found, and that of the sheets (RULES, 17)
+abbrev pub report_text : Finished → ImposeRequest → List ℕ
+report_text finished r = counts_text finished.report r ++ (codes "; pages of " ++ (paper_size_text finished.page_paper
+    ++ (codes " pt, " ++ (origin_text finished.origin ++ sheets_text r.sheet_paper finished.page_paper))))
+
+-- a byte of a name as it is shown: what isn't a printable one of ASCII is a question mark
+abbrev pub shown_byte : ℕ → ℕ
+shown_byte b = if nat_le 32 b && nat_le b 126 then b else 63
+
+-- as much of a name as is shown
+abbrev pub front_of : (name : List ℕ) → List ℕ
+front_of name = take (min (length name) 100) name
+
+-- a name as it is shown, with two dots if there is more
+abbrev pub shown_name : (name : List ℕ) → List ℕ
+shown_name name = if nat_lt 100 (length name) then map shown_byte (front_of name) ++ codes ".." else map shown_byte (front_of name)
+
+-- of a document whose paper has a name that isn't known, by this name as it is shown
+abbrev pub unknown_message : (shown : List ℕ) → List ℕ
+unknown_message shown = codes "the document names an unknown paper, " ++ shown
+
+-- if it has one
+abbrev pub unknown_text : (shown : Option (List ℕ)) → Option (List ℕ)
+unknown_text None = None
+unknown_text (Some shown) = Some (unknown_message shown)
+
+abbrev pub some_pages_text : (pages first last : ℕ) → List ℕ
+some_pages_text pages first last = decimal pages ++ (codes " pages from " ++ (decimal first ++ (codes " to " ++ decimal last)))
+
+-- the pages that are cut, counted from 1: one, all from the first to the last, or some of these
+abbrev pub cut_pages_text : Cut → List ℕ
+cut_pages_text cut = if cut.pages == 1 then codes "page " ++ decimal (cut.first + 1)
+    else (if cut.first + cut.pages == cut.last + 1
+    then codes "pages " ++ (decimal (cut.first + 1) ++ (codes "-" ++ decimal (cut.last + 1)))
+    else some_pages_text cut.pages (cut.first + 1) (cut.last + 1))
+
+-- the size of one that is cut, and how far several reach
+abbrev pub cut_size_text : Cut → List ℕ
+cut_size_text cut = if cut.pages == 1 then paper_size_text cut.paper else codes "up to " ++ paper_size_text cut.paper
+
+-- of pages that the paper cuts which is named for them: which pages, and both sizes
+abbrev pub cut_message : Cut → (named : Paper) → List ℕ
+cut_message cut named =
+    codes "--paper cuts " ++ (cut_pages_text cut ++ (codes ": " ++ (cut_size_text cut ++ (codes " on " ++ paper_size_text named))))
+
+-- if there are some
+abbrev pub cut_text : Option Cut → (named : Paper) → Option (List ℕ)
+cut_text None named = None
+cut_text (Some cut) named = Some (cut_message cut named)
+
+-- how many more pages reach beyond their papers
+abbrev pub others_text : (pages : ℕ) → List ℕ
+others_text pages = if pages == 0 then []
+    else count_text pages (codes ", and 1 other page beyond its own") (codes ", and ") (codes " other pages beyond theirs")
+
+-- both corners of a page
+abbrev pub corners_text : Edges → List ℕ
+corners_text e = codes "from " ++ (sides_text e.left e.bottom ++ (codes " to " ++ sides_text e.right e.top))
+
+-- how far it reaches: to its upper right corner, and from its lower left one if that is before 0
+abbrev pub edges_text : Edges → List ℕ
+edges_text e = if int_le (pos 0) e.left && int_le (pos 0) e.bottom then codes "to " ++ sides_text e.right e.top else corners_text e
+
+-- of pages that reach beyond their papers: the first one, how far it reaches, and its paper
+abbrev pub reach_message : Reach → List ℕ
+reach_message reach = codes "page " ++ (decimal (reach.first + 1) ++ (codes " reaches " ++ (edges_text reach.edges
+    ++ (codes " on " ++ (paper_size_text reach.paper ++ others_text (reach.pages - 1))))))
+
+-- if there are some
+abbrev pub reach_text : Option Reach → Option (List ℕ)
+reach_text None = None
+reach_text (Some reach) = Some (reach_message reach)
+
+-- of pages that follow the document's trailer
+abbrev pub behind_message : (pages : ℕ) → List ℕ
+behind_message pages = count_text pages (codes "1 page follows %%Trailer or %%EOF and is not imposed") (codes "")
+    (codes " pages follow %%Trailer or %%EOF and are not imposed")
+
+-- if there are some
+abbrev pub behind_text : (pages : ℕ) → Option (List ℕ)
+behind_text pages = if pages == 0 then None else Some (behind_message pages)
+
+-- of a document that says another number of its pages than were found: both
+abbrev pub told_message : (told found : ℕ) → List ℕ
+told_message told found = codes "the document says "
+    ++ (count_text told (codes "1 page") (codes "") (codes " pages") ++ (codes ", "
+    ++ (count_text found (codes "1 was found") (codes "") (codes " were found") ++ codes ": is it complete?")))
+
+-- if it says one
+abbrev pub told_text : (told : Option ℕ) → (found : ℕ) → Option (List ℕ)
+told_text None found = None
+told_text (Some told) found = if told == found then None else Some (told_message told found)
+
+-- a file is named as a PDF
+abbrev pub is_pdf_name : (name : List ℕ) → Bool
+is_pdf_name name = ends_with nat_eq name (codes ".pdf") || ends_with nat_eq name (codes ".PDF")
+
+-- that a file named as a PDF isn't one, with what makes one of this name as it is shown
+abbrev pub note_text : (shown : List ℕ) → List ℕ
+note_text shown = shown
+    ++ (codes " holds PostScript, not a PDF; for a PDF use: impose .. | ps2pdf -dAutoRotatePages=/None - " ++ shown)
+
+abbrev pub IsNoteIf : (noted : Bool) → (message : Option (List ℕ)) → Type 0
+IsNoteIf false message = message ≡ None
+IsNoteIf true message = (shown : List ℕ) × (message ≡ Some (note_text shown))
+
+-- that the output isn't a PDF, if it is named as one
+abbrev pub IsNote : (outfile : Option (List ℕ)) → (message : Option (List ℕ)) → Type 0
+IsNote None message = message ≡ None
+IsNote (Some name) message = IsNoteIf (is_pdf_name name) message
+
+-- ---- the message of sheets without room for pages
+
+-- two lengths of so many 10^-5 of a point
+abbrev pub lengths_text : (across up : ℕ) → List ℕ
+lengths_text across up = sides_text (pos (1_270_000 * across)) (pos (1_270_000 * up))
+
+-- what so many leave of a side, in grains
+abbrev pub left_of : (side : ℤ) → (taken : ℕ) → ℕ
+left_of side taken = nat_abs side - 1_270_000 * taken
+
+-- something is left of both sides
+abbrev pub leaves_some : Room → Bool
+leaves_some room = nat_lt 0 (left_of room.paper.width (room.left + room.right)) && nat_lt 0 (left_of room.paper.height (room.bottom + room.top))
+
+-- then gaps leave nothing of that
+abbrev pub gaps_text : Room → List ℕ
+gaps_text room = if leaves_some room then codes ", and gaps of " ++ (lengths_text room.gutter_across room.gutter_up ++ codes " pt none of that") else []
+
+-- how much the margins along opposite edges are, and what they leave of the sheet
+abbrev pub no_room_text : Room → List ℕ
+no_room_text room = let across = room.left + room.right in let up = room.bottom + room.top in
+    codes "margins of " ++ (lengths_text across up ++ (codes " pt leave "
+    ++ (sides_text (pos (left_of room.paper.width across)) (pos (left_of room.paper.height up)) ++ (codes " of a sheet of "
+    ++ (paper_size_text room.paper ++ (codes " pt" ++ (gaps_text room ++ codes ": take smaller ones, or a larger sheet")))))))
+
+-- ---- lines
+
+-- a line of the program
+abbrev pub message_line : (message : List ℕ) → List ℕ
+message_line message = line (codes "impose: " ++ message)
+
+-- that of a message, if there is one
+abbrev pub line_of : (message : Option (List ℕ)) → List ℕ
+line_of None = []
+line_of (Some message) = message_line message
+
+-- the same, but without memory for it there is nothing
+abbrev pub IsLineOf : (message : Option (List ℕ)) → (text : List ℕ) → Type 0
+IsLineOf message text = (text ≡ []) ⊎ (text ≡ line_of message)
+
+-- the line of a message of which this holds, if there is memory for it
+abbrev pub MaySay : (List ℕ → Type 0) → (text : List ℕ) → Type 0
+MaySay Holds text = (text ≡ []) ⊎ ((message : List ℕ) × Holds message × (text ≡ message_line message))
+
+-- the line of a message that was to be made: without memory for it there is nothing
+abbrev pub IsMadeLine : {E : Type 0} → Result (String Global) E → (text : List ℕ) → Type 0
+IsMadeLine (Ok message) text = IsLineOf (Some (string_bytes message)) text
+IsMadeLine (Err e) text = text ≡ []
+
+-- a text of which this holds comes after what was said before
+abbrev pub AddsText : (List ℕ → Type 0) → (before after : List ℕ) → Type 0
+AddsText Holds before after = (text : List ℕ) × Holds text × (after ≡ before ++ text)
+
+-- ---- all of it
+
+-- Of a finished run six lines are said, in this order: the report, then that the document names an unknown paper, that pages are
+-- cut, that pages reach beyond their papers, that pages follow the trailer, and that not as many were found as the document says
+abbrev pub run_lines : Finished → ImposeRequest → List ℕ
+run_lines finished r =
+    line_of (Some (report_text finished r)) ++ line_of (unknown_text finished.told.unknown)
+    ++ line_of (cut_text finished.cut finished.page_paper) ++ line_of (reach_text finished.reach) ++ line_of (behind_text finished.behind)
+    ++ line_of (told_text finished.told.pages finished.report.pages)
+
+-- a line that the output is no PDF comes after what was said before, if the output is named as one
+abbrev pub AddsNote : (outfile : Option (List ℕ)) → (before after : List ℕ) → Type 0
+AddsNote outfile before after = (note : Option (List ℕ)) × IsNote outfile note × (after ≡ before ++ line_of note)
+
+-- A quiet request says nothing. Of another nothing is left out.
+abbrev pub SaysUnless : (quiet : Bool) → Finished → ImposeRequest → (text : List ℕ) → Type 0
+SaysUnless true finished r text = text ≡ []
+SaysUnless false finished r text = AddsNote (option_map string_bytes r.outfile) (run_lines finished r) text
+
+abbrev pub SaysRun : Finished → ImposeRequest → (text : List ℕ) → Type 0
+SaysRun finished r text = SaysUnless r.is_quiet finished r text
+
+-- of words that ask for help or for the version nothing is said
+abbrev pub SaysWords : WordsError → (text : List ℕ) → Type 0
+SaysWords error text = words_status (kind_of error) ≡ 0 → text ≡ []
+
+-- the pipe into which the output goes was closed
+abbrev pub is_pipe : ErrorKind → Bool
+is_pipe BrokenPipe = true
+is_pipe _ = false
+
+abbrev pub is_broken_pipe : ImposeFault → Bool
+is_broken_pipe (fault.Write written (Some cause)) = is_pipe (error_kind cause)
+is_broken_pipe other = false
+
+-- a line with some message, or nothing
+abbrev pub SaysOneUnless : (silent : Bool) → (text : List ℕ) → Type 0
+SaysOneUnless true text = text ≡ []
+SaysOneUnless false text = MaySay (λ message. ⊤) text
+
+-- What is said of a fault is one message; nothing, if whoever reads the output has closed it.
+abbrev pub SaysFault : ImposeFault → (text : List ℕ) → Type 0
+SaysFault (fault.Command (command.Words error)) text = SaysWords error text
+SaysFault other text = SaysOneUnless (is_broken_pipe other) text
+
+-- what is said of how the program ended; of what was made in place of sheets nothing is
+abbrev pub SaysEnding : Result Done ImposeFault → Option ImposeRequest → (text : List ℕ) → Type 0
+SaysEnding (Ok (done.Imposed finished)) (Some r) text = SaysRun finished r text
+SaysEnding (Ok (done.Imposed finished)) None text = text ≡ []
+SaysEnding (Ok done.Printed) r text = text ≡ []
+SaysEnding (Ok done.Shown) r text = text ≡ []
+SaysEnding (Err f) r text = SaysFault f text

@@ -1,0 +1,77 @@
+//! What an input is that is no document.
+ghost use Rattle.std.specs.Prelude.{◌≡◌};
+ghost use Rattle.impose_messages.specs.Inputs.{is_eps as eps, refused_document as document_fault, of_other_input, of_unpacked, packing_of as packed_by};
+
+use crate::fault::{Compression, ImposeFault};
+use dsc::DscError;
+use imposer::RunError;
+
+/// A document's refusal. What is empty, a PDF, compressed or a job for a printer is called so, and so is an EPS without pages;
+/// and what is too long by itself, as a guard may make it so later.
+pub fn refused_document(error: DscError, input: &[u8]) -> ImposeFault
+    ensures { result ≡ document_fault error input.now }
+{
+    match error {
+        DscError::NotPostScript => not_postscript(input),
+        DscError::TooLong => ImposeFault::TooLong,
+        DscError::NoPages if is_eps(input) => ImposeFault::Eps,
+        error => ImposeFault::Run(RunError::from(error)),
+    }
+}
+
+fn not_postscript(input: &[u8]) -> ImposeFault
+    ensures { result ≡ of_other_input input.now }
+{
+    if input.is_empty() {
+        ImposeFault::NoInput
+    } else if input.starts_with(b"%PDF-") {
+        ImposeFault::Pdf
+    } else {
+        match packing_of(input) {
+            Some(packing) => ImposeFault::Compressed(packing),
+            None => unpacked_fault(input),
+        }
+    }
+}
+
+/// The same of one that is neither empty, a PDF nor compressed.
+fn unpacked_fault(input: &[u8]) -> ImposeFault
+    ensures { result ≡ of_unpacked input.now }
+{
+    if input.starts_with(b"\x1b%-12345X") {
+        ImposeFault::JobLanguage
+    } else if input.starts_with(b"\xc5\xd0\xd3\xc6") {
+        ImposeFault::DosEps
+    } else if input.starts_with(b"\xff\xfe") || input.starts_with(b"\xfe\xff") {
+        ImposeFault::Utf16
+    } else {
+        ImposeFault::Run(RunError::Document(DscError::NotPostScript))
+    }
+}
+
+/// Whether an input is a drawing to be put into a page of a document, by its first line.
+fn is_eps(input: &[u8]) -> bool
+    ensures { result ≡ eps input.now }
+{
+    input.starts_with(b"%!PS-Adobe-2.0 EPSF-")
+        || input.starts_with(b"%!PS-Adobe-2.1 EPSF-")
+        || input.starts_with(b"%!PS-Adobe-3.0 EPSF-")
+        || input.starts_with(b"%!PS-Adobe-3.1 EPSF-")
+}
+
+/// By what an input is compressed, as its first bytes show.
+fn packing_of(input: &[u8]) -> Option<Compression>
+    ensures { result ≡ packed_by input.now }
+{
+    if input.starts_with(b"\x1f\x8b") {
+        Some(Compression::Gzip)
+    } else if input.starts_with(b"BZh") {
+        Some(Compression::Bzip2)
+    } else if input.starts_with(b"\xfd7zXZ\0") {
+        Some(Compression::Xz)
+    } else if input.starts_with(b"PK\x03\x04") {
+        Some(Compression::Zip)
+    } else {
+        None
+    }
+}

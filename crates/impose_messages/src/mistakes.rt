@@ -1,0 +1,253 @@
+//! What is said of words that the command doesn't take.
+use crate::clap_text::{POINTER, USAGE, is_tip_left_out, option_meant, refused_word};
+use crate::other_programs::{FOR_COMMANDS, OF_OTHERS};
+use crate::shown::{is_shown_whole, joined_texts, push_all, push_shown, shown_word};
+use crate::tips::{
+    FOR_BOOKLETS, FOR_SELECTIONS, FOR_SPECIFICATIONS, MISSING, OF_COMMANDS, SIGNS, tip_in,
+};
+use clap::Error;
+use clap::error::ErrorKind;
+use std::alloc::{AllocError, Global};
+use strsim::osa_distance;
+
+/// The message about words that the command doesn't take, of which the first is the program's name: clap's text, with a tip on
+/// the word that it refuses in place of its own. No control character of a word is left, and long words are cut.
+pub fn words_text(alloc: Global, error: &Error, words: &[String]) -> Result<String, AllocError> {
+    let mut text = format!(in alloc; "{error}")?;
+    for word in words {
+        let word = word.as_str();
+        text = with_shown(alloc, text, word)?;
+        // What comes after an equals sign, or after a letter, is shown for itself.
+        text = match word.split_once("=") {
+            Some((_, value)) => with_shown(alloc, text, value)?,
+            None => with_shown(alloc, text, word.strip_prefix("-p").unwrap_or(word))?,
+        };
+    }
+    let text = text.as_str();
+    match tip(error.kind(), text, words) {
+        Some(tip) => with_tip(alloc, text, tip, option_meant(text).is_none()),
+        None => {
+            let tip = likeness(alloc, error.kind(), text)?;
+            let keeps_usage = option_meant(text).is_none() || !tip.is_empty();
+            with_tip(alloc, text, tip.as_str(), keeps_usage)
+        }
+    }
+}
+
+/// The text with a word in it as it is shown.
+fn with_shown(alloc: Global, text: String, word: &str) -> Result<String, AllocError> {
+    if is_shown_whole(word) {
+        return Ok(text);
+    }
+    let shown = shown_word(alloc, word)?;
+    text.as_str().replace(alloc, word, shown.as_str())
+}
+
+/// Clap's text with this tip, if it isn't empty, above the usage, or the last line if there is none.
+fn with_tip(alloc: Global, text: &str, tip: &str, keeps_usage: bool) -> Result<String, AllocError> {
+    let mut out = String::new(alloc);
+    let mut is_told = tip.is_empty();
+    let mut is_behind_blank = false;
+    for line in text.lines() {
+        let is_usage = line.starts_with(USAGE);
+        if is_tip_left_out(line) || line.is_empty() && is_behind_blank || is_usage && !keeps_usage {
+            continue;
+        }
+        if !is_told && (is_usage || line.starts_with(POINTER)) {
+            push_all(&mut out, &["  tip: ", tip, "\n\n"])?;
+            is_told = true;
+        }
+        for letter in line.chars() {
+            push_shown(&mut out, letter)?;
+        }
+        out.push('\n')?;
+        is_behind_blank = line.is_empty();
+    }
+    Ok(out)
+}
+
+/// That a command or an option is like the word that is refused, or nothing.
+fn likeness(alloc: Global, kind: ErrorKind, text: &str) -> Result<String, AllocError> {
+    let word = refused_word(text);
+    let (what, like) = match kind {
+        ErrorKind::InvalidSubcommand => ("subcommand", nearest_command(alloc, word)?),
+        ErrorKind::UnknownArgument => ("argument", option_meant(text)),
+        _ => ("", None),
+    };
+    match like {
+        Some(name) if distance(alloc, word, name)?.is_some() => {
+            joined_texts(alloc, &["a similar ", what, " exists: '", name, "'"])
+        }
+        _ => Ok(String::new(alloc)),
+    }
+}
+
+/// The names of the commands.
+const COMMANDS: [&str; 9] = [
+    "nup", "booklet", "zine", "cards", "stack", "notes", "poster", "select", "spec",
+];
+
+/// The command whose name is like the word, the nearest first.
+fn nearest_command(alloc: Global, word: &str) -> Result<Option<&'static str>, AllocError> {
+    let mut nearest = None;
+    let mut least = usize::MAX;
+    for name in COMMANDS {
+        if let Some(distance) = distance(alloc, word, name)? {
+            if distance < least {
+                nearest = Some(name);
+                least = distance;
+            }
+        }
+    }
+    Ok(nearest)
+}
+
+/// How many letters of a word that is like a name are missing, too many, others or exchanged: at most a third of them.
+fn distance(alloc: Global, word: &str, name: &str) -> Result<Option<usize>, AllocError> {
+    let word = word.strip_prefix("--").unwrap_or(word);
+    let name = name.strip_prefix("--").unwrap_or(name);
+    if word.eq_ignore_ascii_case(name) {
+        return Ok(Some(0));
+    }
+    if word.len() > MOST_COMPARED {
+        return Ok(None);
+    }
+    let distance = osa_distance(alloc, word, name)?;
+    if distance <= word.len() / 3 {
+        Ok(Some(distance))
+    } else {
+        Ok(None)
+    }
+}
+
+/// Longer words are like no name.
+const MOST_COMPARED: usize = 30;
+
+/// The cure for a mistake of this kind in these words, if more can be said than clap says.
+fn tip(kind: ErrorKind, text: &str, words: &[String]) -> Option<&'static str> {
+    let [_, command, behind @ ..] = words else {
+        return None;
+    };
+    let command = command.as_str();
+    let word = refused_word(text);
+    match kind {
+        ErrorKind::InvalidSubcommand => tip_on_command(word),
+        ErrorKind::UnknownArgument if !is_command(command) => tip_on_command(word),
+        ErrorKind::UnknownArgument if word.starts_with("-") => {
+            tip_on_option(command, behind, word)
+        }
+        ErrorKind::UnknownArgument => Some(tip_on_file(command, behind)),
+        ErrorKind::MissingRequiredArgument => tip_in(MISSING.as_slice(), command),
+        _ => None,
+    }
+}
+
+fn is_command(word: &str) -> bool {
+    COMMANDS.iter().any(|name| *name == word)
+}
+
+/// A word that is in the place of the command.
+fn tip_on_command(word: &str) -> Option<&'static str> {
+    if word.starts_with("-") {
+        Some("options come after the command, as in: impose nup 2 -q in.ps out.ps")
+    } else if looks_like_file(word) {
+        Some("a command comes before the files, as in: impose booklet in.ps out.ps")
+    } else if begins_with_digit(word) {
+        Some("a command comes before its number, as in: impose nup 2 in.ps out.ps")
+    } else if is_command_and_number(word) {
+        Some("a blank is between a command and its number, as in: impose nup 2 in.ps out.ps")
+    } else {
+        tip_in(FOR_COMMANDS.as_slice(), word)
+    }
+}
+
+pub(crate) fn begins_with_digit(word: &str) -> bool {
+    word.starts_with(|letter: char| letter.is_ascii_digit())
+}
+
+fn is_command_and_number(word: &str) -> bool {
+    COMMANDS.iter().any(|name| match word.strip_prefix(*name) {
+        Some(rest) => begins_with_digit(rest),
+        None => false,
+    })
+}
+
+/// An option that there isn't.
+fn tip_on_option(command: &str, behind: &[String], word: &str) -> Option<&'static str> {
+    let (before, whole) = in_place(behind, word);
+    let value = whole.strip_prefix("-").unwrap_or("");
+    if begins_with_digit(value) || value.starts_with(".") {
+        let on_option = tip_in(SIGNS.as_slice(), before);
+        return on_option.or(tip_in(SIGNS.as_slice(), command));
+    }
+    let own = match command {
+        "booklet" => tip_in(FOR_BOOKLETS.as_slice(), word),
+        "select" => tip_in(FOR_SELECTIONS.as_slice(), word),
+        "spec" => tip_in(FOR_SPECIFICATIONS.as_slice(), word),
+        _ => None,
+    };
+    if own.is_some() {
+        return own;
+    }
+    if word == "-o" || word.starts_with("--out") {
+        return Some(
+            "the sheets go to the second file, without an option: impose nup 2 in.ps out.ps",
+        );
+    }
+    if looks_like_file(whole) && !whole.contains("=") {
+        return Some("a file whose name begins with a minus is written with its folder: ./-in.ps");
+    }
+    let others = tip_in(OF_COMMANDS.as_slice(), word);
+    others.or(tip_in(OF_OTHERS.as_slice(), word))
+}
+
+/// The word before an option that clap names so, and the whole word in which it is: `-d1` for `-d`, `--frame=1` for `--frame`.
+/// Both are empty if it is among other letters, as `-d` in `-qd1`.
+fn in_place<'w>(behind: &'w [String], option: &str) -> (&'w str, &'w str) {
+    let mut before = "";
+    for word in behind {
+        let word = word.as_str();
+        if let Some(rest) = word.strip_prefix(option) {
+            if !option.starts_with("--") || rest.is_empty() || rest.starts_with("=") {
+                return (before, word);
+            }
+        }
+        before = word;
+    }
+    ("", "")
+}
+
+/// A word more than there are files.
+fn tip_on_file(command: &str, behind: &[String]) -> &'static str {
+    let first = behind.first().map_or("", |word| word.as_str());
+    let ranges = behind.iter().filter(|word| is_range(word.as_str())).count();
+    if matches!(command, "booklet" | "zine") && is_range(first) {
+        "no number comes after booklet or zine, as in: impose zine in.ps out.ps; leaves are folded some at a time by --signature 16"
+    } else if command == "select" && ranges > 1 {
+        "ranges are one word, as in: impose select 1,3,5-8 in.ps out.ps"
+    } else if ranges > 1 && behind.iter().any(|word| word.as_str() == "--pages") {
+        "ranges are one word, as in: --pages 1,3,5-8"
+    } else if behind
+        .iter()
+        .any(|word| matches!(word.as_str(), "pt" | "mm" | "cm" | "in"))
+    {
+        "a number and its unit are one word, as in: --gap 5mm"
+    } else {
+        "there are two files at most, INFILE and OUTFILE; put a name with blanks in quotes"
+    }
+}
+
+/// Whether a word is more likely a range of pages, or a number, than anything else.
+pub(crate) fn is_range(word: &str) -> bool {
+    word.chars().any(|letter| letter.is_ascii_digit())
+        && word.chars().all(|letter| letter.is_ascii_digit() || matches!(letter, '-' | ',' | '_'))
+}
+
+/// Whether a word is more likely the name of a file than anything else.
+pub(crate) fn looks_like_file(word: &str) -> bool {
+    word.ends_with(".ps")
+        || word.ends_with(".eps")
+        || word.ends_with(".pdf")
+        || word.ends_with(".gz")
+        || word.contains("/")
+}

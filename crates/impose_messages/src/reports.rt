@@ -1,0 +1,363 @@
+//! What is said of a finished run.
+ghost use Rattle.std.specs.Prelude.{◌≡◌, ◌+◌, ◌/◌, ◌≤◌, ◌++◌, if◌then◌else◌, [], length};
+ghost use Rattle.impose_messages.specs.Rooms.{most_said};
+ghost use Rattle.impose_messages.specs.Said.{prints_leaves as are_sides_of, behind_message, blank_count as blanks_in, blanks_text, count_text, counts_text};
+ghost use Rattle.impose_messages.specs.Said.{corners_text, cut_message, cut_pages_text, cut_size_text, edges_text, leaf_count_text, note_text};
+ghost use Rattle.impose_messages.specs.Said.{origin_text as text_of_origin, others_text, places_per_sheet as places_in, reach_message, report_text};
+ghost use Rattle.impose_messages.specs.Said.{sheet_text, sheets_text, sides_text, paper_size_text, some_pages_text, told_message, unknown_message};
+
+use crate::finished::{Finished, PaperOrigin};
+use crate::report_text::ReportText;
+use crate::shown::ShownName;
+use impose_words::{ImposeRequest, Layout};
+use imposer::Report;
+use layouts::is_of_size;
+use lengths::{Grains, Paper};
+use papers::{Comment, Cut, Edges, Reach};
+
+/// The report.
+pub(crate) fn push_report(said: &mut ReportText, done: &Finished, request: &ImposeRequest)
+    requires room { length said.old + 649 ≤ most_said }
+    ensures text { said.new ≡ said.old ++ report_text done.now request.now }
+    ensures short { length said.new ≤ length said.old + 649 }
+{
+    push_counts(said, &done.report, request);
+    said.push(b"; pages of ");
+    push_size(said, &done.page_paper);
+    said.push(b" pt, ");
+    said.push(origin_text(done.origin));
+    push_sheets(said, &request.sheet_paper, &done.page_paper);
+}
+
+/// The size of the sheets, if another paper is named for them than the pages have.
+fn push_sheets(said: &mut ReportText, named: &Option<Paper>, page_paper: &Paper)
+    requires room { length said.old + 118 ≤ most_said }
+    ensures text { said.new ≡ said.old ++ sheets_text named.now page_paper.now }
+    ensures short { length said.new ≤ length said.old + 118 }
+{
+    match named {
+        Some(sheet) if !is_of_size(sheet, page_paper) => push_sheet(said, sheet),
+        _ => {}
+    }
+}
+
+/// The size of the sheets.
+fn push_sheet(said: &mut ReportText, sheet: &Paper)
+    requires room { length said.old + 118 ≤ most_said }
+    ensures text { said.new ≡ said.old ++ sheet_text sheet.now }
+    ensures short { length said.new ≤ length said.old + 118 }
+{
+    said.push(b"; sheets of ");
+    push_size(said, sheet);
+    said.push(b" pt");
+}
+
+/// The numbers of pages, blanks, sheets, leaves and bytes.
+fn push_counts(said: &mut ReportText, report: &Report, request: &ImposeRequest)
+    requires room { length said.old + 352 ≤ most_said }
+    ensures text { said.new ≡ said.old ++ counts_text report.now request.now }
+    ensures short { length said.new ≤ length said.old + 352 }
+{
+    said.push(b"pages ");
+    said.push_number(u128::from(report.pages));
+    push_blanks(said, blanks_of(request, report));
+    said.push(b", sheets ");
+    said.push_number(u128::from(report.sheets));
+    push_leaves(said, request, report.sheets);
+    said.push(b", bytes ");
+    said.push_number(u128::from(report.bytes));
+}
+
+/// The number of places without a page, where all sheets have equally many and each page has one.
+fn blanks_of(request: &ImposeRequest, report: &Report) -> u128
+    ensures { result ≡ blanks_in request.now report.now }
+{
+    if !request.choice.is_whole() {
+        return 0;
+    }
+    let places = u128::from(places_on(&request.layout)) * u128::from(report.sheets);
+    places.saturating_sub(u128::from(report.pages))
+}
+
+/// The number of places of a sheet, where all have equally many.
+fn places_on(layout: &Layout) -> u64
+    ensures { result ≡ places_in layout.now }
+{
+    match layout {
+        Layout::NUp(cells) => cells.count(),
+        Layout::Notes { pages } => u64::from(*pages),
+        Layout::Booklet { .. } => 2,
+        Layout::Zine => 8,
+        Layout::Cards(_) | Layout::Stack { .. } | Layout::Poster { .. } | Layout::Selection => 0,
+        Layout::Spec(_) | Layout::SpecRow { .. } => 0,
+    }
+}
+
+fn push_blanks(said: &mut ReportText, blanks: u128)
+    requires room { length said.old + 49 ≤ most_said }
+    ensures text { said.new ≡ said.old ++ blanks_text blanks }
+    ensures short { length said.new ≤ length said.old + 49 }
+{
+    if blanks == 0 {
+        return;
+    }
+    said.push(b", blanks ");
+    said.push_number(blanks);
+}
+
+/// The number of leaves of paper, where sheets are printed on both sides.
+fn push_leaves(said: &mut ReportText, request: &ImposeRequest, sheets: u32)
+    requires room { length said.old + 160 ≤ most_said }
+    ensures text { said.new ≡ said.old ++ (if are_sides_of request.now.layout request.now.spacing
+        then leaf_count_text ((sheets + 1) / 2) else []) }
+    ensures short { length said.new ≤ length said.old + 160 }
+{
+    if !prints_leaves(request) {
+        return;
+    }
+    let leaves = (u64::from(sheets) + 1) / 2;
+    push_counted(said, u128::from(leaves), b" (1 leaf)", b" (", b" leaves)");
+}
+
+/// A number of things: a text of its own for one, or else the number with these texts before and after it.
+fn push_counted(said: &mut ReportText, count: u128, one: &[u8], before: &[u8], behind: &[u8])
+    requires few { length one.now + length before.now + length behind.now ≤ 120 }
+    requires room { length said.old + 160 ≤ most_said }
+    ensures text { said.new ≡ said.old ++ count_text count one.now before.now behind.now }
+    ensures short { length said.new ≤ length said.old + 160 }
+{
+    match count {
+        1 => said.push(one),
+        _ => {
+            said.push(before);
+            said.push_number(count);
+            said.push(behind);
+        }
+    }
+}
+
+/// Whether sheets are the sides of leaves.
+fn prints_leaves(request: &ImposeRequest) -> bool
+    ensures { result ≡ are_sides_of request.now.layout request.now.spacing }
+{
+    match &request.layout {
+        Layout::Booklet { .. } => true,
+        Layout::Stack { duplex, .. } => *duplex,
+        Layout::NUp(_) | Layout::Cards(_) | Layout::Notes { .. } => request.swaps_margins(),
+        Layout::Poster { .. } | Layout::Zine | Layout::Selection => request.swaps_margins(),
+        Layout::Spec(_) | Layout::SpecRow { .. } => request.swaps_margins(),
+    }
+}
+
+/// Both sides of a paper, in points.
+fn push_size(said: &mut ReportText, paper: &Paper)
+    requires room { length said.old + 103 ≤ most_said }
+    ensures text { said.new ≡ said.old ++ paper_size_text paper.now }
+    ensures short { length said.new ≤ length said.old + 103 }
+{
+    push_sides(said, paper.width(), paper.height());
+}
+
+fn push_sides(said: &mut ReportText, width: Grains, height: Grains)
+    requires room { length said.old + 103 ≤ most_said }
+    ensures text { said.new ≡ said.old ++ sides_text width height }
+    ensures short { length said.new ≤ length said.old + 103 }
+{
+    said.push_points(width);
+    said.push(b" x ");
+    said.push_points(height);
+}
+
+/// That the document's paper has a name that isn't known.
+pub(crate) fn push_unknown(said: &mut ReportText, name: &ShownName)
+    requires room { length said.old + 141 ≤ most_said }
+    ensures text { said.new ≡ said.old ++ unknown_message name.now }
+    ensures short { length said.new ≤ length said.old + 141 }
+{
+    said.push(b"the document names an unknown paper, ");
+    said.push(name.as_slice());
+}
+
+/// Which pages the paper cuts that is named for them.
+pub(crate) fn push_cut(said: &mut ReportText, cut: &Cut, named: &Paper)
+    requires room { length said.old + 367 ≤ most_said }
+    ensures text { said.new ≡ said.old ++ cut_message cut.now named.now }
+    ensures short { length said.new ≤ length said.old + 367 }
+{
+    said.push(b"--paper cuts ");
+    push_cut_pages(said, cut);
+    said.push(b": ");
+    push_cut_size(said, cut);
+    said.push(b" on ");
+    push_size(said, named);
+}
+
+/// The pages that are cut, counted from 1.
+fn push_cut_pages(said: &mut ReportText, cut: &Cut)
+    requires room { length said.old + 136 ≤ most_said }
+    ensures text { said.new ≡ said.old ++ cut_pages_text cut.now }
+    ensures short { length said.new ≤ length said.old + 136 }
+{
+    let first = page_number(cut.first);
+    let last = page_number(cut.last);
+    if cut.pages == 1 {
+        said.push(b"page ");
+        said.push_number(first);
+    } else if cut.first as u128 + cut.pages as u128 == last {
+        said.push(b"pages ");
+        said.push_number(first);
+        said.push(b"-");
+        said.push_number(last);
+    } else {
+        push_some_pages(said, cut.pages, first, last);
+    }
+}
+
+/// A number of pages, from the first to the last of them.
+fn push_some_pages(said: &mut ReportText, pages: usize, first: u128, last: u128)
+    requires room { length said.old + 136 ≤ most_said }
+    ensures text { said.new ≡ said.old ++ some_pages_text pages first last }
+    ensures short { length said.new ≤ length said.old + 136 }
+{
+    said.push_number(pages as u128);
+    said.push(b" pages from ");
+    said.push_number(first);
+    said.push(b" to ");
+    said.push_number(last);
+}
+
+/// A page that is counted from 0, counted from 1.
+fn page_number(page: usize) -> u128
+    ensures { result ≡ page + 1 }
+{
+    page as u128 + 1
+}
+
+/// The size of a page that is cut; of several, so far they reach.
+fn push_cut_size(said: &mut ReportText, cut: &Cut)
+    requires room { length said.old + 109 ≤ most_said }
+    ensures text { said.new ≡ said.old ++ cut_size_text cut.now }
+    ensures short { length said.new ≤ length said.old + 109 }
+{
+    if cut.pages != 1 {
+        said.push(b"up to ");
+    }
+    push_size(said, &cut.paper);
+}
+
+/// The first page that reaches beyond the paper by which it is placed, and how many more there are.
+pub(crate) fn push_reach(said: &mut ReportText, reach: &Reach)
+    requires room { length said.old + 536 ≤ most_said }
+    ensures text { said.new ≡ said.old ++ reach_message reach.now }
+    ensures short { length said.new ≤ length said.old + 536 }
+{
+    said.push(b"page ");
+    said.push_number(page_number(reach.first));
+    said.push(b" reaches ");
+    push_edges(said, &reach.edges);
+    said.push(b" on ");
+    push_size(said, &reach.paper);
+    push_others(said, reach.pages.saturating_sub(1));
+}
+
+/// How far a page reaches: to the upper right corner, and from the lower left one if that is before 0.
+fn push_edges(said: &mut ReportText, edges: &Edges)
+    requires room { length said.old + 215 ≤ most_said }
+    ensures text { said.new ≡ said.old ++ edges_text edges.now }
+    ensures short { length said.new ≤ length said.old + 215 }
+{
+    if edges.left.get() >= 0 && edges.bottom.get() >= 0 {
+        said.push(b"to ");
+        push_sides(said, edges.right, edges.top);
+    } else {
+        push_corners(said, edges);
+    }
+}
+
+/// How far a page reaches: from the lower left corner to the upper right one.
+fn push_corners(said: &mut ReportText, edges: &Edges)
+    requires room { length said.old + 215 ≤ most_said }
+    ensures text { said.new ≡ said.old ++ corners_text edges.now }
+    ensures short { length said.new ≤ length said.old + 215 }
+{
+    said.push(b"from ");
+    push_sides(said, edges.left, edges.bottom);
+    said.push(b" to ");
+    push_sides(said, edges.right, edges.top);
+}
+
+/// The number of other pages that reach beyond their papers.
+fn push_others(said: &mut ReportText, pages: usize)
+    requires room { length said.old + 160 ≤ most_said }
+    ensures text { said.new ≡ said.old ++ others_text pages }
+    ensures short { length said.new ≤ length said.old + 160 }
+{
+    if pages == 0 {
+        return;
+    }
+    push_counted(
+        said,
+        pages as u128,
+        b", and 1 other page beyond its own",
+        b", and ",
+        b" other pages beyond theirs",
+    );
+}
+
+/// How many pages follow the document's trailer.
+pub(crate) fn push_behind(said: &mut ReportText, pages: usize)
+    requires room { length said.old + 160 ≤ most_said }
+    ensures text { said.new ≡ said.old ++ behind_message pages }
+    ensures short { length said.new ≤ length said.old + 160 }
+{
+    push_counted(
+        said,
+        pages as u128,
+        b"1 page follows %%Trailer or %%EOF and is not imposed",
+        b"",
+        b" pages follow %%Trailer or %%EOF and are not imposed",
+    );
+}
+
+/// How many pages the document says that it has, and how many were found.
+pub(crate) fn push_told(said: &mut ReportText, told: usize, found: usize)
+    requires room { length said.old + 357 ≤ most_said }
+    ensures text { said.new ≡ said.old ++ told_message told found }
+    ensures short { length said.new ≤ length said.old + 357 }
+{
+    said.push(b"the document says ");
+    push_counted(said, told as u128, b"1 page", b"", b" pages");
+    said.push(b", ");
+    push_counted(said, found as u128, b"1 was found", b"", b" were found");
+    said.push(b": is it complete?");
+}
+
+/// That a file of this name, as it is shown, isn't a PDF.
+pub(crate) fn push_note(said: &mut ReportText, name: &str)
+    requires few { length name.now ≤ 1_002 }
+    requires room { length said.old + 2_191 ≤ most_said }
+    ensures text { said.new ≡ said.old ++ note_text name.now }
+    ensures short { length said.new ≤ length said.old + 2_191 }
+{
+    said.push(name.as_bytes());
+    said.push(
+        b" holds PostScript, not a PDF; for a PDF use: impose .. | ps2pdf -dAutoRotatePages=/None - ",
+    );
+    said.push(name.as_bytes());
+}
+
+/// Where the paper of the pages was found.
+fn origin_text(origin: PaperOrigin) -> &'static [u8]
+    ensures value { result.now ≡ text_of_origin origin }
+    ensures short { length result.now ≤ 60 }
+{
+    match origin {
+        PaperOrigin::Named => b"as named",
+        PaperOrigin::ByComment(Comment::DocumentMedia) => b"by its %%DocumentMedia",
+        PaperOrigin::ByComment(Comment::DocumentPaperSizes) => b"by its %%DocumentPaperSizes",
+        PaperOrigin::ByComment(Comment::BoundingBox) => b"by its %%BoundingBox",
+        PaperOrigin::ByComment(Comment::Setup) => b"by its setup",
+        PaperOrigin::ByDefault => b"the usual one here, as the document names none",
+        PaperOrigin::FirstPage => b"that of the first page taken, as none has the document's",
+    }
+}

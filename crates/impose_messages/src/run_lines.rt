@@ -1,0 +1,139 @@
+//! The lines of a finished run.
+ghost use Rattle.std.specs.Prelude.{◌≡◌, ◌+◌, ◌≤◌, ◌++◌, Some, length, option_map, string_bytes};
+ghost use Rattle.impose_messages.specs.Rooms.{most_said};
+ghost use Rattle.impose_messages.specs.Said.{AddsNote, behind_text, cut_text, is_pdf_name as names_pdf, line_of, note_text as text_of_note};
+ghost use Rattle.impose_messages.specs.Said.{reach_text, report_text, run_lines, told_text, unknown_text};
+
+use crate::finished::Finished;
+use crate::report_text::ReportText;
+use crate::reports::{
+    push_behind, push_cut, push_note, push_reach, push_report, push_told, push_unknown,
+};
+use crate::shown::{ShownName, shown_in_place};
+use impose_words::ImposeRequest;
+use lengths::Paper;
+use papers::{Cut, Reach};
+
+/// The lines of a finished run, but for the one on its output's name.
+pub(crate) fn push_lines(said: &mut ReportText, done: &Finished, request: &ImposeRequest)
+    requires room { length said.old + 2_264 ≤ most_said }
+    ensures text { said.new ≡ said.old ++ run_lines done.now request.now }
+    ensures short { length said.new ≤ length said.old + 2_264 }
+{
+    push_report_line(said, done, request);
+    push_unknown_line(said, &done.told.unknown);
+    push_cut_line(said, &done.cut, &done.page_paper);
+    push_reach_line(said, &done.reach);
+    push_behind_line(said, done.behind);
+    push_told_line(said, done.told.pages, done.report.pages);
+}
+
+fn push_report_line(said: &mut ReportText, done: &Finished, request: &ImposeRequest)
+    requires room { length said.old + 658 ≤ most_said }
+    ensures text { said.new ≡ said.old ++ line_of (Some (report_text done.now request.now)) }
+    ensures short { length said.new ≤ length said.old + 658 }
+{
+    said.push(b"impose: ");
+    push_report(said, done, request);
+    said.push(b"\n");
+}
+
+fn push_unknown_line(said: &mut ReportText, name: &Option<ShownName>)
+    requires room { length said.old + 150 ≤ most_said }
+    ensures text { said.new ≡ said.old ++ line_of (unknown_text name.now) }
+    ensures short { length said.new ≤ length said.old + 150 }
+{
+    let Some(name) = name else {
+        return;
+    };
+    said.push(b"impose: ");
+    push_unknown(said, name);
+    said.push(b"\n");
+}
+
+fn push_cut_line(said: &mut ReportText, cut: &Option<Cut>, named: &Paper)
+    requires room { length said.old + 376 ≤ most_said }
+    ensures text { said.new ≡ said.old ++ line_of (cut_text cut.now named.now) }
+    ensures short { length said.new ≤ length said.old + 376 }
+{
+    let Some(cut) = cut else {
+        return;
+    };
+    said.push(b"impose: ");
+    push_cut(said, cut, named);
+    said.push(b"\n");
+}
+
+fn push_reach_line(said: &mut ReportText, reach: &Option<Reach>)
+    requires room { length said.old + 545 ≤ most_said }
+    ensures text { said.new ≡ said.old ++ line_of (reach_text reach.now) }
+    ensures short { length said.new ≤ length said.old + 545 }
+{
+    let Some(reach) = reach else {
+        return;
+    };
+    said.push(b"impose: ");
+    push_reach(said, reach);
+    said.push(b"\n");
+}
+
+fn push_behind_line(said: &mut ReportText, pages: usize)
+    requires room { length said.old + 169 ≤ most_said }
+    ensures text { said.new ≡ said.old ++ line_of (behind_text pages) }
+    ensures short { length said.new ≤ length said.old + 169 }
+{
+    if pages == 0 {
+        return;
+    }
+    said.push(b"impose: ");
+    push_behind(said, pages);
+    said.push(b"\n");
+}
+
+fn push_told_line(said: &mut ReportText, told: Option<usize>, found: u32)
+    requires room { length said.old + 366 ≤ most_said }
+    ensures text { said.new ≡ said.old ++ line_of (told_text told found) }
+    ensures short { length said.new ≤ length said.old + 366 }
+{
+    let Some(told) = told else {
+        return;
+    };
+    let found = found as usize;
+    if told == found {
+        return;
+    }
+    said.push(b"impose: ");
+    push_told(said, told, found);
+    said.push(b"\n");
+}
+
+/// The line that the output isn't a PDF, if it is named as one.
+pub(crate) fn push_note_line(said: &mut ReportText, request: &ImposeRequest)
+    requires room { length said.old + 2_200 ≤ most_said }
+    ensures { AddsNote (option_map string_bytes request.now.outfile) said.old said.new }
+{
+    match &request.outfile {
+        Some(name) if is_pdf_name(name.as_str()) => {
+            push_note_on(said, shown_in_place(name.as_str()).as_str());
+        }
+        _ => {}
+    }
+}
+
+/// The line that a file of this name, as it is shown, isn't a PDF.
+fn push_note_on(said: &mut ReportText, name: &str)
+    requires few { length name.now ≤ 1_002 }
+    requires room { length said.old + 2_200 ≤ most_said }
+    ensures { said.new ≡ said.old ++ line_of (Some (text_of_note name.now)) }
+{
+    said.push(b"impose: ");
+    push_note(said, name);
+    said.push(b"\n");
+}
+
+fn is_pdf_name(name: &str) -> bool
+    ensures { result ≡ names_pdf name.now }
+{
+    let name = name.as_bytes();
+    name.ends_with(b".pdf") || name.ends_with(b".PDF")
+}

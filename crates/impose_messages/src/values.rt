@@ -1,0 +1,391 @@
+//! What is said of values that options and arguments don't take.
+use crate::mistakes::{begins_with_digit, is_range, looks_like_file};
+use crate::nearest::{begins_as_size, nearest_names};
+use crate::shown::{joined_texts, push_all, shown_word};
+use impose_words::{
+    CellCommand, OptionId, gaps_named, lacks_unit, length_with_unit, margins_named, parse_number,
+    size_named, whole_number,
+};
+use papers::{PaperError, read_paper};
+use std::alloc::{AllocError, Global};
+
+/// The message about a text that is no value of the option or argument.
+pub(crate) fn value_text(
+    alloc: Global,
+    option: OptionId,
+    text: &str,
+) -> Result<String, AllocError> {
+    let pointed = with_points(alloc, text)?;
+    if pointed.as_str() != text && is_value(option, pointed.as_str()) {
+        return decimals_text(alloc, option, text, pointed.as_str());
+    }
+    match option {
+        OptionId::Paper if is_range(text) && text.contains("-") => ranges_text(alloc, text),
+        OptionId::Paper | OptionId::Sheet => paper_text(alloc, option, text),
+        OptionId::Margin => margin_text(alloc, text),
+        OptionId::Border
+        | OptionId::Trim
+        | OptionId::Creep
+        | OptionId::Overlap
+        | OptionId::Gap
+        | OptionId::Numbers => { length_text(alloc, option, text) }
+        OptionId::Count(command) => cells_text(alloc, command, text),
+        OptionId::CutMarks => cut_marks_text(alloc, text),
+        OptionId::Outfile => outfile_text(alloc, text),
+        OptionId::Signature => signature_text(alloc, text),
+        OptionId::NumbersFrom => first_number_text(alloc, text),
+        OptionId::Order | OptionId::Turn | OptionId::Turned | OptionId::Scale => refused_text(
+            alloc, option, text,
+        ),
+        OptionId::BookletMarks | OptionId::Preview => refused_text(alloc, option, text),
+    }
+}
+
+/// The text with a point for each comma between two digits.
+fn with_points(alloc: Global, text: &str) -> Result<String, AllocError> {
+    let mut pointed = String::new(alloc);
+    for (place, part) in text.split(',').enumerate() {
+        if place > 0 {
+            let is_behind_digit = pointed
+                .as_str()
+                .ends_with(|letter: char| letter.is_ascii_digit());
+            let is_decimal = is_behind_digit && begins_with_digit(part);
+            pointed.push(if is_decimal { '.' } else { ',' })?;
+        }
+        pointed.push_str(part)?;
+    }
+    Ok(pointed)
+}
+
+/// Whether a text is a size, a length or a number that the option takes.
+fn is_value(option: OptionId, text: &str) -> bool {
+    match option {
+        OptionId::Paper | OptionId::Sheet => size_named(text).is_some(),
+        OptionId::Margin => margins_named(text).is_some(),
+        OptionId::Gap => gaps_named(text).is_some(),
+        OptionId::Border
+        | OptionId::Trim
+        | OptionId::Creep
+        | OptionId::Overlap
+        | OptionId::Numbers => { length_with_unit(text).is_some() }
+        OptionId::Scale => parse_number(text).is_some(),
+        OptionId::Count(_)
+        | OptionId::Signature
+        | OptionId::Order
+        | OptionId::Turn
+        | OptionId::Turned => false,
+        OptionId::BookletMarks | OptionId::CutMarks | OptionId::NumbersFrom => false,
+        OptionId::Outfile | OptionId::Preview => false,
+    }
+}
+
+/// The message about a text that is a value once its decimals come after points.
+fn decimals_text(
+    alloc: Global,
+    option: OptionId,
+    text: &str,
+    pointed: &str,
+) -> Result<String, AllocError> {
+    let text = shown_word(alloc, text)?;
+    let pointed = shown_word(alloc, pointed)?;
+    let id = option.id();
+    let mut said = format!(in alloc;
+        "'{text}' after --{id}: decimals come after a point, so write {pointed}"
+    )?;
+    if matches!(option, OptionId::Margin | OptionId::Gap) {
+        said.push_str(UNITS_IN_LISTS)?;
+    }
+    Ok(said)
+}
+
+const UNITS_IN_LISTS: &str = "; in a list each length has its unit, 0 too";
+
+/// The message about a text that is no length, or no list of lengths. It may be one but for a unit.
+fn length_text(alloc: Global, option: OptionId, text: &str) -> Result<String, AllocError> {
+    match part_without_unit(text, matches!(option, OptionId::Margin | OptionId::Gap)) {
+        Some(part) => no_unit_text(alloc, option, text, part),
+        None => refused_text(alloc, option, text),
+    }
+}
+
+/// The text, or the first length in it, alone or after the name of an edge, that is one but for its unit.
+fn part_without_unit(text: &str, may_be_list: bool) -> Option<&str> {
+    if lacks_unit(text, false) && !text.starts_with("-") {
+        return Some(text);
+    }
+    if !may_be_list {
+        return None;
+    }
+    for part in text.split(',') {
+        let length = match part.split_once('=') {
+            Some((_, length)) => length,
+            None => part,
+        };
+        if lacks_unit(length, true) && !length.starts_with("-") {
+            return Some(length);
+        }
+    }
+    None
+}
+
+/// The message about a text that lacks the unit of this part of it.
+fn no_unit_text(
+    alloc: Global,
+    option: OptionId,
+    text: &str,
+    part: &str,
+) -> Result<String, AllocError> {
+    let (is_list, is_whole) = (text.contains(","), part == text);
+    let text = shown_word(alloc, text)?;
+    let part = shown_word(alloc, part)?;
+    let id = option.id();
+    let mut said = if is_whole {
+        format!(in alloc; "length '{text}'")?
+    } else {
+        format!(in alloc; "{part} in '{text}'")?
+    };
+    let cure = format!(in alloc;
+        " after --{id} has no unit: write {part}cm, {part}mm, {part}in or {part}pt"
+    )?;
+    said.push_str(cure.as_str())?;
+    if is_list {
+        said.push_str(UNITS_IN_LISTS)?;
+    }
+    Ok(said)
+}
+
+/// The message about a text that names no margins. An edge may be named twice.
+fn margin_text(alloc: Global, text: &str) -> Result<String, AllocError> {
+    let Some(edge) = edge_named_twice(text) else {
+        return length_text(alloc, OptionId::Margin, text);
+    };
+    let shown = shown_word(alloc, text)?;
+    let edge = shown_word(alloc, edge)?;
+    format!(in alloc; "'{shown}' after --margin names {edge} twice: name each edge once")
+}
+
+/// The message about a text that is no first number, or one without numbers.
+fn first_number_text(alloc: Global, text: &str) -> Result<String, AllocError> {
+    if whole_number(text).is_none() {
+        return refused_text(alloc, OptionId::NumbersFrom, text);
+    }
+    let text = shown_word(alloc, text)?;
+    format!(in alloc;
+        "--numbers-from {text} is for numbers, which have a size: give --numbers 10pt --numbers-from {text}"
+    )
+}
+
+/// The first edge in a text that is named again after it.
+fn edge_named_twice(text: &str) -> Option<&str> {
+    for (place, part) in text.split(',').enumerate() {
+        for (other, again) in text.split(',').enumerate() {
+            if let (Some((edge, _)), Some((name, _))) = (
+                part.split_once('='),
+                again.split_once('='),
+            ) {
+                if place < other && name == edge {
+                    return Some(edge);
+                }
+            }
+        }
+    }
+    None
+}
+
+/// That a text after an option is none of its values, and what to do.
+fn refused_text(alloc: Global, option: OptionId, text: &str) -> Result<String, AllocError> {
+    let (what, advice) = value_refusal(option);
+    let shown = shown_word(alloc, text)?;
+    let shown = shown.as_str();
+    let option = option.id();
+    joined_texts(
+        alloc,
+        &[what, " '", shown, "' after --", option, ": ", advice],
+    )
+}
+
+/// The thing that a value of the option has to be, and the cure.
+fn value_refusal(option: OptionId) -> (&'static str, &'static str) {
+    match option {
+        OptionId::Paper | OptionId::Sheet => ("size", "a side is zero, negative or too long"),
+        OptionId::Border => ("bad length", "give it as 1pt, .5mm or .02in"),
+        OptionId::Margin => (
+            "bad length",
+            "give it as 5mm, SIDES,ENDS, TOP,RIGHT,BOTTOM,LEFT, left=2cm,top=1cm or inner=2cm; units are cm, mm, in and pt",
+        ),
+        OptionId::Gap => (
+            "bad length",
+            "give it as 5mm, or 5mm,1cm; units are cm, mm, in and pt",
+        ),
+        OptionId::Numbers => ("bad length", "give it as 10pt or 4mm, from .1pt to 72pt"),
+        OptionId::Signature => (
+            "bad signature",
+            "give a multiple of four, as 16, up to 1000000, or auto",
+        ),
+        OptionId::Order => (
+            "unknown order",
+            "give right-down, down-right, left-down or down-left",
+        ),
+        OptionId::Turn => ("unknown turn", "give left (by 90 degrees), right or half"),
+        OptionId::Turned => ("unknown side", "give left or right"),
+        OptionId::Scale => ("bad scale", "give a number as 0.7"),
+        OptionId::NumbersFrom => (
+            "bad number",
+            "give a whole one without a sign, and the size too, as --numbers 10pt --numbers-from 3",
+        ),
+        OptionId::Preview => (
+            "bad file",
+            "it is an SVG, so name it as sheets.svg, or - for standard output",
+        ),
+        OptionId::BookletMarks => ("unknown marks", "give fold, cut or fold,cut"),
+        OptionId::CutMarks => ("unknown marks", "give cut"),
+        OptionId::Trim | OptionId::Creep | OptionId::Overlap => (
+            "bad length",
+            "give it as 5mm, .2in or 14pt",
+        ),
+        OptionId::Count(_) | OptionId::Outfile => ("bad value", "see impose --help"),
+    }
+}
+
+/// The message about pages after `-p`, which names them for psselect.
+fn ranges_text(alloc: Global, text: &str) -> Result<String, AllocError> {
+    let text = shown_word(alloc, text)?;
+    format!(in alloc;
+        "'{text}' after --paper is no paper: pages come after select, as in: impose select {text} in.ps out.ps"
+    )
+}
+
+/// The message about a size without a unit.
+fn no_size_unit_text(alloc: Global, option: OptionId, text: &str) -> Result<String, AllocError> {
+    let text = shown_word(alloc, text)?;
+    let id = option.id();
+    format!(in alloc;
+        "size '{text}' after --{id} has no unit at its end: write {text}mm, {text}in or {text}pt"
+    )
+}
+
+/// The message about a text that means no paper.
+fn paper_text(alloc: Global, option: OptionId, text: &str) -> Result<String, AllocError> {
+    match read_paper(text.as_bytes()) {
+        Err(PaperError::NoUnit) if may_have_unit(alloc, text)? => {
+            no_size_unit_text(alloc, option, text)
+        }
+        Err(PaperError::NoUnit) | Err(PaperError::NoSuchSize) => refused_text(alloc, option, text),
+        Err(PaperError::Unknown) | Ok(_) => unknown_paper_text(alloc, option, text),
+    }
+}
+
+fn unknown_paper_text(alloc: Global, option: OptionId, text: &str) -> Result<String, AllocError> {
+    let shown = shown_word(alloc, text)?;
+    let shown = shown.as_str();
+    let option = option.id();
+    if begins_as_size(text) {
+        return format!(in alloc;
+            "unknown paper '{shown}' after --{option}: name a size such as 210x297mm, or a paper such as a4"
+        );
+    }
+    let names = nearest_names(alloc, text)?;
+    format!(in alloc;
+        "unknown paper '{shown}' after --{option}: name {names}, another paper of impose --help, \
+        or a size such as 210x297mm"
+    )
+}
+
+/// Whether a size without a unit is one with it.
+fn may_have_unit(alloc: Global, text: &str) -> Result<bool, AllocError> {
+    let with_unit = joined_texts(alloc, &[text, "mm"])?;
+    Ok(read_paper(with_unit.as_str().as_bytes()).is_ok())
+}
+
+/// The message about an option in the place of a file.
+fn outfile_text(alloc: Global, text: &str) -> Result<String, AllocError> {
+    let text = shown_word(alloc, text)?;
+    let text = text.as_str();
+    let advice =
+        "' begins with a minus, as options do: options come before --, and a file of this name is written ./";
+    joined_texts(alloc, &["OUTFILE '", text, advice, text])
+}
+
+/// The message about marks for sheets that aren't a booklet's.
+fn cut_marks_text(alloc: Global, text: &str) -> Result<String, AllocError> {
+    let shown = shown_word(alloc, text)?;
+    let shown = shown.as_str();
+    if !shown.contains("fold") {
+        return refused_text(alloc, OptionId::CutMarks, text);
+    }
+    let reason = "only a booklet is folded, so --marks ";
+    joined_texts(
+        alloc,
+        &[reason, shown, " asks too much here: give --marks cut"],
+    )
+}
+
+/// The message about a text that names no signature.
+fn signature_text(alloc: Global, text: &str) -> Result<String, AllocError> {
+    match whole_number(text) {
+        Some(sides) if 4 < sides && sides < 1_000_000 => {
+            let below = sides - sides % 4;
+            let above = below + 4;
+            format!(in alloc;
+                "a signature of {sides} sides can't be folded: take a multiple of four, as {below} or {above}, or auto"
+            )
+        }
+        _ => refused_text(alloc, OptionId::Signature, text),
+    }
+}
+
+/// The message about a text after a command that names no cells. A file may be where they are to be.
+fn cells_text(alloc: Global, command: CellCommand, text: &str) -> Result<String, AllocError> {
+    let shown = shown_word(alloc, text)?;
+    let shown = shown.as_str();
+    let (name, example, missing, place) = command_named(command);
+    if !looks_like_file(text) {
+        let (what, advice) = bad_cells(command, text.contains("x"));
+        return joined_texts(
+            alloc,
+            &[what, " '", shown, "' after ", name, ": give ", advice],
+        );
+    }
+    let mut said = joined_texts(alloc, &[missing, " missing before '", shown, place, name])?;
+    push_all(&mut said, &[", as in: impose ", example, " in.ps out.ps"])?;
+    Ok(said)
+}
+
+/// The command's name, how it begins, what is missing after it, and that this comes there.
+fn command_named(command: CellCommand) -> (&'static str, &'static str, &'static str, &'static str) {
+    let (name, example) = match command {
+        CellCommand::NUp => ("nup", "nup 2"),
+        CellCommand::Cards => ("cards", "cards 8"),
+        CellCommand::Stack => ("stack", "stack 2"),
+        CellCommand::Notes => ("notes", "notes 3"),
+        CellCommand::Poster => {
+            let missing = "columns and rows of sheets are";
+            return ("poster", "poster 2x2", missing, "': they come after ");
+        }
+    };
+    (
+        name,
+        example,
+        "the number of pages is",
+        "': it comes after ",
+    )
+}
+
+/// The kind of text that has to follow a command, and an example.
+fn bad_cells(command: CellCommand, is_grid: bool) -> (&'static str, &'static str) {
+    match command {
+        CellCommand::Notes => ("bad number of pages", "one from 1 to 512, as 3"),
+        CellCommand::Poster => (
+            "bad grid",
+            "columns and rows of sheets as 2x3, at most 1024 in all",
+        ),
+        CellCommand::NUp | CellCommand::Cards | CellCommand::Stack if is_grid => (
+            "bad grid",
+            "columns and rows as 2x4, at most 1024 cells in all",
+        ),
+        CellCommand::NUp | CellCommand::Cards | CellCommand::Stack => (
+            "bad number of pages",
+            "one from 1 to 1024, or columns and rows as 2x4",
+        ),
+    }
+}

@@ -1,6 +1,0 @@
-use Rattle.std.proofs.Common.{◌≡◌, map, take}
-use Rattle.impose_said.specs.Said.{shown_byte}
-use Rattle.impose_said.proofs.shown.shown_front.Given as goal
-
-abbrev pub invariant-loop-b : goal.invariant-loop-b
-invariant-loop-b l = l.shown.items ≡ map shown_byte (take l.b-index l.front)

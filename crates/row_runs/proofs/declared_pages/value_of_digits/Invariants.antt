@@ -1,0 +1,11 @@
+use Rattle.std.specs.List.{list_all}
+use Rattle.std.specs.Char.{is_ascii_digit}
+use Rattle.std.proofs.Common.{◌≡◌, ◌-◌, ◌^◌, take, min, true}
+use Rattle.rules.specs.Numbers.{number_of}
+use Rattle.row_runs.proofs.declared_pages.value_of_digits.Given as goal
+
+abbrev pub invariant-loop-b : goal.invariant-loop-b
+invariant-loop-b l = record {
+  value : l.n ≡ min (number_of (take l.b-index l.field)) (2 ^ 64 - 1);
+  all : list_all is_ascii_digit (take l.b-index l.field) ≡ true;
+}

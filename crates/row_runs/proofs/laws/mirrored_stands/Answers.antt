@@ -1,8 +1,0 @@
-use Rattle.row_runs.proofs.Backs.{fitted_in_points, mirrored_stands}
-use Rattle.row_runs.proofs.laws.mirrored_stands.Goals as goal
-
-pub returns-clause-stands : goal.returns-clause-stands
-returns-clause-stands c = mirrored_stands
-
-pub returns-clause-points : goal.returns-clause-points
-returns-clause-points c = fitted_in_points

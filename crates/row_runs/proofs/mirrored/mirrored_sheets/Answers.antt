@@ -1,8 +1,0 @@
-use Rattle.std.proofs.Common.{◌∙◌}
-use Rattle.std.proofs.lemmas.Result.{IfOk-weaker}
-use Rattle.row_runs.specs.Mirrored.{mirrored}
-use Rattle.row_runs.proofs.Turns.{unturned_sheets}
-use Rattle.row_runs.proofs.mirrored.mirrored_sheets.Goals as goal
-
-pub returns : goal.returns
-returns c = IfOk-weaker c.turned_sheets.result _ _ (λ made is. is ∙ unturned_sheets (mirrored c.args.mirror.now c.args.sheets)) c.turned_sheets.ensures

@@ -1,0 +1,31 @@
+use Rattle.std.proofs.Common.{ap, subst, sym}
+use Rattle.std.specs.Prelude.{All}
+use Rattle.row_sheets.specs.Posters.{first_no_poster}
+use Rattle.row_sheets.specs.Shapes.{filling}
+use Rattle.row_runs.specs.Sheets.{why_not_in, why_not_laid}
+use Rattle.row_runs.specs.Standing.{StandAsLaid, HoldsOnePage}
+use Rattle.row_runs.proofs.Alone.{selected_alone}
+use Rattle.row_runs.proofs.NotLaid.{cells_told, posters_told}
+use Rattle.row_runs.proofs.sheet_request.lay_row.Goals as goal
+
+pub returns-in-Some-clause-refused : goal.returns-in-Some-clause-refused
+returns-in-Some-clause-refused c = c.over_limit.ensures c.args.leaves
+
+pub returns-in-Ok-clause-stands : goal.returns-in-Ok-clause-stands
+returns-in-Ok-clause-stands c =
+    subst (λ l. StandAsLaid l c.in-Ok.sheets) (sym c.in-AsTheyAre.is)
+    (subst (All HoldsOnePage) (sym c.in-Ok.ensures) (selected_alone c.args.papers.now c.in-AsTheyAre.blank c.args.row.now))
+
+pub returns-in-Err-lay_in_cells-clause-refused : goal.returns-in-Err-lay_in_cells-clause-refused
+returns-in-Err-lay_in_cells-clause-refused c =
+    let papers = c.args.papers.now in
+    let row = c.args.row.now in
+    cells_told c.args.laying.now c.args.leaves papers row (why_not_in c.in-InCells.scheme (filling c.in-InCells.setting papers) c.args.leaves row) c.in-Err-lay_in_cells.error
+    c.arrangement_error.result (ap (λ l. why_not_laid l c.args.leaves papers row) c.in-InCells.is) c.arrangement_error.ensures c.in-Err-lay_in_cells.ensures.refused
+
+pub returns-in-Err-poster_row_sheets-clause-refused : goal.returns-in-Err-poster_row_sheets-clause-refused
+returns-in-Err-poster_row_sheets-clause-refused c =
+    let papers = c.args.papers.now in
+    let row = c.args.row.now in
+    posters_told c.args.laying.now c.args.leaves papers row (first_no_poster c.in-Poster.poster papers row) c.in-Err-poster_row_sheets.error c.poster_error.result
+    (ap (λ l. why_not_laid l c.args.leaves papers row) c.in-Poster.is) c.poster_error.ensures c.in-Err-poster_row_sheets.ensures.refused

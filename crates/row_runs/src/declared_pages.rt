@@ -1,0 +1,173 @@
+//! How many pages a document says that it has.
+ghost use Rattle.std.specs.Prelude.{◌≡◌, ◌<◌, ◌≤◌, ◌+◌, codes, drop, length, option_map};
+ghost use Rattle.dsc.specs.Fields.{fields_in};
+ghost use Rattle.rules.specs.Units.{line_len};
+ghost use Rattle.papers.specs.Media.{comment_fields, contents};
+ghost use Rattle.row_runs.specs.DeclaredPages as meaning;
+
+use dsc::{
+    comment_value, content_end, first_content, header_len, key_of, line_end_after, next_field,
+};
+use memchr::memmem::FinderRev;
+use papers::first_comment;
+
+/// The number of pages that a document declares, by the first `%%Pages:` of its header; if that is `(atend)`, by the first one
+/// after the last `%%Trailer` that is in no embedded document (DSC 3.0, 5.1).
+pub fn declared_page_count(text: &[u8]) -> Option<usize>
+    ensures { result ≡ meaning.declared_page_count text.now }
+{
+    let (header, _) = text.split_at(header_len(text));
+    count_by(pages_field(header)?, text)
+}
+
+/// The number of pages that a field of this document's header declares.
+fn count_by(field: &[u8], text: &[u8]) -> Option<usize>
+    ensures { result ≡ meaning.count_by field.now (meaning.last_lines text.now) }
+{
+    if field == b"(atend)".as_slice() {
+        value_of_digits(last_field(last_lines(text))?)
+    } else {
+        value_of_digits(field)
+    }
+}
+
+/// The first field of the first `%%Pages:` among these lines.
+fn pages_field(lines: &[u8]) -> Option<&[u8]>
+    ensures { option_map (λ field. field.now) result ≡ meaning.pages_field (contents lines.now) }
+{
+    first_field(pages_value(lines)?)
+}
+
+/// The first field of the first `%%Pages:` among these lines that is in no embedded document.
+fn last_field(lines: &[u8]) -> Option<&[u8]>
+    ensures { option_map (λ field. field.now) result ≡ meaning.first_field (meaning.pages_outside 0 (contents lines.now)) }
+{
+    first_field(value_outside(lines)?)
+}
+
+/// What comes after the colon of that comment.
+fn value_outside(lines: &[u8]) -> Option<&[u8]>
+    ensures { option_map (λ value. fields_in value.now) result ≡ meaning.pages_outside 0 (contents lines.now) }
+{
+    let mut rest = lines;
+    let mut depth = 0usize;
+    while !rest.is_empty() {
+        let content = first_content(rest);
+        if let Some(value) = value_at(depth, content) {
+            return Some(value);
+        }
+        depth = depth_behind(depth, content);
+        let (_, others) = rest.split_at(line_end_after(rest, content.len()));
+        rest = others;
+    }
+    None
+}
+
+/// What comes after the colon, if a line with this content is a `%%Pages:` and in no embedded document.
+fn value_at(depth: usize, content: &[u8]) -> Option<&[u8]>
+    ensures { option_map (λ value. fields_in value.now) result ≡ meaning.pages_at depth content.now }
+{
+    let value = comment_value(content, b"%%Pages", b"%%Pages:")?;
+    if depth == 0 { Some(value) } else { None }
+}
+
+/// How many embedded documents are open behind a line with this content.
+fn depth_behind(depth: usize, content: &[u8]) -> usize
+    requires { depth < usize.MAX }
+    ensures value { result ≡ meaning.depth_behind depth content.now }
+    ensures most { result ≤ depth + 1 }
+{
+    let key = key_of(content);
+    if key == b"%%BeginDocument".as_slice() {
+        depth + 1
+    } else if key == b"%%EndDocument".as_slice() {
+        depth.saturating_sub(1)
+    } else {
+        depth
+    }
+}
+
+fn first_field(value: &[u8]) -> Option<&[u8]>
+    ensures { option_map (λ field. field.now) result ≡ meaning.first_field (Some (fields_in value.now)) }
+{
+    let (field, _) = next_field(value)?;
+    Some(field)
+}
+
+/// The text after the colon of the first `%%Pages:` among these lines.
+fn pages_value(lines: &[u8]) -> Option<&[u8]>
+    ensures { option_map (λ value. fields_in value.now) result ≡ comment_fields (codes "%%Pages") (contents lines.now) }
+{
+    match first_comment(lines, b"%%Pages", b"%%Pages:") {
+        Some((value, _)) => Some(value),
+        None => None,
+    }
+}
+
+/// The text after the last `%%Trailer`; all, if there is none. It is searched for from the end, where it is in most documents.
+fn last_lines(text: &[u8]) -> &[u8]
+    ensures { contents result.now ≡ meaning.last_lines text.now }
+{
+    let trailer = FinderRev::new(b"%%Trailer".as_slice());
+    let mut front = text;
+    while let Some(at) = trailer.rfind(front) {
+        if trailer_at(text, at) {
+            return after_line(text, at);
+        }
+        // Those that begin before this one end before its last byte.
+        let (before, _) = front.split_at(at + 8);
+        front = before;
+    }
+    text
+}
+
+/// Whether a line that begins the trailer begins at this byte.
+fn trailer_at(text: &[u8], at: usize) -> bool
+    requires { at ≤ length text.now }
+    ensures { result ≡ meaning.trailer_at at text.now }
+{
+    let (_, line) = text.split_at(at);
+    begins_line(text, at) && is_trailer_line(first_content(line))
+}
+
+/// Whether a line begins at this byte, which is no line feed.
+fn begins_line(text: &[u8], at: usize) -> bool
+    requires { at ≤ length text.now }
+    ensures { result ≡ meaning.begins_line at text.now }
+{
+    if at == 0 {
+        return true;
+    }
+    let before = text[at - 1];
+    before == b'\r' || before == b'\n'
+}
+
+/// The text after the line that begins at this byte.
+fn after_line(text: &[u8], at: usize) -> &[u8]
+    requires { at ≤ length text.now }
+    ensures { result.now ≡ drop (line_len (drop at text.now)) (drop at text.now) }
+{
+    let (_, line) = text.split_at(at);
+    let (_, others) = line.split_at(line_end_after(line, content_end(line)));
+    others
+}
+
+fn is_trailer_line(content: &[u8]) -> bool
+    ensures { result ≡ meaning.is_trailer_line content.now }
+{
+    key_of(content) == b"%%Trailer".as_slice()
+}
+
+/// The number that digits make, or the greatest one.
+fn value_of_digits(field: &[u8]) -> Option<usize>
+    ensures { result ≡ meaning.value_of_digits field.now }
+{
+    let mut n = 0usize;
+    for b in field {
+        if !b.is_ascii_digit() {
+            return None;
+        }
+        n = n.saturating_mul(10).saturating_add(usize::from(*b - b'0'));
+    }
+    Some(n)
+}

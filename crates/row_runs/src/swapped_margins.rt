@@ -1,0 +1,70 @@
+//! Sheets that are printed on both sides, fronts and backs in turn: on backs left and right margins are exchanged.
+ghost use Rattle.std.specs.Prelude.{◌≡◌, ◌^◌, ◌≤◌, IfOk, IfSome, is_some, length, nat_abs, true};
+ghost use Rattle.rules.specs.Run.{most_sheets};
+ghost use Rattle.rules.specs.Specification.{Upright};
+ghost use Rattle.pagespec.specs.Items.{item_of};
+ghost use Rattle.row_runs.specs.SwappedMargins as meaning;
+ghost use Rattle.row_runs.specs.Reaching.{are_reached, is_moved_near};
+
+use crate::sheet_request::Laying;
+use crate::turning::{shifted, turned_sheets};
+use layouts::Room;
+use pagespec::{Item, Turn};
+use sheet_plan::MadeSheets;
+use std::alloc::{AllocError, Global};
+
+/// The room of a laying's cells, if it is to be exchanged on backs.
+pub(crate) fn swapped_room_in(swapped: bool, laying: &Laying) -> Option<Room>
+    ensures { result ≡ meaning.swapped_room_in swapped laying.now }
+{
+    match laying {
+        Laying::InCells { setting, .. } if swapped => Some(setting.room),
+        _ => None,
+    }
+}
+
+/// The same sheets with left and right exchanged on backs.
+pub(crate) fn swapped_sheets(
+    alloc: Global,
+    swap: &Option<Room>,
+    sheets: MadeSheets,
+) -> Result<MadeSheets, AllocError>
+    requires few { length sheets ≤ most_sheets }
+    requires reached { are_reached Upright swap.now sheets ≡ true }
+    ensures { IfOk result (λ made. made ≡ meaning.swapped swap.now sheets) }
+{
+    turned_sheets(alloc, Turn::None, swap, sheets)
+}
+
+/// Only backs, which are every second sheet, are moved into the exchanged room.
+pub(crate) fn swapped_room_on(swap: &Option<Room>, sheet: u32) -> Option<Room>
+    ensures { result ≡ meaning.swapped_room_on swap.now sheet }
+{
+    if sheet % 2 == 1 { *swap } else { None }
+}
+
+/// The item by which a page is placed once it is moved from this room into the exchanged one, if there is one and the offset can
+/// be written.
+pub(crate) fn moved_item(swap: &Option<Room>, item: &Item) -> Option<Item>
+    ensures value { IfSome result (λ moved. item_of moved ≡ meaning.moved_item swap.now (item_of item.now)) }
+    ensures near { is_some result ≡ is_moved_near swap.now (item_of item.now) }
+{
+    match swap {
+        None => Some(*item),
+        Some(room) => {
+            let right = shifted(swap_shift(room), item.offset.0)?;
+            Some(Item {
+                offset: (right, item.offset.1),
+                ..*item
+            })
+        }
+    }
+}
+
+/// How far it is to the right from a room to the exchanged one.
+fn swap_shift(room: &Room) -> i64
+    ensures value { result ≡ meaning.swap_shift room.now }
+    ensures in_range { nat_abs result ≤ 10 ^ 17 }
+{
+    room.right as i64 - room.left as i64
+}

@@ -1,5 +1,0 @@
-use Rattle.sheet_text.proofs.Opened.{measure_same}
-use Rattle.sheet_text.proofs.openings.is_same.Goals as goal
-
-pub returns : goal.returns
-returns c is = measure_same c.args.one c.args.other _ c.eq.ensures is

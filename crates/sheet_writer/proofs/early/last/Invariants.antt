@@ -1,7 +1,0 @@
-use Rattle.std.proofs.Common.{◌≡◌, drop, max}
-use Rattle.sheet_text.specs.Texts.{sheets_of}
-use Rattle.sheet_writer.specs.Places.{last_of}
-use Rattle.sheet_writer.proofs.early.last.Given as goal
-
-abbrev pub invariant-loop-nth : goal.invariant-loop-nth
-invariant-loop-nth l = max l.last (last_of (drop l.nth (sheets_of l.finished))) ≡ last_of (sheets_of l.finished)
