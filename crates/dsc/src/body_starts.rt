@@ -16,7 +16,7 @@ use std::marker::Model;
 /// dropped only at the page's start and the page ends with a line end; then everything from there on is kept. A
 /// text has at most 2^30 bytes, so a `u32` counts them.
 #[derive(Drop)]
-pub struct BodyStarts {
+pub(crate) struct BodyStarts {
     found: Vec<u32>,
     // The start for the page that was begun last.
     current: u32,

@@ -39,7 +39,7 @@ pub fn next_field(text: &[u8]) -> Option<(&[u8], &[u8])>
 }
 
 /// The value of the digits, or the greatest number; None if a byte is not a digit.
-pub fn count_in(field: &[u8]) -> Option<usize>
+pub(crate) fn count_in(field: &[u8]) -> Option<usize>
     ensures { MatchOption result (list_all is_ascii_digit field.now ≡ false) (λ n.
         (list_all is_ascii_digit field.now ≡ true) × (n ≡ min (number_of field.now) usize.MAX)) }
 {

@@ -25,7 +25,7 @@ use std::alloc::{AllocError, Global};
 /// The lines that a filter drops: those that set up a page, those that describe the whole document, or the latter and
 /// those that name its papers.
 #[derive(Clone, Copy)]
-pub enum Drops {
+pub(crate) enum Drops {
     PageSetup,
     DocumentSetup,
     SetupAndPapers,
@@ -72,7 +72,7 @@ fn drops_in_header(content: &[u8]) -> bool
 }
 
 /// Whether the filter drops this unit; `was` is whether it dropped the one before.
-pub fn drops_unit(drops: Drops, was: bool, unit: &LineOrBlock<'_>, depth: usize) -> bool
+pub(crate) fn drops_unit(drops: Drops, was: bool, unit: &LineOrBlock<'_>, depth: usize) -> bool
     ensures { result ≡ is_dropped drops was (at_depth depth (unit_of unit.now)) }
 {
     if unit.is_block {
@@ -84,7 +84,7 @@ pub fn drops_unit(drops: Drops, was: bool, unit: &LineOrBlock<'_>, depth: usize)
 /// The kept part of a text: bytes that were copied, followed by two runs of the text that weren't. The second one
 /// may still grow: it has `run_len` bytes, and the unread text follows them.
 #[derive(Drop)]
-pub struct Kept<'d> {
+pub(crate) struct Kept<'d> {
     pub copied: Vec<u8>,
     pub held: &'d [u8],
     pub run: &'d [u8],
@@ -153,7 +153,11 @@ fn copy(copied: &mut Vec<u8>, part: &[u8], room: usize) -> Result<(), AllocError
 }
 
 /// The kept part of the text, after the bytes that were copied before.
-pub fn filter<'d>(copied: Vec<u8>, drops: Drops, text: &'d [u8]) -> Result<Kept<'d>, CutError>
+pub(crate) fn filter<'d>(
+    copied: Vec<u8>,
+    drops: Drops,
+    text: &'d [u8],
+) -> Result<Kept<'d>, CutError>
     ensures { GivesUnlessShort (λ k. (k.copied.items ++ k.held.now) ++ k.run.now) block_fault_told result
         (filter_on drops copied.items false 0 0 text.now) }
 {
@@ -175,7 +179,7 @@ pub fn filter<'d>(copied: Vec<u8>, drops: Drops, text: &'d [u8]) -> Result<Kept<
 
 /// The comments that are dropped from a preamble with these lines: names of papers too if there are lines, because these
 /// report the papers.
-pub fn drops_with(lines: &[u8]) -> Drops
+pub(crate) fn drops_with(lines: &[u8]) -> Drops
     ensures { (rows : List (List ℕ)) → lines.now ≡ lines_text rows → drops_of result ≡ drops_with rows }
 {
     if lines.is_empty() {
@@ -185,7 +189,11 @@ pub fn drops_with(lines: &[u8]) -> Drops
 }
 
 /// Appends to `front` what is kept of a part of a preamble or of a trailer, which has no faulty block.
-pub fn filter_header(front: Vec<u8>, drops: Drops, text: &[u8]) -> Result<Vec<u8>, AllocError>
+pub(crate) fn filter_header(
+    front: Vec<u8>,
+    drops: Drops,
+    text: &[u8],
+) -> Result<Vec<u8>, AllocError>
     requires { cut text.now ≡ Ok (or_none (cut text.now)) }
     ensures { IfOk result (λ v. v.items ≡ front.items ++ bytes_of (kept (drops_of drops) (units_of text.now))) }
 {
@@ -198,7 +206,7 @@ pub fn filter_header(front: Vec<u8>, drops: Drops, text: &[u8]) -> Result<Vec<u8
 
 /// A document's first line, the number of its sheets in a line after it, and then more lines, with room for a further
 /// `room` bytes.
-pub fn with_count(
+pub(crate) fn with_count(
     alloc: Global,
     first: &[u8],
     sheets: u32,
@@ -220,7 +228,7 @@ pub fn with_count(
 }
 
 /// Whether the bytes need a line end.
-pub fn wants_end(bytes: &[u8]) -> bool
+pub(crate) fn wants_end(bytes: &[u8]) -> bool
     ensures { ended bytes.now ≡ (if result then line bytes.now else bytes.now) }
 {
     match bytes.last() {

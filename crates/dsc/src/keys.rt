@@ -27,7 +27,7 @@ pub fn key_of(content: &[u8]) -> &[u8]
 }
 
 /// The letter that distinguishes most comments: the byte after the two percent signs at the start of a line.
-pub fn comment_letter(content: &[u8]) -> Option<u8>
+pub(crate) fn comment_letter(content: &[u8]) -> Option<u8>
     ensures { result ≡ letter_of content.now }
 {
     match content {
@@ -38,7 +38,7 @@ pub fn comment_letter(content: &[u8]) -> Option<u8>
 
 /// The meaning of a unit for the parts: whether it begins a page or the trailer, and the depth after it.
 #[derive(Clone, Copy)]
-pub struct Meaning {
+pub(crate) struct Meaning {
     pub is_page: bool,
     pub is_trailer: bool,
     pub depth: usize,
@@ -98,7 +98,7 @@ fn meaning_of_key(content: &[u8], depth: usize) -> Meaning
 }
 
 /// The meaning of a unit, if this is the depth before it.
-pub fn meaning_of(unit: &LineOrBlock<'_>, depth: usize) -> Meaning
+pub(crate) fn meaning_of(unit: &LineOrBlock<'_>, depth: usize) -> Meaning
     requires { depth < usize.MAX }
     ensures page { result.is_page ≡ begins_page (at_depth depth (unit_of unit.now)) }
     ensures trailer { result.is_trailer ≡ begins_trailer (at_depth depth (unit_of unit.now)) }

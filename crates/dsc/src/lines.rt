@@ -10,7 +10,7 @@ use memchr::memchr2_iter;
 const BLOCK: usize = 240;
 
 /// Whether the byte ends a line.
-pub fn is_line_end(byte: u8) -> bool
+pub(crate) fn is_line_end(byte: u8) -> bool
     ensures { result ≡ is_end byte }
 {
     byte == b'\r' || byte == b'\n'
@@ -55,7 +55,7 @@ pub fn line_end_after(text: &[u8], content: usize) -> usize
 }
 
 /// The length of this many lines, if there are that many.
-pub fn lines_end(count: usize, text: &[u8]) -> Option<usize>
+pub(crate) fn lines_end(count: usize, text: &[u8]) -> Option<usize>
     ensures value { result ≡ lines_len count text.now }
     ensures within { IfSome result (λ n. n ≤ length text.now) }
 {

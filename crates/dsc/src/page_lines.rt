@@ -7,7 +7,7 @@ use crate::walk::Walk;
 
 /// The number of `%%Page:` lines of a text, outside embedded documents and data. None if it has a faulty data
 /// block.
-pub fn page_lines(text: &[u8]) -> usize
+pub(crate) fn page_lines(text: &[u8]) -> usize
     ensures { result ≡ lines_that_begin_pages (units_of text.now) }
 {
     let mut count = 0usize;

@@ -8,7 +8,7 @@ use memchr::memmem::Finder;
 
 /// The number of bytes of lines at the start of the text that don't begin with two percent signs, which the finder looks for.
 /// They reach up to the first two, or, if these are not at the start of a line, up to the end of their line.
-pub fn plain_len(percent_signs: &Finder<'_>, text: &[u8]) -> usize
+pub(crate) fn plain_len(percent_signs: &Finder<'_>, text: &[u8]) -> usize
     requires { percent_signs.now ≡ codes "%%" }
     ensures plain { BeginsPlain result text.now }
     ensures within { result ≤ length text.now }

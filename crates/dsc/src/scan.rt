@@ -22,7 +22,7 @@ const MOST_STARTS: usize = 1_000_001;
 /// Where the pages begin, and where the trailer begins once it is found. Pages after the first `MOST_STARTS` are
 /// left out.
 #[derive(Drop)]
-pub struct PageStarts {
+pub(crate) struct PageStarts {
     pub starts: Vec<u32>,
     stop: Option<usize>,
 }
@@ -58,7 +58,7 @@ impl PageStarts {
 }
 
 /// One pass over the text. Where bodies begin is noted only while there aren't too many pages.
-pub fn scan(alloc: Global, text: &[u8]) -> Result<(PageStarts, Vec<u32>), CutError>
+pub(crate) fn scan(alloc: Global, text: &[u8]) -> Result<(PageStarts, Vec<u32>), CutError>
     requires { length text.now ≤ most_input_bytes }
     ensures marks { GivesUnlessShort (λ s. marks_on MOST_STARTS s.0.starts.items s.0.stop (length text.now) []) block_fault_told
         result (scan_on MOST_STARTS [] None 0 0 text.now) }

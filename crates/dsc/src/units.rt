@@ -10,7 +10,7 @@ use crate::lines::{content_end, line_end_after, lines_end};
 
 /// A line with its end, or a data block: a line and the data after it. The content is the line's, without its end.
 #[derive(Clone, Copy)]
-pub struct LineOrBlock<'d> {
+pub(crate) struct LineOrBlock<'d> {
     pub content: &'d [u8],
     pub bytes: &'d [u8],
     pub is_block: bool,
@@ -82,7 +82,7 @@ fn data_len(behind: &[u8], may_count_lines: bool, rest: &[u8]) -> Result<usize, 
 }
 
 /// The first unit of a text that isn't empty.
-pub fn first_unit(text: &[u8]) -> Result<LineOrBlock<'_>, UnitError>
+pub(crate) fn first_unit(text: &[u8]) -> Result<LineOrBlock<'_>, UnitError>
     requires { 0 < length text.now }
     ensures unit { ReadsAs unit_of block_fault result (first_unit text.now) }
     ensures within { IfOk result (λ u. (0 < length u.bytes.now) × (length u.bytes.now ≤ length text.now)) }

@@ -15,7 +15,7 @@ use std::marker::Model;
 /// A walk over the units of a text. Contracts see its place: what is left of the text, the byte at which that
 /// begins, and the depth there.
 #[derive(Drop)]
-pub struct Walk<'d> {
+pub(crate) struct Walk<'d> {
     percent_signs: Finder<'static>,
     rest: &'d [u8],
     at: usize,
@@ -36,7 +36,7 @@ impl<'d> Model for Walk<'d> {
 /// A step of a walk: a unit, the byte at which it begins, the depth before it, and its meaning there. Successive
 /// lines that don't begin with two percent signs are one unit without content.
 #[derive(Clone, Copy)]
-pub struct WalkStep<'d> {
+pub(crate) struct WalkStep<'d> {
     pub unit: LineOrBlock<'d>,
     pub at: usize,
     pub depth: usize,

@@ -47,7 +47,7 @@ use world::World;
 
 /// A row of pages to impose, and how.
 #[derive(Drop)]
-pub struct RowTask {
+pub(crate) struct RowTask {
     /// The document, with the guard in it if it is asked for.
     pub(crate) text: RoomyText,
     pub(crate) page_paper: Paper,

@@ -28,7 +28,7 @@ use world::World;
 
 /// A row of pages to impose by a specification.
 #[derive(Drop)]
-pub struct SpecRowTask {
+pub(crate) struct SpecRowTask {
     /// The document, with the guard in it if it is asked for.
     pub(crate) text: RoomyText,
     pub(crate) spec: Spec,

@@ -97,7 +97,7 @@ pub fn run_named(text: &str) -> Option<(FillOrder, bool)>
 }
 
 /// How the text says that pages are turned.
-pub fn turn_named(text: &str) -> Option<Turn>
+pub(crate) fn turn_named(text: &str) -> Option<Turn>
     ensures { result ≡ meaning.turn_named text.now }
 {
     match text {
@@ -128,7 +128,7 @@ pub(crate) const NO_MARKS: Marks = Marks {
 };
 
 /// The marks that the text means on a booklet, which is folded, and may be cut round its halves.
-pub fn booklet_marks_named(text: &str) -> Option<Marks>
+pub(crate) fn booklet_marks_named(text: &str) -> Option<Marks>
     ensures { result ≡ meaning.booklet_marks_named text.now }
 {
     match text {
@@ -150,7 +150,7 @@ pub fn booklet_marks_named(text: &str) -> Option<Marks>
 }
 
 /// The marks that the text means on other sheets, which are cut alone.
-pub fn cut_marks_named(text: &str) -> Option<Marks>
+pub(crate) fn cut_marks_named(text: &str) -> Option<Marks>
     ensures { result ≡ meaning.cut_marks_named text.now }
 {
     if text == "cut" {
@@ -170,7 +170,7 @@ const SMALLEST_NUMBERS: i128 = 12_700_000_000;
 const LARGEST_NUMBERS: i128 = 9_144_000_000_000;
 
 /// How large the text says that numbers are.
-pub fn number_size_named(text: &str) -> Option<Grains>
+pub(crate) fn number_size_named(text: &str) -> Option<Grains>
     ensures { result ≡ meaning.number_size_named text.now }
 {
     let size = length_with_unit(text)?;

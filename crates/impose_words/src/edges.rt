@@ -16,7 +16,7 @@ pub struct Margins {
 
 /// The edges that are named, with their margins.
 #[derive(Clone, Copy)]
-pub struct Edges {
+pub(crate) struct Edges {
     pub left: Option<Grains>,
     pub right: Option<Grains>,
     pub top: Option<Grains>,

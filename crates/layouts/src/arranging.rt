@@ -159,7 +159,7 @@ fn backs(alloc: Global, setting: &Setting, page_paper: &Paper) -> Result<Vec<Ite
 }
 
 /// From the left, or from the right if the booklet is bound there.
-pub fn leaf_order(right_to_left: bool) -> Order
+pub(crate) fn leaf_order(right_to_left: bool) -> Order
     ensures { result ≡ leaf_order_of right_to_left }
 {
     Order {
@@ -170,7 +170,7 @@ pub fn leaf_order(right_to_left: bool) -> Order
 }
 
 /// The sheet with what is kept free on it, if lengths and papers can be kept to.
-pub fn sheet_in(papers: &Papers, free: &Free) -> Result<Room, ArrangementError>
+pub(crate) fn sheet_in(papers: &Papers, free: &Free) -> Result<Room, ArrangementError>
     ensures page { IsTrue (is_paper papers.now.page.width papers.now.page.height) }
     ensures sheet { IsTrue (is_paper papers.now.sheet.width papers.now.sheet.height) }
     ensures room { IfOk result (λ room. room ≡ room_of papers.now.sheet free.now) }
@@ -213,7 +213,7 @@ pub fn check_room(sheet: &Paper, free: &Free) -> Result<(), ArrangementError>
 }
 
 /// The scale of pages in cells that take so large ones at most, if they can have it.
-pub fn scale_found(
+pub(crate) fn scale_found(
     room: &Room,
     asked: Option<Number>,
     largest: u128,
@@ -256,7 +256,7 @@ fn positive(n: i64) -> u128
 }
 
 /// Whether trimming leaves something of the page.
-pub fn leaves_page_visible(page: &Paper, room: &Room) -> bool
+pub(crate) fn leaves_page_visible(page: &Paper, room: &Room) -> bool
     ensures { result ≡ are_shown page.now room.now }
 {
     let trimmed = 2_540_000 * room.trim;
@@ -264,7 +264,7 @@ pub fn leaves_page_visible(page: &Paper, room: &Room) -> bool
 }
 
 /// Whether one page of the sheet's own paper is asked for, and nothing else.
-pub fn is_identity(papers: &Papers, room: &Room, arrangement: &Arrangement) -> bool
+pub(crate) fn is_identity(papers: &Papers, room: &Room, arrangement: &Arrangement) -> bool
     requires { room.now ≡ room_of papers.now.sheet arrangement.now.free }
     ensures { result ≡ is_page_itself papers.now.page papers.now.sheet arrangement.now }
 {
@@ -295,7 +295,7 @@ pub fn is_of_size(page: &Paper, sheet: &Paper) -> bool
 }
 
 /// Whether the fold between two pages is parallel to the shorter edge of the sheet.
-pub fn is_fold_short(page: &Paper, room: &Room) -> bool
+pub(crate) fn is_fold_short(page: &Paper, room: &Room) -> bool
     requires { IsTrue (are_shown page.now room.now) }
     ensures { result ≡ folds_short page.now room.now }
 {

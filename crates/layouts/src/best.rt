@@ -11,7 +11,7 @@ use super::scale::exact_scale;
 use lengths::Paper;
 
 /// The grid that is asked for, or the best one.
-pub fn grid_of(page: &Paper, room: &Room, reading: Turned, cells: Cells) -> Grid
+pub(crate) fn grid_of(page: &Paper, room: &Room, reading: Turned, cells: Cells) -> Grid
     requires shown { IsTrue (is_shown page.now room.now) }
     requires cells { IsTrue (is_count (cells_per_sheet cells)) }
     ensures { result ≡ grid_for page.now room.now reading cells }

@@ -22,7 +22,7 @@ use pagespec::{Item, Measure, Turn};
 
 /// Pages of one paper and one scale, in 10^-9, in the cells of a grid.
 #[derive(Drop)]
-pub struct GridLayout {
+pub(crate) struct GridLayout {
     pub page: Paper,
     pub room: Room,
     pub grid: Grid,
@@ -256,7 +256,7 @@ fn whole_parts(length: Grains) -> i64
 }
 
 /// Whether the corners of pages with this trim are within reach.
-pub fn within_reach(room: &Room, scale: u128) -> bool
+pub(crate) fn within_reach(room: &Room, scale: u128) -> bool
     requires { scale ≤ greatest_scale }
     ensures { result ≡ are_near room.now scale }
 {
@@ -289,7 +289,7 @@ pub fn grains(count: i128) -> Grains
 }
 
 /// A page as it is; it is counted from 0.
-pub fn whole_page(k: u32) -> Item
+pub(crate) fn whole_page(k: u32) -> Item
     ensures { item_of result ≡ alone_of k }
 {
     Item {

@@ -152,7 +152,7 @@ impl Room {
 }
 
 /// Whether all lengths are from 0 to 99,999 points and five nines after the dot.
-pub fn are_lengths(free: &Free) -> bool
+pub(crate) fn are_lengths(free: &Free) -> bool
     ensures { result ≡ may_be_lengths free.now }
 {
     let beside = is_length(free.left) && is_length(free.right);

@@ -15,7 +15,7 @@ use lengths::{Grains, Paper};
 pub const HUNDRED_THOUSANDTH: u64 = 1_270_000;
 
 /// The least length that offsets don't reach, in grains: 100,000 points.
-pub const OUT_OF_REACH: u64 = 12_700_000_000_000_000;
+pub(crate) const OUT_OF_REACH: u64 = 12_700_000_000_000_000;
 
 /// A side of a paper, in grains.
 pub fn extent(side: Grains) -> u64
@@ -29,7 +29,7 @@ pub fn extent(side: Grains) -> u64
 
 /// A margin or gap in 10^-5 of a point: one more if pages are trimmed, since how far they are moved back is
 /// rounded.
-pub fn kept_length(trim: u64, length: u64) -> u64
+pub(crate) fn kept_length(trim: u64, length: u64) -> u64
     requires { length ≤ 10_000_000_000 }
     ensures value { result ≡ kept_of trim length }
     ensures in_range { result ≤ 10_000_000_001 }
@@ -38,7 +38,7 @@ pub fn kept_length(trim: u64, length: u64) -> u64
 }
 
 /// The part of a side between its margins, in grains.
-pub fn left_free(along: &Along, side: u64) -> u64
+pub(crate) fn left_free(along: &Along, side: u64) -> u64
     requires { side ≤ longest_side }
     ensures value { result ≡ left_free_of along.now side }
     ensures in_range { result ≤ longest_side }
@@ -50,7 +50,7 @@ pub fn left_free(along: &Along, side: u64) -> u64
 }
 
 /// The distance from one cell's beginning to the next one's, if a side is cut into this number of cells.
-pub fn pitch(along: &Along, side: u64, parts: u32) -> u64
+pub(crate) fn pitch(along: &Along, side: u64, parts: u32) -> u64
     requires some { 0 < parts }
     requires in_range { side ≤ longest_side }
     ensures value { result ≡ step_of along.now side parts }
@@ -62,7 +62,7 @@ pub fn pitch(along: &Along, side: u64, parts: u32) -> u64
 
 /// From where a cell begins to where the next one begins, across and down, as one holds the sheet for its pages to be
 /// upright, in 10^-5 of a point.
-pub fn pitches(room: &Room, grid: Grid) -> (u64, u64)
+pub(crate) fn pitches(room: &Room, grid: Grid) -> (u64, u64)
     ensures across { result.0 ≡ step_across room.now grid }
     ensures down { result.1 ≡ step_down room.now grid }
     ensures some { (0 < grid.rows) × (0 < grid.columns) }
@@ -99,7 +99,7 @@ pub fn cell_size(room: &Room, grid: Grid) -> (u64, u64)
 }
 
 /// The part of a page's side that counts, without the trim, in grains.
-pub fn trimmed_side(room: &Room, length: Grains) -> u64
+pub(crate) fn trimmed_side(room: &Room, length: Grains) -> u64
     requires { IsTrue (is_side length) }
     ensures value { result ≡ counted_of room.now length }
     ensures in_range { result ≤ longest_side }
@@ -116,7 +116,7 @@ pub fn largest_scale(cell: u64, side: u64) -> u128
 }
 
 /// The largest scale, in 10^-9, that brings a page into a cell of the grid.
-pub fn scale_in(page: &Paper, room: &Room, grid: Grid) -> u128
+pub(crate) fn scale_in(page: &Paper, room: &Room, grid: Grid) -> u128
     requires { IsTrue (is_shown page.now room.now) }
     ensures { result ≡ scale_of page.now room.now grid }
 {
@@ -141,7 +141,7 @@ fn exact_along(along: &Along, side: u64, parts: u32, page: u64) -> u128
 }
 
 /// The largest scale, in 10^-9, with which pages have room in exact parts of the sheet, which aren't rounded as cells are.
-pub fn exact_scale(page: &Paper, room: &Room, grid: Grid) -> u128
+pub(crate) fn exact_scale(page: &Paper, room: &Room, grid: Grid) -> u128
     requires { IsTrue (is_shown page.now room.now) }
     ensures { result ≡ exact_scale_of page.now room.now grid }
 {

@@ -18,7 +18,7 @@ const MOST_GROUPS: usize = 10_000;
 const MOST: u32 = 99_999;
 
 /// The first check that fails, at the lowest item or group. The groups are given by their lengths.
-pub fn first_fault(modulo: u32, items: &[ParsedItem], lengths: &[usize]) -> Option<SpecError>
+pub(crate) fn first_fault(modulo: u32, items: &[ParsedItem], lengths: &[usize]) -> Option<SpecError>
     requires items { length items.now < 2 ^ 32 }
     requires groups { length lengths.now < 2 ^ 32 }
     ensures { result ≡ first_fault_of modulo items.now lengths.now }

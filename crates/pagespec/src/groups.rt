@@ -11,20 +11,20 @@ use std::alloc::Global;
 
 /// The items of all groups in one row, in the order of the text, and the number of items of each group.
 #[derive(Drop)]
-pub struct ParsedGroups {
+pub(crate) struct ParsedGroups {
     pub items: Vec<ParsedItem>,
     pub lengths: Vec<usize>,
 }
 
 /// Why reading stopped early.
 #[derive(Clone, Copy)]
-pub enum Stop {
+pub(crate) enum Stop {
     Stuck(ParseStop),
     NoMemory,
 }
 
 /// All groups of a text that has no modulo before them; or its only item, whose page number is left out.
-pub fn read_all_groups(alloc: Global, bytes: &[u8]) -> Result<ParsedGroups, Stop>
+pub(crate) fn read_all_groups(alloc: Global, bytes: &[u8]) -> Result<ParsedGroups, Stop>
     ensures { MatchResult result (ParsesTo (all_groups_at bytes.now)) (IsStop AreGroups all_groups_at bytes.now) }
 {
     let bare = match read_bare_item(bytes) {

@@ -12,7 +12,7 @@ use lengths::{Number, read_digits};
 
 /// The result of an item's modifiers, as far as they were read.
 #[derive(Clone, Copy)]
-pub struct Modifiers {
+pub(crate) struct Modifiers {
     /// Quarters to the left, modulo a full turn.
     pub quarters: u8,
     /// The first scale and the first offset.
@@ -74,7 +74,7 @@ fn is_above_zero(v: Number) -> bool
 
 /// An item as the text has it.
 #[derive(Clone, Copy)]
-pub struct ParsedItem {
+pub(crate) struct ParsedItem {
     pub from_end: bool,
     /// The page number, or 100,000 if it is larger.
     pub page: u32,
@@ -82,7 +82,7 @@ pub struct ParsedItem {
 }
 
 /// The item at the front, and what is left after it.
-pub fn read_item(bytes: &[u8]) -> Result<(ParsedItem, Rest<'_>), ParseStop>
+pub(crate) fn read_item(bytes: &[u8]) -> Result<(ParsedItem, Rest<'_>), ParseStop>
     ensures { MatchResult result (λ x. ItemRead bytes.now x.0 x.1.text.now
         × StuckAfter IsItem item_at bytes.now x.1.text.now x.1.stuck.left)
         (λ stuck. StuckIn IsItem item_at bytes.now stuck.left) }
@@ -103,7 +103,7 @@ pub fn read_item(bytes: &[u8]) -> Result<(ParsedItem, Rest<'_>), ParseStop>
 }
 
 /// Whether there is a minus, and what follows it.
-pub fn split_minus(bytes: &[u8]) -> (bool, &[u8])
+pub(crate) fn split_minus(bytes: &[u8]) -> (bool, &[u8])
     ensures minus { result.0 ≡ is_minus_first bytes.now }
     ensures rest { result.1.now ≡ past_minus bytes.now }
 {
@@ -114,7 +114,7 @@ pub fn split_minus(bytes: &[u8]) -> (bool, &[u8])
 }
 
 /// The result of the modifiers at the front, and what is left after them.
-pub fn read_modifiers(bytes: &[u8]) -> (Modifiers, Rest<'_>)
+pub(crate) fn read_modifiers(bytes: &[u8]) -> (Modifiers, Rest<'_>)
     ensures read { ModifiersRead bytes.now result.0 result.1.text.now }
     ensures stuck { StuckAfter AreSomeModifiers (λ t. Some (modifiers_at (length t) t))
         bytes.now result.1.text.now result.1.stuck.left }

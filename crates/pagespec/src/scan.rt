@@ -15,14 +15,14 @@ use lengths::{Number, NumberError, Unit, read_number};
 
 /// The place where a reader can't continue: in no text of the grammar does the next byte come here.
 #[derive(Clone, Copy)]
-pub struct ParseStop {
+pub(crate) struct ParseStop {
     /// The number of bytes that are left there.
     pub left: usize,
 }
 
 /// The text that is left after something was read.
 #[derive(Clone, Copy)]
-pub struct Rest<'t> {
+pub(crate) struct Rest<'t> {
     pub text: &'t [u8],
     /// Where a longer reading was stuck: at a byte of `text`, or at its end.
     pub stuck: ParseStop,
@@ -30,7 +30,7 @@ pub struct Rest<'t> {
 
 /// A modifier as it is written. Of a number over 99,999 only its presence is kept.
 #[derive(Clone, Copy)]
-pub enum Modifier {
+pub(crate) enum Modifier {
     /// This many quarters to the left.
     Turn(u8),
     Scale(Number),
@@ -39,7 +39,7 @@ pub enum Modifier {
 }
 
 /// The modifier at the front, and what follows it.
-pub fn read_modifier(bytes: &[u8]) -> Result<(Modifier, &[u8]), ParseStop>
+pub(crate) fn read_modifier(bytes: &[u8]) -> Result<(Modifier, &[u8]), ParseStop>
     ensures { MatchResult result (λ x. ModifierRead bytes.now x.0 x.1.now)
         (λ stuck. StuckIn IsModifier modifier_at bytes.now stuck.left) }
 {
@@ -181,7 +181,7 @@ fn past_letter(bytes: &[u8]) -> &[u8]
 }
 
 /// This rest, if nothing more could be read of it.
-pub fn rest_at(text: &[u8]) -> Rest<'_>
+pub(crate) fn rest_at(text: &[u8]) -> Rest<'_>
     ensures text { result.text.now ≡ text.now }
     ensures left { result.stuck.left ≡ length text.now }
 {
@@ -192,7 +192,7 @@ pub fn rest_at(text: &[u8]) -> Rest<'_>
 }
 
 /// The text after this byte, if it begins with it.
-pub fn read_byte(byte: u8, bytes: &[u8]) -> Option<&[u8]>
+pub(crate) fn read_byte(byte: u8, bytes: &[u8]) -> Option<&[u8]>
     ensures { MatchOption result (byte_at byte bytes.now ≡ None) (λ rest. byte_at byte bytes.now ≡ Some rest.now) }
 {
     match bytes.split_first() {

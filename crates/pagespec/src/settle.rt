@@ -10,7 +10,7 @@ use lengths::Number;
 use std::alloc::{AllocError, Global};
 
 /// The groups of these lengths that the items form.
-pub fn settled_groups(
+pub(crate) fn settled_groups(
     alloc: Global,
     parsed: &[ParsedItem],
     lengths: &[usize],

@@ -17,7 +17,7 @@ pub(crate) fn name_in(field: &[u8]) -> &[u8]
 }
 
 /// The name that a value begins with, and what follows it. A name in parentheses may have blanks in it.
-pub fn name_and_rest(value: &[u8]) -> Option<(&[u8], &[u8])>
+pub(crate) fn name_and_rest(value: &[u8]) -> Option<(&[u8], &[u8])>
     ensures { option_map (λ p. (p.0.now, p.1.now)) result ≡ meaning.name_and_rest value.now }
 {
     let (_, text) = value.split_at(leading_blanks(value));

@@ -195,7 +195,7 @@ fn sheets_for(kind: CellKind, cells: u32, row: &[Option<u32>]) -> Result<u32, Ar
 }
 
 /// The number of blocks that the entries of a row take.
-pub fn blocks_of(row: &[Option<u32>], entries: u64) -> Result<u32, ArrangementError>
+pub(crate) fn blocks_of(row: &[Option<u32>], entries: u64) -> Result<u32, ArrangementError>
     requires { 0 < entries }
     ensures value { IfOk result (λ n. n ≡ blocks entries (length row.now)) }
     ensures refused { IfErr result (λ error. error ≡ ArrangementError.NoMemory) }
@@ -286,7 +286,7 @@ fn placed_before(made: &MadeSheets, s: u32, cell: u32) -> Option<PlacedSlot<'_>>
 }
 
 /// The item of a page that was placed before, if it has this paper.
-pub fn same_item(before: Option<PlacedSlot<'_>>, paper: &Paper) -> Option<Item>
+pub(crate) fn same_item(before: Option<PlacedSlot<'_>>, paper: &Paper) -> Option<Item>
     ensures { IfSome result (λ item. (page : ℕ) × (placed_of before.entry ≡ Placed page (item_of item) paper.now)) }
 {
     let placed = before?;

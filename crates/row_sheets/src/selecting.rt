@@ -52,7 +52,7 @@ fn push_entry(
 }
 
 /// The paper of a page, and another one if the page isn't there.
-pub fn paper_or(papers: &[Paper], page: u32, other: &Paper) -> Paper
+pub(crate) fn paper_or(papers: &[Paper], page: u32, other: &Paper) -> Paper
     ensures { result ≡ paper_of papers.now other.now page }
 {
     if (page as usize) < papers.len() {

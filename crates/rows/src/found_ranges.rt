@@ -9,7 +9,7 @@ use crate::places::{read_last_place, read_place};
 /// A range in a document: a blank, or the numbers of its first and its last page; 0 is a page that the document
 /// lacks.
 #[derive(Clone, Copy)]
-pub enum ResolvedRange {
+pub(crate) enum ResolvedRange {
     Blank,
     FromTo(u32, u32),
 }

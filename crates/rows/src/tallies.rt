@@ -15,7 +15,7 @@ const MOST_ENTRIES: u64 = 1_000_000;
 /// Where the first range begins that the document lacks, where the first one begins that exceeds the limit of
 /// entries, and, if there is neither, the number of entries.
 #[derive(Clone, Copy)]
-pub struct Tally {
+pub(crate) struct Tally {
     pub missing: Option<usize>,
     pub over: Option<usize>,
     pub entries: u64,

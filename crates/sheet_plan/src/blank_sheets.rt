@@ -8,7 +8,7 @@ use crate::source::PlanSource;
 use std::alloc::{AllocError, Global};
 
 /// The sheets whose slots are all blank, ascending.
-pub fn blank_sheets_in(alloc: Global, source: &PlanSource) -> Result<Vec<u32>, AllocError>
+pub(crate) fn blank_sheets_in(alloc: Global, source: &PlanSource) -> Result<Vec<u32>, AllocError>
     requires { IsPlannable source.now }
     ensures { IfOk result (λ v. v.items ≡ born_complete (layout (plan_from source.now))) }
 {

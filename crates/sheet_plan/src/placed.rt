@@ -17,7 +17,10 @@ pub struct PlacedPage {
 }
 
 /// All placed pages.
-pub fn placed_pages(alloc: Global, source: &PlanSource) -> Result<Vec<PlacedPage>, AllocError>
+pub(crate) fn placed_pages(
+    alloc: Global,
+    source: &PlanSource,
+) -> Result<Vec<PlacedPage>, AllocError>
     requires { IsPlannable source.now }
     ensures { IfOk result (λ v. v.items ≡ placed_from 0 (layout (plan_from source.now)).sheets) }
 {

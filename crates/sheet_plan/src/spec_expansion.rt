@@ -34,7 +34,7 @@ fn slots_in_block(groups: &[Vec<Item>]) -> u64
 }
 
 /// The item of a slot: a group has one sheet in each block.
-pub fn item_at<'s>(groups: &'s [Vec<Item>], sheet: u32, slot: u16) -> &'s Item
+pub(crate) fn item_at<'s>(groups: &'s [Vec<Item>], sheet: u32, slot: u16) -> &'s Item
     requires some { 0 < length groups.now }
     requires few { length groups.now ≤ most_groups }
     requires slot { slot < length (slice_index_or (groups_of groups.now) (sheet % length groups.now) []) }
@@ -46,7 +46,7 @@ pub fn item_at<'s>(groups: &'s [Vec<Item>], sheet: u32, slot: u16) -> &'s Item
 }
 
 /// The place that an item names in a block.
-pub fn item_place(modulo: u32, blocks: u32, block: u32, item: &Item) -> u32
+pub(crate) fn item_place(modulo: u32, blocks: u32, block: u32, item: &Item) -> u32
     requires fits { modulo * blocks < 2 ^ 32 }
     requires block { block < blocks }
     requires page { item.now.page < modulo }
