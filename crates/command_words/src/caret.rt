@@ -6,8 +6,8 @@ const SHOWN_BEFORE: usize = 50;
 
 const SHOWN_BEHIND: usize = 20;
 
-/// Two lines after a line end: the text round the place, and a caret below it. Two dots are in place of what is cut off, and
-/// a question mark for a control character. Nothing if the text ends before the place.
+/// Two lines after a line end: the text round the place, and a caret below it. Two dots stand for each end that is cut off, and a question mark for
+/// each control character. Nothing is appended if the text ends before the place.
 pub fn caret_below(alloc: Global, text: &str, place: usize) -> Result<String, AllocError> {
     if place > text.len() {
         return Ok(String::new(alloc));
@@ -35,7 +35,7 @@ pub fn caret_below(alloc: Global, text: &str, place: usize) -> Result<String, Al
     format!(in alloc; "{above}{below}")
 }
 
-/// Where a text can't go on that is to be a range from this byte on.
+/// The place at which a range that begins at this byte can't go on.
 pub fn range_place(text: &str, start: usize) -> usize {
     let Some((_, range)) = text.split_at_checked(start) else {
         return start;
@@ -63,7 +63,7 @@ fn behind_place(text: &str) -> &str {
     digits.trim_start_matches(|letter: char| letter.is_ascii_digit())
 }
 
-/// Whether a text begins with a place, after which this is left: blank pages are none.
+/// Whether a text begins with a place and `left` follows it. A blank page isn't a place.
 fn is_place(text: &str, left: &str) -> bool {
     left.len() < text.len() && !text.starts_with("blank") && !text.starts_with("_-")
 }
@@ -101,8 +101,7 @@ fn place_behind(text: &[u8], count: u32, of_items: bool) -> usize {
     start
 }
 
-/// Where the first number over 99,999 is in a specification: a sixth digit shows it, of those that aren't decimals
-/// or zeros in front.
+/// The place of the first number over 99,999 in a specification. Its sixth digit shows it; decimals and leading zeros don't count.
 pub fn large_place(text: &str) -> usize {
     let mut start = 0usize;
     let mut digits = 0u32;

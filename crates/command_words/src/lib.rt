@@ -1,5 +1,4 @@
-//! What both commands have in common: how a value is taken out of what clap finds among the words, what the width of a
-//! border means, and how words are written for a shell.
+//! What both commands share: reading values that clap finds among the words, reading the width of a border, and writing words for a shell.
 #![tactic(auto)]
 
 mod borders;

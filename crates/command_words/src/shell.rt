@@ -6,7 +6,7 @@ ghost use Rattle.command_words.specs.Shell as meaning;
 use lengths::{Grains, Number, print_number};
 use std::alloc::AllocError;
 
-/// Appends a text if it is said.
+/// Appends a text if the condition holds.
 pub fn append_if(said: bool, text: &[u8], out: &mut Vec<u8>) -> Result<(), AllocError>
     ensures { OnOk result (out.new.items ≡ out.old.items ++ meaning.text_if said text.now) }
 {
@@ -24,7 +24,7 @@ pub fn begins_with_minus(text: &str) -> bool
     text.as_bytes().starts_with(b"-")
 }
 
-/// Appends a length in the first unit of which it is a number with at most nine decimals.
+/// Appends a length, in the first unit in which it is a number with at most nine decimals.
 pub fn append_length(length: Grains, out: &mut Vec<u8>) -> Result<(), AllocError>
     ensures { OnOk result (out.new.items ≡ out.old.items ++ meaning.length_text length) }
 {
@@ -50,7 +50,7 @@ fn append_with_unit(number: Number, unit: &[u8], out: &mut Vec<u8>) -> Result<()
     out.extend_from_slice(unit)
 }
 
-/// A length as a number of a unit, 10^-9 of which is this number of grains.
+/// A length as a number of units, where 10^-9 of a unit is this number of grains. None if there is no such number.
 fn in_units(length: Grains, grains: u128) -> Option<Number>
     requires { 0 < grains }
     ensures { result ≡ meaning.in_units length grains }
@@ -121,7 +121,7 @@ pub fn append_files(
     }
 }
 
-/// Appends a file's name in quotes, after a blank. One that begins with a minus sign isn't to be taken for an option.
+/// Appends a file's name in quotes, after a blank. A name that begins with a minus sign is written so that it isn't taken for an option.
 fn append_file(name: &str, out: &mut Vec<u8>) -> Result<(), AllocError>
     ensures { OnOk result (out.new.items ≡ out.old.items ++ meaning.file_text name.now) }
 {
@@ -140,7 +140,7 @@ fn append_quoted(bytes: &[u8], out: &mut Vec<u8>) -> Result<(), AllocError>
     Ok(())
 }
 
-/// A quote ends what is quoted, is written by itself, and begins it again.
+/// Appends a byte of a quoted text. A quote in it closes the quotes, is written by itself, and opens them again.
 fn append_byte(byte: u8, out: &mut Vec<u8>) -> Result<(), AllocError>
     ensures { OnOk result (out.new.items ≡ out.old.items ++ meaning.quoted_byte byte) }
 {

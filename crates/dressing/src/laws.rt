@@ -5,12 +5,12 @@ ghost use Rattle.dressing.specs.AtFoot.{NumbersAreAtFoot};
 ghost use Rattle.dressing.specs.Numbered.{NoMarksAreTelling};
 ghost use Rattle.dressing.specs.Quiet.{DrawnAreFound, DrawnIsQuiet};
 
-/// Cut along all marks of a side, all pieces are as wide.
+/// If a sheet is cut along all marks of a side, its pieces are equally wide.
 pub fn pieces_are_like()
     ensures { PiecesAreLike }
 {}
 
-/// Marks are on lines in the middle between cells, or half a gap outside of them, at both ends of each line.
+/// Marks lie on lines midway between cells, or half a gap outside of them, at both ends of each line.
 pub fn marks_are_between()
     ensures { MarksAreBetween }
 {}
@@ -25,7 +25,7 @@ pub fn marks_are_outside()
     ensures { MarksAreOutside }
 {}
 
-/// No mark goes over a page in a cell, as long as nothing is trimmed of pages.
+/// No mark goes over a page in a cell, if pages aren't trimmed.
 pub fn marks_miss_pages()
     ensures { MarksMissPages }
 {}
@@ -35,7 +35,7 @@ pub fn marks_are_in_margin()
     ensures { MarksAreInMargin }
 {}
 
-/// Lines for notes lie in the cells that are for notes.
+/// Lines for notes lie in the cells for notes.
 pub fn lines_are_in_cell()
     ensures { LinesAreInCell }
 {}
@@ -45,7 +45,7 @@ pub fn lines_are_beside()
     ensures { LinesAreBeside }
 {}
 
-/// The number of a page that is in the middle of its cell stands at the foot of the cell, in its middle.
+/// The number of a page in the middle of its cell is at the foot of the cell, in the middle.
 pub fn numbers_are_at_foot()
     ensures { NumbersAreAtFoot }
 {}
@@ -55,17 +55,17 @@ pub fn drawn_is_tame()
     ensures { DrawnIsTame }
 {}
 
-/// The papers that sheets with marks and numbers report are found, as those of sheets without.
+/// The papers that sheets with marks and numbers report are found in the same way as those of plain sheets.
 pub fn drawn_is_quiet()
     ensures { DrawnIsQuiet }
 {}
 
-/// In what was written of sheets, whatever is drawn on them, each one's own paper is found, as it is printed.
+/// The papers of sheets, whatever is drawn on them, are found in the output as they are printed.
 pub fn drawn_are_found()
     ensures { DrawnAreFound }
 {}
 
-/// If nothing is drawn sheets have the lines that report their papers, and no others.
+/// If nothing is drawn, sheets have only the lines that report their papers.
 pub fn no_marks_are_telling()
     ensures { NoMarksAreTelling }
 {}

@@ -1,4 +1,4 @@
-//! What sheets get besides their pages: papers that they report, marks for folds and cuts, lines for notes, numbers of pages.
+//! What is on sheets besides their pages: lines that report papers, marks for folds and cuts, lines for notes, numbers of pages.
 #![tactic(auto)]
 
 mod dress;

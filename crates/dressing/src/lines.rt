@@ -45,7 +45,7 @@ fn push_stroke(alloc: Global, lines: &mut Lines, stroke: &Stroke) -> Result<(), 
     Ok(())
 }
 
-/// A point, in points.
+/// Appends a point's coordinates, in points.
 fn append_point(x: Grains, y: Grains, line: &mut Vec<u8>) -> Result<(), AllocError>
     ensures { OnOk result (line.new.items ≡ line.old.items ++ number_point_text x y) }
 {

@@ -66,7 +66,7 @@ fn covering_all(first: &Paper, others: &[Paper]) -> Paper
     large
 }
 
-/// The box of a paper, in whole numbers, and after it as it is, if its sides aren't whole.
+/// Adds the box of a paper in whole numbers. If the sides aren't whole, the exact box follows.
 fn push_boxes(alloc: Global, lines: &mut Lines, paper: &Paper) -> Result<(), AllocError>
     ensures { OnOk result (lines.new ≡ lines.old ++ box_lines paper.now) }
 {
@@ -88,7 +88,7 @@ fn push_box(alloc: Global, lines: &mut Lines, paper: &Paper) -> Result<(), Alloc
     Ok(())
 }
 
-/// The box of a paper, as it is.
+/// Adds the exact box of a paper.
 fn push_exact_box(alloc: Global, lines: &mut Lines, paper: &Paper) -> Result<(), AllocError>
     ensures { OnOk result (lines.new ≡ lines.old ++ exact_box_line paper.now ∷ []) }
 {
@@ -106,7 +106,7 @@ fn is_in_whole_points(paper: &Paper) -> bool
     printed_parts(paper.width()) % 100_000 == 0 && printed_parts(paper.height()) % 100_000 == 0
 }
 
-/// A side in whole points, rounded up from what is printed of it; in grains.
+/// A side, in grains: what is printed of it, rounded up to whole points.
 fn whole_up(side: Grains) -> i128
     requires { IsTrue (is_side side) }
     ensures value { result ≡ up_to_whole side }
@@ -116,7 +116,7 @@ fn whole_up(side: Grains) -> i128
     (points * 127_000_000_000) as i128
 }
 
-/// The one medium.
+/// Adds the line of a medium that is the only one.
 fn push_medium(alloc: Global, lines: &mut Lines, paper: &Paper) -> Result<(), AllocError>
     ensures { OnOk result (lines.new
         ≡ lines.old ++ medium_line (codes "%%DocumentMedia: ") (codes "Plain") paper.now ∷ []) }
@@ -128,7 +128,7 @@ fn push_medium(alloc: Global, lines: &mut Lines, paper: &Paper) -> Result<(), Al
     Ok(())
 }
 
-/// The first of several media, which is named after its sides.
+/// Adds the line of the first of several media, with a name made from its sides.
 fn push_named_medium(alloc: Global, lines: &mut Lines, paper: &Paper) -> Result<(), AllocError>
     ensures { OnOk result (lines.new
         ≡ lines.old ++ medium_line (codes "%%DocumentMedia: ") (size_name paper.now) paper.now ∷ []) }
@@ -141,7 +141,7 @@ fn push_named_medium(alloc: Global, lines: &mut Lines, paper: &Paper) -> Result<
     Ok(())
 }
 
-/// Another medium.
+/// Adds the line of a further medium.
 fn push_continued(alloc: Global, lines: &mut Lines, paper: &Paper) -> Result<(), AllocError>
     ensures { OnOk result (lines.new
         ≡ lines.old ++ medium_line (codes "%%+ ") (size_name paper.now) paper.now ∷ []) }
@@ -154,7 +154,7 @@ fn push_continued(alloc: Global, lines: &mut Lines, paper: &Paper) -> Result<(),
     Ok(())
 }
 
-/// The text after the name of a medium: its sides, and that nothing else is known.
+/// Appends the text after the name of a medium: its sides, and that nothing else is known of it.
 fn append_medium_sides(line: &mut Vec<u8>, paper: &Paper) -> Result<(), AllocError>
     ensures { OnOk result (line.new.items ≡ line.old.items ++ medium_text [] paper.now) }
 {
@@ -164,7 +164,7 @@ fn append_medium_sides(line: &mut Vec<u8>, paper: &Paper) -> Result<(), AllocErr
     Ok(())
 }
 
-/// Both sides, in points.
+/// Appends both sides, in points.
 fn append_both_sides(line: &mut Vec<u8>, paper: &Paper) -> Result<(), AllocError>
     ensures { OnOk result (line.new.items ≡ line.old.items ++ size_text paper.now) }
 {
@@ -174,7 +174,7 @@ fn append_both_sides(line: &mut Vec<u8>, paper: &Paper) -> Result<(), AllocError
     Ok(())
 }
 
-/// Both sides in whole points, rounded up.
+/// Appends both sides in whole points, rounded up.
 fn append_whole_size(line: &mut Vec<u8>, paper: &Paper) -> Result<(), AllocError>
     ensures { OnOk result (line.new.items ≡ line.old.items ++ size_text (whole_paper paper.now)) }
 {
@@ -191,7 +191,7 @@ fn append_whole(line: &mut Vec<u8>, side: Grains) -> Result<(), AllocError>
     print_grains(whole_up(side), line)
 }
 
-/// The name of a medium that is named after its sides.
+/// Appends the name of a medium, made from its sides.
 fn append_medium_name(line: &mut Vec<u8>, paper: &Paper) -> Result<(), AllocError>
     ensures { OnOk result (line.new.items ≡ line.old.items ++ size_name paper.now) }
 {

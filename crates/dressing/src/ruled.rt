@@ -7,11 +7,11 @@ use crate::strokes::Stroke;
 use layouts::{Cell, Grid, Room, cell_size, in_grains};
 use std::alloc::{AllocError, Global};
 
-/// How far lines are apart, in 10^-5 of a point.
+/// The distance between lines, in 10^-5 of a point.
 const LINE_STEP: u64 = 2_400_000;
 
-/// The lines to write on beside pages, which are in all columns of a sheet's cells but the last: in each cell of that one,
-/// 24 points apart, from its left to its right side, as one reads the sheet.
+/// The lines to write on. They are in each cell of the last column, as one reads the sheet; pages are in the other columns. Lines are 24 points
+/// apart, and reach from the left to the right side of the cell.
 pub fn note_lines(alloc: Global, room: &Room, grid: Grid) -> Result<Vec<Stroke>, AllocError>
     ensures { IfOk result (λ lines. lines.items ≡ lines_of room.now grid) }
 {
@@ -22,7 +22,7 @@ pub fn note_lines(alloc: Global, room: &Room, grid: Grid) -> Result<Vec<Stroke>,
     Ok(lines)
 }
 
-/// Adds those of a row's cell.
+/// Adds the lines of a row's cell.
 fn push_row(room: &Room, grid: Grid, row: u32, lines: &mut Vec<Stroke>) -> Result<(), AllocError>
     requires { row < grid.rows }
     ensures { OnOk result (lines.new.items ≡ lines.old.items ++ row_lines room.now grid row) }
@@ -42,7 +42,7 @@ fn line_count(room: &Room, grid: Grid) -> u32
     (height.saturating_sub(1) / LINE_STEP) as u32
 }
 
-/// Line k of a row's cell, counted from 1 at its upper side.
+/// Line k of a row's cell, counted from 1 from the top.
 fn note_line(room: &Room, grid: Grid, row: u32, k: u32) -> Stroke
     requires { row < grid.rows }
     ensures { result ≡ line_of room.now grid row k }
@@ -51,7 +51,7 @@ fn note_line(room: &Room, grid: Grid, row: u32, k: u32) -> Stroke
     line_below(grid.turned, &cell, u64::from(k) * LINE_STEP)
 }
 
-/// A line through a cell, so far below its upper side as one reads the sheet, in 10^-5 of a point.
+/// A line through a cell, this far below its upper side as one reads the sheet, in 10^-5 of a point.
 fn line_below(turned: bool, cell: &Cell, depth: u64) -> Stroke
     requires { depth ≤ 11 * 10 ^ 15 }
     ensures { result ≡ below_of turned cell.now depth }

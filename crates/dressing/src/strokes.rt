@@ -11,8 +11,7 @@ use layouts::{Grid, HUNDRED_THOUSANDTH, Room, from_far, gap_at, grains, in_grain
 use lengths::Grains;
 use std::alloc::{AllocError, Global};
 
-/// Which marks are asked for: where sheets are folded, where they are cut, lines for notes beside their pages, and the
-/// numbers of pages.
+/// The marks that are asked for: where sheets are folded, where they are cut, lines for notes beside pages, and page numbers.
 #[derive(Clone, Copy, Debug, PartialEq, Eq)]
 pub struct Marks {
     pub fold: bool,
@@ -21,17 +20,17 @@ pub struct Marks {
     pub numbers: Option<Numbering>,
 }
 
-/// A line on a sheet, from a point to another one: how far each is from the left edge, and from the lower one.
+/// A line on a sheet between two points, each given by its distances from the left and the lower edge.
 #[derive(Clone, Copy, Debug, PartialEq, Eq)]
 pub struct Stroke {
     pub start: (Grains, Grains),
     pub end: (Grains, Grains),
 }
 
-/// How long strokes are at most, in 10^-5 of a point.
+/// The greatest length of a stroke, in 10^-5 of a point.
 const LONGEST: u64 = 1_800_000;
 
-/// The marks along which a sheet is cut between its cells, and round them if the margins have room for it.
+/// The marks for cutting a sheet between its cells, and around them if the margins have room.
 pub fn cut_marks(alloc: Global, room: &Room, grid: Grid) -> Result<Vec<Stroke>, AllocError>
     ensures { IfOk result (λ strokes. strokes.items ≡ cut_of room.now grid) }
 {
@@ -41,7 +40,7 @@ pub fn cut_marks(alloc: Global, room: &Room, grid: Grid) -> Result<Vec<Stroke>, 
     Ok(strokes)
 }
 
-/// The marks along which a sheet is cut that is folded between its cells: round them alone, if the margins have room for it.
+/// The marks for cutting a sheet that is folded between its cells: around the cells only, if the margins have room.
 pub fn outer_cut_marks(alloc: Global, room: &Room, grid: Grid) -> Result<Vec<Stroke>, AllocError>
     ensures { IfOk result (λ strokes. strokes.items ≡ outer_cut_of room.now grid) }
 {
@@ -50,7 +49,7 @@ pub fn outer_cut_marks(alloc: Global, room: &Room, grid: Grid) -> Result<Vec<Str
     Ok(outer)
 }
 
-/// The marks along which a sheet is folded between its cells.
+/// The marks for folding a sheet between its cells.
 pub fn fold_marks(alloc: Global, room: &Room, grid: Grid) -> Result<Vec<Stroke>, AllocError>
     ensures { IfOk result (λ strokes. strokes.items ≡ fold_of room.now grid) }
 {
@@ -68,7 +67,7 @@ fn push_between(room: &Room, grid: Grid, strokes: &mut Vec<Stroke>) -> Result<()
     Ok(())
 }
 
-/// Adds those round all cells, if the margins have room for them.
+/// Adds the marks around all cells, if the margins have room for them.
 fn push_round_if_room(room: &Room, grid: Grid, strokes: &mut Vec<Stroke>) -> Result<(), AllocError>
     ensures { OnOk result (strokes.new.items ≡ strokes.old.items ++ outer_cut_of room.now grid) }
 {
@@ -78,7 +77,7 @@ fn push_round_if_room(room: &Room, grid: Grid, strokes: &mut Vec<Stroke>) -> Res
     Ok(())
 }
 
-/// Adds those round all cells.
+/// Adds the marks around all cells.
 fn push_round(room: &Room, grid: Grid, strokes: &mut Vec<Stroke>) -> Result<(), AllocError>
     ensures { OnOk result (strokes.new.items ≡ strokes.old.items ++ marks_round room.now grid) }
 {
@@ -107,7 +106,7 @@ fn push_level_round(room: &Room, parts: u32, strokes: &mut Vec<Stroke>) -> Resul
     Ok(())
 }
 
-/// Whether there are margins along all edges that have room for half a gap.
+/// Whether the margins along all edges have room for half a gap.
 fn has_room_round(room: &Room) -> bool
     ensures { result ≡ round_has_room room.now }
 {
@@ -117,7 +116,7 @@ fn has_room_round(room: &Room) -> bool
     beside && above
 }
 
-/// Whether there is a margin that has room for half of such a gap.
+/// Whether a margin has room for half of this gap.
 fn has_half_gap(edge: u64, gap: u64) -> bool
     requires { edge ≤ 10_000_000_000 }
     ensures { result ≡ has_room_of edge gap }
@@ -151,7 +150,7 @@ fn push_level_between(room: &Room, parts: u32, strokes: &mut Vec<Stroke>) -> Res
     Ok(())
 }
 
-/// Adds the strokes along the line before one of several cells side by side.
+/// Adds the strokes along the line before cell k of several cells side by side.
 fn push_upright(
     room: &Room,
     parts: u32,
@@ -174,7 +173,7 @@ fn push_upright(
     Ok(())
 }
 
-/// Adds the strokes along the line below one of several cells one above another.
+/// Adds the strokes along the line below cell k of several cells one above another.
 fn push_level(room: &Room, parts: u32, k: u32, strokes: &mut Vec<Stroke>) -> Result<(), AllocError>
     requires some { 0 < parts }
     requires part { k ≤ parts }
@@ -192,7 +191,7 @@ fn push_level(room: &Room, parts: u32, k: u32, strokes: &mut Vec<Stroke>) -> Res
     Ok(())
 }
 
-/// How far from an edge with such a margin strokes end.
+/// The distance from the edge at which strokes end, for a margin of this width.
 fn far_end(edge: u64) -> Grains
     requires { edge ≤ 10_000_000_000 }
     ensures value { result ≡ pos (far_of edge) }
@@ -205,7 +204,7 @@ fn far_end(edge: u64) -> Grains
     }
 }
 
-/// And where they begin.
+/// The distance from the edge at which they begin.
 fn near_end(edge: u64) -> Grains
     requires { edge ≤ 10_000_000_000 }
     ensures value { result ≡ pos (near_of edge) }

@@ -16,8 +16,8 @@ struct Size {
     height: i128,
 }
 
-/// The papers that sheets report: each that is printed otherwise than all before it. Refused for memory alone, and if there
-/// are 2^32 sheets.
+/// The papers that sheets report: each one whose printed size differs from all before it. Refused only for lack of memory, and if there are 2^32
+/// sheets.
 pub fn reported_papers(alloc: Global, sheets: &MadeSheets) -> Result<Vec<Paper>, AllocError>
     ensures { IfOk result (λ told. told.items ≡ papers_told (papers_of sheets.now)) }
 {
@@ -32,7 +32,7 @@ pub fn reported_papers(alloc: Global, sheets: &MadeSheets) -> Result<Vec<Paper>,
     Ok(told)
 }
 
-/// Puts a paper after these, if it is printed otherwise than each of them.
+/// Adds a paper, if its printed size differs from all of these.
 fn add_paper(
     told: &mut Vec<Paper>,
     sizes: &mut BTreeSet<Size>,
@@ -51,7 +51,7 @@ fn add_paper(
     Ok(())
 }
 
-/// The sides of a paper as they are printed.
+/// The printed sides of a paper.
 fn size_in_print(paper: &Paper) -> Size
     ensures { result ≡ size_of paper.now }
 {
@@ -61,7 +61,7 @@ fn size_in_print(paper: &Paper) -> Size
     }
 }
 
-/// A side in whole 10^-5 points, as it is printed.
+/// The printed side, in whole 10^-5 points.
 pub(crate) fn printed_parts(side: Grains) -> u128
     requires { IsTrue (is_side side) }
     ensures value { result ≡ parts_of side }

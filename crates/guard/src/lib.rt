@@ -1,5 +1,5 @@
-//! The guard: lines of PostScript that are inserted into a document before it is imposed. They keep a document in
-//! its place on the sheet that shows its pages or sets its page device or its matrix by itself.
+//! The guard: lines of PostScript that are inserted into a document before it is imposed. They keep a document in its place on the sheet if it prints
+//! the sheet, or sets its page device or its matrix, by itself.
 #![tactic(auto)]
 
 pub mod laws;

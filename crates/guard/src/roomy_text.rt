@@ -9,11 +9,11 @@ use lengths::Paper;
 use std::alloc::AllocError;
 use std::marker::Model;
 
-/// A document's text. Before it there may be room, which isn't seen.
+/// A document's text. There may be room before it, which isn't visible.
 #[derive(Debug, Drop)]
 pub struct RoomyText {
     bytes: Vec<u8>,
-    /// At which byte the text begins.
+    /// The byte at which the text begins.
     start: usize,
 }
 
@@ -37,7 +37,7 @@ impl RoomyText {
         RoomyText { bytes, start }
     }
 
-    /// Its bytes.
+    /// The text.
     pub fn as_slice(&self) -> &[u8]
         ensures value { result.now ≡ self.now.items }
     {
@@ -45,9 +45,8 @@ impl RoomyText {
         text
     }
 
-    /// Puts the guard in, for this paper of the sheet. If there is room for it before the text, the header comments alone
-    /// are moved. The parts of the document serve for the guarded one. Refused for memory alone; the text is as it was
-    /// then.
+    /// Inserts the guard, for this paper of the sheet. If the room before the text is enough, only the header comments are moved. The parts of the
+    /// document become those of the guarded one. Refused only for lack of memory; then the text is unchanged.
     pub fn put_guard(&mut self, sheet_paper: Option<&Paper>) -> Result<(), AllocError>
         ensures put_in { OnOk result
             (self.new.items ≡ guarded (option_map (λ p. p.now) sheet_paper.entry) self.old.items) }

@@ -45,8 +45,8 @@ fn main(rt: HostRuntime) -> ExitCode {
     ExitCode::from(tell(&mut rt.stderr(), text.as_slice(), status))
 }
 
-/// Says how the program ended, and gives its status. It takes the end by value, so the output is closed before
-/// anything is said: if standard error was closed, the output has its number.
+/// Reports how the program ended, and returns its status. The end is taken by value, so the output is closed before anything is reported: if standard
+/// error was closed at the start, the output may have its descriptor.
 fn said<W: World>(
     alloc: Global,
     report: ReportText,
@@ -59,7 +59,7 @@ fn said<W: World>(
     (text, ended.status())
 }
 
-/// The words, of which the first is the program's name.
+/// The words of the command line; the first is the program's name.
 fn own_words(rt: &(impl Env + AllocGlobal)) -> Result<Vec<String>, RequestFault> {
     match env::args(rt) {
         Ok(args) => Ok(args.collect(rt.alloc())?),
@@ -68,7 +68,7 @@ fn own_words(rt: &(impl Env + AllocGlobal)) -> Result<Vec<String>, RequestFault>
     }
 }
 
-/// The value of `PAPERSIZE`; nothing if it isn't set, or no text.
+/// The value of `PAPERSIZE`; empty if it isn't set or isn't text.
 fn paper_size(rt: &(impl Env + AllocGlobal)) -> String {
     match env::var(rt, "PAPERSIZE") {
         Ok(value) => value,

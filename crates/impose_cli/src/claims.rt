@@ -1,4 +1,4 @@
-//! What a document says of itself.
+//! A document's claims about itself.
 ghost use Rattle.std.specs.Prelude.{◌≡◌, codes, option_map};
 ghost use Rattle.papers.specs.Media.{comment_value, contents};
 ghost use Rattle.impose_messages.specs.Said.{shown_name};
@@ -11,7 +11,7 @@ use lengths::Paper;
 use papers::{Comment, document_paper, first_comment, first_name, is_at_end};
 use row_runs::declared_page_count;
 
-/// A document's claims about itself, as far as they are reported. It needs no memory.
+/// The claims of a document about itself that are reported. It takes no memory.
 pub(crate) fn claims_of(request: &ImposeRequest, input: &[u8]) -> Claims
     ensures { meaning.IsToldBy request.now input.now result }
 {
@@ -20,7 +20,7 @@ pub(crate) fn claims_of(request: &ImposeRequest, input: &[u8]) -> Claims
     Claims { pages, unknown }
 }
 
-/// A name as it is shown.
+/// A name in the form in which it is shown.
 fn shown(name: Option<&[u8]>) -> Option<ShownName>
     ensures { result ≡ option_map shown_name (option_map (λ n. n.now) name.entry) }
 {
@@ -30,7 +30,7 @@ fn shown(name: Option<&[u8]>) -> Option<ShownName>
     }
 }
 
-/// The name of the document's paper, if it isn't known, and no paper is named for the pages.
+/// The name of the document's paper, if it is unknown and the command line names no paper for the pages.
 fn unknown_paper<'t>(request: &ImposeRequest, input: &'t [u8]) -> Option<&'t [u8]>
     ensures { option_map (λ name. name.now) result
         ≡ meaning.unknown_paper request.now.page_paper request.now.default_paper input.now }
@@ -41,7 +41,7 @@ fn unknown_paper<'t>(request: &ImposeRequest, input: &'t [u8]) -> Option<&'t [u8
     }
 }
 
-/// The first name in the document's `%%DocumentPaperSizes:`, if none gives its paper (DSC 2.1).
+/// The first name in the document's `%%DocumentPaperSizes:`, if no name there gives its paper (DSC 2.1).
 fn unknown_name<'t>(usual: &Paper, input: &'t [u8]) -> Option<&'t [u8]>
     ensures { option_map (λ name. name.now) result ≡ meaning.unknown_name usual.now input.now }
 {
@@ -52,7 +52,7 @@ fn unknown_name<'t>(usual: &Paper, input: &'t [u8]) -> Option<&'t [u8]>
     told_name(names_value(header)?)
 }
 
-/// The name that a value begins with, unless it is left for the trailer, which isn't read for names.
+/// The name at the start of a value, unless the value is left to the trailer, which isn't read for names.
 fn told_name(value: &[u8]) -> Option<&[u8]>
     ensures { option_map (λ name. name.now) result ≡ meaning.told_name value.now }
 {

@@ -26,7 +26,7 @@ use row_sheets::{Poster, check_poster};
 use rows::Signing;
 use sheet_plan::are_sides;
 
-/// The papers of the pages, once they are turned, and of the sheets. A selection keeps its pages on their own paper.
+/// The papers of the pages, once they are turned, and of the sheets. A selection keeps each page on its own paper.
 pub(crate) fn papers_for(request: &ImposeRequest, page_paper: &Paper) -> Papers
     ensures page { result.page ≡ cells_paper request.now page_paper.now }
     ensures sheet { result.sheet ≡ sheet_paper_in request.now.layout request.now.sheet_paper
@@ -41,7 +41,7 @@ pub(crate) fn papers_for(request: &ImposeRequest, page_paper: &Paper) -> Papers
     Papers { page, sheet }
 }
 
-/// How the layout lays pages on sheets; None if it is a specification, which isn't laid so.
+/// How the layout lays pages on sheets; None for a specification.
 pub(crate) fn laying_for(
     layout: &Layout,
     spacing: &Spacing,
@@ -73,7 +73,7 @@ pub(crate) fn laying_for(
     }
 }
 
-/// Whether pages of any paper may have room on the sheets that are named, if they are.
+/// Tests that the named sheets, if any, may have room for pages of some paper.
 pub(crate) fn check_sheets(
     layout: &Layout,
     spacing: &Spacing,
@@ -109,7 +109,7 @@ fn kept_free(layout: &Layout, spacing: &Spacing) -> Option<Free>
     }
 }
 
-/// Whether margins are as even as the layout needs them.
+/// Whether the margins are as even as the layout needs.
 fn is_even_enough(layout: &Layout, free: &Free) -> bool
     ensures { result ≡ are_even_enough layout.now free.now }
 {
@@ -146,7 +146,7 @@ fn cell_laying(
     }
 }
 
-/// The cells that the layout asks for, or else those of a zine.
+/// The cells that the layout asks for; for a zine its own.
 fn cells_for(layout: &Layout, spacing: &Spacing) -> Arrangement
     ensures { result ≡ cells_of_layout layout.now spacing.now }
 {
@@ -158,7 +158,7 @@ fn cells_for(layout: &Layout, spacing: &Spacing) -> Arrangement
     }
 }
 
-/// How a row is put into these cells.
+/// How the layout puts a row into these cells.
 fn scheme_for(layout: &Layout, cells: Cells) -> Scheme
     requires { cells_per_sheet cells ≤ most_on_sheet }
     ensures { result ≡ scheme_in layout.now (cells_per_sheet cells) }
@@ -238,22 +238,21 @@ fn poster_laying(
     }
 }
 
-/// Whether as much is kept free along opposite edges.
+/// Whether opposite margins are equal.
 fn has_even_margins(free: &Free) -> bool
     ensures { result ≡ are_even free.now }
 {
     free.left.get() == free.right.get() && free.bottom.get() == free.top.get()
 }
 
-/// Whether as much is kept free along all edges.
+/// Whether all margins are equal.
 fn has_one_margin(free: &Free) -> bool
     ensures { result ≡ are_one free.now }
 {
     has_even_margins(free) && free.left.get() == free.bottom.get()
 }
 
-/// How the row of a request is sewn, if it is. Refused are a signature that can't have so many sides, and a border as wide
-/// as nothing.
+/// The signatures of a request, if it has any. Refused if a signature can't have this number of sides, or if the border's width is 0.
 #[tactic(auto, using(crate::proofs::RowOptions::no_border, crate::proofs::RowOptions::not_sewn))]
 pub(crate) fn signing_for(request: &ImposeRequest) -> Result<Option<Signing>, ImposeFault>
     ensures signing { IfOk result (λ signing. signing ≡ signing_in request.now.layout) }
@@ -281,7 +280,7 @@ fn named_signing(layout: &Layout) -> Option<Signing>
     }
 }
 
-/// Whether a border can be drawn, if one is asked for: it is wider than nothing.
+/// Whether the border can be drawn, if one is requested: its width is above 0.
 pub(crate) fn is_drawn(border: Option<Grains>) -> bool
     ensures { result ≡ is_border border }
 {

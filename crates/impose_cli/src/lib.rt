@@ -1,4 +1,4 @@
-//! The command of impose: its words are read, and what they ask for is made of a document and written.
+//! The command of impose: it reads the words, imposes a document as they ask, and writes the result.
 #![tactic(auto)]
 
 mod attempt;

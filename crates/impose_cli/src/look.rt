@@ -1,4 +1,4 @@
-//! A look at what a request would impose.
+//! A look at the sheets that a request would impose.
 ghost use Rattle.std.specs.Prelude.{IfErr, IfOk, IfSome};
 ghost use Rattle.rows.specs.Sewing.{MayBeSewn};
 ghost use Rattle.dsc.specs.Serving.{Serve};
@@ -20,17 +20,16 @@ use std::alloc::Global;
 /// The most sheets or leaves that are listed, or sheets that are drawn.
 const MOST_TOLD: u32 = 40;
 
-/// The list or the drawing that is made of sheets in place of imposing them.
+/// The list or drawing of the sheets, in place of imposing them.
 #[derive(Clone, Copy, Debug, PartialEq, Eq)]
 pub enum Overview {
-    /// Line by line which page is where.
+    /// A list of the pages on each sheet.
     Plan,
-    /// A picture of the sheets, as an SVG.
+    /// A drawing of the sheets, as an SVG.
     Picture,
 }
 
-/// The plan or the picture of the sheets on which the layout of a request lays its row of this document. What a run of
-/// the request would refuse is refused as it does.
+/// The list or drawing of the sheets for this document, by the layout of a request. The faults are those of a run of the request.
 pub fn look_text(
     alloc: Global,
     request: &ImposeRequest,
@@ -46,7 +45,7 @@ pub fn look_text(
     Ok(text)
 }
 
-/// The plan or the picture of a task, whose text is read by these parts.
+/// The list or drawing for a task; these are the parts of its text.
 fn task_text(
     alloc: Global,
     request: &ImposeRequest,
@@ -86,7 +85,7 @@ fn task_text(
     }
 }
 
-/// The plan or the picture of a job.
+/// The list or drawing for a job.
 fn job_text(alloc: Global, job: &RowJob<'_, '_>, look: Overview) -> Result<Vec<u8>, SheetError>
     requires asked { MayBeAsked job.now.asked }
     ensures told { IfOk result (λ text. TellsSheets look job.now text.items) }

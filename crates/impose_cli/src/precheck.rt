@@ -1,4 +1,4 @@
-//! The checks of a request that don't ask for its document.
+//! The checks of a request that don't need its document.
 ghost use Rattle.std.specs.Prelude.{◌≡◌, option_map, IfErr, OnOk};
 ghost use Rattle.impose_cli.specs.Precheck as meaning;
 ghost use Rattle.impose_cli.specs.Precheck.{AreGoodRanges, MayBeRead, RefusesRanges, RefusesRequest};
@@ -12,8 +12,8 @@ use lengths::Grains;
 use rows::{RowError, read_row};
 use std::alloc::Global;
 
-/// The checks that don't ask for the document, so that a mistake is found before a byte is read: whether a picture would go
-/// over it, then whether all options do something, then those of the layout, then whether pages are named by ranges.
+/// The checks that don't need the document, so that a mistake is found before a byte is read. In this order: a drawing over the input, options
+/// without effect, the layout, the page ranges.
 pub fn check_request(alloc: Global, request: &ImposeRequest) -> Result<(), ImposeFault>
     ensures possible { OnOk result (MayBeRead request.now) }
     ensures refused { IfErr result (RefusesRequest request.now) }
@@ -25,7 +25,7 @@ pub fn check_request(alloc: Global, request: &ImposeRequest) -> Result<(), Impos
     check_ranges(alloc, &request.choice)
 }
 
-/// Why the options are refused, if they are.
+/// The fault of the options, if they have one.
 fn option_fault(request: &ImposeRequest) -> Option<ImposeFault>
     ensures { result ≡ meaning.option_fault request.now }
 {
@@ -38,7 +38,7 @@ fn option_fault(request: &ImposeRequest) -> Option<ImposeFault>
     }
 }
 
-/// Whether the picture of the sheets is to be written to the file that is read.
+/// Whether the drawing of the sheets would be written to the input file.
 fn is_drawn_over(product: &Product, infile: Option<&str>) -> bool
     ensures { result ≡ meaning.is_drawn_over product.now (option_map (λ n. n.now) infile.entry) }
 {
@@ -48,7 +48,7 @@ fn is_drawn_over(product: &Product, infile: Option<&str>) -> bool
     }
 }
 
-/// Whether two files have one name.
+/// Whether two files have the same name.
 fn is_one_file(one: Option<&str>, other: Option<&str>) -> bool
     ensures { result ≡ meaning.is_one_file (option_map (λ n. n.now) one.entry) (option_map (λ n. n.now) other.entry) }
 {
@@ -58,9 +58,8 @@ fn is_one_file(one: Option<&str>, other: Option<&str>) -> bool
     }
 }
 
-/// The first option that would do nothing, or not what it says: a paper for sheets that keep their own; a margin at an edge
-/// that there isn't, or that has another; marks that aren't where that margin is; and marks outside of pages that have no room
-/// for them.
+/// The first option without effect, or with another effect than it names: a paper for sheets that keep their own; a margin at an edge that is missing
+/// or has another margin; cut marks that don't fit an inner margin; cut marks without a margin for them.
 fn idle_option(request: &ImposeRequest) -> Option<IdleOption>
     ensures { result ≡ meaning.idle_option request.now }
 {
@@ -81,21 +80,21 @@ fn idle_option(request: &ImposeRequest) -> Option<IdleOption>
     }
 }
 
-/// Whether each page is left on its own paper.
+/// Whether the layout leaves each page on its own paper.
 fn keeps_papers(layout: &Layout) -> bool
     ensures { result ≡ meaning.keeps_papers layout.now }
 {
     matches!(layout, Layout::Selection)
 }
 
-/// Whether what is laid so is bound, and has an inner edge there.
+/// Whether sheets of this layout are bound, and so have an inner edge.
 fn is_bound(layout: &Layout) -> bool
     ensures { result ≡ meaning.is_bound layout.now }
 {
     matches!(layout, Layout::NUp(_) | Layout::Booklet { .. })
 }
 
-/// Whether a left margin is asked for, where the left edge is the inner one of fronts, which has its own.
+/// Whether a left margin is named beside an inner one, which is the left margin of fronts.
 fn has_two_left(layout: &Layout, spacing: &Spacing) -> bool
     ensures { result ≡ meaning.has_two_left layout.now spacing.now }
 {
@@ -105,7 +104,7 @@ fn has_two_left(layout: &Layout, spacing: &Spacing) -> bool
     }
 }
 
-/// Whether sheets are cut outside their cells alone: they have one cell, or are folded between them.
+/// Whether sheets are cut only outside their cells, because they have one cell or are folded between the cells.
 fn is_cut_outside(layout: &Layout) -> bool
     ensures { result ≡ meaning.is_cut_outside layout.now }
 {
@@ -118,7 +117,7 @@ fn is_cut_outside(layout: &Layout) -> bool
     }
 }
 
-/// Whether there are margins, of half the gap at least.
+/// Whether the margins are at least half the gap.
 fn has_margins(free: &Free) -> bool
     ensures { result ≡ meaning.has_margins free.now }
 {
@@ -134,7 +133,7 @@ fn fits_half_gap(margin: Grains, gap: Grains) -> bool
     0 < margin && gap.get() <= margin + margin
 }
 
-/// Whether pages are named by ranges. What is no range in a document without pages is none in any other.
+/// Whether the text names pages by ranges. A text that isn't ranges for a document without pages isn't for any other.
 fn check_ranges(alloc: Global, choice: &PageChoice) -> Result<(), ImposeFault>
     ensures ranges { OnOk result (AreGoodRanges choice.now) }
     ensures refused { IfErr result (RefusesRanges choice.now) }

@@ -1,4 +1,4 @@
-//! The specification of a task as it is printed, with the line of pstops that does the same.
+//! The specification of a task as it is printed, with an equal command line of pstops.
 ghost use Rattle.std.specs.Prelude.{◌≡◌, ◌++◌, IfOk, OnOk};
 ghost use Rattle.impose_cli.specs.Printed.{call_text, printed_command, comments_text, is_border_trimmed};
 ghost use Rattle.impose_cli.specs.Printed.{options_text, printed_text, quoted_spec};
@@ -12,8 +12,8 @@ use impose_words::ImposeRequest;
 use imposer::Options;
 use std::alloc::{AllocError, Global};
 
-/// The specification on a line, on a second one the command line of pstops that imposes by it with these options, and
-/// comments on what pstops doesn't do: it draws a border along the page's edges, whatever is trimmed, and puts no guard in.
+/// The specification on a line, the equal command line of pstops on the next, then comments on what pstops does differently: it draws a border along
+/// the page's edges, whatever is trimmed, and inserts no guard.
 pub fn printed_task(
     alloc: Global,
     request: &ImposeRequest,
@@ -40,7 +40,7 @@ fn append_command(request: &ImposeRequest, task: &Task, out: &mut Vec<u8>) -> Re
     append_files(name_of(&request.infile), name_of(&request.outfile), out)
 }
 
-/// The command with its options.
+/// Appends the command with its options.
 fn append_call(
     request: &ImposeRequest,
     options: &Options,
@@ -64,7 +64,7 @@ fn append_comments(
     append_if(request.is_guarded, GUARD_COMMENT, out)
 }
 
-/// Whether a border is drawn round pages that are trimmed.
+/// Whether a border is drawn round trimmed pages.
 fn has_trimmed_border(request: &ImposeRequest, task: &Task) -> bool
     ensures { result ≡ is_border_trimmed request.now task.now }
 {
@@ -77,8 +77,8 @@ const TRIM_COMMENT: &[u8] =
 const GUARD_COMMENT: &[u8] =
     b"# impose also puts its guard into the document, which pstops doesn't\n";
 
-/// A specification has no byte that the shell reads in quotes. One that begins with a minus sign is written with its
-/// modulo, as pstops would take it for an option.
+/// Appends a specification in quotes; no byte of it has a meaning there. One that begins with a minus sign gets its modulo, since pstops would take
+/// it for an option.
 fn append_spec(spec: &str, out: &mut Vec<u8>) -> Result<(), AllocError>
     ensures { OnOk result (out.new.items ≡ out.old.items ++ quoted_spec spec.now) }
 {

@@ -1,4 +1,4 @@
-//! The whole program, over the files and standard streams around it.
+//! The whole program, over a world of files and standard streams.
 ghost use Rattle.std.specs.Prelude.{◌≡◌, ◌+◌, ◌<◌, ◌≤◌, map, option_map, string_bytes};
 ghost use Rattle.std.specs.Prelude.{Some, IfOk, IfErr, OnOk};
 ghost use Rattle.std.specs.Io.KnownBytes.{Appends};
@@ -32,11 +32,11 @@ use world::{Output, ReadFault, ReadSource, Rest, World, read_front, read_input_b
 /// How the program ended.
 #[derive(Drop)]
 pub struct Ended<W: World> {
-    /// The words' request, if they make one.
+    /// The request of the words, if they make one.
     pub request: Option<ImposeRequest>,
-    /// The result, or why there is none or only a part of it.
+    /// The result, or the fault; after a fault there may be a part of the result.
     pub outcome: Result<Done, ImposeFault>,
-    /// The world, if no output was created in it, or the output.
+    /// The world if no output was created in it, or the output.
     pub rest: Rest<W, W::Output>,
 }
 
@@ -52,12 +52,10 @@ impl<W: World> Ended<W> {
     }
 }
 
-/// The program: it reads the words, of which the first is its name, finds the paper at home by the value of `PAPERSIZE`
-/// and by `/etc/papersize`, and checks what it asks for; then it reads its input whole and closes it; then it imposes,
-/// or prints the specification, or writes the plan or the picture of the sheets.
+/// The program. It reads the words, of which the first is its name, finds the paper at home by `PAPERSIZE` and `/etc/papersize`, and checks the
+/// request. Then it reads its input whole and closes it. Last it imposes, prints the specification, or writes the list or drawing of the sheets.
 ///
-/// The output is created when nothing is left to refuse, so that a request that is refused creates none, and input and
-/// output may be one file.
+/// The output is created when nothing is left to refuse. So a request that is refused creates none, and input and output may be one file.
 pub fn impose<R: Threads + Wait + Sync, W: World>(
     rt: &R,
     alloc: Global,
@@ -90,7 +88,7 @@ pub fn impose<R: Threads + Wait + Sync, W: World>(
     }
 }
 
-/// The request where this is the paper at home.
+/// The request, with this paper at home.
 fn at_home(request: ImposeRequest, home: Paper) -> ImposeRequest
     ensures { result ≡ record request { default_paper = home } }
 {
@@ -103,11 +101,11 @@ fn at_home(request: ImposeRequest, home: Paper) -> ImposeRequest
 /// The file that names the paper at home.
 const HOME_FILE: &str = "/etc/papersize";
 
-/// The most of its bytes that are read.
+/// The most bytes of that file that are read.
 const HOME_BYTES: usize = 4_096;
 
-/// The paper at home, by the value of `PAPERSIZE` and by what the file begins with. What can't be read, or is no regular
-/// file, counts as empty. It needs no memory.
+/// The paper at home, by the value of `PAPERSIZE` and the start of the file. A file that can't be read, or isn't regular, counts as empty. It takes
+/// no memory.
 fn home_of<W: World>(paper_size: &[u8], world: &mut W) -> Paper
     requires countable { (W.seen world.old).failures < u64.MAX }
     ensures home { FindsHome paper_size.now (W.gives world.old) (W.regular world.old) (W.seen world.old) (W.seen world.new) result }
@@ -130,7 +128,7 @@ fn home_of<W: World>(paper_size: &[u8], world: &mut W) -> Paper
     }
 }
 
-/// Checks the request, reads the input, and then makes what is asked for.
+/// Checks the request, reads the input, and makes the product.
 fn carry_out<R: Threads + Wait + Sync, W: World>(
     rt: &R,
     alloc: Global,
@@ -152,7 +150,7 @@ fn carry_out<R: Threads + Wait + Sync, W: World>(
     }
 }
 
-/// Makes what the request asks for.
+/// Makes the product of the request.
 fn make<R: Threads + Wait + Sync, W: World>(
     rt: &R,
     alloc: Global,
@@ -182,7 +180,7 @@ fn make<R: Threads + Wait + Sync, W: World>(
     }
 }
 
-/// All that the file of this name, or standard input, gives.
+/// All bytes of the file of this name, or of standard input, with room before them.
 fn roomy_input<W: World>(
     alloc: Global,
     name: Option<&str>,
@@ -202,10 +200,10 @@ fn roomy_input<W: World>(
     }
 }
 
-/// Room for the guard before the document: more bytes than it has, with any paper.
+/// Room for the guard before the document, enough for any paper.
 const ROOM: u32 = 2_560;
 
-/// All that an input of this world gives. It is closed.
+/// All bytes of an input of this world, which is then closed.
 fn read_from<W: World>(
     alloc: Global,
     input: W::Input,
@@ -228,7 +226,7 @@ fn read_from<W: World>(
     }
 }
 
-/// Prints the specification, with the line of pstops, to standard output.
+/// Prints the specification, with the equal command line of pstops, to standard output.
 fn print_input<W: World>(
     alloc: Global,
     request: &ImposeRequest,
@@ -250,7 +248,7 @@ fn print_input<W: World>(
     create_with_text(None, lines.as_slice(), Done::Printed, world)
 }
 
-/// Writes the plan or the picture of the sheets to the output of that name.
+/// Writes the list or drawing of the sheets to the output of this name.
 fn show_input<W: World>(
     alloc: Global,
     request: &ImposeRequest,
@@ -270,7 +268,7 @@ fn show_input<W: World>(
     }
 }
 
-/// Writes a text to the output of that name, which is created for it.
+/// Creates the output of this name, and writes a text to it.
 fn create_with_text<W: World>(
     name: Option<&str>,
     text: &[u8],
@@ -300,7 +298,7 @@ fn create_with_text<W: World>(
     }
 }
 
-/// A write failed after this number of bytes.
+/// The fault of a write that failed after this number of bytes.
 fn failed_at(written: usize, cause: Option<io::Error>) -> ImposeFault
     ensures { result ≡ faults.Write written cause }
 {

@@ -14,7 +14,7 @@ use papers::{PlacedPages, Reach, page_papers, reach_beyond};
 use rows::{RowError, imposed_row};
 use std::alloc::{AllocError, Global};
 
-/// The papers of pages: those that name none have the one that is named for all, else the document's.
+/// The papers that pages name themselves, or else the document's; without these, the paper of the command line, or else the usual one.
 fn told_own(
     alloc: Global,
     request: &ImposeRequest,
@@ -26,8 +26,8 @@ fn told_own(
     page_papers(alloc, document, None, &usual)
 }
 
-/// The pages that reach beyond the papers by which they are placed, of those that are taken, where these are the papers that
-/// a request finds for pages. Those that the paper cuts which is named are reported apart.
+/// The pages taken that reach beyond the papers by which they are placed; `own` are the papers that the request finds for the pages. Pages that a
+/// paper of the command line cuts are reported apart.
 pub(crate) fn reach_of_row(
     alloc: Global,
     request: &ImposeRequest,
@@ -47,8 +47,8 @@ pub(crate) fn reach_of_row(
     }
 }
 
-/// The pages that reach beyond the papers by which they are placed, of those that are taken, where these are their own. Of
-/// pages that their papers cut, it says whether they are reported apart.
+/// The pages taken that reach beyond the papers by which they are placed; `own` are their own papers. `cut_apart` is whether pages that their papers
+/// cut are reported apart.
 fn reach_of_pages(
     alloc: Global,
     request: &ImposeRequest,
@@ -89,7 +89,7 @@ fn reach_on_row(
     }))
 }
 
-/// The same, if all pages are placed by this paper, and none is reported apart.
+/// The same, if all pages are placed by this paper and none is reported apart.
 pub(crate) fn reach_over(
     alloc: Global,
     request: &ImposeRequest,

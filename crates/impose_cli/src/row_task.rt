@@ -1,4 +1,4 @@
-//! What is imposed of a row of pages that a layout lays on sheets, and how.
+//! The task of laying a row of pages on sheets.
 ghost use Rattle.std.specs.Prelude.{◌≡◌, ◌<◌, ◌≤◌, ◌&&◌, ◌⊎◌, ℕ, length, true, IfErr, IfOk, IfSome, IsTrue, None, Ok, IsOk, OnErr};
 ghost use Rattle.std.specs.Prelude.{option_map, string_bytes};
 ghost use Rattle.rows.specs.Sewing.{MayBeSewn};
@@ -45,26 +45,26 @@ use std::sync::Wait;
 use std::thread::Threads;
 use world::World;
 
-/// A row of pages to impose, and how.
+/// The task of imposing a row of pages.
 #[derive(Drop)]
 pub(crate) struct RowTask {
-    /// The document, with the guard in it if it is asked for.
+    /// The document, with the guard unless the request leaves it out.
     pub(crate) text: RoomyText,
     pub(crate) page_paper: Paper,
     pub(crate) origin: PaperOrigin,
     /// The papers of its pages, once they are turned.
     pub(crate) papers: Vec<Paper>,
-    /// The pages that the paper cuts which is named for them.
+    /// The pages that `--paper` cuts.
     pub(crate) cut: Option<Cut>,
     /// The pages that reach beyond the papers by which they are placed.
     pub(crate) reach: Option<Reach>,
-    /// The number of pages after its trailer.
+    /// The number of pages after the document's trailer.
     pub(crate) behind: usize,
     pub(crate) laying: Laying,
     pub(crate) signing: Option<Signing>,
 }
 
-/// The request for this document, with parts that serve for its text, and the fault if it is found before the run.
+/// The task of the request for this document, and the parts of its text; or the fault that is found before the run.
 pub(crate) fn row_task(
     alloc: Global,
     request: &ImposeRequest,
@@ -101,15 +101,15 @@ pub(crate) fn row_task(
 /// The papers of a document's pages.
 #[derive(Drop)]
 struct FoundPapers {
-    /// Their number.
+    /// The number of pages.
     pages: u32,
     /// The paper for which sheets and cells are made.
     page_paper: Paper,
-    /// Where that was found.
+    /// The source of that paper.
     origin: PaperOrigin,
     /// The papers by which the pages are placed, once they are turned.
     papers: Vec<Paper>,
-    /// The pages that the paper cuts which is named for them.
+    /// The pages that `--paper` cuts.
     cut: Option<Cut>,
     /// The pages that reach beyond those papers.
     reach: Option<Reach>,
@@ -117,7 +117,7 @@ struct FoundPapers {
     behind: usize,
 }
 
-/// The papers of the pages of this document, and where its parts begin, or why it is refused.
+/// The papers of this document's pages, and its parts; or why it is refused.
 fn papers_of(
     alloc: Global,
     request: &ImposeRequest,
@@ -141,7 +141,7 @@ fn papers_of(
     Ok((found, document.into_parts()))
 }
 
-/// Whether the document's pages all have this paper, and sheets and cells are made for it.
+/// Whether all pages of the document have this paper, and sheets and cells are made for it.
 pub(crate) fn has_one_paper(
     alloc: Global,
     request: &ImposeRequest,
@@ -155,7 +155,7 @@ pub(crate) fn has_one_paper(
     Ok(are_all(&found.page_paper, found.papers.as_slice(), paper))
 }
 
-/// Whether this first paper and the others are that one.
+/// Whether the first paper and the others all equal `paper`.
 fn are_all(first: &Paper, others: &[Paper], paper: &Paper) -> bool
     ensures { result ≡ (are_same first.now paper.now && list_all (are_same paper.now) others.now) }
 {
@@ -211,8 +211,8 @@ fn papers_in(
     })
 }
 
-/// The paper for which sheets and cells are made: the document's, if a page that is taken has it or one near to it, and else
-/// that of the first one taken.
+/// The paper for which sheets and cells are made: the document's, if a page that is taken has it or one near to it, or else the paper of the first
+/// page taken.
 fn paper_of_row(request: &ImposeRequest, input: &[u8], taken: &[Paper]) -> (Paper, PaperOrigin)
     ensures { result ≡ paper_for (page_paper_found request.now.page_paper request.now.default_paper input.now) taken.now }
 {
@@ -223,8 +223,8 @@ fn paper_of_row(request: &ImposeRequest, input: &[u8], taken: &[Paper]) -> (Pape
     }
 }
 
-/// As which paper this one counts among those that are taken: a selection's as the pages' do, so that blanks have sheets like
-/// theirs. Others are left as they are.
+/// The paper as which this one counts among those that are taken. In a selection it counts as a page's would, so that blanks have sheets like pages;
+/// otherwise it stays.
 fn counted_paper(
     alloc: Global,
     layout: &Layout,
@@ -245,7 +245,7 @@ fn counted_paper(
     }
 }
 
-/// The papers by which pages are placed: each its own. A selection puts pages whose papers count as one on one.
+/// The papers by which pages are placed: each by its own. A selection puts pages with papers that count as equal on one size.
 fn papers_placed(
     alloc: Global,
     layout: &Layout,
@@ -264,7 +264,7 @@ fn papers_placed(
     }
 }
 
-/// The pages that the paper cuts which is named for them, of those that the row takes.
+/// The pages of the row that `--paper` cuts.
 fn cut_pages(
     alloc: Global,
     request: &ImposeRequest,
@@ -282,7 +282,7 @@ fn cut_pages(
     Ok(cut_by(&named, taken.as_slice()))
 }
 
-/// The paper for which the guard sets the page size: that of the sheets, and of a selection that of its first sheet.
+/// The paper whose size the guard sets: that of the sheets, or of a selection's first sheet.
 fn guarded_paper(
     alloc: Global,
     request: &ImposeRequest,
@@ -301,7 +301,7 @@ fn guarded_paper(
     }
 }
 
-/// The paper of a selection's first sheet; blank sheets have this one.
+/// The paper of a selection's first sheet. Blank sheets have this paper.
 fn first_paper(
     alloc: Global,
     choice: &PageChoice,
@@ -323,7 +323,7 @@ fn first_paper(
     }
 }
 
-/// The paper of the sheet of a row's first entry.
+/// The paper of the sheet for a row's first entry.
 fn paper_of_first(row: &[Option<u32>], papers: &[Paper], blank: &Paper) -> Paper
     ensures { result ≡ first_paper_of (Ok row.now) papers.now blank.now }
 {
@@ -336,7 +336,7 @@ fn paper_of_first(row: &[Option<u32>], papers: &[Paper], blank: &Paper) -> Paper
     }
 }
 
-/// Imposes a task, whose text is read by these parts.
+/// Imposes a task; these are the parts of its text.
 pub(crate) fn impose_task<R: Threads + Wait + Sync, W: World>(
     rt: &R,
     alloc: Global,
@@ -376,7 +376,7 @@ pub(crate) fn impose_task<R: Threads + Wait + Sync, W: World>(
     impose_job(rt, alloc, &job, name_of(&request.outfile), world)
 }
 
-/// The fault that an error of the run is, for a document with this number of pages.
+/// An error of the run as a fault, for a document with this number of pages.
 pub(crate) fn asked_fault_of(error: SheetError, pages: u32) -> ImposeFault
     ensures { result ≡ asked_fault pages error }
 {

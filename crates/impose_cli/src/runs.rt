@@ -47,8 +47,8 @@ use std::sync::Wait;
 use std::thread::Threads;
 use world::{Asked, Before, Buffered, Fate, Late, Output, Refused, Rest, World};
 
-/// Carries a request out for this document: a document that is refused is refused first, then a layout that there isn't, then
-/// what its run refuses. The output that the request names is created once all of it is checked: what is refused has none.
+/// Carries out a request for this document. The first fault is the document's, then the layout's, then the run's. The output is created once all is
+/// checked, so a refused request creates none.
 pub(crate) fn run_on_document<R: Threads + Wait + Sync, W: World>(
     rt: &R,
     alloc: Global,
@@ -69,7 +69,7 @@ pub(crate) fn run_on_document<R: Threads + Wait + Sync, W: World>(
 
 // ---- on the row of a layout
 
-/// Carries a request out whose layout lays rows on sheets.
+/// Carries out a request whose layout lays a row on sheets.
 fn run_row<R: Threads + Wait + Sync, W: World>(
     rt: &R,
     alloc: Global,
@@ -131,7 +131,7 @@ pub(crate) fn impose_job<R: Threads + Wait + Sync, W: World>(
 
 // ---- by a specification on a row
 
-/// Carries a request out whose layout is a specification on a row.
+/// Carries out a request whose layout is a specification on a row.
 fn run_spec_row<R: Threads + Wait + Sync, W: World>(
     rt: &R,
     alloc: Global,
@@ -164,7 +164,7 @@ fn run_spec_row<R: Threads + Wait + Sync, W: World>(
     }
 }
 
-/// Imposes by a specification on a row.
+/// Imposes a row by a specification.
 pub(crate) fn impose_spec_job<R: Threads + Wait + Sync, W: World>(
     rt: &R,
     alloc: Global,
@@ -194,7 +194,7 @@ pub(crate) fn impose_spec_job<R: Threads + Wait + Sync, W: World>(
 
 // ---- by a specification
 
-/// Carries a request out by the specification that it names.
+/// Carries out a request by the specification that it names.
 fn run_spec<R: Threads + Wait + Sync, W: World>(
     rt: &R,
     alloc: Global,
@@ -227,7 +227,7 @@ fn run_spec<R: Threads + Wait + Sync, W: World>(
     }
 }
 
-/// Imposes a task, whose text is read by these parts, as `run` of imposer does it.
+/// Imposes a task, as `run` of imposer does; these are the parts of its text.
 fn impose_by_spec<R: Threads + Wait + Sync, W: World>(
     rt: &R,
     alloc: Global,
@@ -255,7 +255,7 @@ fn impose_by_spec<R: Threads + Wait + Sync, W: World>(
     write_job(rt, alloc, &job, name, world)
 }
 
-/// Checks the border, and reads the specification and the document, the latter by its parts.
+/// Checks the border, and reads the specification, and the document by its parts.
 fn read_task<'t>(
     alloc: Global,
     task: &'t Task,
@@ -278,7 +278,7 @@ fn read_task<'t>(
     Ok((spec, document))
 }
 
-/// The facts that are reported of a run beside its numbers.
+/// Facts about a run that are reported beside its numbers.
 #[derive(Drop)]
 struct About {
     page_paper: Paper,
@@ -289,7 +289,7 @@ struct About {
     told: Claims,
 }
 
-/// The outcome of a run, with the facts that are reported of it.
+/// The outcome of a run, with the facts that are reported about it.
 fn reported(outcome: Result<Report, ImposeFault>, about: About) -> Result<Done, ImposeFault>
     ensures { result ≡ reported_by about outcome }
 {
@@ -309,11 +309,10 @@ fn reported(outcome: Result<Report, ImposeFault>, about: About) -> Result<Done, 
 
 // ---- what is written
 
-/// The number of bytes that are written at once, if sheets are smaller.
+/// The buffer's size: sheets that are smaller are written together.
 const WRITTEN_AT_ONCE: usize = 16_384;
 
-/// Writes the sheets of a job into the output of this name, which is created when their first byte is to be written. Nothing
-/// is refused.
+/// Writes the sheets of a job to the output of this name, which is created when the first byte is to be written. Nothing is refused.
 fn write_job<R: Threads + Wait + Sync, W: World>(
     rt: &R,
     alloc: Global,
@@ -328,7 +327,7 @@ fn write_job<R: Threads + Wait + Sync, W: World>(
     write_asked::<Brand, R, W>(rt, alloc, job, Asked { name, world })
 }
 
-/// `write_job`, with what is seen of the world chosen.
+/// `write_job`, generic in what was seen of the world before.
 fn write_asked<B: Before, R: Threads + Wait + Sync, W: World>(
     rt: &R,
     alloc: Global,
@@ -356,7 +355,7 @@ fn write_asked<B: Before, R: Threads + Wait + Sync, W: World>(
     }
 }
 
-/// All was written out. If there was nothing to write, the output is created now.
+/// All bytes were written. An output without bytes is created now.
 fn written_out<'n, B: Before, W: World>(
     report: Report,
     name: Option<&str>,
@@ -385,7 +384,7 @@ fn written_out<'n, B: Before, W: World>(
     }
 }
 
-/// Memory ran out or a write failed, when the sink had taken so many bytes.
+/// Memory ran out or a write failed after the sink had taken this many bytes.
 fn broken_off<'n, B: Before, W: World>(
     taken: u64,
     sink: Buffered<Late<'n, W, B>>,
@@ -402,7 +401,7 @@ fn broken_off<'n, B: Before, W: World>(
     }
 }
 
-/// As many bytes as the sink had taken before an error.
+/// The number of bytes that the sink had taken before an error.
 fn taken_before(error: &RunError) -> u64
     requires { IsNoRefusal error.now }
     ensures { AfterError error.now ⊥ (λ n. result ≡ n) (λ n. result ≡ n) }
@@ -413,7 +412,7 @@ fn taken_before(error: &RunError) -> u64
     }
 }
 
-/// No output could be created.
+/// The output couldn't be created.
 fn uncreated<W: World>(refused: Refused<W>) -> Attempt<W, Report>
     ensures fault { ((error_kind refused.cause ≡ OutOfMemory) × (result.outcome ≡ Err without_memory))
         ⊎ (¬ (error_kind refused.cause ≡ OutOfMemory) × (result.outcome ≡ Err (faults.Write 0 (Some refused.cause)))) }
@@ -429,7 +428,7 @@ fn uncreated<W: World>(refused: Refused<W>) -> Attempt<W, Report>
     refused_before(fault, refused.world)
 }
 
-/// The output is there with so many bytes. If it failed, that is told; else memory ran out.
+/// The output exists, with `written` bytes. The fault is that of the output if it failed, or else out of memory.
 fn failed<W: World>(written: u64, output: W::Output) -> Attempt<W, Report>
     requires begun { (W.Output.seen output).failures ≡ 0 → (W.Output.seen output).has_taken ≡ true }
     ensures fault { MatchResult result.outcome (λ report. ⊥) (IsSaidOf (W.Output.seen output) written) }

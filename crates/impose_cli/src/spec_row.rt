@@ -1,4 +1,4 @@
-//! What is imposed by a specification on a row of pages, and how.
+//! The task of imposing a row of pages by a specification.
 ghost use Rattle.std.specs.Prelude.{◌<◌, IfErr, IfOk, IfSome, IsTrue, option_map, string_bytes};
 ghost use Rattle.sheet_text.specs.Jobs.{is_border};
 ghost use Rattle.impose_cli.specs.Endings.{Comes, edge_of_world, shown};
@@ -26,10 +26,10 @@ use std::sync::Wait;
 use std::thread::Threads;
 use world::World;
 
-/// A row of pages to impose by a specification.
+/// The task of imposing a row of pages by a specification.
 #[derive(Drop)]
 pub(crate) struct SpecRowTask {
-    /// The document, with the guard in it if it is asked for.
+    /// The document, with the guard unless the request leaves it out.
     pub(crate) text: RoomyText,
     pub(crate) spec: Spec,
     pub(crate) signing: Option<Signing>,
@@ -40,7 +40,7 @@ pub(crate) struct SpecRowTask {
     pub(crate) counted: CountedPages,
 }
 
-/// The request for this document, with parts that serve for its text, and the fault if it is found before the run.
+/// The task of the request for this document, and the parts of its text; or the fault that is found before the run.
 pub(crate) fn spec_row_task(
     alloc: Global,
     request: &ImposeRequest,
@@ -86,7 +86,7 @@ fn named_spec(alloc: Global, layout: &Layout) -> Result<Spec, ImposeFault>
     }
 }
 
-/// Imposes a task, whose text is read by these parts.
+/// Imposes a task; these are the parts of its text.
 pub(crate) fn impose_spec_task<R: Threads + Wait + Sync, W: World>(
     rt: &R,
     alloc: Global,

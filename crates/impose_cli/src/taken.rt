@@ -1,4 +1,4 @@
-//! The row of pages that is taken.
+//! The pages that a request takes.
 ghost use Rattle.std.specs.Prelude.{◌≡◌, ℕ, ◌<◌, ◌≤◌, ◌==◌, ◌||◌, if◌then◌else◌, IfOk, OnOk, None, length, get_or, false};
 ghost use Rattle.std.specs.Prelude.{[], ◌++◌, option_and_then, slice_get};
 ghost use Rattle.rules.specs.Choice.{imposed_row as row_of, most_entries};
@@ -11,7 +11,7 @@ use lengths::Paper;
 use rows::{RowError, imposed_row};
 use std::alloc::{AllocError, Global};
 
-/// The row of these pages that is imposed, before it is sewn. It is empty if there is no such row, which the run says.
+/// The chosen row, before it is put into signatures. It is empty if there is no such row, which the run reports.
 pub(crate) fn row_of_choice(
     alloc: Global,
     pages: u32,
@@ -27,7 +27,7 @@ pub(crate) fn row_of_choice(
     }
 }
 
-/// The papers of a row's pages, in its order.
+/// The papers of a row's pages, in order.
 pub(crate) fn papers_on_row(
     alloc: Global,
     row: &[Option<u32>],
@@ -65,7 +65,7 @@ fn paper_of_entry(own: &[Paper], entry: Option<u32>) -> Option<Paper>
     }
 }
 
-/// The papers of pages, with another one for each page that the row doesn't take.
+/// The papers of pages, with `other` for each page that the row doesn't take.
 pub(crate) fn papers_taken(
     alloc: Global,
     row: &[Option<u32>],
@@ -88,7 +88,7 @@ fn paper_if(is_taken: bool, own: &Paper, other: &Paper) -> Paper
     if is_taken { *own } else { *other }
 }
 
-/// The pages that the row takes, of a document with this number of pages.
+/// For each page of a document with this number of pages, whether the row takes it.
 pub(crate) fn pages_taken(
     alloc: Global,
     row: &[Option<u32>],

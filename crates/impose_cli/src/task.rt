@@ -1,4 +1,4 @@
-//! What is imposed, and how: the request for a document.
+//! The task of imposing a document by one specification.
 ghost use Rattle.std.specs.Prelude.{◌≡◌, ◌⊎◌, ℕ, List, ◌<◌, ◌≤◌, IfErr, IfOk, None, OnOk, Some, not, option_map, pos, string_bytes, unwrap_or};
 ghost use Rattle.std.specs.Ordering.{int_eq};
 ghost use Rattle.rules.specs.Run.{most_pages};
@@ -35,28 +35,28 @@ use papers::{Reach, document_paper};
 use rows::{Signing, auto_sides};
 use std::alloc::{AllocError, Global};
 
-/// A task: the pages to impose, and how.
+/// The task of imposing a document by a specification.
 #[derive(Drop)]
 pub struct Task {
-    /// The document, with the guard in it if it is asked for.
+    /// The document, with the guard unless the request leaves it out.
     pub text: RoomyText,
     /// The specification by which its pages are placed.
     pub spec: String,
     pub options: Options,
-    /// Where the paper of the pages was found.
+    /// The source of the pages' paper.
     pub origin: PaperOrigin,
     /// The counts of the document's pages.
     pub counted: CountedPages,
 }
 
-/// The counts of a document's pages, where all are placed by one paper.
+/// The numbers of a document's pages, if all are placed by one paper.
 #[derive(Clone, Copy)]
 pub struct CountedPages {
-    /// Their number.
+    /// The number of all pages.
     pub pages: u32,
-    /// The number of those after the trailer.
+    /// The number of pages after the trailer.
     pub behind: usize,
-    /// Those that reach beyond the paper.
+    /// The pages that reach beyond the paper.
     pub reach: Option<Reach>,
 }
 
@@ -66,9 +66,8 @@ pub(crate) const WORKERS: Workers = Workers {
     imposers: 2,
 };
 
-/// The checks of a layout that don't ask for the document, so that a mistake is found before a byte is read: those of a
-/// specification, if the paper of the pages is named those of pages on sheets, and else whether the sheets that are named have
-/// room for pages.
+/// The checks of a layout that don't need the document, so that a mistake is found before a byte is read. A specification is checked. Other layouts
+/// are checked with the pages' paper, if it is named; otherwise only whether the named sheets may have room for pages.
 pub fn check_layout(alloc: Global, request: &ImposeRequest) -> Result<(), ImposeFault>
     ensures possible { OnOk result
         (IsPossible request.now.layout request.now.spacing (named_cells_paper request.now) request.now.sheet_paper) }
@@ -99,8 +98,7 @@ fn check_spec(alloc: Global, specs: &str) -> Result<(), ImposeFault>
     }
 }
 
-/// Whether a specification says what is asked for beside the layout: which pages there are, how they are turned, with which
-/// marks, in which scale, and where on backs.
+/// Whether a specification can express the request apart from its layout: its pages, their turn, marks, scale, and places on backs.
 fn is_said(request: &ImposeRequest) -> bool
     ensures { result ≡ says request.now }
 {
@@ -112,9 +110,8 @@ fn is_said(request: &ImposeRequest) -> bool
         && !request.swaps_margins()
 }
 
-/// The specification that says what a request asks for, with what a run by it takes; and the fault if there is none: a
-/// document that is refused, then pages that are chosen or turned, marks, one scale, or an inner edge, then pages of other papers than the
-/// specification would have, then a layout that there isn't, or that no specification says. The parts serve for the task's text.
+/// The task with the specification that a request comes to, and the parts of its text. In this order it is refused for: the document; pages that are
+/// chosen or turned, marks, one scale, or an inner edge; pages of other papers; the layout.
 pub fn task_for(
     alloc: Global,
     request: &ImposeRequest,
@@ -161,7 +158,7 @@ pub fn task_for(
     Ok((task, parts))
 }
 
-/// A layout for which a specification is made has pages of this paper alone, as the specification has.
+/// Tests that all pages have this paper, if a specification is made for the layout.
 fn check_one_paper(
     alloc: Global,
     request: &ImposeRequest,
@@ -189,7 +186,7 @@ fn has_specification(layout: &Layout) -> bool
     matches!(layout, Layout::NUp(_) | Layout::Booklet { .. })
 }
 
-/// The document, with the guard in it if it is asked for. Its parts serve for that text.
+/// The document, with the guard unless the request leaves it out, and the parts of that text.
 pub(crate) fn text_to_impose(
     is_guarded: bool,
     sheet_paper: &Paper,
@@ -206,7 +203,7 @@ pub(crate) fn text_to_impose(
     Ok(text)
 }
 
-/// The paper of the pages: the one that is named, else the document's own, else the one at home.
+/// The paper of the pages: the one named, or the document's own, or the one at home.
 pub(crate) fn paper_of_pages(request: &ImposeRequest, input: &[u8]) -> (Paper, PaperOrigin)
     ensures { result ≡ page_paper_found request.now.page_paper request.now.default_paper input.now }
 {
@@ -219,7 +216,7 @@ pub(crate) fn paper_of_pages(request: &ImposeRequest, input: &[u8]) -> (Paper, P
     }
 }
 
-/// The paper of the sheets, which is that of the pages if none is named.
+/// The paper of the sheets: the one named, or that of the pages.
 pub(crate) fn paper_of_sheets<'p>(named: &'p Option<Paper>, page_paper: &'p Paper) -> &'p Paper
     ensures { result.now ≡ unwrap_or named.now page_paper.now }
 {
@@ -229,7 +226,7 @@ pub(crate) fn paper_of_sheets<'p>(named: &'p Option<Paper>, page_paper: &'p Pape
     }
 }
 
-/// The counts of a document's pages, if all are placed by this paper, and where its parts begin.
+/// The numbers of a document's pages if all are placed by this paper, and its parts.
 pub(crate) fn pages_of(
     alloc: Global,
     request: &ImposeRequest,
@@ -258,7 +255,7 @@ pub(crate) fn pages_of(
     Ok((counted, document.into_parts()))
 }
 
-/// The text of the specification, and the sides of a signature if the pages go into signatures.
+/// The text of a specification, and the number of sides of a signature, if the pages go into signatures.
 type PlacedItem = (String, Option<u32>);
 
 fn placing(
@@ -305,7 +302,7 @@ fn creeps(spacing: &Spacing) -> bool
     spacing.creep.get() != 0
 }
 
-/// The text that is named, beside these sides.
+/// This text, with this number of sides.
 fn named_placing(alloc: Global, specs: &str, sides: Option<u32>) -> Result<PlacedItem, ImposeFault>
     ensures text { IfOk result (λ placed. string_bytes placed.0 ≡ specs.now) }
     ensures sides { IfOk result (λ placed. placed.1 ≡ sides) }
@@ -353,7 +350,7 @@ fn booklet_placing(
     }
 }
 
-/// The text of a specification, beside these sides.
+/// The text of a specification, with this number of sides.
 fn written(alloc: Global, spec: &Spec, sides: Option<u32>) -> Result<PlacedItem, ImposeFault>
     ensures text { IfOk result (λ placed. IsWritten spec.now (string_bytes placed.0)) }
     ensures sides { IfOk result (λ placed. placed.1 ≡ sides) }
@@ -362,7 +359,7 @@ fn written(alloc: Global, spec: &Spec, sides: Option<u32>) -> Result<PlacedItem,
     Ok((write_spec(alloc, spec)?, sides))
 }
 
-/// The number of sides of a signature of a specification's row, if the row goes into signatures.
+/// The number of sides of a signature, if the row of a specification goes into signatures.
 fn row_sides(signing: Option<Signing>, pages: u32) -> Option<u32>
     requires some { 0 < pages }
     requires few { pages ≤ most_pages }

@@ -7,12 +7,12 @@
 //!
 //!     Usage: impose nup --border <LENGTH> <N> [INFILE [OUTFILE]]
 
-/// The word that is refused, of an unknown argument or subcommand.
+/// The word that an error about an unknown argument or subcommand refuses.
 pub(crate) fn refused_word(text: &str) -> &str {
     quoted(text).unwrap_or("")
 }
 
-/// The option that clap takes for meant; its usage is then that of this option.
+/// The option that clap takes to be meant; its usage is then that of this option.
 pub(crate) fn option_meant(text: &str) -> Option<&str> {
     let (_, tip) = text.split_once(SIMILAR_OPTION)?;
     quoted(tip)
@@ -20,20 +20,19 @@ pub(crate) fn option_meant(text: &str) -> Option<&str> {
 
 const SIMILAR_OPTION: &str = "  tip: a similar argument exists: ";
 
-/// Whether a line is a tip that is left out: one to take another word, or to put an option after `--`, as it would be taken for
-/// a file then.
+/// Whether a line is a tip that is left out: to use another word, or to put an option after `--`, where it would be taken for a file.
 pub(crate) fn is_tip_left_out(line: &str) -> bool {
     line.starts_with("  tip: to pass ")
         || line.starts_with("  tip: a similar ")
         || line.starts_with("  tip: some similar ")
 }
 
-/// What the line with the usage begins with, and the last one.
+/// The beginnings of the usage line and of the last line.
 pub(crate) const USAGE: &str = "Usage:";
 
 pub(crate) const POINTER: &str = "For more information";
 
-/// What is between the first two quotes.
+/// The text between the first two quotes.
 fn quoted(text: &str) -> Option<&str> {
     let (_, behind) = text.split_once("'")?;
     let (word, _) = behind.split_once("'")?;

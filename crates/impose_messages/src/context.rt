@@ -1,25 +1,25 @@
-//! What messages say of a request.
+//! The parts of a request that messages mention.
 use command_words::name_of;
 use impose_words::{ImposeRequest, Layout, Product};
 use lengths::Paper;
 
-/// What the words ask for, as far as messages speak of it.
+/// The parts of a request that messages mention.
 #[derive(Clone, Copy)]
 pub(crate) struct Context<'r> {
     pub(crate) infile: Option<&'r str>,
-    /// The file that is written; none is standard output, or what has no file.
+    /// The output file; None for standard output, and for products without a file.
     pub(crate) written: Option<&'r str>,
     pub(crate) ranges: &'r str,
     pub(crate) spec: &'r str,
     pub(crate) is_selection: bool,
-    /// Whether a scale is asked for.
+    /// Whether a scale is requested.
     pub(crate) is_scaled: bool,
-    /// The paper of the sheets, if the words name it: that of the pages, if there is no other.
+    /// The paper of the sheets, if the words name it; without it that of the pages, if the words name that.
     pub(crate) sheet: Option<Paper>,
 }
 
 impl<'r> Context<'r> {
-    /// A command line that isn't taken.
+    /// The context of a command line that is refused.
     pub(crate) const NONE: Context<'static> = Context {
         infile: None,
         written: None,

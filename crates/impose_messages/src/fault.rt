@@ -1,4 +1,4 @@
-//! Why nothing, or not all, was imposed.
+//! Faults: why nothing, or only a part, was imposed.
 use impose_words::RequestFault;
 use imposer::RunError;
 use layouts::ArrangementError;
@@ -8,7 +8,7 @@ use sheet_plan::MadeError;
 use std::alloc::AllocError;
 use std::io;
 
-/// By what a file is compressed, as its first bytes show.
+/// The compression of a file, as its first bytes show.
 #[derive(Clone, Copy)]
 pub enum Compression {
     Gzip,
@@ -17,22 +17,22 @@ pub enum Compression {
     Zip,
 }
 
-/// An option that would do nothing, or not what it says.
+/// An option without effect, or with another effect than it names.
 #[derive(Clone, Copy)]
 pub enum IdleOption {
-    /// The paper of the sheets, where each page is left on its own.
+    /// `--sheet`, although each page stays on its own paper.
     Sheet,
-    /// Marks where sheets are cut, where nothing is left free for them.
+    /// Cut marks, although no margin has room for them.
     CutMarks,
-    /// A margin at the inner edge, where sheets have none.
+    /// A margin at the inner edge, although sheets have no inner edge.
     Inner,
-    /// A left margin beside one at the inner edge, which is the left one of fronts.
+    /// A left margin beside one at the inner edge, which is the left edge of fronts.
     Left,
-    /// Marks where sheets are cut, which are the same on fronts and backs, where margins aren't.
+    /// Cut marks, which are alike on fronts and backs, with margins that aren't.
     InnerMarks,
 }
 
-/// Why nothing, or not all, was imposed.
+/// Why nothing, or only a part, was imposed.
 #[derive(Drop)]
 pub enum ImposeFault {
     /// The command line is refused.
@@ -43,7 +43,7 @@ pub enum ImposeFault {
     Poster(PosterError),
     /// There is no such row of pages.
     Row(RowError),
-    /// The document has only this number of pages, and not all of the range at this place of the text.
+    /// The document has this number of pages, and lacks some of the range at this place of the text.
     NoSuchPage {
         place: usize,
         pages: u32,
@@ -52,23 +52,23 @@ pub enum ImposeFault {
     OutOfReach,
     /// The sheets of the row can't be planned.
     Sheets(MadeError),
-    /// No specification says what is asked for.
+    /// No specification can express the request.
     NoSpecification,
-    /// A specification is asked for, and not all pages have the paper that it would have.
+    /// A specification is requested, but not all pages have one paper.
     SeveralPapers,
-    /// An option would do nothing.
+    /// An option has no effect.
     Idle(IdleOption),
-    /// The picture of the sheets would be written over the input.
+    /// The drawing of the sheets would overwrite the input.
     OverInput,
-    /// The input couldn't be opened or read, and why, if the system said it.
+    /// The input couldn't be opened or read, with the system's cause if it gave one.
     Read(Option<io::Error>),
-    /// The run is refused or failed, but for a failed write.
+    /// The run was refused or failed, except for a failed write.
     Run(RunError),
     /// The input is empty.
     NoInput,
     /// The input is a PDF.
     Pdf,
-    /// The input is compressed so.
+    /// The input is compressed.
     Compressed(Compression),
     /// The input is an EPS with a preview before it.
     DosEps,
@@ -80,7 +80,7 @@ pub enum ImposeFault {
     JobLanguage,
     /// The input is longer than a document may be.
     TooLong,
-    /// The output couldn't be created, or not be written after this number of bytes, and why, if the system said it.
+    /// The output couldn't be created, or a write failed after this number of bytes, with the system's cause if it gave one.
     Write {
         written: u64,
         cause: Option<io::Error>,
@@ -91,7 +91,7 @@ impl ImposeFault {
     ghost use Rattle.std.specs.Prelude.{◌≡◌};
     ghost use Rattle.impose_messages.specs.Faults.{without_memory};
 
-    /// Memory was refused before anything was written.
+    /// Out of memory before anything was written.
     pub fn no_memory() -> ImposeFault
         ensures { result ≡ without_memory }
     {

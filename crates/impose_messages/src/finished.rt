@@ -1,40 +1,40 @@
-//! What was done.
+//! Results of requests.
 use crate::shown::ShownName;
 use imposer::Report;
 use lengths::Paper;
 use papers::{Comment, Cut, Reach};
 
-/// Where the paper of the pages was found.
+/// The source of the pages' paper.
 #[derive(Clone, Copy)]
 pub enum PaperOrigin {
     /// It was named on the command line.
     Named,
     /// This comment of the document's header names it.
     ByComment(Comment),
-    /// Nothing names it, and so it is the paper at home.
+    /// Nothing names it, so it is the paper at home.
     ByDefault,
-    /// It is that of the first page that is taken, as none has the document's.
+    /// It is that of the first page taken, since no page has the document's paper.
     FirstPage,
 }
 
-/// The document's claims about itself, as far as they are reported.
+/// The claims of a document about itself that are reported.
 #[derive(Drop)]
 pub struct Claims {
-    /// The number of pages that it declares, if it does.
+    /// The number of pages that it declares, if it declares one.
     pub pages: Option<usize>,
-    /// The name of its paper as it is shown, if that isn't known.
+    /// The name of its paper in the form in which it is shown, if the name is unknown.
     pub unknown: Option<ShownName>,
 }
 
-/// How a request was carried out.
+/// The facts about a request that was carried out.
 #[derive(Drop)]
 pub struct Finished {
     pub report: Report,
     /// The paper of the pages.
     pub page_paper: Paper,
-    /// Where the paper of the pages was found.
+    /// The source of the pages' paper.
     pub origin: PaperOrigin,
-    /// The pages that the paper cuts which was named for them. By a specification they are among those that reach beyond it.
+    /// The pages that `--paper` cuts. By a specification they are among those that reach beyond it.
     pub cut: Option<Cut>,
     /// The pages that reach beyond the papers by which they are placed.
     pub reach: Option<Reach>,
@@ -51,6 +51,6 @@ pub enum Done {
     Imposed(Finished),
     /// The specification was printed.
     Printed,
-    /// The plan or the picture of the sheets was written.
+    /// The list or drawing of the sheets was written.
     Shown,
 }

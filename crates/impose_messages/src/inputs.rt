@@ -1,4 +1,4 @@
-//! What an input is that is no document.
+//! Inputs that are no documents.
 ghost use Rattle.std.specs.Prelude.{◌≡◌};
 ghost use Rattle.impose_messages.specs.Inputs.{is_eps as eps, refused_document as document_fault, of_other_input, of_unpacked, packing_of as packed_by};
 
@@ -6,8 +6,8 @@ use crate::fault::{Compression, ImposeFault};
 use dsc::DscError;
 use imposer::RunError;
 
-/// A document's refusal. What is empty, a PDF, compressed or a job for a printer is called so, and so is an EPS without pages;
-/// and what is too long by itself, as a guard may make it so later.
+/// The fault of a document. An empty input, a PDF, a compressed file, a printer's job and an EPS without pages each have a fault of their own. So has
+/// an input that is too long itself; another may become too long by the guard.
 pub fn refused_document(error: DscError, input: &[u8]) -> ImposeFault
     ensures { result ≡ document_fault error input.now }
 {
@@ -34,7 +34,7 @@ fn not_postscript(input: &[u8]) -> ImposeFault
     }
 }
 
-/// The same of one that is neither empty, a PDF nor compressed.
+/// The same for an input that is neither empty nor a PDF nor compressed.
 fn unpacked_fault(input: &[u8]) -> ImposeFault
     ensures { result ≡ of_unpacked input.now }
 {
@@ -49,7 +49,7 @@ fn unpacked_fault(input: &[u8]) -> ImposeFault
     }
 }
 
-/// Whether an input is a drawing to be put into a page of a document, by its first line.
+/// Whether the first line of an input is that of an EPS, a drawing for a page of a document.
 fn is_eps(input: &[u8]) -> bool
     ensures { result ≡ eps input.now }
 {
@@ -59,7 +59,7 @@ fn is_eps(input: &[u8]) -> bool
         || input.starts_with(b"%!PS-Adobe-3.1 EPSF-")
 }
 
-/// By what an input is compressed, as its first bytes show.
+/// The compression of an input, as its first bytes show.
 fn packing_of(input: &[u8]) -> Option<Compression>
     ensures { result ≡ packed_by input.now }
 {

@@ -1,4 +1,4 @@
-//! What impose says of how it ended, and with which exit status.
+//! The messages with which impose ends, and its exit status.
 #![tactic(auto)]
 
 mod clap_text;

@@ -1,4 +1,4 @@
-//! What is said of a fault.
+//! The message about a fault.
 
 use crate::context::Context;
 use crate::fault::{Compression, IdleOption, ImposeFault};
@@ -20,7 +20,7 @@ use std::io;
 
 const OUT_OF_MEMORY: &str = "out of memory";
 
-/// The message about a fault, without a line end after it. The request is there once the command line is taken.
+/// The message about a fault, without a line end. The request is there if the command line was accepted.
 pub fn fault_text(
     alloc: Global,
     fault: &ImposeFault,
@@ -61,7 +61,7 @@ pub fn fault_text(
     String::from_str(alloc, message)
 }
 
-/// A range of pages that the document doesn't have.
+/// The message about a range of pages that the document lacks.
 fn no_page_text(
     alloc: Global,
     place: usize,
@@ -72,7 +72,7 @@ fn no_page_text(
     shown(alloc, message.as_str(), context.ranges, place)
 }
 
-/// An input that couldn't be opened or read.
+/// The message about an input that couldn't be opened or read.
 fn read_text(
     alloc: Global,
     cause: &Option<io::Error>,
@@ -93,7 +93,7 @@ fn read_text(
     }
 }
 
-/// An output that couldn't be written after this number of bytes.
+/// The message about an output that couldn't be written after this number of bytes.
 fn write_fault_text(
     alloc: Global,
     written: u64,
@@ -118,7 +118,7 @@ const SEVERAL_PAPERS: &str =
 const OVER_INPUT: &str =
     ", which is read: name another file, as sheets.svg, or - for standard output";
 
-/// The message about an option that would do nothing, or not what it says.
+/// The message about an option without effect.
 fn idle_message(option: IdleOption) -> &'static str {
     match option {
         IdleOption::Sheet => {
@@ -136,7 +136,7 @@ fn idle_message(option: IdleOption) -> &'static str {
     }
 }
 
-/// The message about an input that isn't read as a document, after its name.
+/// The message about an input that isn't a document, for use after its name.
 fn input_message(fault: &ImposeFault) -> Option<&'static str> {
     let message = match fault {
         ImposeFault::NoInput => " is empty; name a file with a PostScript document, or pipe one in",
@@ -165,7 +165,7 @@ fn input_message(fault: &ImposeFault) -> Option<&'static str> {
     Some(message)
 }
 
-/// The name of the input with these texts before and after it.
+/// The name of the input between these texts.
 fn input_text(
     alloc: Global,
     before: &str,
@@ -176,7 +176,7 @@ fn input_text(
     joined_texts(alloc, &[before, name.as_str(), behind])
 }
 
-/// The name of a file as it is shown, or that of the standard stream in its place.
+/// The name of a file in the form in which it is shown; without a name that of the standard stream.
 fn file_name(alloc: Global, name: Option<&str>, stream: &str) -> Result<String, AllocError> {
     match name {
         None => String::from_str(alloc, stream),
@@ -188,7 +188,7 @@ fn file_name(alloc: Global, name: Option<&str>, stream: &str) -> Result<String, 
     }
 }
 
-/// A failed write after this number of bytes.
+/// The message about a write that failed after this number of bytes.
 fn written_text(alloc: Global, written: u64, context: &Context<'_>) -> Result<String, AllocError> {
     let name = file_name(alloc, context.written, "standard output")?;
     let name = name.as_str();
@@ -206,7 +206,7 @@ fn with_cause(alloc: Global, text: &str, cause: &Option<io::Error>) -> Result<St
     }
 }
 
-/// The message about a command line that is refused; nothing of words that the command doesn't take, which `words_text` has.
+/// The message about a command line that is refused. None for words that the command doesn't take, which `words_text` is for.
 pub fn command_text(alloc: Global, fault: &RequestFault) -> Result<String, AllocError> {
     let message = match fault {
         RequestFault::Words(_) => "",
@@ -234,13 +234,13 @@ fn product_option(option: ProductOption) -> &'static str {
     }
 }
 
-/// A text with a caret below the place in it that is at fault.
+/// The message, and the text with a caret below the place of the fault.
 fn shown(alloc: Global, message: &str, text: &str, place: usize) -> Result<String, AllocError> {
     let caret = caret_below(alloc, text, place)?;
     joined_texts(alloc, &[message, caret.as_str()])
 }
 
-/// The message about ranges that name no row.
+/// The message about ranges that make no row.
 fn row_text(alloc: Global, error: &RowError, context: &Context<'_>) -> Result<String, AllocError> {
     let ranges = context.ranges;
     let (message, place) = match error {
@@ -261,7 +261,7 @@ fn row_text(alloc: Global, error: &RowError, context: &Context<'_>) -> Result<St
 const NO_ENTRIES: &str =
     "page ranges: no page is left by --odd or --even; pages are counted from 1";
 
-/// The message about ranges that can't go on at this place. A file may be where those of a selection are to be.
+/// The message about ranges that can't go on at this place. The text may be a file that stands where the ranges of a selection belong.
 fn no_range_text(alloc: Global, context: &Context<'_>, place: usize) -> Result<String, AllocError> {
     let ranges = context.ranges;
     if context.is_selection && looks_like_file(ranges) {
@@ -277,7 +277,7 @@ fn no_range_text(alloc: Global, context: &Context<'_>, place: usize) -> Result<S
 const NO_RANGES: &str =
     "page ranges: they come before the file, and 1- are all pages: impose select 1- in.ps out.ps";
 
-/// The message about pages that can't be laid out so: of a scale that is asked for something else than of one that is found.
+/// The message about pages that can't be laid out. It differs if a scale is requested.
 fn layout_text(
     alloc: Global,
     error: &ArrangementError,
@@ -308,8 +308,7 @@ fn layout_text(
     String::from_str(alloc, message)
 }
 
-/// Why a booklet's sheet would fold along its longer edge. A sheet that isn't named is the pages', and if these aren't named
-/// either the document names them.
+/// Why a booklet's sheet would fold along its longer edge. If the words name no paper, the sheet isn't known here, and both reasons are given.
 fn fold_text(alloc: Global, context: &Context<'_>) -> Result<String, AllocError> {
     let reason = match context.sheet {
         None =>
@@ -338,7 +337,7 @@ fn poster_message(error: &PosterError) -> &'static str {
     }
 }
 
-/// The message about a row that takes too many sheets.
+/// The message about a row with too many sheets.
 fn sheets_message(error: &MadeError) -> &'static str {
     match error {
         MadeError::TooManyPages => "the document has more than 1,000,000 pages: split it first",
@@ -379,7 +378,7 @@ fn plan_message(error: &PlanError) -> &'static str {
     }
 }
 
-/// The message about a document that is refused. That it is too long the run says only of one that its guard makes so.
+/// The message about a document that is refused. The run reports a document as too long only if its guard makes it so.
 fn document_text(
     alloc: Global,
     error: &DscError,
@@ -447,7 +446,7 @@ fn spec_message(error: &SpecError, spec: &str) -> &'static str {
 /// The most sheets of a specification.
 const MOST_GROUPS: u32 = 10_000;
 
-/// Where a specification is at fault, if that is at one place.
+/// The place of a specification's fault, if it is at one place.
 fn spec_place(error: &SpecError, spec: &str) -> Option<usize> {
     match error {
         SpecError::Syntax(at) => Some(*at),

@@ -1,4 +1,4 @@
-//! What is said of words that the command doesn't take.
+//! Messages about words that the command doesn't take.
 use crate::clap_text::{POINTER, USAGE, is_tip_left_out, option_meant, refused_word};
 use crate::other_programs::{FOR_COMMANDS, OF_OTHERS};
 use crate::shown::{is_shown_whole, joined_texts, push_all, push_shown, shown_word};
@@ -10,8 +10,8 @@ use clap::error::ErrorKind;
 use std::alloc::{AllocError, Global};
 use strsim::osa_distance;
 
-/// The message about words that the command doesn't take, of which the first is the program's name: clap's text, with a tip on
-/// the word that it refuses in place of its own. No control character of a word is left, and long words are cut.
+/// The message about words that the command doesn't take; the first is the program's name. It is clap's text, with a tip on the refused word in place
+/// of clap's own. Control characters are replaced, and long words are cut.
 pub fn words_text(alloc: Global, error: &Error, words: &[String]) -> Result<String, AllocError> {
     let mut text = format!(in alloc; "{error}")?;
     for word in words {
@@ -34,7 +34,7 @@ pub fn words_text(alloc: Global, error: &Error, words: &[String]) -> Result<Stri
     }
 }
 
-/// The text with a word in it as it is shown.
+/// The text, with a word in it replaced by the form in which it is shown.
 fn with_shown(alloc: Global, text: String, word: &str) -> Result<String, AllocError> {
     if is_shown_whole(word) {
         return Ok(text);
@@ -43,7 +43,7 @@ fn with_shown(alloc: Global, text: String, word: &str) -> Result<String, AllocEr
     text.as_str().replace(alloc, word, shown.as_str())
 }
 
-/// Clap's text with this tip, if it isn't empty, above the usage, or the last line if there is none.
+/// Clap's text with this tip, if it isn't empty, above the usage, or above the last line if there is none.
 fn with_tip(alloc: Global, text: &str, tip: &str, keeps_usage: bool) -> Result<String, AllocError> {
     let mut out = String::new(alloc);
     let mut is_told = tip.is_empty();
@@ -66,7 +66,7 @@ fn with_tip(alloc: Global, text: &str, tip: &str, keeps_usage: bool) -> Result<S
     Ok(out)
 }
 
-/// That a command or an option is like the word that is refused, or nothing.
+/// The hint at a similar command or option; empty if there is none.
 fn likeness(alloc: Global, kind: ErrorKind, text: &str) -> Result<String, AllocError> {
     let word = refused_word(text);
     let (what, like) = match kind {
@@ -87,7 +87,7 @@ const COMMANDS: [&str; 9] = [
     "nup", "booklet", "zine", "cards", "stack", "notes", "poster", "select", "spec",
 ];
 
-/// The command whose name is like the word, the nearest first.
+/// The command whose name is most similar to the word.
 fn nearest_command(alloc: Global, word: &str) -> Result<Option<&'static str>, AllocError> {
     let mut nearest = None;
     let mut least = usize::MAX;
@@ -102,7 +102,7 @@ fn nearest_command(alloc: Global, word: &str) -> Result<Option<&'static str>, Al
     Ok(nearest)
 }
 
-/// How many letters of a word that is like a name are missing, too many, others or exchanged: at most a third of them.
+/// The number of letters that differ between a word and a name: missing, added, replaced or exchanged ones. None if they are more than a third.
 fn distance(alloc: Global, word: &str, name: &str) -> Result<Option<usize>, AllocError> {
     let word = word.strip_prefix("--").unwrap_or(word);
     let name = name.strip_prefix("--").unwrap_or(name);
@@ -120,10 +120,10 @@ fn distance(alloc: Global, word: &str, name: &str) -> Result<Option<usize>, Allo
     }
 }
 
-/// Longer words are like no name.
+/// Words with more letters resemble no name.
 const MOST_COMPARED: usize = 30;
 
-/// The cure for a mistake of this kind in these words, if more can be said than clap says.
+/// The cure for a mistake of this kind in these words, if one is known beyond clap's.
 fn tip(kind: ErrorKind, text: &str, words: &[String]) -> Option<&'static str> {
     let [_, command, behind @ ..] = words else {
         return None;
@@ -146,7 +146,7 @@ fn is_command(word: &str) -> bool {
     COMMANDS.iter().any(|name| *name == word)
 }
 
-/// A word that is in the place of the command.
+/// The tip on a word in place of the command.
 fn tip_on_command(word: &str) -> Option<&'static str> {
     if word.starts_with("-") {
         Some("options come after the command, as in: impose nup 2 -q in.ps out.ps")
@@ -172,7 +172,7 @@ fn is_command_and_number(word: &str) -> bool {
     })
 }
 
-/// An option that there isn't.
+/// The tip on an unknown option.
 fn tip_on_option(command: &str, behind: &[String], word: &str) -> Option<&'static str> {
     let (before, whole) = in_place(behind, word);
     let value = whole.strip_prefix("-").unwrap_or("");
@@ -201,8 +201,8 @@ fn tip_on_option(command: &str, behind: &[String], word: &str) -> Option<&'stati
     others.or(tip_in(OF_OTHERS.as_slice(), word))
 }
 
-/// The word before an option that clap names so, and the whole word in which it is: `-d1` for `-d`, `--frame=1` for `--frame`.
-/// Both are empty if it is among other letters, as `-d` in `-qd1`.
+/// For an option as clap names it, the word before it, and the whole word with it, such as `-d1` for `-d` and `--frame=1` for `--frame`. Both are
+/// empty if it is among other letters, as `-d` in `-qd1`.
 fn in_place<'w>(behind: &'w [String], option: &str) -> (&'w str, &'w str) {
     let mut before = "";
     for word in behind {
@@ -217,7 +217,7 @@ fn in_place<'w>(behind: &'w [String], option: &str) -> (&'w str, &'w str) {
     ("", "")
 }
 
-/// A word more than there are files.
+/// The tip on a word after all files.
 fn tip_on_file(command: &str, behind: &[String]) -> &'static str {
     let first = behind.first().map_or("", |word| word.as_str());
     let ranges = behind.iter().filter(|word| is_range(word.as_str())).count();
@@ -237,13 +237,13 @@ fn tip_on_file(command: &str, behind: &[String]) -> &'static str {
     }
 }
 
-/// Whether a word is more likely a range of pages, or a number, than anything else.
+/// Whether a word is most likely a range of pages or a number.
 pub(crate) fn is_range(word: &str) -> bool {
     word.chars().any(|letter| letter.is_ascii_digit())
         && word.chars().all(|letter| letter.is_ascii_digit() || matches!(letter, '-' | ',' | '_'))
 }
 
-/// Whether a word is more likely the name of a file than anything else.
+/// Whether a word is most likely the name of a file.
 pub(crate) fn looks_like_file(word: &str) -> bool {
     word.ends_with(".ps")
         || word.ends_with(".eps")

@@ -1,7 +1,7 @@
-//! What to do in place of the words of other programs.
+//! Tips on words of other programs.
 use crate::tips::Tip;
 
-/// Words in the place of the command: other programs have them, or people think of them.
+/// Words in place of a command, which other programs have or people expect.
 pub(crate) const FOR_COMMANDS: [Tip; 15] = [
     (
         &["rotate", "turn"],

@@ -8,10 +8,10 @@ use lengths::{Grains, print_points};
 use std::alloc::{AllocError, Global};
 use std::marker::Model;
 
-/// The room for a report, in bytes: more than any has.
+/// The room for a report, in bytes; no report is longer.
 const MOST_SAID: usize = 8_192;
 
-/// The text of a report. Its room is made before a run, so that no line is left out for want of memory.
+/// The text of a report. Its room is reserved before a run, so no line is lost for lack of memory.
 #[derive(Drop)]
 pub struct ReportText {
     text: Vec<u8>,
@@ -29,7 +29,7 @@ impl Model for ReportText {
 }
 
 impl ReportText {
-    /// An empty one.
+    /// An empty text.
     pub fn new(alloc: Global) -> Result<ReportText, AllocError>
         ensures { IfOk result (λ text. text ≡ []) }
     {

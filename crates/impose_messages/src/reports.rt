@@ -1,4 +1,4 @@
-//! What is said of a finished run.
+//! The report on a finished run, and its parts.
 ghost use Rattle.std.specs.Prelude.{◌≡◌, ◌+◌, ◌/◌, ◌≤◌, ◌++◌, if◌then◌else◌, [], length};
 ghost use Rattle.impose_messages.specs.Rooms.{most_said};
 ghost use Rattle.impose_messages.specs.Said.{prints_leaves as are_sides_of, behind_message, blank_count as blanks_in, blanks_text, count_text, counts_text};
@@ -15,7 +15,7 @@ use layouts::is_of_size;
 use lengths::{Grains, Paper};
 use papers::{Comment, Cut, Edges, Reach};
 
-/// The report.
+/// Appends the report.
 pub(crate) fn push_report(said: &mut ReportText, done: &Finished, request: &ImposeRequest)
     requires room { length said.old + 649 ≤ most_said }
     ensures text { said.new ≡ said.old ++ report_text done.now request.now }
@@ -29,7 +29,7 @@ pub(crate) fn push_report(said: &mut ReportText, done: &Finished, request: &Impo
     push_sheets(said, &request.sheet_paper, &done.page_paper);
 }
 
-/// The size of the sheets, if another paper is named for them than the pages have.
+/// Appends the size of the sheets, if they have another paper than the pages.
 fn push_sheets(said: &mut ReportText, named: &Option<Paper>, page_paper: &Paper)
     requires room { length said.old + 118 ≤ most_said }
     ensures text { said.new ≡ said.old ++ sheets_text named.now page_paper.now }
@@ -41,7 +41,7 @@ fn push_sheets(said: &mut ReportText, named: &Option<Paper>, page_paper: &Paper)
     }
 }
 
-/// The size of the sheets.
+/// Appends the size of the sheets.
 fn push_sheet(said: &mut ReportText, sheet: &Paper)
     requires room { length said.old + 118 ≤ most_said }
     ensures text { said.new ≡ said.old ++ sheet_text sheet.now }
@@ -52,7 +52,7 @@ fn push_sheet(said: &mut ReportText, sheet: &Paper)
     said.push(b" pt");
 }
 
-/// The numbers of pages, blanks, sheets, leaves and bytes.
+/// Appends the numbers of pages, blanks, sheets, leaves and bytes.
 fn push_counts(said: &mut ReportText, report: &Report, request: &ImposeRequest)
     requires room { length said.old + 352 ≤ most_said }
     ensures text { said.new ≡ said.old ++ counts_text report.now request.now }
@@ -68,7 +68,7 @@ fn push_counts(said: &mut ReportText, report: &Report, request: &ImposeRequest)
     said.push_number(u128::from(report.bytes));
 }
 
-/// The number of places without a page, where all sheets have equally many and each page has one.
+/// The number of places without a page, if all sheets have equally many places and each page is in one.
 fn blanks_of(request: &ImposeRequest, report: &Report) -> u128
     ensures { result ≡ blanks_in request.now report.now }
 {
@@ -79,7 +79,7 @@ fn blanks_of(request: &ImposeRequest, report: &Report) -> u128
     places.saturating_sub(u128::from(report.pages))
 }
 
-/// The number of places of a sheet, where all have equally many.
+/// The number of places of a sheet, if all sheets have equally many.
 fn places_on(layout: &Layout) -> u64
     ensures { result ≡ places_in layout.now }
 {
@@ -105,7 +105,7 @@ fn push_blanks(said: &mut ReportText, blanks: u128)
     said.push_number(blanks);
 }
 
-/// The number of leaves of paper, where sheets are printed on both sides.
+/// Appends the number of leaves, if sheets are printed on both sides.
 fn push_leaves(said: &mut ReportText, request: &ImposeRequest, sheets: u32)
     requires room { length said.old + 160 ≤ most_said }
     ensures text { said.new ≡ said.old ++ (if are_sides_of request.now.layout request.now.spacing
@@ -119,7 +119,7 @@ fn push_leaves(said: &mut ReportText, request: &ImposeRequest, sheets: u32)
     push_counted(said, u128::from(leaves), b" (1 leaf)", b" (", b" leaves)");
 }
 
-/// A number of things: a text of its own for one, or else the number with these texts before and after it.
+/// Appends a count: `one` if it is 1, or else the number between the texts before and after it.
 fn push_counted(said: &mut ReportText, count: u128, one: &[u8], before: &[u8], behind: &[u8])
     requires few { length one.now + length before.now + length behind.now ≤ 120 }
     requires room { length said.old + 160 ≤ most_said }
@@ -136,7 +136,7 @@ fn push_counted(said: &mut ReportText, count: u128, one: &[u8], before: &[u8], b
     }
 }
 
-/// Whether sheets are the sides of leaves.
+/// Whether every two sheets are a leaf.
 fn prints_leaves(request: &ImposeRequest) -> bool
     ensures { result ≡ are_sides_of request.now.layout request.now.spacing }
 {
@@ -149,7 +149,7 @@ fn prints_leaves(request: &ImposeRequest) -> bool
     }
 }
 
-/// Both sides of a paper, in points.
+/// Appends both sides of a paper, in points.
 fn push_size(said: &mut ReportText, paper: &Paper)
     requires room { length said.old + 103 ≤ most_said }
     ensures text { said.new ≡ said.old ++ paper_size_text paper.now }
@@ -168,7 +168,7 @@ fn push_sides(said: &mut ReportText, width: Grains, height: Grains)
     said.push_points(height);
 }
 
-/// That the document's paper has a name that isn't known.
+/// Appends that the name of the document's paper is unknown.
 pub(crate) fn push_unknown(said: &mut ReportText, name: &ShownName)
     requires room { length said.old + 141 ≤ most_said }
     ensures text { said.new ≡ said.old ++ unknown_message name.now }
@@ -178,7 +178,7 @@ pub(crate) fn push_unknown(said: &mut ReportText, name: &ShownName)
     said.push(name.as_slice());
 }
 
-/// Which pages the paper cuts that is named for them.
+/// Appends the pages that `--paper` cuts.
 pub(crate) fn push_cut(said: &mut ReportText, cut: &Cut, named: &Paper)
     requires room { length said.old + 367 ≤ most_said }
     ensures text { said.new ≡ said.old ++ cut_message cut.now named.now }
@@ -213,7 +213,7 @@ fn push_cut_pages(said: &mut ReportText, cut: &Cut)
     }
 }
 
-/// A number of pages, from the first to the last of them.
+/// Appends a number of pages, with the first and the last of them.
 fn push_some_pages(said: &mut ReportText, pages: usize, first: u128, last: u128)
     requires room { length said.old + 136 ≤ most_said }
     ensures text { said.new ≡ said.old ++ some_pages_text pages first last }
@@ -226,14 +226,14 @@ fn push_some_pages(said: &mut ReportText, pages: usize, first: u128, last: u128)
     said.push_number(last);
 }
 
-/// A page that is counted from 0, counted from 1.
+/// The number of a page counted from 1; the argument is counted from 0.
 fn page_number(page: usize) -> u128
     ensures { result ≡ page + 1 }
 {
     page as u128 + 1
 }
 
-/// The size of a page that is cut; of several, so far they reach.
+/// Appends the size of the page that is cut, or the size that several reach.
 fn push_cut_size(said: &mut ReportText, cut: &Cut)
     requires room { length said.old + 109 ≤ most_said }
     ensures text { said.new ≡ said.old ++ cut_size_text cut.now }
@@ -245,7 +245,7 @@ fn push_cut_size(said: &mut ReportText, cut: &Cut)
     push_size(said, &cut.paper);
 }
 
-/// The first page that reaches beyond the paper by which it is placed, and how many more there are.
+/// Appends the first page that reaches beyond the paper by which it is placed, and the number of others.
 pub(crate) fn push_reach(said: &mut ReportText, reach: &Reach)
     requires room { length said.old + 536 ≤ most_said }
     ensures text { said.new ≡ said.old ++ reach_message reach.now }
@@ -260,7 +260,7 @@ pub(crate) fn push_reach(said: &mut ReportText, reach: &Reach)
     push_others(said, reach.pages.saturating_sub(1));
 }
 
-/// How far a page reaches: to the upper right corner, and from the lower left one if that is before 0.
+/// Appends how far a page reaches: to its upper right corner, and from its lower left one if that is negative.
 fn push_edges(said: &mut ReportText, edges: &Edges)
     requires room { length said.old + 215 ≤ most_said }
     ensures text { said.new ≡ said.old ++ edges_text edges.now }
@@ -274,7 +274,7 @@ fn push_edges(said: &mut ReportText, edges: &Edges)
     }
 }
 
-/// How far a page reaches: from the lower left corner to the upper right one.
+/// Appends how far a page reaches: from its lower left to its upper right corner.
 fn push_corners(said: &mut ReportText, edges: &Edges)
     requires room { length said.old + 215 ≤ most_said }
     ensures text { said.new ≡ said.old ++ corners_text edges.now }
@@ -286,7 +286,7 @@ fn push_corners(said: &mut ReportText, edges: &Edges)
     push_sides(said, edges.right, edges.top);
 }
 
-/// The number of other pages that reach beyond their papers.
+/// Appends the number of other pages that reach beyond their papers.
 fn push_others(said: &mut ReportText, pages: usize)
     requires room { length said.old + 160 ≤ most_said }
     ensures text { said.new ≡ said.old ++ others_text pages }
@@ -304,7 +304,7 @@ fn push_others(said: &mut ReportText, pages: usize)
     );
 }
 
-/// How many pages follow the document's trailer.
+/// Appends the number of pages after the document's trailer.
 pub(crate) fn push_behind(said: &mut ReportText, pages: usize)
     requires room { length said.old + 160 ≤ most_said }
     ensures text { said.new ≡ said.old ++ behind_message pages }
@@ -319,7 +319,7 @@ pub(crate) fn push_behind(said: &mut ReportText, pages: usize)
     );
 }
 
-/// How many pages the document says that it has, and how many were found.
+/// Appends the number of pages that the document declares, and the number found.
 pub(crate) fn push_told(said: &mut ReportText, told: usize, found: usize)
     requires room { length said.old + 357 ≤ most_said }
     ensures text { said.new ≡ said.old ++ told_message told found }
@@ -332,7 +332,7 @@ pub(crate) fn push_told(said: &mut ReportText, told: usize, found: usize)
     said.push(b": is it complete?");
 }
 
-/// That a file of this name, as it is shown, isn't a PDF.
+/// Appends that a file of this name isn't a PDF.
 pub(crate) fn push_note(said: &mut ReportText, name: &str)
     requires few { length name.now ≤ 1_002 }
     requires room { length said.old + 2_191 ≤ most_said }
@@ -346,7 +346,7 @@ pub(crate) fn push_note(said: &mut ReportText, name: &str)
     said.push(name.as_bytes());
 }
 
-/// Where the paper of the pages was found.
+/// The source of the pages' paper, in words.
 fn origin_text(origin: PaperOrigin) -> &'static [u8]
     ensures value { result.now ≡ text_of_origin origin }
     ensures short { length result.now ≤ 60 }

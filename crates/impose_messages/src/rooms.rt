@@ -1,4 +1,4 @@
-//! What is said of sheets that have no room for pages.
+//! Messages about sheets without room for pages.
 ghost use Rattle.std.specs.Prelude.{◌≡◌, ◌≤◌, IfOk, IsTrue, IsUtf8, OnErr, pos, string_bytes};
 ghost use Rattle.rules.specs.Numbers.{points_text as text_of_points};
 ghost use Rattle.rules.specs.Papers.{is_side};
@@ -9,7 +9,7 @@ use layouts::{HUNDRED_THOUSANDTH, Room, extent, grains, in_grains};
 use lengths::{Grains, Paper, print_points};
 use std::alloc::{AllocError, Global};
 
-/// How much margins and gaps are that leave no room for pages, of which sheet, and how much of it margins leave.
+/// The message about margins and gaps without room for pages: their lengths, the size of the sheet, and what the margins leave of it.
 pub(crate) fn no_room_text(alloc: Global, room: &Room) -> Result<String, AllocError>
     ensures { IfOk result (λ text. string_bytes text ≡ text_of_no_room room.now) }
 {
@@ -25,7 +25,7 @@ pub(crate) fn no_room_text(alloc: Global, room: &Room) -> Result<String, AllocEr
     )
 }
 
-/// That gaps leave nothing of what margins leave, if that is something.
+/// That gaps take all that margins leave; empty if margins leave nothing.
 fn gaps_text(alloc: Global, room: &Room) -> Result<String, AllocError>
     ensures { IfOk result (λ text. string_bytes text ≡ text_of_gaps room.now) }
 {
@@ -36,7 +36,7 @@ fn gaps_text(alloc: Global, room: &Room) -> Result<String, AllocError>
     format!(in alloc; ", and gaps of {gaps} pt none of that")
 }
 
-/// Whether margins leave something of both sides.
+/// Whether margins leave a part of both sides.
 fn leaves_some(room: &Room) -> bool
     ensures { result ≡ leaves_some_of room.now }
 {
@@ -87,7 +87,7 @@ fn points_text(alloc: Global, length: Grains) -> Result<String, AllocError>
     text_of_ascii(text)
 }
 
-/// These bytes as a text. They are ASCII: of others nothing is said, as without memory.
+/// These ASCII bytes as a text. Bytes that aren't ASCII are refused like a lack of memory.
 fn text_of_ascii(bytes: Vec<u8>) -> Result<String, AllocError>
     ensures value { IfOk result (λ text. string_bytes text ≡ bytes.items) }
     ensures other { OnErr result (¬ (IsUtf8 bytes.items)) }

@@ -14,7 +14,7 @@ use impose_words::ImposeRequest;
 use lengths::Paper;
 use papers::{Cut, Reach};
 
-/// The lines of a finished run, but for the one on its output's name.
+/// Appends the lines of a finished run, except the one about its output's name.
 pub(crate) fn push_lines(said: &mut ReportText, done: &Finished, request: &ImposeRequest)
     requires room { length said.old + 2_264 ≤ most_said }
     ensures text { said.new ≡ said.old ++ run_lines done.now request.now }
@@ -107,7 +107,7 @@ fn push_told_line(said: &mut ReportText, told: Option<usize>, found: u32)
     said.push(b"\n");
 }
 
-/// The line that the output isn't a PDF, if it is named as one.
+/// Appends that the output isn't a PDF, if its name ends like one.
 pub(crate) fn push_note_line(said: &mut ReportText, request: &ImposeRequest)
     requires room { length said.old + 2_200 ≤ most_said }
     ensures { AddsNote (option_map string_bytes request.now.outfile) said.old said.new }
@@ -120,7 +120,7 @@ pub(crate) fn push_note_line(said: &mut ReportText, request: &ImposeRequest)
     }
 }
 
-/// The line that a file of this name, as it is shown, isn't a PDF.
+/// Appends the line that a file of this name isn't a PDF.
 fn push_note_on(said: &mut ReportText, name: &str)
     requires few { length name.now ≤ 1_002 }
     requires room { length said.old + 2_200 ≤ most_said }

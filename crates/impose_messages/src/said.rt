@@ -1,4 +1,4 @@
-//! What is said on standard error of how the program ended.
+//! The text for standard error at the end of the program.
 ghost use Rattle.std.specs.Prelude.{◌≡◌, ◌++◌, [], option_map, string_bytes};
 ghost use Rattle.impose_messages.specs.Said.{AddsText, IsMadeLine, SaysEnding, SaysFault, SaysRun, SaysWords, is_broken_pipe};
 
@@ -13,11 +13,10 @@ use impose_words::{ImposeRequest, RequestFault};
 use std::alloc::{AllocError, Global};
 use std::io::ErrorKind;
 
-/// The text for standard error, when the program has ended with these words: for sheets the report and the lines after
-/// it, unless the request is quiet; of a fault its message, unless whoever reads the output has
-/// closed it; and nothing of anything else. Help and the version, which go to standard output, aren't said here.
+/// The text for standard error at the end of the program. After sheets it is the report with its lines, unless the request is quiet. After a fault it
+/// is the message, unless the reader of the output has closed it. Otherwise it is empty; help and version go to standard output.
 ///
-/// The report comes into a text that was made before the run, and so it is whole.
+/// The report is put into a text that was made before the run, so it is whole.
 pub fn text_said(
     alloc: Global,
     report: ReportText,
@@ -38,7 +37,7 @@ pub fn text_said(
     }
 }
 
-/// The message about a finished run: all its lines.
+/// The message about a finished run, with all its lines.
 fn text_of_run(report: ReportText, done: &Finished, request: &ImposeRequest) -> Vec<u8>
     requires empty { report ≡ [] }
     ensures { SaysRun done.now request.now result.items }
@@ -52,7 +51,7 @@ fn text_of_run(report: ReportText, done: &Finished, request: &ImposeRequest) -> 
     said.into_bytes()
 }
 
-/// The message about a fault. Without memory for it that is nothing.
+/// The message about a fault; empty without memory for it.
 pub fn text_of_fault(
     alloc: Global,
     fault: &ImposeFault,
@@ -71,7 +70,7 @@ pub fn text_of_fault(
     said
 }
 
-/// The message about words that the command doesn't take; nothing of a call for help or for the version.
+/// The message about words that the command doesn't take; empty for help and version.
 fn text_of_words(alloc: Global, error: &WordsError, words: &[String]) -> String
     ensures { SaysWords error.now (string_bytes result) }
 {
@@ -82,7 +81,7 @@ fn text_of_words(alloc: Global, error: &WordsError, words: &[String]) -> String
     }
 }
 
-/// Whoever reads the output has closed it, and so has enough of it.
+/// Whether the reader of the output has closed it.
 fn is_broken_pipe(fault: &ImposeFault) -> bool
     ensures { result ≡ is_broken_pipe fault.now }
 {
@@ -95,7 +94,7 @@ fn is_broken_pipe(fault: &ImposeFault) -> bool
     }
 }
 
-/// Adds a line with this message, if there is memory for it and for the line.
+/// Adds a line with this message, if there is memory for both.
 fn add_line(alloc: Global, said: &mut String, message: Result<String, AllocError>)
     ensures { AddsText (IsMadeLine message) (string_bytes said.old) (string_bytes said.new) }
 {

@@ -1,4 +1,4 @@
-//! Words and names as a message shows them.
+//! Words and names in the form in which messages show them.
 ghost use Rattle.std.specs.Prelude.{◌≡◌, ◌≤◌, ◌++◌, length, map};
 ghost use Rattle.impose_messages.specs.Said.{shown_byte as byte_shown, shown_name};
 
@@ -6,16 +6,15 @@ use arrayvec::{ArrayString, ArrayVec};
 use std::alloc::{AllocError, Global};
 use std::marker::Model;
 
-/// How many characters of a word are shown, or bytes of a name in a document.
+/// The most characters of a word, or bytes of a document's name, that are shown.
 const MOST_SHOWN: usize = 100;
 
-/// A word or a name without control characters, which are written as `\u{1b}`, and cut after its first hundred characters;
-/// two dots are in place of what is cut off.
+/// A word or name as it is shown. Control characters are written in the form `\u{1b}`. After a hundred characters the rest is replaced by two dots.
 pub(crate) fn shown_word(alloc: Global, word: &str) -> Result<String, AllocError> {
     String::from_str(alloc, shown_in_place(word).as_str())
 }
 
-/// The same without memory of its own. It has room for a hundred characters of ten bytes, and two dots.
+/// The same without memory of its own. There is room for a hundred characters of ten bytes, and two dots.
 pub(crate) fn shown_in_place(word: &str) -> ArrayString<1_002> {
     let mut shown = ArrayString::new();
     for (count, letter) in word.chars().enumerate() {
@@ -28,7 +27,7 @@ pub(crate) fn shown_in_place(word: &str) -> ArrayString<1_002> {
     shown
 }
 
-/// A character as it is shown; a control character as it is written in a program.
+/// A character as it is shown; a control character in the form that programs have.
 fn shown_letter(letter: char) -> ArrayString<10> {
     let mut shown = ArrayString::new();
     if letter.is_control() {
@@ -46,8 +45,8 @@ pub(crate) fn push_shown(shown: &mut String, letter: char) -> Result<(), AllocEr
     shown.push_str(shown_letter(letter).as_str())
 }
 
-/// A name in a document as it is shown: its front, with a question mark for each byte that isn't a printable one of ASCII,
-/// and two dots if there is more. It needs no memory.
+/// A document's name as it is shown: its start, with a question mark for each byte that isn't printable ASCII, and two dots if there is more. It
+/// takes no memory.
 #[derive(Drop)]
 pub struct ShownName {
     text: ArrayVec<u8, 102>,
@@ -62,7 +61,7 @@ impl Model for ShownName {
 }
 
 impl ShownName {
-    /// That of this name.
+    /// The form in which this name is shown.
     pub fn of(name: &[u8]) -> ShownName
         ensures { result ≡ shown_name name.now }
     {
@@ -84,7 +83,7 @@ impl ShownName {
     }
 }
 
-/// The front of a name.
+/// The start of a name, as it is shown.
 fn shown_front(front: &[u8]) -> ArrayVec<u8, 102>
     requires few { length front.now ≤ 100 }
     ensures { result.items ≡ map byte_shown front.now }
@@ -96,14 +95,14 @@ fn shown_front(front: &[u8]) -> ArrayVec<u8, 102>
     shown
 }
 
-/// A byte of a name: what isn't a printable one of ASCII is a question mark.
+/// A byte of a name; a question mark if it isn't printable ASCII.
 fn shown_byte(b: u8) -> u8
     ensures { result ≡ byte_shown b }
 {
     if 32 <= b && b <= 126 { b } else { b'?' }
 }
 
-/// Whether a word is shown as it is.
+/// Whether a word is shown unchanged.
 pub(crate) fn is_shown_whole(word: &str) -> bool {
     word.len() <= MOST_SHOWN && !word.chars().any(char::is_control)
 }

@@ -1,4 +1,4 @@
-//! With which exit status the program ends.
+//! The exit status of each fault.
 ghost use Rattle.std.specs.Prelude.{◌≡◌};
 ghost use Rattle.impose_messages.specs.Statuses.{command_status as status_of_command, fault_status as status_of_fault, words_status as status_of_words};
 
@@ -11,9 +11,8 @@ use row_sheets::PosterError;
 use rows::RowError;
 use sheet_plan::MadeError;
 
-/// The exit status of a fault: 1 if the specification, the layout, the document or the plan is refused, 2 if the
-/// command line or an option is, 3 if memory, reading or writing failed, and 0 after a call for help or for the
-/// version.
+/// The exit status of a fault. It is 1 if the specification, layout, document or plan is refused, 2 if the command line or an option is, and 3 if
+/// memory, reading or writing failed. Help and version have 0.
 pub fn fault_status(fault: &ImposeFault) -> u8
     ensures { result ≡ status_of_fault fault.now }
 {

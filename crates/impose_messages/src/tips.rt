@@ -1,9 +1,9 @@
-//! What to do in place of words that the command doesn't take.
+//! Tips on words that the command doesn't take.
 
-/// Words, of which options are as clap names them (`-d` of `-d1`), and what to do in their place.
+/// Words and the tip on them. Options are written as clap names them (`-d` of `-d1`).
 pub(crate) type Tip = (&'static [&'static str], &'static str);
 
-/// The tip on a word.
+/// The tip on a word, if there is one.
 pub(crate) fn tip_in(tips: &[Tip], word: &str) -> Option<&'static str> {
     for (words, tip) in tips {
         if words.iter().any(|known| *known == word) {
@@ -13,7 +13,7 @@ pub(crate) fn tip_in(tips: &[Tip], word: &str) -> Option<&'static str> {
     None
 }
 
-/// The argument that a command begins with is missing.
+/// Tips where the first argument of a command is missing.
 pub(crate) const MISSING: [Tip; 7] = [
     (
         &["nup"],
@@ -45,7 +45,7 @@ pub(crate) const MISSING: [Tip; 7] = [
     ),
 ];
 
-/// A value with a minus comes after an option, or what comes first after a command has a minus.
+/// Tips on a value with a minus after an option, or as a command's first argument.
 pub(crate) const SIGNS: [Tip; 11] = [
     (
         &[
@@ -98,7 +98,7 @@ pub(crate) const SIGNS: [Tip; 11] = [
     ),
 ];
 
-/// Options that mean something else for booklets, or for what other programs call so.
+/// Tips on options that booklets lack, or that other programs name so.
 pub(crate) const FOR_BOOKLETS: [Tip; 4] = [
     (
         &["--order"],
@@ -118,7 +118,7 @@ pub(crate) const FOR_BOOKLETS: [Tip; 4] = [
     ),
 ];
 
-/// The same, of selections.
+/// The same for selections.
 pub(crate) const FOR_SELECTIONS: [Tip; 4] = [
     (
         &["--pages"],
@@ -138,7 +138,7 @@ pub(crate) const FOR_SELECTIONS: [Tip; 4] = [
     ),
 ];
 
-/// The same, of specifications.
+/// The same for specifications.
 pub(crate) const FOR_SPECIFICATIONS: [Tip; 4] = [
     (
         &["--plan", "--preview"],
@@ -158,7 +158,7 @@ pub(crate) const FOR_SPECIFICATIONS: [Tip; 4] = [
     ),
 ];
 
-/// Options that some commands have, for the others.
+/// Tips on options that only some commands have, for the other commands.
 pub(crate) const OF_COMMANDS: [Tip; 15] = [
     (
         &["--order"],

@@ -1,4 +1,4 @@
-//! What is said of values that options and arguments don't take.
+//! Messages about values that options and arguments don't take.
 use crate::mistakes::{begins_with_digit, is_range, looks_like_file};
 use crate::nearest::{begins_as_size, nearest_names};
 use crate::shown::{joined_texts, push_all, shown_word};
@@ -9,7 +9,7 @@ use impose_words::{
 use papers::{PaperError, read_paper};
 use std::alloc::{AllocError, Global};
 
-/// The message about a text that is no value of the option or argument.
+/// The message about a text that isn't a value of the option or argument.
 pub(crate) fn value_text(
     alloc: Global,
     option: OptionId,
@@ -41,7 +41,7 @@ pub(crate) fn value_text(
     }
 }
 
-/// The text with a point for each comma between two digits.
+/// The text, with a point in place of each comma between two digits.
 fn with_points(alloc: Global, text: &str) -> Result<String, AllocError> {
     let mut pointed = String::new(alloc);
     for (place, part) in text.split(',').enumerate() {
@@ -79,7 +79,7 @@ fn is_value(option: OptionId, text: &str) -> bool {
     }
 }
 
-/// The message about a text that is a value once its decimals come after points.
+/// The message about a text that would be a value with points before its decimals.
 fn decimals_text(
     alloc: Global,
     option: OptionId,
@@ -100,7 +100,7 @@ fn decimals_text(
 
 const UNITS_IN_LISTS: &str = "; in a list each length has its unit, 0 too";
 
-/// The message about a text that is no length, or no list of lengths. It may be one but for a unit.
+/// The message about a text that isn't a length or a list of lengths. It may only lack a unit.
 fn length_text(alloc: Global, option: OptionId, text: &str) -> Result<String, AllocError> {
     match part_without_unit(text, matches!(option, OptionId::Margin | OptionId::Gap)) {
         Some(part) => no_unit_text(alloc, option, text, part),
@@ -108,7 +108,7 @@ fn length_text(alloc: Global, option: OptionId, text: &str) -> Result<String, Al
     }
 }
 
-/// The text, or the first length in it, alone or after the name of an edge, that is one but for its unit.
+/// The text, or the first length in it, alone or after the name of an edge, that only lacks its unit.
 fn part_without_unit(text: &str, may_be_list: bool) -> Option<&str> {
     if lacks_unit(text, false) && !text.starts_with("-") {
         return Some(text);
@@ -128,7 +128,7 @@ fn part_without_unit(text: &str, may_be_list: bool) -> Option<&str> {
     None
 }
 
-/// The message about a text that lacks the unit of this part of it.
+/// The message about a text in which this part lacks a unit.
 fn no_unit_text(
     alloc: Global,
     option: OptionId,
@@ -154,7 +154,7 @@ fn no_unit_text(
     Ok(said)
 }
 
-/// The message about a text that names no margins. An edge may be named twice.
+/// The message about a text that isn't margins. An edge may be named twice.
 fn margin_text(alloc: Global, text: &str) -> Result<String, AllocError> {
     let Some(edge) = edge_named_twice(text) else {
         return length_text(alloc, OptionId::Margin, text);
@@ -164,7 +164,7 @@ fn margin_text(alloc: Global, text: &str) -> Result<String, AllocError> {
     format!(in alloc; "'{shown}' after --margin names {edge} twice: name each edge once")
 }
 
-/// The message about a text that is no first number, or one without numbers.
+/// The message about a text that isn't a first number, or that comes without `--numbers`.
 fn first_number_text(alloc: Global, text: &str) -> Result<String, AllocError> {
     if whole_number(text).is_none() {
         return refused_text(alloc, OptionId::NumbersFrom, text);
@@ -175,7 +175,7 @@ fn first_number_text(alloc: Global, text: &str) -> Result<String, AllocError> {
     )
 }
 
-/// The first edge in a text that is named again after it.
+/// The first edge that a text names twice.
 fn edge_named_twice(text: &str) -> Option<&str> {
     for (place, part) in text.split(',').enumerate() {
         for (other, again) in text.split(',').enumerate() {
@@ -192,7 +192,7 @@ fn edge_named_twice(text: &str) -> Option<&str> {
     None
 }
 
-/// That a text after an option is none of its values, and what to do.
+/// The message that an option doesn't take this text, with the cure.
 fn refused_text(alloc: Global, option: OptionId, text: &str) -> Result<String, AllocError> {
     let (what, advice) = value_refusal(option);
     let shown = shown_word(alloc, text)?;
@@ -204,7 +204,7 @@ fn refused_text(alloc: Global, option: OptionId, text: &str) -> Result<String, A
     )
 }
 
-/// The thing that a value of the option has to be, and the cure.
+/// The kind of value that an option takes, and the cure.
 fn value_refusal(option: OptionId) -> (&'static str, &'static str) {
     match option {
         OptionId::Paper | OptionId::Sheet => ("size", "a side is zero, negative or too long"),
@@ -247,7 +247,7 @@ fn value_refusal(option: OptionId) -> (&'static str, &'static str) {
     }
 }
 
-/// The message about pages after `-p`, which names them for psselect.
+/// The message about page ranges after `-p`, which psselect takes.
 fn ranges_text(alloc: Global, text: &str) -> Result<String, AllocError> {
     let text = shown_word(alloc, text)?;
     format!(in alloc;
@@ -264,7 +264,7 @@ fn no_size_unit_text(alloc: Global, option: OptionId, text: &str) -> Result<Stri
     )
 }
 
-/// The message about a text that means no paper.
+/// The message about a text that isn't a paper.
 fn paper_text(alloc: Global, option: OptionId, text: &str) -> Result<String, AllocError> {
     match read_paper(text.as_bytes()) {
         Err(PaperError::NoUnit) if may_have_unit(alloc, text)? => {
@@ -291,13 +291,13 @@ fn unknown_paper_text(alloc: Global, option: OptionId, text: &str) -> Result<Str
     )
 }
 
-/// Whether a size without a unit is one with it.
+/// Whether a size would be valid with a unit.
 fn may_have_unit(alloc: Global, text: &str) -> Result<bool, AllocError> {
     let with_unit = joined_texts(alloc, &[text, "mm"])?;
     Ok(read_paper(with_unit.as_str().as_bytes()).is_ok())
 }
 
-/// The message about an option in the place of a file.
+/// The message about an option in place of a file.
 fn outfile_text(alloc: Global, text: &str) -> Result<String, AllocError> {
     let text = shown_word(alloc, text)?;
     let text = text.as_str();
@@ -306,7 +306,7 @@ fn outfile_text(alloc: Global, text: &str) -> Result<String, AllocError> {
     joined_texts(alloc, &["OUTFILE '", text, advice, text])
 }
 
-/// The message about marks for sheets that aren't a booklet's.
+/// The message about marks that only booklets have.
 fn cut_marks_text(alloc: Global, text: &str) -> Result<String, AllocError> {
     let shown = shown_word(alloc, text)?;
     let shown = shown.as_str();
@@ -320,7 +320,7 @@ fn cut_marks_text(alloc: Global, text: &str) -> Result<String, AllocError> {
     )
 }
 
-/// The message about a text that names no signature.
+/// The message about a text that isn't a signature.
 fn signature_text(alloc: Global, text: &str) -> Result<String, AllocError> {
     match whole_number(text) {
         Some(sides) if 4 < sides && sides < 1_000_000 => {
@@ -334,7 +334,7 @@ fn signature_text(alloc: Global, text: &str) -> Result<String, AllocError> {
     }
 }
 
-/// The message about a text after a command that names no cells. A file may be where they are to be.
+/// The message about a text after a command that isn't a number of cells. A file may stand in its place.
 fn cells_text(alloc: Global, command: CellCommand, text: &str) -> Result<String, AllocError> {
     let shown = shown_word(alloc, text)?;
     let shown = shown.as_str();
@@ -351,7 +351,7 @@ fn cells_text(alloc: Global, command: CellCommand, text: &str) -> Result<String,
     Ok(said)
 }
 
-/// The command's name, how it begins, what is missing after it, and that this comes there.
+/// The name of a command, its beginning, the value that is missing after it, and the note that the value comes there.
 fn command_named(command: CellCommand) -> (&'static str, &'static str, &'static str, &'static str) {
     let (name, example) = match command {
         CellCommand::NUp => ("nup", "nup 2"),
@@ -371,7 +371,7 @@ fn command_named(command: CellCommand) -> (&'static str, &'static str, &'static 
     )
 }
 
-/// The kind of text that has to follow a command, and an example.
+/// The kind of text that follows a command, and an example.
 fn bad_cells(command: CellCommand, is_grid: bool) -> (&'static str, &'static str) {
     match command {
         CellCommand::Notes => ("bad number of pages", "one from 1 to 512, as 3"),

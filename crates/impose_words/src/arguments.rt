@@ -27,26 +27,26 @@ Examples:
   impose booklet --pages 3-14 in.ps out.ps
   impose-pdf booklet in.pdf out.pdf   a booklet of a PDF";
 
-/// An argument of a subcommand: its name, which an option has after `--`; what help calls its value, if it has one; and what
-/// help says of it.
+/// An argument of a subcommand. It has a name, which is that of an option after `--`, the name of its value in the help, if it has a value, and its
+/// help.
 #[derive(Clone, Copy)]
 enum Argument {
-    /// A word that has to be there.
+    /// A required word.
     Required(&'static str, &'static str, &'static str),
-    /// A word that may be there.
+    /// An optional word.
     Positional(&'static str, &'static str, &'static str),
     /// An option with a value.
     Valued(&'static str, &'static str, &'static str),
-    /// The same, with a letter too.
+    /// An option with a value, and with a letter.
     LetteredValued(char, &'static str, &'static str, &'static str),
     /// An option without a value.
     Flag(&'static str, &'static str),
-    /// The same, with a letter too.
+    /// An option without a value, with a letter.
     LetteredFlag(char, &'static str, &'static str),
 }
 
-/// Arguments that some subcommands share, or that one has for itself. Each group is a constant of its own: one with all texts
-/// takes the prover ten times as long.
+/// Arguments of one subcommand or of several. Each group is a constant of its own, because one constant with all texts takes the prover ten times as
+/// long.
 #[derive(Clone, Copy)]
 enum Group {
     Count,
@@ -63,7 +63,7 @@ enum Group {
     Pages,
 }
 
-/// A subcommand: its name, what help says of it, and its arguments before those that every subcommand has.
+/// A subcommand: its name, its help, and its arguments before those that every subcommand has.
 struct Subcommand {
     name: &'static str,
     about: &'static str,
@@ -141,7 +141,7 @@ const DUPLEX: [Argument; 1] = [Argument::Flag(
     "For sheets that are printed on both sides",
 )];
 
-/// The options of commands that lay pages in cells, after the number of these.
+/// The options of commands that lay pages in cells, after the number of cells.
 const CELLS: [Argument; 11] = [
     Argument::Valued(
         "order",
@@ -293,7 +293,7 @@ const NUMBERS_FROM: Argument = Argument::Valued(
     "The number of the first page [default: 1]",
 );
 
-/// How pages are turned, and what reports on the sheets in place of them.
+/// The turn of pages, and the options that show the sheets in place of writing them.
 const LOOK: [Argument; 3] = [
     Argument::Valued(
         "turn",
@@ -316,7 +316,7 @@ const PAGES: [Argument; 1] = [Argument::Valued("pages", "RANGES", RANGES_HELP)];
 const RANGES_HELP: &str =
     "Pages, as 7, 3-9, 9-3, 5- or _1 (the last), blank for an empty one, with commas between them";
 
-/// The arguments that every subcommand has, in the order of `common_rules` (specs/Command.antt).
+/// The arguments of every subcommand, in the order of `common_rules` (specs/Command.antt).
 const COMMON: [Argument; 11] = [
     Argument::Flag("odd", "Of these the first, the third and so on"),
     Argument::Flag("even", "Of these the second, the fourth and so on"),

@@ -1,4 +1,4 @@
-//! What the values of those arguments mean that say how pages are arranged in the cells of a sheet.
+//! The values of arguments about pages in cells.
 ghost use Rattle.std.specs.Prelude.{◌≡◌, ◌*◌};
 ghost use Rattle.impose_words.specs.Arranging as meaning;
 
@@ -8,7 +8,7 @@ use layouts::{Cells, FillOrder, MOST_ON_SHEET, Turned};
 use lengths::{Grains, read_digits};
 use pagespec::Turn;
 
-/// The cells that the text means: a number of them, or columns and rows with an `x` between them.
+/// The cells that the text names: a number, or columns and rows with an `x` between them.
 pub fn cells_named(text: &str) -> Option<Cells>
     ensures { result ≡ meaning.cells_named text.now }
 {
@@ -31,7 +31,7 @@ fn at_least(count: u32) -> Option<Cells>
     }
 }
 
-/// Columns, and the number of rows that the text names.
+/// These columns, with the number of rows that the text names.
 fn with_rows(columns: u32, text: &[u8]) -> Option<Cells>
     ensures { result ≡ meaning.with_rows columns (meaning.digits_at text.now) }
 {
@@ -52,7 +52,7 @@ fn exactly(columns: u32, rows: u32) -> Option<Cells>
     }
 }
 
-/// The columns and rows that the text means.
+/// The columns and rows that the text names.
 pub fn exact_cells(text: &str) -> Option<Cells>
     ensures { result ≡ meaning.exact_alone (meaning.cells_named text.now) }
 {
@@ -62,7 +62,7 @@ pub fn exact_cells(text: &str) -> Option<Cells>
     }
 }
 
-/// The number of pages that the text means, if a sheet takes as many cells again for notes beside them.
+/// The number of pages that the text names, on a sheet with as many cells for notes.
 pub fn parse_note_count(text: &str) -> Option<Cells>
     ensures { result ≡ meaning.noted_alone (meaning.cells_named text.now) }
 {
@@ -83,7 +83,7 @@ fn with_notes(pages: u32) -> Option<Cells>
     }
 }
 
-/// Along what pages run, and whether from the right to the left.
+/// The direction in which cells are filled, and whether it is from right to left.
 pub fn run_named(text: &str) -> Option<(FillOrder, bool)>
     ensures { result ≡ meaning.run_named text.now }
 {
@@ -96,7 +96,7 @@ pub fn run_named(text: &str) -> Option<(FillOrder, bool)>
     }
 }
 
-/// How the text says that pages are turned.
+/// The turn of pages that the text names.
 pub(crate) fn turn_named(text: &str) -> Option<Turn>
     ensures { result ≡ meaning.turn_named text.now }
 {
@@ -108,7 +108,7 @@ pub(crate) fn turn_named(text: &str) -> Option<Turn>
     }
 }
 
-/// To which side one turns the pages to read them.
+/// The side to which one turns the pages to read them.
 pub fn turned_named(text: &str) -> Option<Turned>
     ensures { result ≡ meaning.turned_named text.now }
 {
@@ -127,7 +127,7 @@ pub(crate) const NO_MARKS: Marks = Marks {
     numbers: None,
 };
 
-/// The marks that the text means on a booklet, which is folded, and may be cut round its halves.
+/// The marks that the text names for a booklet, which is folded, and may be cut around its halves.
 pub(crate) fn booklet_marks_named(text: &str) -> Option<Marks>
     ensures { result ≡ meaning.booklet_marks_named text.now }
 {
@@ -149,7 +149,7 @@ pub(crate) fn booklet_marks_named(text: &str) -> Option<Marks>
     }
 }
 
-/// The marks that the text means on other sheets, which are cut alone.
+/// The marks that the text names for other sheets, which are only cut.
 pub(crate) fn cut_marks_named(text: &str) -> Option<Marks>
     ensures { result ≡ meaning.cut_marks_named text.now }
 {
@@ -163,13 +163,13 @@ pub(crate) fn cut_marks_named(text: &str) -> Option<Marks>
     }
 }
 
-/// How large numbers are at least, in grains: a tenth of a point.
+/// The smallest size of numbers, in grains: a tenth of a point.
 const SMALLEST_NUMBERS: i128 = 12_700_000_000;
 
-/// How large numbers are at most, in grains: 72 points.
+/// The largest size of numbers, in grains: 72 points.
 const LARGEST_NUMBERS: i128 = 9_144_000_000_000;
 
-/// How large the text says that numbers are.
+/// The size of numbers that the text names.
 pub(crate) fn number_size_named(text: &str) -> Option<Grains>
     ensures { result ≡ meaning.number_size_named text.now }
 {

@@ -1,4 +1,4 @@
-//! What the words ask for.
+//! The request that the words make.
 ghost use Rattle.std.specs.Prelude.{◌≡◌, [], ◌∷◌, IfOk, IfErr, None, Option, Some, codes, false, map, option_map, string_bytes, true};
 ghost use Rattle.clap.specs.Words.{Text, fault_of, first_of, found_of, is_simple, rows_of, subcommand_of, subcommand_rows_of};
 ghost use Rattle.lengths.specs.Lengths.{a4};
@@ -36,15 +36,14 @@ use pagespec::Turn;
 use rows::{Part, Signing};
 use std::alloc::Global;
 
-/// The request that the words make, of which the first is the program's name. The paper at home is no matter of the words:
-/// it is a4 until another one is put in.
+/// The request that the words make; the first is the program's name. The paper at home isn't found here: it is a4 until another one is set.
 ///
-/// Words that the command doesn't take are `Words`, with clap's message, and so is a call for help or for the version.
-/// Among words that it takes, the first of these is the fault: a paper that there isn't, after `--paper`, then after
-/// `--sheet`; a border that is no length, or below zero; a turn that there isn't; cells that a sheet doesn't take, or a signature that leaves can't have;
-/// margins or gaps that aren't lengths as these options take them; a trim, a creep or an overlap that is no length; an order that there isn't, no side after `--turned`, no number after
-/// `--scale`; marks that sheets of the layout don't have; no size after `--numbers`, or no first number; odd and even entries together; an OUTFILE that begins with a minus sign; two of
-/// `--print-spec`, `--plan` and `--preview`; a picture whose file isn't named as an SVG is.
+/// Words that the command doesn't take are `Words`, with clap's message, and so is a call for help or the version. Among accepted words the first of
+/// these is the fault: an unknown paper after `--paper`, then after `--sheet`; a border that isn't a length, or is negative; an unknown turn; cells
+/// that a sheet can't have, or a signature that leaves can't have; margins or gaps that aren't lengths in the forms of these options; a trim, creep
+/// or overlap that isn't a length; an unknown order, a wrong side after `--turned`, no number after `--scale`; marks that the layout doesn't have; no
+/// size after `--numbers`, or no first number; odd and even entries together; an OUTFILE that begins with a minus sign; two of `--print-spec`,
+/// `--plan` and `--preview`; a drawing whose file isn't named as an SVG.
 #[tactic(auto, using(crate::proofs::Commands::impose_is_simple))]
 pub fn read_command(alloc: Global, words: &[String]) -> Result<ImposeRequest, RequestFault>
     // The command takes the words, and the request is what it finds among them.
@@ -100,7 +99,7 @@ fn subcommand_request(
     request_for(alloc, sizes, layout, found)
 }
 
-/// The request for this layout of these sizes: what else was found is read in its order, and the first fault is reported.
+/// The request for this layout with these sizes. The other values are read in order, and the first fault is reported.
 fn request_for(
     alloc: Global,
     sizes: Sizes,
@@ -143,7 +142,7 @@ fn request_for(
     })
 }
 
-/// The papers, the border and the turn that are asked for.
+/// The requested papers, border and turn.
 #[derive(Clone, Copy, Drop)]
 struct Sizes {
     page_paper: Option<Paper>,
@@ -152,7 +151,7 @@ struct Sizes {
     turn: Turn,
 }
 
-/// The first of them that names none is at fault.
+/// The sizes that are found; the first option with an invalid value is at fault.
 fn sizes_of(found: &ArgMatches<'_>) -> Result<Sizes, OptionId>
     ensures read { IfOk result (λ sizes.
         ReadsSizes (rows_of (found_of found.now)) sizes.page_paper sizes.sheet_paper sizes.border sizes.turn) }
@@ -188,7 +187,7 @@ fn paper_option(found: &ArgMatches<'_>, option: OptionId) -> Option<Option<Paper
     }
 }
 
-/// The border that is asked for; a width of 0 asks for none.
+/// The requested border; a width of 0 is none.
 fn border_of(found: &ArgMatches<'_>) -> Option<Option<Grains>>
     ensures { result ≡ border_found (rows_of (found_of found.now)) }
 {
@@ -198,7 +197,7 @@ fn border_of(found: &ArgMatches<'_>) -> Option<Option<Grains>>
     }
 }
 
-/// How pages are turned.
+/// The turn of pages.
 fn turn_of(found: &ArgMatches<'_>) -> Option<Turn>
     ensures { result ≡ turn_found (rows_of (found_of found.now)) }
 {
@@ -208,7 +207,7 @@ fn turn_of(found: &ArgMatches<'_>) -> Option<Turn>
     }
 }
 
-/// The fault of a value that is none.
+/// The fault of an invalid value.
 fn bad_value(alloc: Global, found: &ArgMatches<'_>, option: OptionId) -> RequestFault
     ensures { (wrong : Option Wrong) → wrong ≡ Some (NoValue option) → SaysWrong (rows_of (found_of found.now)) result wrong }
 {
@@ -240,7 +239,7 @@ fn layout_of(alloc: Global, name: &str, found: &ArgMatches<'_>) -> Result<Layout
     }
 }
 
-/// The layout of a command that has cells.
+/// The layout of a command with cells.
 fn cells_layout(
     alloc: Global,
     command: CellCommand,
@@ -269,8 +268,7 @@ fn cells_layout(
     })
 }
 
-/// The cells that a text after the command means. Those of notes are a number of pages, and those of a poster are its sheets,
-/// in so many columns and rows.
+/// The cells that the text after a command names. For notes it is a number of pages, and for a poster the columns and rows of sheets.
 fn cells_in(command: CellCommand, text: &str) -> Option<Cells>
     ensures { result ≡ cells_of_command command text.now }
 {
@@ -295,7 +293,7 @@ fn booklet_of(alloc: Global, found: &ArgMatches<'_>) -> Result<Layout, RequestFa
     }
 }
 
-/// How leaves are sewn, if anything is asked for.
+/// The signatures, if any are requested.
 fn signing_of(found: &ArgMatches<'_>) -> Option<Option<Signing>>
     ensures { result ≡ signing_found (rows_of (found_of found.now)) }
 {
@@ -333,7 +331,7 @@ fn spec_of(alloc: Global, found: &ArgMatches<'_>) -> Result<Layout, RequestFault
     }
 }
 
-/// Whether a specification is to be laid on another row than that of all pages in their order.
+/// Whether a specification is laid on another row than all pages in order.
 fn asks_for_row(found: &ArgMatches<'_>) -> bool
     ensures { result ≡ row_asked (rows_of (found_of found.now)) }
 {
@@ -344,7 +342,7 @@ fn asks_for_row(found: &ArgMatches<'_>) -> bool
         || is_set(found, "reverse")
 }
 
-/// The margins and gaps of the layout's sheets, the order in which these are read, and the scale of the pages.
+/// The margins and gaps of the layout's sheets, the order in which they are read, and the scale of pages.
 fn spacing_of(layout: &Layout, found: &ArgMatches<'_>) -> Result<Spacing, OptionId>
     ensures read { IfOk result (SpacesBy (keeps_room layout.now) (rows_of (found_of found.now))) }
     ensures refused { IfErr result (λ option.
@@ -388,7 +386,7 @@ fn spacing_of(layout: &Layout, found: &ArgMatches<'_>) -> Result<Spacing, Option
     })
 }
 
-/// The margins of a sheet; none if `--margin` isn't there.
+/// The margins of a sheet; none without `--margin`.
 fn margins_of(found: &ArgMatches<'_>) -> Option<Margins>
     ensures { result ≡ margins_found (rows_of (found_of found.now)) }
 {
@@ -398,7 +396,7 @@ fn margins_of(found: &ArgMatches<'_>) -> Option<Margins>
     }
 }
 
-/// The gaps between cells; none if `--gap` isn't there.
+/// The gaps between cells; none without `--gap`.
 fn gaps_of(found: &ArgMatches<'_>) -> Option<Free>
     ensures { result ≡ gaps_found (rows_of (found_of found.now)) }
 {
@@ -408,7 +406,7 @@ fn gaps_of(found: &ArgMatches<'_>) -> Option<Free>
     }
 }
 
-/// The length that an option names; 0 if it isn't there.
+/// The length that an option names; 0 without the option.
 fn length_of(found: &ArgMatches<'_>, option: OptionId) -> Option<Grains>
     ensures { result ≡ length_found option (rows_of (found_of found.now)) }
 {
@@ -418,7 +416,7 @@ fn length_of(found: &ArgMatches<'_>, option: OptionId) -> Option<Grains>
     }
 }
 
-/// In which order one reads the cells. Right is turned into left by `--rtl` in whatever order.
+/// The order in which cells are read. `--rtl` turns any order from right to left.
 fn order_of(found: &ArgMatches<'_>) -> Result<Order, OptionId>
     ensures read { IfOk result (λ order. order_found (rows_of (found_of found.now)) ≡ Some order) }
     ensures refused { IfErr result (λ option. wrong_order (rows_of (found_of found.now)) ≡ Some (NoValue option)) }
@@ -436,7 +434,7 @@ fn order_of(found: &ArgMatches<'_>) -> Result<Order, OptionId>
     })
 }
 
-/// Along what pages run, and whether from the right by the order itself.
+/// The direction in which cells are filled, and whether the order itself is from the right.
 fn run_of(found: &ArgMatches<'_>) -> Option<(FillOrder, bool)>
     ensures { result ≡ run_found (rows_of (found_of found.now)) }
 {
@@ -446,7 +444,7 @@ fn run_of(found: &ArgMatches<'_>) -> Option<(FillOrder, bool)>
     }
 }
 
-/// How pages lie in the cells.
+/// How the text of pages lies in the cells.
 fn turned_of(found: &ArgMatches<'_>) -> Option<Turned>
     ensures { result ≡ turned_found (rows_of (found_of found.now)) }
 {
@@ -456,7 +454,7 @@ fn turned_of(found: &ArgMatches<'_>) -> Option<Turned>
     }
 }
 
-/// The scale that is asked for, if one is.
+/// The requested scale, if there is one.
 fn scale_of(found: &ArgMatches<'_>) -> Option<Option<Number>>
     ensures { result ≡ scale_found (rows_of (found_of found.now)) }
 {
@@ -466,7 +464,7 @@ fn scale_of(found: &ArgMatches<'_>) -> Option<Option<Number>>
     }
 }
 
-/// The marks and the numbers that are asked for, of those that sheets of the layout have.
+/// The requested marks and numbers, if sheets of the layout have them.
 fn marks_of(layout: &Layout, found: &ArgMatches<'_>) -> Result<Marks, OptionId>
     ensures read { IfOk result (λ marks. marks_found layout.now (rows_of (found_of found.now)) ≡ Some marks) }
     ensures refused { IfErr result (λ option. wrong_marks layout.now (rows_of (found_of found.now)) ≡ Some (NoValue option)) }
@@ -476,7 +474,7 @@ fn marks_of(layout: &Layout, found: &ArgMatches<'_>) -> Result<Marks, OptionId>
     Ok(Marks { numbers, ..lines })
 }
 
-/// The marks alone.
+/// The requested marks.
 fn lines_of(layout: &Layout, found: &ArgMatches<'_>) -> Result<Marks, OptionId>
     ensures read { IfOk result (λ marks. lines_found layout.now (rows_of (found_of found.now)) ≡ Some marks) }
     ensures refused { IfErr result (λ option. wrong_lines layout.now (rows_of (found_of found.now)) ≡ Some (NoValue option)) }
@@ -496,7 +494,7 @@ fn lines_of(layout: &Layout, found: &ArgMatches<'_>) -> Result<Marks, OptionId>
     }
 }
 
-/// The numbers alone.
+/// The requested numbers.
 fn numbering_option(layout: &Layout, found: &ArgMatches<'_>) -> Result<Option<Numbering>, OptionId>
     ensures read { IfOk result (λ numbers. numbers_found layout.now (rows_of (found_of found.now)) ≡ Some numbers) }
     ensures refused { IfErr result (λ option.
@@ -514,7 +512,7 @@ fn numbering_option(layout: &Layout, found: &ArgMatches<'_>) -> Result<Option<Nu
     }
 }
 
-/// How large numbers are, if pages have some.
+/// The size of numbers, if pages have numbers.
 fn number_size_of(found: &ArgMatches<'_>) -> Option<Option<Grains>>
     ensures { result ≡ number_size_found (rows_of (found_of found.now)) }
 {
@@ -524,7 +522,7 @@ fn number_size_of(found: &ArgMatches<'_>) -> Option<Option<Grains>>
     }
 }
 
-/// The first number. Without numbers none is named.
+/// The first number. It can't be named without numbers.
 fn first_of(found: &ArgMatches<'_>) -> Option<u32>
     ensures { result ≡ first_found (rows_of (found_of found.now)) }
 {
@@ -535,7 +533,7 @@ fn first_of(found: &ArgMatches<'_>) -> Option<u32>
     }
 }
 
-/// Which pages of the document are laid out so, and in which order.
+/// The pages of the document that are laid out, and their order.
 fn choice_of(
     alloc: Global,
     layout: &Layout,
@@ -579,7 +577,7 @@ fn part_of(odd: bool, even: bool) -> Option<Part>
     }
 }
 
-/// The file that is written. A name that begins with a minus sign is most likely an option that came too late.
+/// The output file. A name that begins with a minus sign is most likely an option that comes too late.
 fn outfile_of(alloc: Global, found: &ArgMatches<'_>) -> Result<Option<String>, RequestFault>
     ensures asked { IfOk result (λ outfile.
         file_asked (given opt.Outfile (rows_of (found_of found.now))) ≡ option_map string_bytes outfile) }
@@ -597,7 +595,7 @@ fn outfile_of(alloc: Global, found: &ArgMatches<'_>) -> Result<Option<String>, R
     }
 }
 
-/// The product. No plan or picture is asked for of a layout that doesn't lay rows.
+/// The product. A list or drawing is only offered for layouts that lay rows.
 fn product_of(
     alloc: Global,
     layout: &Layout,
@@ -630,7 +628,7 @@ fn product_of(
     }
 }
 
-/// The specification if it is asked for, and else the sheets.
+/// The specification if it is requested, or else the sheets.
 fn specification_if(printed: bool) -> Product
     ensures specification { is_specification result ≡ printed }
     ensures plan { is_plan result ≡ false }
@@ -643,7 +641,7 @@ fn specification_if(printed: bool) -> Product
     }
 }
 
-/// The picture in the file of that name after `--preview`, which is named as an SVG is.
+/// The drawing, in the file of this name after `--preview`, which ends as that of an SVG.
 fn picture_of(alloc: Global, name: &str, found: &ArgMatches<'_>) -> Result<Product, RequestFault>
     requires { given opt.Preview (rows_of (found_of found.now)) ≡ Some name.now }
     ensures picture { IfOk result (NamesPicture name.now) }
@@ -660,7 +658,7 @@ fn picture_of(alloc: Global, name: &str, found: &ArgMatches<'_>) -> Result<Produ
     }
 }
 
-/// The file of that name; `-` is no file, but standard input or output.
+/// The file of this name; `-` means standard input or output.
 fn file_named(name: Option<&str>) -> Option<&str>
     ensures { option_map (λ s. s.now) result ≡ file_asked (option_map (λ s. s.now) name.entry) }
 {

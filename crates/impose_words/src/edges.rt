@@ -1,4 +1,4 @@
-//! What is kept free along the edges of a sheet, and between its cells, as people write it.
+//! Margins and gaps as people write them.
 ghost use Rattle.std.specs.Prelude.{◌≡◌, ◌<◌, Some, option_map};
 ghost use Rattle.impose_words.specs.Edges as meaning;
 
@@ -10,11 +10,11 @@ use lengths::Grains;
 #[derive(Clone, Copy)]
 pub struct Margins {
     pub free: Free,
-    /// Along the edge at which leaves are bound, if it is named.
+    /// The margin along the edge at which leaves are bound, if it is named.
     pub inner: Option<Grains>,
 }
 
-/// The edges that are named, with their margins.
+/// Edges that are named, with their margins.
 #[derive(Clone, Copy)]
 pub(crate) struct Edges {
     pub left: Option<Grains>,
@@ -25,7 +25,7 @@ pub(crate) struct Edges {
 }
 
 impl Edges {
-    /// None is named.
+    /// No edge is named.
     fn none() -> Edges
         ensures { result ≡ meaning.no_edges }
     {
@@ -38,7 +38,7 @@ impl Edges {
         }
     }
 
-    /// The margins along these edges, and none along the others.
+    /// The margins along these edges, and 0 along the others.
     fn margins(&self) -> Margins
         ensures { result ≡ meaning.along_edges self.now }
     {
@@ -57,7 +57,7 @@ impl Edges {
 }
 
 impl Margins {
-    /// So much, and no edge is the inner one.
+    /// These margins, without an inner one.
     pub fn of(free: Free) -> Margins
         ensures { result ≡ meaning.margins_in free }
     {
@@ -65,7 +65,7 @@ impl Margins {
     }
 }
 
-/// The gaps that the text means: one length, or two in a list.
+/// The gaps that the text names: one length, or two in a list.
 pub fn gaps_named(text: &str) -> Option<Free>
     ensures { result ≡ meaning.gaps_named text.now }
 {
@@ -86,8 +86,7 @@ fn gaps_of(across: Option<Grains>, up: Option<Grains>) -> Option<Free>
     })
 }
 
-/// The margins that the text means: one length; two, for the edges on both sides, and for the upper and the lower one; four,
-/// clockwise from the upper edge; or edges by their names.
+/// The margins that the text names: one length; two, for left and right, and for top and bottom; four, clockwise from the top; or edges by name.
 pub fn margins_named(text: &str) -> Option<Margins>
     ensures { result ≡ meaning.margins_named text.now }
 {
@@ -146,7 +145,7 @@ fn edges_named(text: &str) -> Option<Edges>
     Some(edges)
 }
 
-/// One edge more, by its name and its length.
+/// These edges with one more, by its name and its length.
 fn edge_in(edges: Edges, text: &str, is_listed: bool) -> Option<Edges>
     ensures { result ≡ meaning.edge_in is_listed (Some edges) text.now }
 {
@@ -155,7 +154,7 @@ fn edge_in(edges: Edges, text: &str, is_listed: bool) -> Option<Edges>
     with_edge(edges, name, margin)
 }
 
-/// The edges with the one of this name, which wasn't among them: one of a sheet as it lies, or the inner one.
+/// The edges with the one of this name, which wasn't among them: an edge of the sheet, or the inner one.
 fn with_edge(edges: Edges, name: &str, margin: Grains) -> Option<Edges>
     ensures { result ≡ meaning.with_edge edges name.now margin }
 {

@@ -2,7 +2,7 @@
 use clap::Error as WordsError;
 use std::alloc::AllocError;
 
-/// The command that puts pages into the cells of a grid, or beside those for notes, or over its sheets.
+/// A command with cells: of a grid, of a column with cells for notes beside it, or of a poster's sheets.
 #[derive(Clone, Copy, Debug, PartialEq, Eq)]
 pub enum CellCommand {
     NUp,
@@ -12,7 +12,7 @@ pub enum CellCommand {
     Poster,
 }
 
-/// An argument or option whose value has a meaning of its own.
+/// An argument or option whose value is checked by this crate.
 #[derive(Clone, Copy, Debug, PartialEq, Eq)]
 pub enum OptionId {
     Paper,
@@ -30,9 +30,9 @@ pub enum OptionId {
     Order,
     Turned,
     Scale,
-    /// `--marks` on a booklet.
+    /// `--marks` for a booklet.
     BookletMarks,
-    /// `--marks` on other sheets.
+    /// `--marks` for other sheets.
     CutMarks,
     Numbers,
     NumbersFrom,
@@ -72,7 +72,7 @@ impl OptionId {
     }
 }
 
-/// The option that asks for something in place of the sheets.
+/// An option that replaces the sheets by another product.
 #[derive(Clone, Copy, Debug, PartialEq, Eq)]
 pub enum ProductOption {
     PrintSpec,
@@ -83,17 +83,17 @@ pub enum ProductOption {
 /// Why a command line is refused.
 #[derive(Debug, Drop)]
 pub enum RequestFault {
-    /// The command doesn't take the words, or they ask for its help or its version.
+    /// The command doesn't take the words, or they call for help or the version.
     Words(WordsError),
-    /// The words are no text.
+    /// A word isn't text.
     NoText,
-    /// The words name no subcommand of the command's, or lack one of its arguments, though the command takes them.
+    /// The words lack a subcommand or one of its arguments, although clap accepts them.
     Lacking,
-    /// The value, this text, is none that the argument or option takes.
+    /// The argument or option doesn't take this text as its value.
     BadValue(OptionId, String),
     /// Both `--odd` and `--even` are there.
     OddAndEven,
-    /// Both options are there, of which each asks for something else in place of the sheets.
+    /// Two options that each replace the sheets are there.
     TwoProducts(ProductOption, ProductOption),
     /// There was no memory for the request.
     NoMemory,

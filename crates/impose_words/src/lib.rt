@@ -1,4 +1,4 @@
-//! The words of impose: what they ask for.
+//! The words of impose, and the request that they make.
 #![tactic(auto)]
 
 mod arguments;

@@ -1,4 +1,4 @@
-//! What a command line asks for.
+//! Requests, as command lines make them.
 ghost use Rattle.std.specs.Prelude.{◌≡◌, option_map, string_bytes, true};
 ghost use Rattle.rows.specs.Choices.{choice_of};
 ghost use Rattle.impose_words.specs.Choices.{choice_in, is_all_pages};
@@ -13,20 +13,19 @@ use lengths::{Grains, Number, Paper};
 use pagespec::Turn;
 use rows::{Choice, Part, Signing};
 
-/// How the pages are laid out.
+/// The layout of pages.
 #[derive(Drop)]
 pub enum Layout {
     /// A page in each of these cells of a sheet.
     NUp(Cells),
     /// The same page in each of these cells.
     Cards(Cells),
-    /// A page in each of these cells, so that the parts of the sheets, cut and laid on one another, are in order; on both
-    /// sides if it is a duplex one.
+    /// A page in each of these cells. If the sheets are cut and the parts laid on one another, pages are in order; with duplex on both sides.
     Stack {
         cells: Cells,
         duplex: bool,
     },
-    /// Pages one below another, and beside each of them a cell with lines for notes.
+    /// Pages one below another, with a cell for notes beside each.
     Notes {
         pages: u32,
     },
@@ -35,7 +34,7 @@ pub enum Layout {
         columns: u32,
         rows: u32,
     },
-    /// Two pages on each side of a sheet, to be folded and sewn so.
+    /// Two pages on each side of a sheet, to be folded and sewn in this way.
     Booklet {
         signing: Signing,
         long_edge: bool,
@@ -46,8 +45,7 @@ pub enum Layout {
     Selection,
     /// By a page specification of pstops.
     Spec(String),
-    /// By a page specification on a row, which is put into signatures if one is named: the places that its items name are
-    /// those of the row.
+    /// By a page specification on a row, in signatures if they are named. Items name places of the row.
     SpecRow {
         specs: String,
         signing: Option<Signing>,
@@ -55,7 +53,7 @@ pub enum Layout {
 }
 
 impl Layout {
-    /// Whether it keeps room free if it is asked to.
+    /// Whether the layout can have margins.
     pub fn keeps_room(&self) -> bool
         ensures { result ≡ keeps_room self.now }
     {
@@ -79,7 +77,7 @@ impl Layout {
         }
     }
 
-    /// Whether it lays rows of pages on sheets, of which a plan and a picture can be made.
+    /// Whether the layout lays rows of pages on sheets, which can be listed and drawn.
     pub fn lays_rows(&self) -> bool
         ensures { result ≡ lays_rows self.now }
     {
@@ -90,27 +88,27 @@ impl Layout {
     }
 }
 
-/// The margins and gaps of sheets, how far leaves creep, the order in which sheets are read, and the scale of the pages.
+/// The margins and gaps of sheets, the creep of leaves, the order in which sheets are read, and the scale of pages.
 #[derive(Clone, Copy)]
 pub struct Spacing {
     pub free: Free,
-    /// Along the edge at which leaves are bound: on sheets with cells it is the left one of fronts and the right one of
-    /// backs, in a booklet the fold.
+    /// The margin along the edge at which leaves are bound: in a booklet the fold, on other sheets the left edge of fronts and the right edge of
+    /// backs.
     pub inner: Option<Grains>,
-    /// Pages of a booklet's innermost leaves are moved towards the fold by this.
+    /// The distance by which pages of a booklet's innermost leaves are moved towards the fold.
     pub creep: Grains,
-    /// Neighbouring sheets of a poster overlap by this.
+    /// The overlap of neighbouring sheets of a poster.
     pub overlap: Grains,
-    /// In which order pages are in the cells. A booklet is bound at the right if they go from the right to the left.
+    /// The order in which pages fill the cells. A booklet is bound at the right if they go from right to left.
     pub order: Order,
-    /// The scale of the pages; without it they are as large as they can be.
+    /// The scale of the pages; without it they are as large as possible.
     pub scale: Option<Number>,
     /// Whether all pages have the scale of the largest paper among them.
     pub same_scale: bool,
 }
 
 impl Spacing {
-    /// Nothing is kept free, one reads along rows from the left, and pages are as large as they can be.
+    /// No margins and gaps, rows from the left, and pages as large as possible.
     pub fn none() -> Spacing
         ensures { result ≡ nothing_kept }
     {
@@ -127,7 +125,7 @@ impl Spacing {
         }
     }
 
-    /// These cells, with this kept free on fronts, in this order and at this scale.
+    /// These cells, with the margins of fronts, the gaps, the order and the scale.
     pub fn arrangement(&self, cells: Cells) -> Arrangement
         ensures { result ≡ arrangement_in self.now cells }
     {
@@ -167,7 +165,7 @@ impl Spacing {
         }
     }
 
-    /// Two rows of four cells, with this kept free, that one reads from the left, or from the right if that is asked for.
+    /// Two rows of four cells with these margins and gaps, from the left, or from the right with `--rtl`.
     pub fn zine(&self) -> Arrangement
         ensures { result ≡ zine_in self.now }
     {
@@ -194,7 +192,7 @@ impl Spacing {
         }
     }
 
-    /// The halves of a sheet, with this kept free.
+    /// The halves of a sheet, with these margins and gaps.
     pub fn binding(&self, long_edge: bool) -> Binding
         ensures { result ≡ binding_in self.now long_edge }
     {
@@ -206,7 +204,7 @@ impl Spacing {
     }
 }
 
-/// The margins and gaps of leaves: the inner margin on both sides of the fold, if there is one.
+/// The margins and gaps of leaves; an inner margin is on both sides of the fold.
 fn at_fold(inner: Option<Grains>, free: Free) -> Free
     ensures { result ≡ free_at_fold inner free }
 {
@@ -219,7 +217,7 @@ fn at_fold(inner: Option<Grains>, free: Free) -> Free
     }
 }
 
-/// A gap with a margin on both sides of it. A margin that is no length gives a gap below 0, which is none either.
+/// A gap with a margin on both sides of it. If the margin is out of range, the gap is negative and so out of range too.
 fn fold_gap(gap: Grains, inner: Grains) -> Grains
     ensures { result ≡ gap_at_fold gap inner }
 {
@@ -240,14 +238,14 @@ fn some_gap(gap: Grains) -> Grains
     grains(1)
 }
 
-/// Which pages are imposed, and in which order.
+/// The pages to impose, and their order.
 #[derive(Drop)]
 pub struct PageChoice {
-    /// The pages, as ranges name them; all pages if there are none.
+    /// The ranges of pages; all pages without ranges.
     pub ranges: Option<String>,
-    /// Which of these, by their places.
+    /// The part of these pages, by their places.
     pub part: Part,
-    /// Whether the last one comes first.
+    /// Whether the order is reversed.
     pub backwards: bool,
 }
 
@@ -270,7 +268,7 @@ impl PageChoice {
         self.ranges.is_none() && self.part == Part::All && !self.backwards
     }
 
-    /// The same as rows have it.
+    /// The same choice as a type of `rows`.
     pub fn as_choice(&self) -> Choice<'_>
         ensures { choice_of result ≡ choice_in self.now }
     {
@@ -296,11 +294,11 @@ fn ranges_of(ranges: &Option<String>) -> Option<&[u8]>
 pub enum Product {
     /// The sheets.
     Sheets,
-    /// The specification that says them, with a line of pstops, on standard output.
+    /// The equal specification, with a command line of pstops, on standard output.
     Specification,
-    /// The plan of the sheets, on standard output.
+    /// The list of the sheets, on standard output.
     Plan,
-    /// A picture of the sheets in this file, or without a name on standard output.
+    /// A drawing of the sheets in this file; without a name on standard output.
     Picture(Option<String>),
 }
 
@@ -308,31 +306,31 @@ pub enum Product {
 #[derive(Drop)]
 pub struct ImposeRequest {
     pub layout: Layout,
-    /// Margins, gaps, order and scale; a selection or a specification asks for none.
+    /// Margins, gaps, order and scale; a selection or a specification has none.
     pub spacing: Spacing,
-    /// Which pages are laid out; those of a specification are all.
+    /// The pages to impose; a specification takes all.
     pub choice: PageChoice,
-    /// How each page is turned before it is placed.
+    /// The turn of each page before it is placed.
     pub turn: Turn,
-    /// The paper of the pages, if it is named.
+    /// The paper of the pages, if the words name it.
     pub page_paper: Option<Paper>,
-    /// The paper of the pages if neither the words nor the document name one: the usual one where the program runs.
+    /// The paper of the pages if neither the words nor the document name one: the usual one of the machine.
     pub default_paper: Paper,
-    /// The paper of the sheets, if it is named; else it is that of the pages.
+    /// The paper of the sheets, if the words name it; otherwise it is that of the pages.
     pub sheet_paper: Option<Paper>,
-    /// The width of a border round each placed page, if one is asked for.
+    /// The width of a border round each placed page, if one is requested.
     pub border: Option<Grains>,
-    /// Which marks and numbers are drawn on the sheets.
+    /// The marks and numbers that are drawn on the sheets.
     pub marks: Marks,
-    /// Whether the guard is put in.
+    /// Whether the guard is inserted.
     pub is_guarded: bool,
-    /// The product: the sheets, or in place of them a report on them.
+    /// The product: the sheets, or a report on them.
     pub product: Product,
     /// Whether the report is left out.
     pub is_quiet: bool,
-    /// The file that is read; standard input if there is none.
+    /// The input file; None for standard input.
     pub infile: Option<String>,
-    /// The file into which sheets are written; standard output if there is none.
+    /// The output file of the sheets; None for standard output.
     pub outfile: Option<String>,
 }
 

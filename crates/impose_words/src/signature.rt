@@ -1,11 +1,11 @@
-//! How a booklet is sewn, by the word of an option.
+//! The signatures of a booklet, as an option names them.
 ghost use Rattle.std.specs.Prelude.{◌≡◌};
 ghost use Rattle.command_words.specs.Matches.{u32_of};
 ghost use Rattle.impose_words.specs.Signatures.{of_sides as signing_of_sides, signing_named as signing_by, whole_number};
 
 use rows::Signing;
 
-/// How a booklet is sewn if this word asks for it: `auto`, or a number of sides that a signature may have.
+/// The signatures that this word names: `auto`, or the number of sides of each.
 pub fn signing_named(text: &str) -> Option<Signing>
     ensures { result ≡ signing_by text.now }
 {
@@ -32,7 +32,7 @@ fn of_sides(sides: Option<u32>) -> Option<Signing>
     }
 }
 
-/// The whole number that a text is, in digits alone.
+/// The whole number in a text of digits.
 pub fn whole_number(text: &str) -> Option<u32>
     ensures { result ≡ whole_number text.now }
 {

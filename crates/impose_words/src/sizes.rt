@@ -1,4 +1,4 @@
-//! Sizes of paper, numbers and lengths, as people write them.
+//! Papers, numbers and lengths as people write them.
 ghost use Rattle.std.specs.Prelude.{◌≡◌};
 ghost use Rattle.impose_words.specs.Sizes as meaning;
 
@@ -6,14 +6,14 @@ use command_words::border_named;
 use lengths::{Grains, Number, Paper, a4, length_named, read_number};
 use papers::read_paper;
 
-/// The paper that the text means, by its name or by its width and height.
+/// The paper that the text names, by its name or by its width and height.
 pub fn size_named(text: &str) -> Option<Paper>
     ensures { result ≡ meaning.size_named text.now }
 {
     read_paper(text.as_bytes()).ok()
 }
 
-/// The number that is all of the text, up to 99,999.999999999; decimals past the ninth have no effect.
+/// The number that is the whole text, up to 99,999.999999999. Decimals after the ninth have no effect.
 pub fn parse_number(text: &str) -> Option<Number>
     ensures { result ≡ meaning.number_alone text.now }
 {
@@ -23,7 +23,7 @@ pub fn parse_number(text: &str) -> Option<Number>
     }
 }
 
-/// Whether the text is a number that needs a unit to be a length. Without one 0 is a length too, but in no list.
+/// Whether the text is a number that only lacks a unit to be a length. 0 needs no unit, except in a list.
 pub fn lacks_unit(text: &str, is_listed: bool) -> bool
     ensures { result ≡ meaning.lacks_unit is_listed text.now }
 {
@@ -33,7 +33,7 @@ pub fn lacks_unit(text: &str, is_listed: bool) -> bool
     }
 }
 
-/// The length that the text means, which stands alone or in a list.
+/// The length that the text names, alone or in a list.
 pub(crate) fn length_in(text: &str, is_listed: bool) -> Option<Grains>
     ensures { result ≡ meaning.length_in is_listed text.now }
 {
@@ -44,14 +44,14 @@ pub(crate) fn length_in(text: &str, is_listed: bool) -> Option<Grains>
     }
 }
 
-/// The length that the text means: a number with its unit, or 0.
+/// The length that the text names: a number with its unit, or 0.
 pub fn length_with_unit(text: &str) -> Option<Grains>
     ensures { result ≡ meaning.length_with_unit text.now }
 {
     length_in(text, false)
 }
 
-/// The border of the width that the text means; none if the width is 0.
+/// The border of the width that the text names; none if it is 0.
 pub fn border_with_unit(text: &str) -> Option<Option<Grains>>
     ensures { result ≡ meaning.border_with_unit text.now }
 {

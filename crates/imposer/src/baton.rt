@@ -1,20 +1,20 @@
-//! Workers of one kind that take turns.
+//! Workers of one kind take turns.
 use crossbeam_utils::CachePadded;
 use std::sync::Wait;
 use std::sync::atomic::AtomicU64;
 use std::sync::atomic::Ordering::SeqCst;
 use std::time::Duration;
 
-/// About how many bytes of pages a stint has.
+/// The bytes of pages in a stint, roughly.
 const BYTES_OF_A_STINT: usize = 524_288;
 
-/// About how many bytes the work has that comes with each page, however small.
+/// The work that comes with each page, however small, in bytes, roughly.
 const BYTES_BESIDE: usize = 512;
 
-/// The most pages, or batches of sheets, of a stint.
+/// The most pages, or batches of sheets, in a stint.
 const LONGEST_STINT: usize = 512;
 
-/// With fewer pages in a stint, pages are so large that workers don't get in each other's way.
+/// The fewest pages in a stint that takes turns. With fewer, pages are so large that workers don't get in each other's way.
 const FEWEST_IN_TURN: u32 = 32;
 
 /// The number of naps that a worker takes before it goes on without a turn, and the length of one.
@@ -22,15 +22,14 @@ const MOST_NAPS: u32 = 20;
 
 const MICROSECONDS_OF_A_NAP: u64 = 500;
 
-/// Turns of workers of one kind. If pages are small, workers that go on at the same time spend most of their time on
-/// taking words of the table and the queue from each other, so one does a stint while the others sleep. It is advice
-/// and no lock: who slept for long goes on without a turn, so that nobody waits for a worker that waits for something
-/// else.
+/// Turns of workers of one kind. If pages are small, workers that run at the same time spend most of it on taking words of the table and the queue
+/// from each other. So one does a stint while the others sleep. This is advice and not a lock: a worker that has slept for long goes on without a
+/// turn, so nobody waits for a worker that waits for something else.
 #[derive(Drop)]
 pub(crate) struct Baton {
-    /// 1 while somebody has the turn.
+    /// 1 while a worker has the turn.
     taken: CachePadded<AtomicU64>,
-    /// The number of pages, or batches, of a stint.
+    /// The number of pages, or batches, in a stint.
     len: u32,
 }
 
@@ -42,7 +41,7 @@ pub(crate) struct Shift {
 }
 
 impl Shift {
-    /// None was begun.
+    /// No stint has begun.
     pub(crate) fn new() -> Self {
         Shift {
             has_turn: false,
@@ -63,7 +62,7 @@ impl Baton {
         }
     }
 
-    /// One page more, or one batch of sheets. If the stint is over, the turn goes to the next worker, and this one waits for it.
+    /// Counts one more page, or batch of sheets. At the end of the stint the turn goes to the next worker, and this one waits for it.
     pub(crate) fn pass_if_due<R: Wait>(&self, rt: &R, stint: &mut Shift) {
         if stint.left > 0 {
             stint.left -= 1;
@@ -74,7 +73,7 @@ impl Baton {
         stint.left = self.len;
     }
 
-    /// Ends a stint before its time.
+    /// Ends a stint early.
     pub(crate) fn end(&self, stint: &mut Shift) {
         stint.left = 0;
         if stint.has_turn {
@@ -83,13 +82,13 @@ impl Baton {
         }
     }
 
-    /// The turn goes to the next worker.
+    /// Gives the turn to the next worker.
     pub(crate) fn give(&self) {
         self.taken.store(0, SeqCst);
         self.taken.wake_one();
     }
 
-    /// Waits for the turn. Whether it was got.
+    /// Waits for the turn. Returns whether it got the turn.
     fn wait<R: Wait>(&self, rt: &R) -> bool {
         for _ in 0..MOST_NAPS {
             if self.taken.compare_exchange(0, 1, SeqCst, SeqCst).is_ok() {

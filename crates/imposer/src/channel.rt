@@ -1,4 +1,4 @@
-//! The channel of finished sheets, from the imposers to the collector: some of one imposer in each message.
+//! The channel of finished sheets from the imposers to the collector. A message has some sheets of one imposer.
 ghost use Rattle.std.specs.Prelude.{◌≡◌, ℕ, List, [], All, ⊤};
 ghost use Rattle.sheet_text.specs.Jobs.{text_of};
 
@@ -17,7 +17,7 @@ impl SheetTexts for Brand {
     ghost text = { λ s. [] };
 }
 
-/// The channel's rule: each sheet of a message has the text that is its own.
+/// The channel's rule: each sheet of a message has its own text.
 pub(crate) struct SheetRule<T: SheetTexts> {
     of: PhantomData<T>,
 }
@@ -46,7 +46,7 @@ impl<T: SheetTexts> Split<()> for SheetRule<T> {
     ghost right = { λ v. v };
 }
 
-/// The job of a run, whose sheets have the texts that the rule speaks of.
+/// The job of a run, whose sheets have the texts of the rule.
 #[derive(Drop)]
 pub(crate) struct RuledJob<'s, 'r, 'd, T: SheetTexts> {
     pub(crate) job: &'s Job<'r, 'd>,
@@ -66,6 +66,6 @@ pub(crate) type SheetReceiver<'r, T> = RuledReceiver<Texts<'r>, (), SheetRule<T>
 pub(crate) struct Channel<'r, T: SheetTexts> {
     pub(crate) sender: SheetSender<'r, T>,
     pub(crate) receiver: SheetReceiver<'r, T>,
-    /// Sheets that were written, whose memory is used again.
+    /// Sheets that were written, for reuse of their memory.
     pub(crate) spent: ArrayQueue<Texts<'r>>,
 }

@@ -1,4 +1,4 @@
-//! What the collector needs and keeps, and how it takes what the workers finish.
+//! The collector: its state, and how it takes sheets that the workers finish.
 ghost use Rattle.std.specs.Prelude.{◌≡◌, None, IsTrue};
 ghost use Rattle.sheet_writer.specs.Sinks.{IsCountable};
 ghost use Rattle.crossbeam_channel.specs.Claims.{IsSeatAt};
@@ -17,8 +17,7 @@ use sheet_writer::{Progress, Sink, write_early, write_text};
 use std::sync::Wait;
 use std::sync::atomic::Ordering::SeqCst;
 
-/// The collector's sink, its desk, and how far it is. It owns no memory, so that the owner of the sink knows what becomes
-/// of it.
+/// The collector's sink, its desk, and its progress. It owns no memory, so the owner of the sink can say what becomes of it.
 #[derive(Drop)]
 pub(crate) struct CollectorState<'a, 'r, S> {
     pub(crate) sink: &'a mut S,
@@ -47,7 +46,7 @@ impl<'s, 'r, 't, 'd, 'a, T: SheetTexts, G: Gate, S: Sink> Collector<CollectorSta
     }
 }
 
-/// Takes finished sheets until all imposers have ended, or nothing more is to be written.
+/// Takes finished sheets until all imposers have ended, or until nothing more may be written.
 fn take_all<'r, R: Wait, T: SheetTexts, G: Gate, S: Sink>(
     rt: &R,
     input: &RunInput<'_, 'r, '_, '_, T, G>,
@@ -70,8 +69,8 @@ fn take_all<'r, R: Wait, T: SheetTexts, G: Gate, S: Sink>(
     }
 }
 
-/// Takes a batch of finished sheets and writes those whose turn it is now, or sleeps a little if none was there. False if
-/// nothing is to come, or nothing more is to be written.
+/// Takes a batch of finished sheets and writes those whose turn has come, or sleeps a little if there is none. False if no batch will come, or
+/// nothing more may be written.
 fn take_turn<'r, R: Wait, T: SheetTexts, G: Gate, S: Sink>(
     rt: &R,
     input: &RunInput<'_, 'r, '_, '_, T, G>,

@@ -1,4 +1,4 @@
-//! Who hears of the steps of a run, and of the looks between them.
+//! Gates hear of the steps of a run, and of the looks between them.
 
 /// A step of a run.
 #[derive(Clone, Copy, Debug, PartialEq, Eq)]
@@ -9,7 +9,7 @@ pub enum Step {
     Impose(u32),
 }
 
-/// Where somebody looks for what others may have brought.
+/// A look for what other threads may have brought.
 #[derive(Clone, Copy, Debug, PartialEq, Eq)]
 pub enum Look {
     /// An imposer looks for a sheet on the queue.
@@ -18,17 +18,16 @@ pub enum Look {
     Channel,
 }
 
-/// Is called at each step, before it and after it. What a gate does is its own: it may wait, as tests of the threads do.
+/// Is called before and after each step. A gate may wait, as those of tests do.
 pub trait Gate {
     fn before(&self, step: Step);
 
     fn after(&self, step: Step);
 
-    /// Is called before each look. Does nothing if a gate has none of its own. How often somebody looks depends on
-    /// how the threads run.
+    /// Is called before each look; by default it does nothing. The number of looks depends on the schedule of the threads.
     fn before_look(&self, _look: Look) {}
 
-    /// Is called after each look. Does nothing if a gate has none of its own.
+    /// Is called after each look; by default it does nothing.
     fn after_look(&self, _look: Look) {}
 }
 

@@ -48,21 +48,20 @@ use std::thread::Threads;
 /// A run whose workers have all ended.
 #[derive(Debug, Drop)]
 pub struct Gathered<'d> {
-    /// The run's answer; out of memory and a failed write are its only errors.
+    /// The outcome; its only errors are out of memory and a failed write.
     pub outcome: Result<Report, RunError>,
-    /// The token of one page for which the shelf gave no receipt, if there was one; none after out of memory.
+    /// The token of a page for which the shelf gave no receipt, if there was one; None after out of memory.
     pub unshelved: Option<Overflow<'d>>,
-    /// The joined seats and passes of all workers; none after out of memory.
+    /// The joined seats and passes of all workers; None after out of memory.
     pub tokens: Option<(Seat, Pass)>,
 }
 
-/// Lets preparers deliver the document's pages and imposers impose the sheets, while the caller's thread writes them
-/// in order, each as soon as all before it are written. What no imposer sent is made at the end, in its place.
+/// Lets preparers deliver the document's pages and imposers impose the sheets, while the caller's thread writes them in order, each as soon as all
+/// before it are written. Sheets that no imposer sent are made at the end, in their places.
 ///
-/// The table is one of the job's plan, seat and pass have seen nothing yet, and the queue has room for every sheet.
-/// Each worker has a seat and a pass of its own, which are joined when it ends. If the pass has room by right for all puts
-/// that the preparers may make, each of them gets what it needs of it, and the queue refuses none. A pass by right with less
-/// room has puts refused, even if the queue has room; those sheets are made at the end.
+/// The table is one of the job's plan, seat and pass have seen nothing yet, and the queue has room for every sheet. Each worker has a seat and a pass
+/// of its own, which are joined when it ends. If the pass has room by right for all puts of the preparers, each gets the room that it needs, and the
+/// queue refuses no put. A pass by right with less room has puts refused even if the queue has room; those sheets are made at the end.
 pub fn gather<'j, 'd, R: Threads + Wait + Sync, G: Gate + Sync, S: Sink>(
     rt: &R,
     alloc: Global,
@@ -121,8 +120,7 @@ pub fn gather<'j, 'd, R: Threads + Wait + Sync, G: Gate + Sync, S: Sink>(
     gather_objects(rt, floor, Tokens { seat, pass }, workers, sink)
 }
 
-/// `gather` on this floor, whose shelf may be that of the job's document: then pages are put as the document's own, and
-/// imposers don't compare them.
+/// `gather` on these objects. The shelf may be that of the job's document: then pages are put as the document's own, and imposers don't compare them.
 pub(crate) fn gather_objects<'d, R: Threads + Wait + Sync, G: Gate + Sync, S: Sink>(
     rt: &R,
     floor: RunObjects<'_, '_, '_, 'd, G>,
@@ -157,7 +155,7 @@ pub(crate) fn gather_objects<'d, R: Threads + Wait + Sync, G: Gate + Sync, S: Si
     gather_with_rule::<Brand, R, G, S>(rt, &shared, tokens, workers, sink)
 }
 
-/// `gather`, with the texts of the channel's rule chosen.
+/// `gather`, generic in `T`, the texts of the channel's rule.
 fn gather_with_rule<
     'r,
     'd,
@@ -219,9 +217,8 @@ fn gather_with_rule<
     gathered
 }
 
-/// `gather`, once the sheets without pages are on the queue: the workers work with these supplies, the collector writes
-/// at this desk what they finish, and when all have ended the run is answered. The collector's state is taken apart, so that
-/// what became of the sink is known.
+/// The part of `gather` after the sheets without pages are on the queue. The workers run with these inputs, and the collector writes the sheets that
+/// they finish at this desk. The collector's state is taken apart, so that what became of the sink is known.
 fn gather_on_threads<
     'r,
     'd,
@@ -271,7 +268,7 @@ fn gather_on_threads<
     gathered
 }
 
-/// Puts the sheets without pages on the queue: no preparer completes them.
+/// Puts the sheets without pages on the queue, since no preparer completes them.
 fn put_blank_sheets<R: Wait, G: Gate>(
     rt: &R,
     shared: &Shared<'_, '_, '_, '_, G>,
@@ -290,7 +287,7 @@ fn put_blank_sheets<R: Wait, G: Gate>(
     }
 }
 
-/// The answer if memory was refused.
+/// The result if memory was refused.
 fn out_of_memory<'d>(written: u64) -> Gathered<'d>
     ensures { GivesUp written result }
 {
@@ -301,7 +298,7 @@ fn out_of_memory<'d>(written: u64) -> Gathered<'d>
     }
 }
 
-/// Answers when all workers have ended: out of memory if one of them met it, else what the collector came to.
+/// The result when all workers have ended: out of memory if one of them met it, or else the collector's.
 fn finish<'d, S: Sink>(
     alloc: Global,
     job: &Job<'_, 'd>,
@@ -325,7 +322,7 @@ fn finish<'d, S: Sink>(
     }
 }
 
-/// Writes what is left when all workers have ended, and answers.
+/// Writes the rest when all workers have ended, and returns the result.
 fn conclude<'d, S: Sink>(
     alloc: Global,
     job: &Job<'_, 'd>,

@@ -8,7 +8,7 @@ use crate::thread_work::Work;
 use std::alloc::AllocError;
 use std::thread::Threads;
 
-/// Waits for all preparers, and joins what they return to what is held. None if one of them ran out of memory.
+/// Waits for all preparers, and joins their results to what is held. None if one of them ran out of memory.
 pub(crate) fn join_preparers<'s, R: Threads, H: Drop, W: Work<H>>(
     rt: &R,
     shared: &'s W,
@@ -32,8 +32,7 @@ pub(crate) fn join_preparers<'s, R: Threads, H: Drop, W: Work<H>>(
     all
 }
 
-/// Waits for all imposers, and joins what they return to what the preparers did. None if one of them ran out of
-/// memory.
+/// Waits for all imposers, and joins their results to those of the preparers. None if one of them ran out of memory.
 pub(crate) fn join_imposers<'s, R: Threads, H: Drop, W: Work<H>>(
     rt: &R,
     shared: &'s W,
@@ -59,7 +58,7 @@ pub(crate) fn join_imposers<'s, R: Threads, H: Drop, W: Work<H>>(
     all
 }
 
-/// Joins what a worker returns to what was joined before. None if either is missing.
+/// Joins the result of a worker to those joined before. None if either is missing.
 fn merge<H: Drop, W: Work<H>>(
     shared: &W,
     all: Option<H>,

@@ -1,5 +1,5 @@
-//! A run: a document and a page specification in, the sheets out. Sheets that were planned are imposed by threads that share a
-//! table, a shelf and a queue; a set of sheet numbers has one bit for each.
+//! A run: a document and a page specification in, the sheets out. Planned sheets are imposed by threads that share a table, a shelf and a queue. A
+//! set of sheet numbers has one bit for each.
 #![tactic(auto)]
 
 mod baton;

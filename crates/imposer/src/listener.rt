@@ -1,4 +1,4 @@
-//! Who hears how a run ended.
+//! Listeners hear how a run ended.
 ghost use Rattle.std.specs.Prelude.{List, Option, None};
 ghost use Rattle.imposer.specs.Listening.{Hears};
 ghost use Rattle.imposer.specs.declared.listener.GatheredPlan.{GatheredPlan};
@@ -7,7 +7,7 @@ use crate::gathering::Gathered;
 use gather_table::GatherTable;
 use handover::Ready;
 
-/// A run that has ended, with the table and the queue that it made: they show all that its workers called.
+/// A run that has ended, with its table and queue: they show all calls of its workers.
 #[derive(Drop)]
 pub struct GatheredPlan<'j, 'd> {
     pub table: GatherTable<'j>,
@@ -15,7 +15,7 @@ pub struct GatheredPlan<'j, 'd> {
     pub gathered: Gathered<'d>,
 }
 
-/// Hears how a run ended, once.
+/// Hears once how a run ended.
 pub trait Listener {
     // The runs that it has heard of, if it remembers them.
     ghost heard: { Self → Option (List GatheredPlan) };

@@ -1,4 +1,4 @@
-//! What a run is asked for beside its specification.
+//! The options of a run.
 ghost use Rattle.std.specs.Prelude.{◌≡◌, ◌↔◌, IsTrue};
 ghost use Rattle.rules.specs.Signatures.{AreSidesIfGiven};
 ghost use Rattle.sheet_text.specs.Jobs.{is_border};
@@ -8,9 +8,8 @@ use crate::worker_counts::Workers;
 use lengths::{Grains, Paper};
 use sheet_plan::are_sides;
 
-/// The paper that pages are made for, the width of a border round each placed page, if one is asked for, the number of
-/// sides of a signature, if the pages are to be put into signatures, and the numbers of workers. A signature has a
-/// positive multiple of four sides, at most 1,000,000.
+/// The options of a run beside its specification: the pages' paper, the width of a border round each placed page and the number of sides of a
+/// signature, if they are requested, and the numbers of workers. A signature has a positive multiple of four sides, at most 1,000,000.
 #[derive(Clone, Copy, Debug, PartialEq, Eq)]
 pub struct Options {
     pub paper: Paper,
@@ -19,7 +18,7 @@ pub struct Options {
     pub workers: Workers,
 }
 
-/// A border is wider than nothing.
+/// Whether a border, if there is one, is wider than 0.
 fn is_border_valid(border: Option<Grains>) -> bool
     ensures { result ≡ is_border border }
 {
@@ -29,7 +28,7 @@ fn is_border_valid(border: Option<Grains>) -> bool
     }
 }
 
-/// A signature may have the number of sides that is given.
+/// Whether a signature may have this number of sides, if one is given.
 fn are_sides_valid(sides: Option<u32>) -> bool
     ensures { IsTrue result ↔ AreSidesIfGiven sides }
 {
@@ -39,7 +38,7 @@ fn are_sides_valid(sides: Option<u32>) -> bool
     }
 }
 
-/// The numbers of workers, the border and the sides of a signature are in range.
+/// Whether the numbers of workers, the border and the sides of a signature are in range.
 pub(crate) fn options_are_valid(options: &Options) -> bool
     ensures { IsTrue result ↔ AreOptions options.now }
 {

@@ -1,4 +1,4 @@
-//! What a run answers.
+//! The outcome of a run.
 use dsc::DscError;
 use pagespec::SpecError;
 use sheet_plan::PlanError;
@@ -8,15 +8,15 @@ use thiserror::Error;
 /// The numbers of a finished run.
 #[derive(Clone, Copy, Debug, PartialEq, Eq)]
 pub struct Report {
-    /// Pages of the document.
+    /// The number of pages of the document.
     pub pages: u32,
-    /// Sheets of the output.
+    /// The number of sheets of the output.
     pub sheets: u32,
-    /// Sheets on which no slot has a page.
+    /// The number of sheets without a page.
     pub born: u32,
-    /// Sheets that no worker imposed, and that were made when all had ended.
+    /// The number of sheets that no worker imposed, and that were made at the end.
     pub swept: u32,
-    /// Bytes of the output.
+    /// The number of bytes of the output.
     pub bytes: u64,
 }
 
@@ -32,10 +32,10 @@ pub enum RunError {
     Document(DscError),
     #[error(transparent)]
     Plan(PlanError),
-    /// Memory was refused after the sink had taken that many bytes, which are the first of the output.
+    /// Memory was refused after the sink had taken the first `written` bytes of the output.
     #[error("out of memory")]
     NoMemory { written: u64 },
-    /// The sink failed after it had taken that many bytes, which are the first of the output.
+    /// The sink failed after it had taken the first `written` bytes of the output.
     #[error("cannot write output")]
     Write { written: u64 },
 }

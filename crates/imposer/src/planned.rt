@@ -28,14 +28,13 @@ use std::alloc::{AllocError, Global};
 use std::sync::Wait;
 use std::thread::Threads;
 
-/// Hands the sink the sheets of a job, whose document was read and whose sheets were planned before: those of a
-/// specification, or sheets that were made, with the lines of a dress.
+/// Gives a sink the sheets of a job, whose document was read and whose sheets were planned before: those of a specification, or made sheets with the
+/// lines of a dress.
 ///
-/// The only errors are `NoMemory` and `Write`, after which the sink has taken the first `written` bytes of the output.
-/// The sink isn't flushed. At the end the listener gets the table and the queue, with the tokens of all calls on them.
+/// The only errors are `NoMemory` and `Write`, after which the sink has taken the first `written` bytes of the output. The sink isn't flushed. At the
+/// end the listener gets the table and the queue, with the tokens of all calls on them.
 ///
-/// Preparers and imposers run in threads of their own, and the caller's thread writes the sheets in order, each as soon
-/// as all before it are written.
+/// Preparers and imposers run in threads of their own, and the caller's thread writes the sheets in order, each as soon as all before it are written.
 pub fn run_plan<R: Threads + Wait + Sync, G: Gate + Sync, S: Sink, L: Listener>(
     rt: &R,
     alloc: Global,
@@ -69,8 +68,7 @@ pub fn run_plan<R: Threads + Wait + Sync, G: Gate + Sync, S: Sink, L: Listener>(
     }
 }
 
-/// `run_plan`, which hands back what its listener gets. Out of memory it fails before there is a table, and has written
-/// nothing.
+/// `run_plan`, which returns what its listener gets. If memory runs out before there is a table, nothing is written.
 fn gather_plan<'j, 'd, R: Threads + Wait + Sync, G: Gate + Sync, S: Sink>(
     rt: &R,
     alloc: Global,
@@ -125,12 +123,11 @@ fn table_and_queue<'j>(
     Ok((table, queue, Tokens { seat, pass }))
 }
 
-/// How large the blocks are that are kept.
+/// The largest size of blocks that are kept.
 const KEPT_BLOCK: usize = 4_194_304;
 
-/// Makes a block and gives it back. From then on the C library keeps blocks up to this size that workers give back, in
-/// place of handing them to the system and asking for new ones, which must be cleared. Lists that were made before are
-/// still handed to the system. Without it a run is only slower.
+/// Makes a block and frees it. From then on the C library keeps freed blocks up to this size, and doesn't return them to the system and ask for new
+/// ones, which must be cleared. Lists that were made before still go back to the system. Without this call a run is only slower.
 fn keep_blocks(alloc: Global) {
     drop(Vec::<u8>::with_capacity(alloc, KEPT_BLOCK));
 }

@@ -1,4 +1,4 @@
-//! How many puts there are at most, and a queue that has room for all of them.
+//! The greatest number of puts, and a queue with room for all of them.
 ghost use Rattle.std.specs.Prelude.{◌≡◌, ◌+◌, ◌<◌, ◌≤◌, length, min, IfOk};
 ghost use Rattle.rules.specs.Sheets.{layout};
 ghost use Rattle.sheet_plan.specs.Places.{places_of};
@@ -14,7 +14,7 @@ use sheet_plan::Plan;
 use std::alloc::{AllocError, Global};
 
 impl<'s, 'r, 't, 'd, G: Gate> Shared<'s, 'r, 't, 'd, G> {
-    /// The part of the pass's room that preparer `number` of `count` gets: what it needs, or what is left.
+    /// The part of the pass's room for preparer `number` of `count`: the room that it needs, or what is left.
     pub(crate) fn room_for(&self, pass: &Pass, number: u32, count: u32) -> u32
         requires number { number < count }
         ensures { result ≡ min (most_puts self.now.floor.table.now.layout count number) (puts_in pass.now.room) }
@@ -24,8 +24,7 @@ impl<'s, 'r, 't, 'd, G: Gate> Shared<'s, 'r, 't, 'd, G> {
     }
 }
 
-/// The most puts that preparer `number` of `count` makes: it completes no more sheets than its pages have places, and no
-/// more than there are.
+/// The most puts of preparer `number` of `count`: it completes no more sheets than its pages have places, and no more than there are.
 pub(crate) fn most_puts(plan: &Plan<'_>, number: u32, count: u32) -> u32
     requires number { number < count }
     ensures { result ≡ most_puts (layout plan.now) count number }

@@ -26,14 +26,13 @@ use std::alloc::Global;
 use std::sync::Wait;
 use std::thread::Threads;
 
-/// Reads the specification and the document, and hands the sink the sheets.
+/// Reads the specification and the document, and gives a sink the sheets.
 ///
-/// A refusal names the first check that fails: of the options, the specification, the document, the plan; nothing is
-/// written then. After `NoMemory` and `Write` the sink has taken the first `written` bytes of the output.
-/// The sink isn't flushed.
+/// A refusal names the first check that fails: of the options, the specification, the document, the plan; then nothing is written. After `NoMemory`
+/// and `Write` the sink has taken the first `written` bytes of the output. The sink isn't flushed.
 ///
-/// Preparers and imposers run in threads of their own, and the caller's thread writes the sheets in order, each as soon
-/// as all before it are written. No byte depends on the numbers of workers or on how the threads run beside each other.
+/// Preparers and imposers run in threads of their own, and the caller's thread writes the sheets in order, each as soon as all before it are written.
+/// No byte depends on the numbers of workers or on the schedule of the threads.
 pub fn run<R: Threads + Wait + Sync, G: Gate + Sync, S: Sink>(
     rt: &R,
     alloc: Global,
@@ -87,7 +86,7 @@ fn read_request<'d>(
     Ok(Given { spec, document })
 }
 
-/// Plans the sheets, and runs on them.
+/// Plans the sheets, and runs.
 fn run_read<R: Threads + Wait + Sync, G: Gate + Sync, S: Sink>(
     rt: &R,
     alloc: Global,
@@ -117,7 +116,7 @@ fn run_read<R: Threads + Wait + Sync, G: Gate + Sync, S: Sink>(
     )
 }
 
-/// Plans the pages in their order, or in signatures if a number of sides is given.
+/// Plans the pages in order, or in signatures if a number of sides is given.
 fn plan_pages<'s>(
     alloc: Global,
     spec: &'s Spec,

@@ -1,4 +1,4 @@
-//! What is made before the workers of a run start.
+//! Objects that are made before the workers of a run start.
 ghost use Rattle.std.specs.Prelude.{IfOk, ◌<◌};
 ghost use Rattle.crossbeam_channel.specs.Claims.{IsSeatAt};
 ghost use Rattle.crossbeam_channel.specs.Ends.{sends_on, receives_on};
@@ -30,7 +30,7 @@ pub(crate) struct Setup<'r, T: SheetTexts> {
 }
 
 impl<'r, T: SheetTexts> Setup<'r, T> {
-    /// Places, channel and the queue of written sheets have room for all sheets of a window of this many, so that no
+    /// The desk and the channel of a job. Places, channel and the queue of written sheets have room for all sheets of a window of this size, so no
     /// imposer waits.
     pub(crate) fn new(alloc: Global, job: &Job<'_, '_>, window: u32) -> Result<Self, AllocError>
         ensures desk { IfOk result (λ s. IsDeskOf job.now s.desk) }

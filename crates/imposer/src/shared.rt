@@ -1,4 +1,4 @@
-//! What all threads of one run share, and what the workers need.
+//! What all threads of one run share.
 ghost use Rattle.std.specs.Prelude.{◌≡◌, IsTrue};
 ghost use Rattle.rules.specs.Sheets.{layout};
 ghost use Rattle.handover.specs.Shelves.{IsShelfOf};
@@ -12,8 +12,7 @@ use sheet_text::Job;
 use std::alloc::Global;
 use std::sync::atomic::AtomicU32;
 
-/// Where a run gathers: a job, the table of its plan, the shelf on which its pages lie, and the queue of sheets that are
-/// ready.
+/// The objects of a run: a job, the table of its plan, the shelf for its pages, and the queue of sheets that are ready.
 #[derive(Drop)]
 pub(crate) struct RunObjects<'s, 'r, 't, 'd, G> {
     pub(crate) alloc: Global,
@@ -21,7 +20,7 @@ pub(crate) struct RunObjects<'s, 'r, 't, 'd, G> {
     pub(crate) job: &'s Job<'r, 'd>,
     pub(crate) table: &'s GatherTable<'t>,
     pub(crate) shelf: &'r Shelf<'d>,
-    /// Whether the shelf is that of the job's document. Then pages are put as the document's own, and not compared.
+    /// Whether the shelf is that of the job's document. Then pages are put as the document's own and aren't compared.
     pub(crate) is_of_document: bool,
     pub(crate) ready: &'s Ready,
     ghost of_document: { IsTrue is_of_document → IsShelfOf shelf.now job.now.units },
@@ -32,7 +31,7 @@ pub(crate) struct RunObjects<'s, 'r, 't, 'd, G> {
 #[derive(Drop)]
 pub(crate) struct Shared<'s, 'r, 't, 'd, G> {
     pub(crate) floor: RunObjects<'s, 'r, 't, 'd, G>,
-    /// Whether the queue has room by right for all puts: then it refuses none.
+    /// Whether the queue has room by right for all puts, so that it refuses none.
     pub(crate) by_right: bool,
     /// The number of preparers that haven't ended.
     pub(crate) preparers_left: AtomicU32,
@@ -40,13 +39,12 @@ pub(crate) struct Shared<'s, 'r, 't, 'd, G> {
     pub(crate) imposers_left: AtomicU32,
     /// The sheets that may be imposed now.
     pub(crate) window: Window,
-    /// Preparers take turns, and so do imposers.
+    /// The turns of the preparers; the imposers have their own.
     pub(crate) preparing: Baton,
     pub(crate) imposing: Baton,
 }
 
-/// The objects that the threads of a run need, the caller's among them: those that all share, and the channel of finished
-/// sheets.
+/// The objects that the threads of a run need, including the caller's: the shared ones, and the channel of finished sheets.
 #[derive(Drop)]
 pub(crate) struct RunInput<'s, 'r, 't, 'd, T: SheetTexts, G> {
     pub(crate) shared: &'s Shared<'s, 'r, 't, 'd, G>,

@@ -14,9 +14,9 @@ use std::marker::Model;
 #[derive(Drop)]
 pub struct SheetSet {
     words: Vec<u64>,
-    /// No bit is set before this word.
+    /// The first word that may have a bit set.
     first: usize,
-    /// The number of bits that are set.
+    /// The number of set bits.
     count: u64,
 }
 
@@ -63,7 +63,7 @@ impl SheetSet {
         Ok(())
     }
 
-    /// Removes the smallest number from the set, if it is below this end. Otherwise the set is unchanged.
+    /// Removes the smallest number from the set, if it is below `end`. Otherwise the set is unchanged.
     pub fn take_first_before(&mut self, end: u32) -> Option<u32>
         ensures first { IfSome result (IsSmallest self.old) }
         ensures before { IfSome result (λ sheet. sheet < end) }

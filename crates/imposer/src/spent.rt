@@ -1,10 +1,10 @@
-//! Sheets that were written and whose memory is used again.
+//! Sheets that were written, for reuse of their memory.
 use crossbeam_queue::ArrayQueue;
 use sheet_text::Texts;
 use sheet_writer::Spent;
 use std::sync::Wait;
 
-/// Where sheets go that were written. If there is no more room, they are let go.
+/// The queue of written sheets. Sheets for which it has no room are dropped.
 #[derive(Drop)]
 pub(crate) struct Written<'w, 'r, R> {
     pub(crate) rt: &'w R,

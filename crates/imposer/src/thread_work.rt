@@ -6,11 +6,11 @@ use std::alloc::AllocError;
 use std::sync::Wait;
 use std::thread::Promise;
 
-/// The work of preparers, on what all threads share. A worker holds an `H`, and returns it when it ends. An `H` has
-/// shares: the caller begins with some, gives one away to each worker, and has them again when all are joined.
+/// The work of preparers, on objects that all threads share. A worker holds an `H`, and returns it when it ends. An `H` has shares: the caller begins
+/// with some, gives one to each worker, and has them again when all are joined.
 ///
-/// Neither `H` nor the shared part shows a lifetime to the code that starts and joins threads. With a lifetime,
-/// what a thread promises couldn't be proved.
+/// Neither `H` nor the shared part shows a lifetime to the code that starts and joins threads. With a lifetime, the promise of a thread couldn't be
+/// proved.
 pub trait Work<H> {
     // It belongs to the shared part.
     ghost is_held: { Self → H → Type 0 };
@@ -68,7 +68,7 @@ pub trait Work<H> {
         ensures gathered { StaysGathered (has_gathered self.now) held.old held.new }
         ensures given { is_new self.now result };
 
-    /// Joins what a worker returns to what was joined before.
+    /// Joins the result of a worker to those joined before.
     fn join(&self, all: H, theirs: H) -> H
         requires all { is_held self.now all }
         requires theirs { is_back self.now theirs }
@@ -78,7 +78,7 @@ pub trait Work<H> {
         ensures imposed { GainsImposer (has_gathered self.now) (has_imposed self.now) all theirs result };
 }
 
-/// The work of imposers. `T` is a ticket, with which an imposer sends what it has finished.
+/// The work of imposers. `T` is a ticket, with which an imposer sends finished sheets.
 pub trait Imposing<H, T>: Work<H> {
     // It is a ticket of this channel.
     ghost sends: { Self → T → Type 0 };
@@ -90,17 +90,17 @@ pub trait Imposing<H, T>: Work<H> {
         ensures back { IfOk result (Self.is_back self.now) }
         ensures imposed { IfOk result (Self.has_imposed self.now) };
 
-    /// Nothing more is collected, so imposers stop waiting for the collector.
+    /// Tells imposers that nothing more is collected, so that they stop waiting for the collector.
     fn stop(&self);
 
-    /// One more ticket.
+    /// A further ticket.
     fn another(&self, ticket: &mut T) -> T
         requires { sends self.now ticket.old }
         ensures kept { sends self.now ticket.new }
         ensures given { sends self.now result };
 }
 
-/// The work of the caller's thread while the workers run, with a state S.
+/// The work of the caller's thread while the workers run, with a state `S`.
 pub trait Collector<S> {
     // The state is as required at the start.
     ghost is_ready_to_collect: { Self → S → Type 0 };
@@ -112,7 +112,7 @@ pub trait Collector<S> {
     // it is known to be the same reference.
     ghost reference: { Self → S → ℕ };
 
-    /// Takes what the workers finish, until all have ended.
+    /// Takes the sheets that the workers finish, until all workers have ended.
     fn collect<R: Wait>(&self, rt: &R, state: &mut S)
         requires { is_ready_to_collect self.now state.old }
         ensures same_reference { reference self.now state.new ≡ reference self.now state.old }

@@ -1,4 +1,4 @@
-//! What a worker of a run holds.
+//! The tokens of a worker.
 use gather_table::Seat;
 use handover::{Overflow, Pass};
 
@@ -9,7 +9,7 @@ pub(crate) struct Tokens {
     pub(crate) pass: Pass,
 }
 
-/// A worker's tokens, and the token of a page that the shelf gave no receipt for, if there was one.
+/// A worker's tokens, and the token of a page for which the shelf gave no receipt, if there was one.
 #[derive(Drop)]
 pub(crate) struct WorkerTokens<'d> {
     pub(crate) tokens: Tokens,

@@ -1,4 +1,4 @@
-//! Which sheets may be imposed now.
+//! The window: the sheets that may be imposed now.
 ghost use Rattle.std.specs.Prelude.{◌≡◌, ◌<◌, ◌≤◌, ◌↔◌, IfSome, IfNone, OnOk, OnErr, IsTrue, false, length, min, ◌⊎◌};
 ghost use Rattle.std.specs.Prelude.{if◌then◌else◌};
 ghost use Rattle.std.specs.FinSet as set;
@@ -17,53 +17,51 @@ use std::sync::atomic::Ordering::SeqCst;
 use std::sync::atomic::{AtomicBool, AtomicU64};
 use std::time::Duration;
 
-/// About how many bytes the texts of the window's sheets have together.
+/// The bytes of the window's texts together, roughly.
 const BYTES_AHEAD: usize = 786_432;
 
-/// About how many bytes of text there are round a placed page.
+/// The bytes of text round a placed page, roughly.
 const BYTES_ROUND_A_PAGE: usize = 256;
 
-/// About how many bytes the work has that comes with each sheet, however small.
+/// The work that comes with each sheet, however small, in bytes, roughly.
 const BYTES_BESIDE: usize = 32;
 
 /// The most sheets of a window.
 const MOST_SHEETS: usize = 4_096;
 
-/// A window of at least this number of sheets is moved by a quarter at a time, and a worker that finds nothing to do
-/// sleeps at once.
+/// A window of at least this many sheets is moved by a quarter at a time, and a worker without work sleeps at once.
 const MANY_SHEETS: u32 = 256;
 
-/// An imposer sends an eighth of a window's sheets together at most, and an eighth of its share of all sheets: so
-/// imposers work beside each other, and beside the collector.
+/// An imposer sends at most an eighth of a window's sheets together, and at most an eighth of its share of all sheets. So imposers work side by side,
+/// and beside the collector.
 const BATCHES: u32 = 8;
 
-/// How long the shortest and the longest nap is, in microseconds.
+/// The shortest and the longest nap, in microseconds.
 const SHORTEST_NAP: u64 = 50;
 
 const LONGEST_NAP: u64 = 400;
 
-/// The sheets that may be imposed: `len` of them, from the one on that is written next. Texts that wait for their
-/// turn take memory, so an imposer only holds the number of a sheet that lies further on, and imposes it when the
-/// window has come near.
+/// The sheets that may be imposed: `len` of them, from the next one to be written. Texts that wait for their turn take memory, so an imposer only
+/// keeps the number of a sheet further on, and imposes it when the window has come near.
 #[derive(Drop)]
 pub(crate) struct Window {
-    /// The sheet that is written next, or one a little before it.
+    /// The next sheet to be written, or one a little before it.
     next: CachePadded<AtomicU64>,
-    /// No turn is waited for: the sheet that is written next may never come.
+    /// Whether the window has no end, because the next sheet to be written may never come.
     lifted: AtomicBool,
     pub(crate) len: u32,
-    /// The number of sheets that are written before it moves.
+    /// The number of sheets that are written before the window moves.
     step: u32,
     /// The most sheets that an imposer sends together.
     pub(crate) batch: u32,
 }
 
 impl Window {
-    /// A window of about three quarters of a megabyte of text, for a job whose slots have this number of bytes of text.
-    /// It has at least two sheets, and one for each imposer.
+    /// A window of about three quarters of a megabyte of text, for a job whose slots have this number of bytes of text. It has at least two sheets,
+    /// and one for each imposer.
     ///
-    /// A run's end rests on the step: all sheets of a window may be imposed without a word, so a step that is no longer is
-    /// reached, and then the window moves on.
+    /// That a run ends depends on the step: all sheets of a window may be imposed without a word, so a step no longer than the window is reached, and
+    /// the window moves on.
     pub(crate) fn new(job: &Job<'_, '_>, workers: Workers, bytes: usize) -> Self
         requires bytes { bytes ≡ min (bytes_of_texts job.now) usize.MAX }
         ensures len { result.len ≡ window_len (length job.now.plan.sheets) workers.imposers bytes }
@@ -84,7 +82,7 @@ impl Window {
         }
     }
 
-    /// The first sheet past it.
+    /// The first sheet past the window.
     pub(crate) fn end(&self) -> u32 {
         if self.lifted.load(SeqCst) {
             return u32::MAX;
@@ -92,30 +90,30 @@ impl Window {
         self.next().saturating_add(self.len)
     }
 
-    /// The sheet that is written next, or one a little before it.
+    /// The next sheet to be written, or one a little before it.
     fn next(&self) -> u32 {
         u32::try_from(self.next.load(SeqCst)).unwrap_or(u32::MAX)
     }
 
-    /// All sheets before this one were written. If a window has many sheets, it moves by a quarter at once, since
-    /// imposers look at this word for each sheet.
+    /// Reports that all sheets before `next` are written. A window with many sheets moves by a quarter at once, since imposers read this word for
+    /// each sheet.
     pub(crate) fn come_to(&self, next: u32) {
         if next >= self.next().saturating_add(self.step) {
             self.move_to(next);
         }
     }
 
-    /// All sheets before this one were written.
+    /// Moves the window to `next`; all sheets before that are written.
     pub(crate) fn move_to(&self, next: u32) {
         self.next.store(u64::from(next), SeqCst);
     }
 
-    /// From now on no turn is waited for: a sheet doesn't come, or nothing more is written.
+    /// Lets imposers go on past the window: a sheet won't come, or nothing more is written.
     pub(crate) fn lift(&self) {
         self.lifted.store(true, SeqCst);
     }
 
-    /// Yields or sleeps a little: 400 microseconds at most. Nobody wakes who sleeps.
+    /// Yields or sleeps a little, 400 microseconds at most. A sleeping thread isn't woken.
     pub(crate) fn rest<R: Wait>(&self, rt: &R, idling: &mut Idling) {
         if self.step == 1 && !idling.backoff.is_completed() {
             idling.backoff.snooze();
@@ -124,7 +122,7 @@ impl Window {
         }
     }
 
-    /// For a thread that begins to look for work.
+    /// The idling of a thread that begins to look for work.
     pub(crate) fn idling(&self) -> Idling {
         Idling {
             backoff: Backoff::new(),
@@ -134,25 +132,24 @@ impl Window {
     }
 }
 
-/// How a thread waits that finds nothing to do. If sheets are large it backs off, then sleeps shortly, until it has
-/// found something. If they are small it sleeps at once, and twice as long each further time of the run, up to the
-/// longest.
+/// How a thread waits for work. If sheets are large it backs off, then sleeps shortly, until it has found something. If they are small it sleeps at
+/// once, and each nap of the run is twice as long as the one before, up to the longest.
 #[derive(Drop)]
 pub(crate) struct Idling {
     backoff: Backoff,
-    /// The length of the next nap, in microseconds, as far as naps may be so long.
+    /// The length of the next nap, in microseconds, before the limit.
     nap: u64,
     /// Whether naps grow longer.
     grows: bool,
 }
 
 impl Idling {
-    /// Something was found.
+    /// Work was found.
     pub(crate) fn end(&self) {
         self.backoff.reset();
     }
 
-    /// How long to sleep now.
+    /// The length of the nap to take now.
     fn next_nap(&mut self) -> Duration
         ensures most { as_nanos result ≤ (if self.old.grows then 400_000 else 50_000) }
         ensures grows { self.new.grows ≡ self.old.grows }
@@ -168,7 +165,7 @@ impl Idling {
     }
 }
 
-/// The number of bytes of all pages, and about that of the texts of all slots; the largest `usize` if there are more.
+/// The number of bytes of all pages, and roughly that of the texts of all slots; the largest `usize` if there are more.
 pub(crate) fn bytes_of_pages(job: &Job<'_, '_>) -> (usize, usize)
     ensures pages { result.0 ≡ min (bytes_together (pages job.now.units)) usize.MAX }
     ensures texts { result.1 ≡ min (bytes_of_texts job.now) usize.MAX }
@@ -185,16 +182,16 @@ pub(crate) fn bytes_of_pages(job: &Job<'_, '_>) -> (usize, usize)
     (of_pages, of_slots)
 }
 
-/// Sheets that were taken off the queue by an imposer, and lay past the window then.
+/// Sheets that an imposer took off the queue and that lay past the window.
 #[derive(Drop)]
 pub(crate) struct Held {
     sheets: SheetSet,
-    /// The end of the window when the last look found none of them in it.
+    /// The end of the window at the last look that found none of them in it.
     looked_to: u32,
 }
 
 impl Held {
-    /// None is held.
+    /// No sheet is held.
     pub(crate) fn new(alloc: Global) -> Self
         ensures { result.sheets ≡ set.empty }
     {
@@ -218,7 +215,7 @@ impl Held {
         self.sheets.insert(sheet)
     }
 
-    /// Takes the first sheet, if it lies before this end.
+    /// Takes the first held sheet, if it lies before `end`.
     pub(crate) fn pop_before(&mut self, end: u32) -> Option<u32>
         ensures first { IfSome result (IsSmallest self.old.sheets) }
         ensures before { IfSome result (λ sheet. sheet < end) }
@@ -229,8 +226,8 @@ impl Held {
         self.sheets.take_first_before(end)
     }
 
-    /// Whether some are held and the window has moved since this was last asked. Then it is better to wait for these
-    /// than to take more off the queue, which other imposers may want.
+    /// Whether some are held and the window has moved since the last call. Then it is better to wait for these than to take more off the queue, which
+    /// other imposers may want.
     pub(crate) fn come_nearer(&mut self, end: u32) -> bool
         ensures kept { self.new.looked_to ≡ end }
         ensures same { self.new.sheets ≡ self.old.sheets }

@@ -1,4 +1,4 @@
-//! How many threads a run has.
+//! The number of threads of a run.
 ghost use Rattle.std.specs.Prelude.{◌↔◌, IsTrue};
 ghost use Rattle.imposer.specs.Workers.{AreWorkers};
 
@@ -10,7 +10,7 @@ pub struct Workers {
 }
 
 impl Workers {
-    /// Both counts lie from 1 to 16.
+    /// Whether both numbers are from 1 to 16.
     pub fn are_valid(self) -> bool
         ensures { IsTrue result ↔ AreWorkers self }
     {

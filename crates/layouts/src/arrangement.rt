@@ -1,4 +1,4 @@
-//! What a sheet looks like: cells, margins, gaps, order, scale.
+//! The form of a sheet: cells, margins, gaps, order, scale.
 ghost use Rattle.std.specs.Prelude.{◌≡◌};
 ghost use Rattle.layouts.specs.Grids.{cells_per_sheet, nothing_free, plain as plain_of, plain_binding};
 
@@ -15,11 +15,11 @@ pub struct Papers {
 /// The number of cells of a sheet.
 #[derive(Clone, Copy, Debug, PartialEq, Eq)]
 pub enum Cells {
-    /// At least this number: the grid that takes the largest pages; of these the one with the fewest cells; then upright
-    /// pages; then the fewest columns. A sheet has this number of pages, and the cells that stay empty come last.
+    /// At least this number, in the grid that takes the largest pages; among equals in the one with the fewest cells, then with upright pages, then
+    /// with the fewest columns. A sheet has this number of pages, and the cells left over come last.
     AtLeast(u32),
-    /// Columns and rows, as one reads the sheet, with upright pages unless turned ones are larger. Which are larger
-    /// is found in exact parts of the sheet, and in whole 10^-9.
+    /// Columns and rows, as one reads the sheet. Pages are upright unless turned ones are larger. The two are compared in exact parts of the sheet,
+    /// in whole 10^-9.
     Exactly { columns: u32, rows: u32 },
 }
 
@@ -35,14 +35,14 @@ impl Cells {
     }
 }
 
-/// Along what the pages run, until the next row or the next column begins.
+/// The direction in which cells are filled before the next row or column begins.
 #[derive(Clone, Copy, Debug, PartialEq, Eq)]
 pub enum FillOrder {
     Rows,
     Columns,
 }
 
-/// Whether the text of the pages is upright, or lies on its side: to read it one turns them to the left or the right.
+/// How the text of the pages lies: upright, or on its side, so that one turns them to the left or right to read it.
 #[derive(Clone, Copy, Debug, PartialEq, Eq)]
 pub enum Turned {
     Upright,
@@ -50,8 +50,7 @@ pub enum Turned {
     Right,
 }
 
-/// In which order pages are in the cells, as one reads the sheet: from the top down, and from the left to the right or
-/// the other way.
+/// The order in which pages fill the cells, as one reads the sheet: from the top down, and from the left or from the right.
 #[derive(Clone, Copy, Debug, PartialEq, Eq)]
 pub struct Order {
     pub run: FillOrder,
@@ -59,8 +58,8 @@ pub struct Order {
     pub turned: Turned,
 }
 
-/// The margins and gaps of a sheet, as it lies before one turns it, and the trim of its pages. Margins and gaps are
-/// kept exactly, but for parts of 10^-5 of a point, which are kept whole.
+/// The margins and gaps of a sheet, before one turns it to read it, and the trim of its pages. Margins and gaps are rounded up to whole 10^-5 of a
+/// point, and the trim down.
 #[derive(Clone, Copy, Debug, PartialEq, Eq)]
 pub struct Free {
     /// Along the edges of the sheet.
@@ -72,7 +71,7 @@ pub struct Free {
     pub across: Grains,
     /// Between cells that are one above another. On a leaf this is at the fold, half of it on each side.
     pub up: Grains,
-    /// A page counts as smaller by this along each of its sides; what is there may reach over its neighbours.
+    /// Each page counts as smaller by this length along each of its sides. What is drawn there may reach over its neighbours.
     pub trim: Grains,
 }
 
@@ -82,7 +81,7 @@ pub struct Arrangement {
     pub cells: Cells,
     pub free: Free,
     pub order: Order,
-    /// The scale of the pages; without it they are as large as they can be.
+    /// The scale of the pages; without it they are as large as possible.
     pub scale: Option<Number>,
 }
 
@@ -92,12 +91,12 @@ pub struct Binding {
     pub free: Free,
     /// The booklet is bound at the right.
     pub right_to_left: bool,
-    /// For printers that flip a sheet about its longer edge the backs are turned by half.
+    /// For printers that flip a sheet on its long edge: the backs are rotated by 180 degrees.
     pub long_edge: bool,
 }
 
 impl Free {
-    /// Nothing.
+    /// No margins, no gaps, no trim.
     pub fn none() -> Free
         ensures { result ≡ nothing_free }
     {
@@ -114,7 +113,7 @@ impl Free {
 }
 
 impl Arrangement {
-    /// Nothing is asked for but these cells.
+    /// These cells, and nothing else asked for.
     pub fn plain(cells: Cells) -> Arrangement
         ensures { result ≡ plain_of cells }
     {
@@ -128,7 +127,7 @@ impl Arrangement {
 }
 
 impl Binding {
-    /// Nothing is asked for but how the printer flips a sheet.
+    /// A binding at the left without margins, for a printer that flips sheets on this edge.
     pub fn plain(long_edge: bool) -> Binding
         ensures { result ≡ plain_binding long_edge }
     {

@@ -1,4 +1,4 @@
-//! Pages in cells and on leaves, as they are asked for.
+//! Pages in cells and on leaves, as requested.
 ghost use Rattle.std.specs.Prelude.{◌≡◌, ◌≤◌, IfOk, IfErr, OnOk, Some, None, IsTrue, map, ◌∷◌, []};
 ghost use Rattle.std.specs.List.{range_with_len};
 ghost use Rattle.rules.specs.Papers.{is_paper};
@@ -26,10 +26,9 @@ use std::alloc::{AllocError, Global};
 /// The most pages of a sheet.
 pub const MOST_ON_SHEET: u64 = 1_024;
 
-/// Pages on each sheet as they are asked for, each in the middle of its cell: as many as there are cells, or as many as
-/// are asked for in a grid of at least as many cells. They keep margins and gaps, are as large as they can be
-/// unless a scale is asked for, and are in the order that is asked for. One page on a sheet of its own paper is left
-/// as it is if nothing else is asked for.
+/// Pages on each sheet as requested, each in the middle of its cell. There are as many pages as cells, or the requested number in a grid of at least
+/// as many cells. Pages keep margins and gaps, and are as large as possible unless a scale is requested. One page on a sheet of its own paper is left
+/// as it is if nothing else is requested.
 pub fn arrange(
     alloc: Global,
     papers: &Papers,
@@ -53,9 +52,8 @@ pub fn arrange(
     }
 }
 
-/// Two pages side by side on each side of a sheet, with the fold parallel to its shorter edge, for a row of pages that
-/// is in signature order. Half of the gap is kept free on each side of the fold. For printers that flip a sheet
-/// about its longer edge the backs are turned by half.
+/// Two pages side by side on each side of a sheet, with the fold parallel to its shorter edge, for a row of pages in signature order. Half of the gap
+/// is kept free on each side of the fold. For printers that flip a sheet on its long edge the backs are rotated by 180 degrees.
 pub fn bind(alloc: Global, papers: &Papers, binding: &Binding) -> Result<Spec, ArrangementError>
     ensures page { IsPaper papers.now.page }
     ensures sheet { IsPaper papers.now.sheet }
@@ -81,7 +79,7 @@ pub fn bind(alloc: Global, papers: &Papers, binding: &Binding) -> Result<Spec, A
     }
 }
 
-/// One side of a sheet: so many pages, each in its cell, into which they fit.
+/// One side of a sheet: this many pages, each in a cell that it fits.
 fn one_side(
     alloc: Global,
     setting: &Setting,
@@ -99,7 +97,7 @@ fn one_side(
     Ok(groups)
 }
 
-/// The two sides of a leaf, of which the second is turned by half.
+/// The two sides of a leaf, the second rotated by 180 degrees.
 fn leaf(alloc: Global, setting: &Setting, page_paper: &Paper) -> Result<Vec<Vec<Item>>, AllocError>
     requires cells { 2 ≤ size setting.now.grid }
     requires possible { why_not_fitted setting.now page_paper.now ≡ None }
@@ -116,7 +114,7 @@ fn leaf(alloc: Global, setting: &Setting, page_paper: &Paper) -> Result<Vec<Vec<
     Ok(groups)
 }
 
-/// So many pages, each in its cell, into which they fit.
+/// This many pages, each in a cell that it fits.
 fn fronts(
     alloc: Global,
     setting: &Setting,
@@ -138,7 +136,7 @@ fn fronts(
     Ok(items)
 }
 
-/// The two pages of a back, on a sheet that is turned by half.
+/// The two pages of a back, on a sheet that is rotated by 180 degrees.
 fn backs(alloc: Global, setting: &Setting, page_paper: &Paper) -> Result<Vec<Item>, AllocError>
     requires cells { 2 ≤ size setting.now.grid }
     requires scaled { why_no_scale_on setting.now page_paper.now ≡ None }
@@ -158,7 +156,7 @@ fn backs(alloc: Global, setting: &Setting, page_paper: &Paper) -> Result<Vec<Ite
     Ok(items)
 }
 
-/// From the left, or from the right if the booklet is bound there.
+/// The order from the left, or from the right if the booklet is bound there.
 pub(crate) fn leaf_order(right_to_left: bool) -> Order
     ensures { result ≡ leaf_order_of right_to_left }
 {
@@ -169,7 +167,7 @@ pub(crate) fn leaf_order(right_to_left: bool) -> Order
     }
 }
 
-/// The sheet with what is kept free on it, if lengths and papers can be kept to.
+/// The sheet with its margins and gaps, or why it is refused.
 pub(crate) fn sheet_in(papers: &Papers, free: &Free) -> Result<Room, ArrangementError>
     ensures page { IsTrue (is_paper papers.now.page.width papers.now.page.height) }
     ensures sheet { IsTrue (is_paper papers.now.sheet.width papers.now.sheet.height) }
@@ -194,7 +192,7 @@ pub(crate) fn sheet_in(papers: &Papers, free: &Free) -> Result<Room, Arrangement
     Ok(room)
 }
 
-/// Whether margins leave something of a sheet, whatever the pages are. What is no length is another fault.
+/// Whether the margins leave some of the sheet, for pages of any size. A length out of range is a fault of its own.
 pub fn check_room(sheet: &Paper, free: &Free) -> Result<(), ArrangementError>
     ensures possible { OnOk result (why_no_room sheet.now free.now ≡ None) }
     ensures refused { IfErr result (λ error. why_no_room sheet.now free.now ≡ Some error) }
@@ -212,7 +210,7 @@ pub fn check_room(sheet: &Paper, free: &Free) -> Result<(), ArrangementError>
     }
 }
 
-/// The scale of pages in cells that take so large ones at most, if they can have it.
+/// The scale of pages in cells that allow this one at most, or why there is none.
 pub(crate) fn scale_found(
     room: &Room,
     asked: Option<Number>,
@@ -238,7 +236,7 @@ pub(crate) fn scale_found(
     Ok(scale as u64)
 }
 
-/// The scale that is asked for, in 10^-9, or else the largest.
+/// The scale that is asked for, in 10^-9, or else the largest one.
 fn scale_asked(asked: Option<Number>, largest: u128) -> u128
     ensures { result ≡ scale_for asked largest }
 {
@@ -248,14 +246,14 @@ fn scale_asked(asked: Option<Number>, largest: u128) -> u128
     }
 }
 
-/// A number, or 0 in place of one below it.
+/// A number, or 0 if it is negative.
 fn positive(n: i64) -> u128
     ensures { result ≡ above_zero n }
 {
     if n < 0 { 0 } else { n as u128 }
 }
 
-/// Whether trimming leaves something of the page.
+/// Whether the trim leaves some of the page.
 pub(crate) fn leaves_page_visible(page: &Paper, room: &Room) -> bool
     ensures { result ≡ are_shown page.now room.now }
 {
@@ -263,7 +261,7 @@ pub(crate) fn leaves_page_visible(page: &Paper, room: &Room) -> bool
     trimmed < extent(page.width()) && trimmed < extent(page.height())
 }
 
-/// Whether one page of the sheet's own paper is asked for, and nothing else.
+/// Whether one page on a sheet of its own paper is asked for, and nothing else.
 pub(crate) fn is_identity(papers: &Papers, room: &Room, arrangement: &Arrangement) -> bool
     requires { room.now ≡ room_of papers.now.sheet arrangement.now.free }
     ensures { result ≡ is_page_itself papers.now.page papers.now.sheet arrangement.now }

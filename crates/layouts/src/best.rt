@@ -1,4 +1,4 @@
-//! Which grid takes the largest pages.
+//! The grid that takes the largest pages.
 ghost use Rattle.std.specs.Prelude.{◌≡◌, ◌<◌, ◌≤◌, IsTrue};
 ghost use Rattle.layouts.specs.Refusals.{is_shown, is_count, most_on_sheet};
 ghost use Rattle.layouts.specs.Grids.{best_of as best_of_turn, better as better_of, best_grid as best_grid_of};
@@ -10,7 +10,7 @@ use super::room::Room;
 use super::scale::exact_scale;
 use lengths::Paper;
 
-/// The grid that is asked for, or the best one.
+/// The grid that is asked for, or else the best one.
 pub(crate) fn grid_of(page: &Paper, room: &Room, reading: Turned, cells: Cells) -> Grid
     requires shown { IsTrue (is_shown page.now room.now) }
     requires cells { IsTrue (is_count (cells_per_sheet cells)) }
@@ -27,8 +27,8 @@ pub(crate) fn grid_of(page: &Paper, room: &Room, reading: Turned, cells: Cells) 
     }
 }
 
-/// The grid of n cells or more, upright or turned, that takes the largest pages: of several the one with the fewest
-/// cells, then upright, then with the fewest columns.
+/// The grid of n cells or more, upright or turned, that takes the largest pages; among equals the one with the fewest cells, then an upright one,
+/// then the one with the fewest columns.
 fn best_grid(page: &Paper, room: &Room, n: u32) -> Grid
     requires shown { IsTrue (is_shown page.now room.now) }
     requires cells { (0 < n) × (n ≤ most_on_sheet) }
@@ -42,7 +42,7 @@ fn best_grid(page: &Paper, room: &Room, n: u32) -> Grid
     )
 }
 
-/// Of the grids of n cells or more with pages of this turn the best, and of the best the first.
+/// The best grid of n cells or more with pages of this turn; the first of several.
 fn best_of(page: &Paper, room: &Room, turned: bool, n: u32) -> Grid
     requires shown { IsTrue (is_shown page.now room.now) }
     requires cells { (0 < n) × (n ≤ most_on_sheet) }
@@ -55,7 +55,7 @@ fn best_of(page: &Paper, room: &Room, turned: bool, n: u32) -> Grid
     best
 }
 
-/// The one grid, unless in exact parts of the sheet the other takes larger pages, or as large ones in fewer cells.
+/// The grid `one`, unless the other takes larger pages in exact parts of the sheet, or equally large ones in fewer cells.
 fn better(page: &Paper, room: &Room, one: Grid, other: Grid) -> Grid
     requires { IsTrue (is_shown page.now room.now) }
     ensures { result ≡ better_of page.now room.now one other }

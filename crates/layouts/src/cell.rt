@@ -11,8 +11,8 @@ use super::scale::{HUNDRED_THOUSANDTH, cell_size, extent, kept_length, pitch, pi
 use lengths::Grains;
 use std::marker::Model;
 
-/// A cell on its sheet: how far it is from the left edge and from the lower one, and its sides, in 10^-5 of a point.
-/// Contracts see it as the definitions' cell.
+/// A cell on its sheet: its distances from the left and the lower edge, and its sides, in 10^-5 of a point. Contracts see it as the cell of the
+/// definitions.
 #[derive(Clone, Copy, Debug, PartialEq, Eq)]
 pub struct Cell {
     pub left: u64,
@@ -37,7 +37,7 @@ impl Model for Cell {
 }
 
 impl Room {
-    /// The cell in this row and column, as one holds the sheet for its pages to be upright.
+    /// The cell in this row and column, with the sheet held so that its pages are upright.
     pub fn cell(&self, grid: Grid, row: u32, column: u32) -> Cell
         requires in_rows { row < grid.rows }
         requires in_columns { column < grid.columns }
@@ -65,7 +65,7 @@ impl Room {
 }
 
 impl Grid {
-    /// How many cells are side by side as the sheet lies.
+    /// The number of cells side by side, as the sheet lies.
     pub fn across(self) -> u32
         ensures value { result ≡ across_of self }
         ensures some { 0 < result }
@@ -73,7 +73,7 @@ impl Grid {
         if self.turned { self.rows } else { self.columns }
     }
 
-    /// How many cells are one above another as the sheet lies.
+    /// The number of cells one above another, as the sheet lies.
     pub fn up(self) -> u32
         ensures value { result ≡ up_of self }
         ensures some { 0 < result }
@@ -82,7 +82,7 @@ impl Grid {
     }
 }
 
-/// How far the middle of the gap before a part of a side lies; after the last part it is as if one more came.
+/// The middle of the gap before a part of a side, as a distance. After the last part it is that of a further part.
 pub fn gap_at(along: &Along, length: Grains, parts: u32, k: u32) -> Grains
     requires side { IsTrue (is_side length) }
     requires some { 0 < parts }
@@ -95,7 +95,7 @@ pub fn gap_at(along: &Along, length: Grains, parts: u32, k: u32) -> Grains
     grains(i128::from((HUNDRED_THOUSANDTH * before).saturating_sub(gap)))
 }
 
-/// A place on a side, measured from its other end.
+/// A place on a side, measured from the other end.
 pub fn from_far(length: Grains, place: Grains) -> Grains
     requires side { IsTrue (is_side length) }
     requires few { nat_abs place ≤ 12_700_000_000_000_000 }
@@ -104,7 +104,7 @@ pub fn from_far(length: Grains, place: Grains) -> Grains
     grains(length.get() - place.get())
 }
 
-/// A length of so many 10^-5 of a point.
+/// A length of this many 10^-5 of a point.
 pub fn in_grains(length: u64) -> Grains
     requires { length ≤ 2 * 10 ^ 16 }
     ensures { result ≡ pos (grains_in length) }

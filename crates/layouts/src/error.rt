@@ -17,7 +17,7 @@ pub enum ArrangementError {
     /// The trim leaves nothing of the page.
     #[error("nothing is left of a trimmed page")]
     NothingLeftOfPage,
-    /// As much isn't kept free along opposite edges of a leaf.
+    /// Opposite margins of a leaf differ.
     #[error("the margins of opposite edges of a leaf differ")]
     UnevenMargins,
     /// The sheet of a booklet is wider than high, or upright pages side by side would be larger on it: the fold would
@@ -30,7 +30,7 @@ pub enum ArrangementError {
     /// The scale of the pages would be 0, or above 99,999.
     #[error("the pages would be too small or too large: their scale must be from 0.000000001 to 99999")]
     ScaleOutOfRange,
-    /// Pages of the scale that is asked for are larger than the cells.
+    /// Pages are larger than their cells at the scale that is asked for.
     #[error("pages of this scale are larger than their cells")]
     ScaleTooLarge,
     /// Pages of a leaf that creeps would cross the fold.

@@ -7,8 +7,8 @@ ghost use Rattle.layouts.specs.Grids.{grid, formed as formed_of, beside as besid
 use super::arrangement::Turned;
 use std::marker::Model;
 
-/// Rows and columns of a sheet, as one holds it for its pages to be upright: there is one of each at least. The pages
-/// are turned to the left, or upright. Contracts see it as the definitions' grid.
+/// Rows and columns of a sheet, with the sheet held so that its pages are upright; at least one of each. The pages are upright, or turned to the
+/// left. Contracts see it as the grid of the definitions.
 #[derive(Clone, Copy, Debug, PartialEq, Eq)]
 pub struct Grid {
     pub rows: u32,
@@ -30,7 +30,7 @@ impl Model for Grid {
 }
 
 impl Grid {
-    /// The grid of at least n cells with this number of columns, and with no row too many.
+    /// The grid of at least n cells with this number of columns and no superfluous row.
     pub fn of(turned: bool, n: u32, columns: u32) -> Grid
         requires some { 0 < columns }
         requires cells { 0 < n }
@@ -44,7 +44,7 @@ impl Grid {
         }
     }
 
-    /// The grid of these columns and rows, as one reads the sheet.
+    /// The grid of these columns and rows, which are counted as one reads the sheet.
     pub fn formed(reading: Turned, turned: bool, columns: u32, rows: u32) -> Grid
         requires { (0 < columns) × (0 < rows) }
         ensures { result ≡ formed_of reading turned columns rows }

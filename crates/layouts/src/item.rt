@@ -44,7 +44,7 @@ pub fn points_e5(n: i64) -> Measure
     }
 }
 
-/// From one place to another, in whole numbers of 10^-5 of a point.
+/// The distance from one place to another, in whole 10^-5 of a point.
 pub fn distance(from: i64, to: i64) -> Measure
     requires { nat_abs (to -ℤ from) ≤ 9_999_999_999 }
     ensures { measure_of result ≡ in_points (to -ℤ from) }
@@ -52,7 +52,7 @@ pub fn distance(from: i64, to: i64) -> Measure
     points_e5(to - from)
 }
 
-/// Half of what a scaled side leaves of its cell, in 10^-5 of a point.
+/// Half of the cell's side that a scaled side of the page leaves free, in 10^-5 of a point.
 pub fn slack(cell: u64, side: u64, scale: u64) -> u128
     ensures value { result ≡ slack_of cell side scale }
     ensures most { result ≤ cell }
@@ -61,7 +61,7 @@ pub fn slack(cell: u64, side: u64, scale: u64) -> u128
         / 2_540_000_000_000_000
 }
 
-/// The columns and the rows as one reads the sheet.
+/// The numbers of columns and rows, as one reads the sheet.
 pub fn read_sides(turned: Turned, grid: Grid) -> (u32, u32)
     ensures columns { result.0 ≡ read_columns_of turned grid }
     ensures rows { result.1 ≡ read_rows_of turned grid }
@@ -74,7 +74,7 @@ pub fn read_sides(turned: Turned, grid: Grid) -> (u32, u32)
     }
 }
 
-/// The row and the column of page k as one reads the sheet.
+/// The row and column of page k, as one reads the sheet.
 fn place_as_read(order: &Order, grid: Grid, k: u32) -> (u32, u32)
     requires { k < size grid }
     ensures row { result.0 ≡ read_row order.now.run order.now.turned grid k }
@@ -95,7 +95,7 @@ fn place_as_read(order: &Order, grid: Grid, k: u32) -> (u32, u32)
     (row, column)
 }
 
-/// The row and the column of page k as one holds the sheet for its pages to be upright.
+/// The row and column of page k, with the sheet held so that its pages are upright.
 fn place_as_held(order: &Order, grid: Grid, k: u32) -> (u32, u32)
     requires { k < size grid }
     ensures row { result.0 ≡ row_of order.now grid k }
@@ -112,7 +112,7 @@ fn place_as_held(order: &Order, grid: Grid, k: u32) -> (u32, u32)
 }
 
 impl GridLayout {
-    /// Where the corner of what counts of the page in this row and column is.
+    /// The corner of the page in this row and column, without what is trimmed.
     fn corner(&self, row: u32, column: u32) -> (u64, u64)
         requires place { HasPlace self.now.page self.now.room self.now.grid self.now.scale }
         requires in_rows { row < self.now.grid.rows }
@@ -134,7 +134,7 @@ impl GridLayout {
         }
     }
 
-    /// Half of what a page leaves of the width and of the height of its cell, as one holds the sheet for it to be upright.
+    /// Half of the cell's width and of its height that a page leaves free, with the sheet held so that the page is upright.
     fn slacks(&self) -> (u64, u64)
         ensures across { result.0 ≡ slack_x self.now.page self.now.room self.now.grid self.now.scale }
         ensures down { result.1 ≡ slack_y self.now.page self.now.room self.now.grid self.now.scale }
@@ -155,7 +155,7 @@ impl GridLayout {
         )
     }
 
-    /// How far to the right, and how far up, page k is moved, in 10^-5 of a point.
+    /// The distances to the right and up by which page k is moved, in 10^-5 of a point.
     fn shift(&self, k: u32) -> (i64, i64)
         requires place { HasPlace self.now.page self.now.room self.now.grid self.now.scale }
         requires near { IsTrue (are_near self.now.room self.now.scale) }
@@ -198,7 +198,7 @@ impl GridLayout {
         }
     }
 
-    /// Page n + k of a block, where page k is if the sheet is turned by half.
+    /// Page n + k of a block, at the place of page k on the sheet rotated by 180 degrees.
     pub fn back_in(&self, n: u32, k: u32) -> Item
         requires place { HasPlace self.now.page self.now.room self.now.grid self.now.scale }
         requires near { IsTrue (are_near self.now.room self.now.scale) }
@@ -225,8 +225,8 @@ impl GridLayout {
     }
 }
 
-/// How far a page is moved whose corner, less what is trimmed, is to stand there: turned pages are moved to the right, as
-/// their corner is at the right.
+/// The distance by which a page is moved so that its trimmed corner comes to this place. Turned pages are moved to the right, since their corner is
+/// at the right.
 fn moved_by(turned: bool, x: u64, y: u64, back: u64) -> (i64, i64)
     requires across { x + back < 10_000_000_000 }
     requires up { y + back < 10_000_000_000 }
@@ -237,7 +237,7 @@ fn moved_by(turned: bool, x: u64, y: u64, back: u64) -> (i64, i64)
     (if turned { x + back } else { x - back }, y - back)
 }
 
-/// How long what is trimmed along a side of the page is on the sheet, in 10^-5 of a point.
+/// The length on the sheet of what is trimmed along a side of the page, in 10^-5 of a point.
 fn trimmed(room: &Room, scale: u64) -> u64
     requires { IsTrue (are_near room.now scale) }
     ensures value { result ≡ trimmed_of room.now scale }
@@ -288,7 +288,7 @@ pub fn grains(count: i128) -> Grains
     }
 }
 
-/// A page as it is; it is counted from 0.
+/// A page as it is, counted from 0.
 pub(crate) fn whole_page(k: u32) -> Item
     ensures { item_of result ≡ alone_of k }
 {

@@ -6,27 +6,27 @@ ghost use Rattle.layouts.specs.Laws.{GridIsInside, GridIsApart, GridIsInOrder, G
 ghost use Rattle.layouts.specs.Laws.{BestHasCells, BestIsBest, BestIsLarge};
 ghost use Rattle.layouts.specs.Laws.{BackIsInside, BackIsHalfTurn, PrintedAsItIs, LeafKeepsFold, RightToLeftIsMirror};
 
-/// A whole point of a page is where its item puts it.
+/// A whole point of a page is sent to where its item places it.
 pub fn stands_where_put()
     ensures { StandsWherePut }
 {}
 
-/// Each page in a cell lies on what the margins leave of the sheet.
+/// Each page in a cell lies within the margins of the sheet.
 pub fn pages_are_inside()
     ensures { GridIsInside }
 {}
 
-/// Pages are in the order that is asked for, along rows or columns, as one reads the sheet.
+/// Pages are in the requested order, along rows or columns, as one reads the sheet.
 pub fn pages_are_in_order()
     ensures { GridIsInOrder }
 {}
 
-/// Two pages in cells, also of two papers and two scales, are apart by the gap across or up.
+/// Two pages in cells are at least the gap apart, even if they have different papers and scales.
 pub fn pages_are_apart()
     ensures { GridIsApart }
 {}
 
-/// Each page lies in its cell; if pages are trimmed, to 10^-5 of a point.
+/// Each page lies in its cell; a trimmed one to 10^-5 of a point.
 pub fn pages_are_in_cells()
     ensures { GridIsInCell }
 {}
@@ -36,7 +36,7 @@ pub fn pages_are_in_middle()
     ensures { GridIsInMiddle }
 {}
 
-/// Where margins leave nothing of a sheet, pages of any paper are refused.
+/// If the margins leave nothing of a sheet, pages of any paper are refused.
 pub fn nothing_is_left()
     ensures { NothingIsLeftOfSheet }
 {}
@@ -46,47 +46,47 @@ pub fn best_has_cells()
     ensures { BestHasCells }
 {}
 
-/// No grid of n cells or more comes before the chosen one: larger scale, fewer cells, upright, fewer columns.
+/// No grid of n cells or more is better than the chosen one: by a larger scale, then fewer cells, then upright pages, then fewer columns.
 pub fn best_is_best()
     ensures { BestIsBest }
 {}
 
-/// No grid of n cells or more, upright or turned, allows a scale that is larger by 10^-6 or more.
+/// No grid of n cells or more, upright or turned, allows a scale larger by 10^-6 or more.
 pub fn best_is_large()
     ensures { BestIsLarge }
 {}
 
-/// Each page of a sheet that is turned by half lies on what even margins leave of it.
+/// On a sheet that is rotated by 180 degrees each page lies within the margins, if opposite ones are equal.
 pub fn back_is_inside()
     ensures { BackIsInside }
 {}
 
-/// A back is its front, turned by half about the middle of the sheet.
+/// A back is its front, rotated by 180 degrees about the sheet's centre.
 pub fn back_is_half_turn()
     ensures { BackIsHalfTurn }
 {}
 
-/// Nothing crosses the fold of a leaf with even margins: pages keep half of the gap from it.
+/// Nothing crosses the fold of a leaf with equal margins: pages keep half of the gap from it.
 pub fn leaf_keeps_fold()
     ensures { LeafKeepsFold }
 {}
 
-/// A booklet that is bound at the right differs from one that is bound at the left in the places of its pages alone.
+/// Booklets bound at the right and at the left differ only in the places of their pages.
 pub fn right_to_left_is_mirror()
     ensures { RightToLeftIsMirror }
 {}
 
-/// A page that nothing refuses keeps the margins, lies in its cell and is in its middle, and is as large as the cell allows.
+/// A page that isn't refused keeps the margins, lies in the middle of its cell, and is as large as the cell allows.
 pub fn fitted_stands()
     ensures { FittedStands }
 {}
 
-/// Two pages in cells, each fitted into its own by its paper, are apart by the gap.
+/// Two pages in cells, each fitted into its own by its paper, are at least the gap apart.
 pub fn fitted_is_apart()
     ensures { FittedIsApart }
 {}
 
-/// Pages of several papers are in the order that is asked for, as one reads the sheet.
+/// Pages of several papers are in the requested order, as one reads the sheet.
 pub fn fitted_is_in_order()
     ensures { FittedIsInOrder }
 {}
@@ -101,7 +101,7 @@ pub fn bound_is_fitted()
     ensures { BoundIsFitted }
 {}
 
-/// The matrix that is written for a page in a cell is the item's own: nothing of its shift is rounded.
+/// The matrix that is written for a page in a cell is exactly the item's: no part of its shift is rounded.
 pub fn printed_as_it_is()
     ensures { PrintedAsItIs }
 {}

@@ -1,4 +1,4 @@
-//! A sheet, and what is kept free on it.
+//! A sheet with its margins and gaps.
 ghost use Rattle.std.specs.Prelude.{◌≡◌, ◌≤◌, IsTrue};
 ghost use Rattle.layouts.specs.Refusals.{are_lengths as may_be_lengths, is_even as are_even, is_length as may_be_length};
 ghost use Rattle.layouts.specs.Cells.{along_height, along_width, held_across as across_of, held_down as down_of};
@@ -9,9 +9,8 @@ use super::scale::{HUNDRED_THOUSANDTH, OUT_OF_REACH};
 use lengths::{Grains, Paper};
 use std::marker::Model;
 
-/// A sheet: its paper, what is kept free along each of its edges, what is kept free between cells that are side by side,
-/// and between those that are one above another, and what is trimmed of its pages along each of their sides, in 10^-5 of a
-/// point. Contracts see it as the definitions' room.
+/// A sheet: its paper, its margins, its gaps between cells side by side and one above another, and the length that is trimmed along each side of its
+/// pages, in 10^-5 of a point. Contracts see it as the room of the definitions.
 #[derive(Clone, Copy, Debug, PartialEq, Eq)]
 pub struct Room {
     pub paper: Paper,
@@ -58,8 +57,8 @@ impl Model for Room {
     } };
 }
 
-/// The margins and the gap along one side of a sheet: before its cells, after them, and between them; and the trim of
-/// its pages. Contracts see it as the definitions do.
+/// The margins and the gap along one side of a sheet (before its cells, after them, and between them), and the trim of its pages. Contracts see it as
+/// the definitions do.
 #[derive(Clone, Copy, Debug, PartialEq, Eq)]
 pub struct Along {
     pub before: u64,
@@ -83,7 +82,7 @@ impl Model for Along {
 }
 
 impl Room {
-    /// The sheet that has these margins and gaps.
+    /// The sheet with these margins and gaps.
     pub fn of(sheet: Paper, free: &Free) -> Room
         requires { IsTrue (may_be_lengths free.now) }
         ensures { result ≡ room_of sheet free.now }
@@ -112,7 +111,7 @@ impl Room {
         }
     }
 
-    /// And along its height.
+    /// The margins and the gap along its height.
     pub fn along_height(&self) -> Along
         ensures { result ≡ along_height self.now }
     {
@@ -136,14 +135,14 @@ impl Room {
         }
     }
 
-    /// Whether nothing is kept free along its edges, and nothing is trimmed of its pages.
+    /// Whether there are no margins and no trim.
     pub fn has_bare_edges(&self) -> bool
         ensures { result ≡ have_nothing self.now }
     {
         self.left + self.right + (self.bottom + self.top) == 0 && self.trim == 0
     }
 
-    /// Whether as much is kept free along opposite edges.
+    /// Whether opposite margins are equal.
     pub fn is_even(&self) -> bool
         ensures { result ≡ are_even self.now }
     {
@@ -151,7 +150,7 @@ impl Room {
     }
 }
 
-/// Whether all lengths are from 0 to 99,999 points and five nines after the dot.
+/// Whether each length is at least 0 and below 100,000 points.
 pub(crate) fn are_lengths(free: &Free) -> bool
     ensures { result ≡ may_be_lengths free.now }
 {
@@ -161,7 +160,7 @@ pub(crate) fn are_lengths(free: &Free) -> bool
     beside && above && inner
 }
 
-/// Whether a length is from 0 to 99,999 points and five nines after the dot.
+/// Whether a length is at least 0 and below 100,000 points.
 pub fn is_length(length: Grains) -> bool
     ensures { result ≡ may_be_length length }
 {
@@ -169,7 +168,7 @@ pub fn is_length(length: Grains) -> bool
     0 <= grains && grains < i128::from(OUT_OF_REACH)
 }
 
-/// A length in whole 10^-5 of a point, of which none is lost.
+/// A length in whole 10^-5 of a point, rounded up.
 pub fn rounded_up(length: Grains) -> u64
     requires { IsTrue (may_be_length length) }
     ensures value { result ≡ rounded_up_of length }
@@ -178,7 +177,7 @@ pub fn rounded_up(length: Grains) -> u64
     (length.get() as u64 + (HUNDRED_THOUSANDTH - 1)) / HUNDRED_THOUSANDTH
 }
 
-/// A length in whole 10^-5 of a point, to which none is added.
+/// A length in whole 10^-5 of a point, rounded down.
 pub fn rounded_down(length: Grains) -> u64
     requires { IsTrue (may_be_length length) }
     ensures value { result ≡ rounded_down_of length }

@@ -1,4 +1,4 @@
-//! How large pages in a grid are.
+//! The scale of pages in a grid.
 ghost use Rattle.std.specs.Prelude.{◌≡◌, ◌-◌, ◌*◌, ◌^◌, ◌<◌, ◌≤◌, nat_abs, IsTrue};
 ghost use Rattle.rules.specs.Papers.{is_side, longest_side};
 ghost use Rattle.layouts.specs.Refusals.{is_scale_in_range as may_be_scale, is_shown};
@@ -14,7 +14,7 @@ use lengths::{Grains, Paper};
 /// The grains of 10^-5 of a point.
 pub const HUNDRED_THOUSANDTH: u64 = 1_270_000;
 
-/// The least length that offsets don't reach, in grains: 100,000 points.
+/// The least length that offsets can't reach, in grains: 100,000 points.
 pub(crate) const OUT_OF_REACH: u64 = 12_700_000_000_000_000;
 
 /// A side of a paper, in grains.
@@ -27,8 +27,7 @@ pub fn extent(side: Grains) -> u64
     side.get() as u64
 }
 
-/// A margin or gap in 10^-5 of a point: one more if pages are trimmed, since how far they are moved back is
-/// rounded.
+/// A margin or gap in 10^-5 of a point. If pages are trimmed it is one more, since the distance by which they are moved back is rounded.
 pub(crate) fn kept_length(trim: u64, length: u64) -> u64
     requires { length ≤ 10_000_000_000 }
     ensures value { result ≡ kept_of trim length }
@@ -49,7 +48,7 @@ pub(crate) fn left_free(along: &Along, side: u64) -> u64
     )
 }
 
-/// The distance from one cell's beginning to the next one's, if a side is cut into this number of cells.
+/// The distance from the start of one cell to the start of the next, if a side is cut into this number of cells.
 pub(crate) fn pitch(along: &Along, side: u64, parts: u32) -> u64
     requires some { 0 < parts }
     requires in_range { side ≤ longest_side }
@@ -60,8 +59,8 @@ pub(crate) fn pitch(along: &Along, side: u64, parts: u32) -> u64
     free / (HUNDRED_THOUSANDTH * u64::from(parts))
 }
 
-/// From where a cell begins to where the next one begins, across and down, as one holds the sheet for its pages to be
-/// upright, in 10^-5 of a point.
+/// The distances from the start of one cell to the start of the next, across and down, in 10^-5 of a point, with the sheet held so that its pages are
+/// upright.
 pub(crate) fn pitches(room: &Room, grid: Grid) -> (u64, u64)
     ensures across { result.0 ≡ step_across room.now grid }
     ensures down { result.1 ≡ step_down room.now grid }
@@ -84,7 +83,7 @@ pub(crate) fn pitches(room: &Room, grid: Grid) -> (u64, u64)
     }
 }
 
-/// The width and the height of a cell, in 10^-5 of a point; 0 if a gap takes it.
+/// The width and the height of a cell, in 10^-5 of a point; 0 if the gap leaves nothing.
 pub fn cell_size(room: &Room, grid: Grid) -> (u64, u64)
     ensures width { result.0 ≡ wide room.now grid }
     ensures height { result.1 ≡ high room.now grid }
@@ -98,7 +97,7 @@ pub fn cell_size(room: &Room, grid: Grid) -> (u64, u64)
     )
 }
 
-/// The part of a page's side that counts, without the trim, in grains.
+/// A side of a page without the trim, in grains.
 pub(crate) fn trimmed_side(room: &Room, length: Grains) -> u64
     requires { IsTrue (is_side length) }
     ensures value { result ≡ counted_of room.now length }
@@ -107,7 +106,7 @@ pub(crate) fn trimmed_side(room: &Room, length: Grains) -> u64
     extent(length).saturating_sub(2_540_000 * room.trim)
 }
 
-/// The largest scale, in 10^-9, that brings a side into a cell.
+/// The largest scale, in 10^-9, at which a side fits into a cell.
 pub fn largest_scale(cell: u64, side: u64) -> u128
     requires { 0 < side }
     ensures { result ≡ fits cell side }
@@ -115,7 +114,7 @@ pub fn largest_scale(cell: u64, side: u64) -> u128
     1_270_000_000_000_000 * u128::from(cell) / u128::from(side)
 }
 
-/// The largest scale, in 10^-9, that brings a page into a cell of the grid.
+/// The largest scale, in 10^-9, at which a page fits into a cell of the grid.
 pub(crate) fn scale_in(page: &Paper, room: &Room, grid: Grid) -> u128
     requires { IsTrue (is_shown page.now room.now) }
     ensures { result ≡ scale_of page.now room.now grid }
@@ -127,7 +126,7 @@ pub(crate) fn scale_in(page: &Paper, room: &Room, grid: Grid) -> u128
     ))
 }
 
-/// The largest scale, in 10^-9, that this number of equal cells of a side allows, between its margins and gaps.
+/// The largest scale, in 10^-9, that this number of equal cells along a side allows.
 fn exact_along(along: &Along, side: u64, parts: u32, page: u64) -> u128
     requires some { 0 < parts }
     requires shown { 0 < page }
@@ -140,7 +139,7 @@ fn exact_along(along: &Along, side: u64, parts: u32, page: u64) -> u128
         / (u128::from(page) * u128::from(parts))
 }
 
-/// The largest scale, in 10^-9, with which pages have room in exact parts of the sheet, which aren't rounded as cells are.
+/// The largest scale, in 10^-9, at which pages fit into exact parts of the sheet, which aren't rounded as cells are.
 pub(crate) fn exact_scale(page: &Paper, room: &Room, grid: Grid) -> u128
     requires { IsTrue (is_shown page.now room.now) }
     ensures { result ≡ exact_scale_of page.now room.now grid }
@@ -161,7 +160,7 @@ pub(crate) fn exact_scale(page: &Paper, room: &Room, grid: Grid) -> u128
     wide.min(exact_along(&above, down, grid.rows, trimmed_side(room, page.height())))
 }
 
-/// Whether pages can be written with this scale, in 10^-9.
+/// Whether pages can be written at this scale, in 10^-9.
 pub fn is_scale(scale: u128) -> bool
     ensures { result ≡ may_be_scale scale }
 {

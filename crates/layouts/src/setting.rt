@@ -23,8 +23,8 @@ use super::scale::{cell_size, scale_in, trimmed_side};
 use lengths::{Number, Paper};
 use pagespec::Item;
 
-/// A sheet with its cells, into each of which a page is fitted by its own sides: what is kept free, rows and columns, the
-/// order of the cells, and the scale if one is asked for.
+/// A sheet with cells into which pages are fitted, each by its own sides: the margins and gaps, the rows and columns, the order of the cells, and the
+/// scale if one is asked for.
 #[derive(Clone, Copy)]
 pub struct Setting {
     pub room: Room,
@@ -34,7 +34,7 @@ pub struct Setting {
 }
 
 impl Setting {
-    /// The cells that an arrangement comes to, with the grid that is chosen for pages of the one paper.
+    /// The setting of an arrangement. Its grid is chosen for pages of `papers`.
     pub fn of(papers: &Papers, arrangement: &Arrangement) -> Result<Setting, ArrangementError>
         ensures page { IsPaper papers.now.page }
         ensures sheet { IsPaper papers.now.sheet }
@@ -73,8 +73,7 @@ impl Setting {
         Ok(setting)
     }
 
-    /// The two halves of a sheet whose leaves are bound so, if pages of the one paper can be in them: one fold
-    /// for pages of all papers.
+    /// The two halves of a sheet with this binding, if pages of `papers` fit into them. Pages of all papers have the same fold.
     pub fn of_binding(papers: &Papers, binding: &Binding) -> Result<Setting, ArrangementError>
         ensures page { IsPaper papers.now.page }
         ensures sheet { IsPaper papers.now.sheet }
@@ -104,7 +103,7 @@ impl Setting {
         })
     }
 
-    /// The scale of pages of this paper, if they can have it: the one that is asked for, or else the largest.
+    /// The scale of pages of this paper: the requested one, or else the largest; or why they can't have it.
     pub fn scale(&self, page_paper: &Paper) -> Result<Number, ArrangementError>
         ensures value { IfOk result (λ scale. scale ≡ pos (scale_on self.now page_paper.now)) }
         ensures possible { OnOk result (why_no_scale_on self.now page_paper.now ≡ None) }
@@ -114,7 +113,7 @@ impl Setting {
         Ok(scale_e9(found))
     }
 
-    /// The room that a page of this paper leaves at each end of its cell's width, in 10^-5 of a point.
+    /// The room left by a page of this paper at each end of its cell's width, in 10^-5 of a point.
     pub fn slack(&self, page_paper: &Paper) -> Result<u128, ArrangementError>
         ensures value { IfOk result (λ n. n
             ≡ slack_x page_paper.now self.now.room self.now.grid (scale_on self.now page_paper.now)) }
@@ -127,8 +126,8 @@ impl Setting {
         Ok(slack(width, counted, scale))
     }
 
-    /// A page of this paper in a cell, counted from 0. One page on a sheet of its own paper is left as it is if nothing else
-    /// is asked for, and the pages of the sheets are upright.
+    /// A page of this paper in a cell, counted from 0. One page on a sheet of its own paper is left as it is if nothing else is requested and pages
+    /// are upright.
     pub fn item(&self, page_paper: &Paper, cell: u32) -> Result<Item, ArrangementError>
         requires { cell < size self.now.grid }
         ensures page { IsPaper page_paper.now }
@@ -152,8 +151,8 @@ impl Setting {
         Ok(layout.item_in(cell))
     }
 
-    /// A page of this paper in a cell, counted from 0, as it is if the whole sheet is turned by half. It is fitted into
-    /// its cell on a sheet of its own paper too.
+    /// A page of this paper in a cell, counted from 0, on a sheet that is rotated by 180 degrees. It is fitted into its cell even on a sheet of its
+    /// own paper.
     pub fn back_item(&self, page_paper: &Paper, cell: u32) -> Result<Item, ArrangementError>
         requires { cell < size self.now.grid }
         ensures page { IsPaper page_paper.now }

@@ -39,7 +39,7 @@ pub fn open_own_picture()
     ensures { OpenOwnPicture }
 {}
 
-/// With any further operators that are blind, a machine prints of an output, sheet by sheet, what the document's own pages print, placed.
+/// With any further operators that are blind, a machine, given an output, prints, sheet by sheet, what the document's own pages print, placed.
 pub fn open_sheets_show_the_pages()
     ensures { OpenSheetsShowThePages }
 {}
@@ -59,12 +59,12 @@ pub fn tables_are_blind()
     ensures { TablesAreBlind }
 {}
 
-/// An operator that answers by its operands and the settings asks for none of them.
+/// An operator whose result depends on its operands and the settings asks for none of these names.
 pub fn answers_ask_for_none()
     ensures { AnswersAskForNone }
 {}
 
-/// So it is of made sheets, each page on a paper of its own.
+/// The same holds for made sheets, each page on a paper of its own.
 pub fn open_made_sheets_show_the_pages()
     ensures { OpenMadeSheetsShowThePages }
 {}
@@ -96,7 +96,7 @@ pub fn open_guarded_page_is_placed()
     ensures { OpenGuardedPageIsPlaced }
 {}
 
-/// A machine prints of an output of a document with the guard in its preamble the pictures of its pages, placed.
+/// Given an output of a document with the guard in its preamble, a machine prints the pictures of its pages, placed.
 pub fn open_guarded_sheets_show_the_pages()
     ensures { OpenGuardedSheetsShowThePages }
 {}
@@ -106,12 +106,12 @@ pub fn open_guarded_document_is_shown()
     ensures { OpenGuardedDocumentIsShown }
 {}
 
-/// So does what impose writes of any sheets that are reported as one paper.
+/// The same holds for what impose writes of any sheets that are reported as one paper.
 pub fn open_made_document_is_shown()
     ensures { OpenMadeDocumentIsShown }
 {}
 
-/// An operator that answers by its operands and the settings doesn't look at what matrices hold.
+/// An operator whose result depends on its operands and the settings doesn't look at what matrices hold.
 pub fn answers_see_no_matrices()
     ensures { AnswersSeeNoMatrices }
 {}
@@ -121,12 +121,12 @@ pub fn open_own_page_is_placed()
     ensures { OpenOwnPageIsPlaced }
 {}
 
-/// A machine prints of an output of such a document, sheet by sheet, what its pages paint by themselves, placed.
+/// Given an output of such a document, a machine prints, sheet by sheet, what its pages paint by themselves, placed.
 pub fn open_own_showpage_is_shown()
     ensures { OpenOwnShowpageIsShown }
 {}
 
-/// So it prints what impose makes of such a document on sheets that are reported as one paper.
+/// The same holds for what impose makes of such a document on sheets that are reported as one paper.
 pub fn open_own_made_document_is_shown()
     ensures { OpenOwnMadeDocumentIsShown }
 {}
@@ -136,12 +136,12 @@ pub fn open_silenced_page_is_placed()
     ensures { OpenSilencedPageIsPlaced }
 {}
 
-/// A machine prints of an output of such a document, sheet by sheet, what its pages paint by themselves, placed.
+/// Given an output of such a document, a machine prints, sheet by sheet, what its pages paint by themselves, placed.
 pub fn open_silenced_document_is_shown()
     ensures { OpenSilencedDocumentIsShown }
 {}
 
-/// So it prints what impose makes of such a document on sheets that are reported as one paper.
+/// The same holds for what impose makes of such a document on sheets that are reported as one paper.
 pub fn open_silenced_made_document_is_shown()
     ensures { OpenSilencedMadeDocumentIsShown }
 {}
@@ -153,7 +153,7 @@ pub fn stores_ask_for_none()
     ensures { StoresAskForNone }
 {}
 
-/// Nor does it look at what matrices hold.
+/// Such an operator doesn't look at what matrices hold either.
 pub fn stores_see_no_matrices()
     ensures { StoresSeeNoMatrices }
 {}
@@ -163,7 +163,7 @@ pub fn stores_are_blind()
     ensures { StoresAreBlind }
 {}
 
-/// And it is placeless under the guard.
+/// It is also placeless under the guard.
 pub fn stores_are_placeless_there()
     ensures { StoresArePlacelessThere }
 {}
@@ -173,7 +173,7 @@ pub fn values_are_blind()
     ensures { ValuesAreBlind }
 {}
 
-/// And it is placeless under the guard.
+/// It is also placeless under the guard.
 pub fn values_are_placeless_there()
     ensures { ValuesArePlacelessThere }
 {}
@@ -183,23 +183,23 @@ pub fn device_size_is_set()
     ensures { DeviceSizeIsSet }
 {}
 
-/// A machine prints of all that impose writes of a document, with the guard put in, what the document's pages paint by
-/// themselves, placed, with each sheet's strokes after them.
+/// Given all that impose writes of a document with the guard in it, a machine prints what the document's pages paint by themselves, placed, with each
+/// sheet's strokes after them.
 pub fn dressed_document_is_shown()
     ensures { DressedDocumentIsShown }
 {}
 
-/// So it does with further operators that look neither at the place nor at matrices.
+/// The same holds with further operators that look neither at the place nor at matrices.
 pub fn open_dressed_document_is_shown()
     ensures { OpenDressedDocumentIsShown }
 {}
 
-/// Without the guard it prints what the document's pages print of themselves, placed, with each sheet's strokes after them.
+/// Without the guard a machine prints what the document's pages print by themselves, placed, with each sheet's strokes after them.
 pub fn dressed_sheets_show_the_pages()
     ensures { DressedSheetsShowThePages }
 {}
 
-/// So it does with further operators that don't look at the place.
+/// The same holds with further operators that don't look at the place.
 pub fn open_dressed_sheets_show_the_pages()
     ensures { OpenDressedSheetsShowThePages }
 {}

@@ -5,8 +5,8 @@ ghost use Rattle.paper_names.specs.Home as meaning;
 use crate::names::paper_by_name;
 use lengths::{Paper, a4};
 
-/// The paper that is usual where the program runs: by the value of the variable `PAPERSIZE`, else by the first word of
-/// `/etc/papersize`, comments left out, else a4. Neither counts if it is no name of a paper, and each is empty if it isn't there.
+/// The paper that is usual where the program runs: that of the variable `PAPERSIZE`, else that of the first word of `/etc/papersize` outside of
+/// comments, else a4. A text that names no paper doesn't count. A missing one is empty.
 pub fn default_paper(variable: &[u8], file: &[u8]) -> Paper
     ensures { result ≡ meaning.default_paper variable.now file.now }
 {
@@ -42,7 +42,7 @@ fn from_word(text: &[u8]) -> &[u8]
     rest
 }
 
-/// Whether what follows a byte is in a comment.
+/// Whether the byte after this one is in a comment.
 fn is_comment_after(comment: bool, byte: u8) -> bool
     ensures { result ≡ meaning.is_comment_after comment byte }
 {
@@ -64,7 +64,7 @@ fn word_at(text: &[u8]) -> &[u8]
     word
 }
 
-/// How long it is.
+/// The length of this word.
 fn word_len(text: &[u8]) -> usize
     ensures value { result ≡ meaning.word_len text.now }
     ensures within { result ≤ length text.now }

@@ -50,8 +50,8 @@ const PAPERS: [(&str, u32, u32); 34] = [
 /// The grains of one point.
 const GRAINS_OF_POINT: i128 = 127_000_000_000;
 
-/// The paper of this name: one of the table, in capitals or small letters, with any blanks, minuses and underscores, perhaps
-/// after `din`, `iso` or `us`. With `landscape` or `quer` after it, it is the same paper on its side.
+/// The paper of this name, one of the table. Capitals don't matter, nor do blanks, minuses and underscores, nor `din`, `iso` or `us` in front.
+/// `landscape` or `quer` at the end turns the paper on its side.
 pub fn paper_by_name(name: &[u8]) -> Option<Paper>
     ensures { result ≡ paper_named name.now }
 {
@@ -102,7 +102,7 @@ pub(crate) fn is_named(text: &[u8], known: &[u8]) -> bool
     }
 }
 
-/// Whether a text has nothing but what may come between letters.
+/// Whether a text consists of bytes that may come between letters.
 fn has_no_letter(text: &[u8]) -> bool
     ensures { result ≡ is_empty (letters text.now) }
 {
@@ -112,7 +112,7 @@ fn has_no_letter(text: &[u8]) -> bool
     }
 }
 
-/// What follows the word for the makers of a paper, if a name begins with one.
+/// The name without the word for the makers of a paper at its start, if there is one.
 fn behind_maker(name: &[u8]) -> &[u8]
     ensures { letters result.now ≡ meaning.behind_maker (letters name.now) }
 {
@@ -128,7 +128,7 @@ fn behind_maker(name: &[u8]) -> &[u8]
     }
 }
 
-/// What follows this word, which has no capitals, if a text begins with it.
+/// The text after this word, which has no capitals, if it begins with it.
 fn after_word<'t>(text: &'t [u8], word: &[u8]) -> Option<&'t [u8]>
     ensures { option_map (λ rest. letters rest.now) result ≡ meaning.after_word word.now (letters text.now) }
 {
@@ -147,7 +147,7 @@ fn after_word<'t>(text: &'t [u8], word: &[u8]) -> Option<&'t [u8]>
     Some(rest)
 }
 
-/// The first letter of a name, and what follows it.
+/// The first letter of a name, and the text after it.
 fn next_letter(text: &[u8]) -> Option<(u8, &[u8])>
     ensures { MatchOption result (letters text.now ≡ []) (λ p. letters text.now ≡ p.0 ∷ letters p.1.now) }
 {
@@ -168,7 +168,7 @@ fn is_between(byte: u8) -> bool
     (byte == b' ' || byte == b'\t') || (byte == b'-' || byte == b'_')
 }
 
-/// What comes before the word for a paper on its side, if a text ends with one.
+/// The text before the word that turns a paper on its side, if it ends with one.
 pub(crate) fn upright_part(text: &[u8]) -> Option<&[u8]>
     ensures { option_map (λ front. front.now) result ≡ meaning.upright_part text.now }
 {
@@ -178,7 +178,7 @@ pub(crate) fn upright_part(text: &[u8]) -> Option<&[u8]>
     }
 }
 
-/// What comes before this ending of a text.
+/// The text before this ending.
 fn before_ending<'t>(text: &'t [u8], ending: &[u8]) -> Option<&'t [u8]>
     requires { map to_ascii_lowercase ending.now ≡ ending.now }
     ensures { option_map (λ front. front.now) result ≡ meaning.before_ending ending.now text.now }

@@ -1,4 +1,4 @@
-//! Papers by their names and sizes.
+//! Papers by names and sizes.
 ghost use Rattle.std.specs.Prelude.{◌≡◌, ◌≤◌, length, option_and_then, option_map};
 ghost use Rattle.std.specs.List.{prefix_len};
 ghost use Rattle.rules.specs.Units.{is_blank};
@@ -17,12 +17,11 @@ struct Side {
     unit: Option<Unit>,
 }
 
-/// The paper that a text means: the one with this name (`paper_by_name`), or of the width and height at its end, with an `x`
-/// between them. `landscape` or `quer` after it exchanges the sides.
+/// The paper that a text means: the one with this name (`paper_by_name`), or with the width and height at its end, with an `x` between them.
+/// `landscape` or `quer` after it exchanges the sides.
 ///
-/// A side is a number up to 99,999.999999999 with `pt`, `cm`, `mm`, `in`, `inch` or `"` after it. A unit after the height alone
-/// holds for both, as in `210x297mm`. `X`, `*` and `×` may be written for the `x`, and before an underscore a name, which is
-/// passed over: `iso_a4_210x297mm`.
+/// A side is a number up to 99,999.999999999 with `pt`, `cm`, `mm`, `in`, `inch` or `"` after it. A unit after the height alone holds for both, as in
+/// `210x297mm`. `X`, `*` and `×` may replace the `x`. A name and an underscore may come first and are passed over: `iso_a4_210x297mm`.
 pub fn read_paper(text: &[u8]) -> Result<Paper, PaperError>
     ensures { result ≡ meaning.paper_of text.now }
 {
@@ -32,7 +31,7 @@ pub fn read_paper(text: &[u8]) -> Result<Paper, PaperError>
     }
 }
 
-/// The paper of a text without the word for one on its side.
+/// The paper of a text without the word that turns it on its side.
 fn read_upright(text: &[u8]) -> Result<Paper, PaperError>
     ensures { result ≡ meaning.upright_paper text.now }
 {
@@ -52,7 +51,7 @@ fn on_its_side(paper: Result<Paper, PaperError>) -> Result<Paper, PaperError>
     }
 }
 
-/// What follows the last underscore that isn't the end, or else the text.
+/// The text after the last underscore, unless it ends there; else the whole text.
 fn last_part(text: &[u8]) -> &[u8]
     ensures { result.now ≡ meaning.last_part text.now text.now }
 {
@@ -75,7 +74,7 @@ fn size_of(text: &[u8]) -> Result<Paper, PaperError>
     size_of_both(side_of(width), side_behind(rest))
 }
 
-/// Where the first sign between two sides is, or the end.
+/// The place of the first sign between two sides, or the end.
 fn x_at(text: &[u8]) -> usize
     ensures value { result ≡ meaning.x_at text.now }
     ensures within { result ≤ length text.now }
@@ -85,7 +84,7 @@ fn x_at(text: &[u8]) -> usize
         .count()
 }
 
-/// The side after the sign that a text begins with.
+/// The side after the sign at the start of a text.
 fn side_behind(text: &[u8]) -> Option<Side>
     ensures { option_map (λ s. (s.number, option_map length_unit s.unit)) result
         ≡ option_and_then meaning.side_of (meaning.behind_cross text.now) }
@@ -93,7 +92,7 @@ fn side_behind(text: &[u8]) -> Option<Side>
     side_of(behind_cross(text)?)
 }
 
-/// What follows the sign that a text begins with.
+/// The text after the sign at its start.
 fn behind_cross(text: &[u8]) -> Option<&[u8]>
     ensures { option_map (λ rest. rest.now) result ≡ meaning.behind_cross text.now }
 {
@@ -105,7 +104,7 @@ fn behind_cross(text: &[u8]) -> Option<&[u8]>
     }
 }
 
-/// What follows the second byte of a multiplication sign, if a text begins with it.
+/// The text after the second byte of a multiplication sign, if it begins with one.
 fn behind_second(text: &[u8]) -> Option<&[u8]>
     ensures { option_map (λ rest. rest.now) result ≡ meaning.behind_second text.now }
 {
@@ -113,7 +112,7 @@ fn behind_second(text: &[u8]) -> Option<&[u8]>
     if *second == 0x97 { Some(rest) } else { None }
 }
 
-/// The side that the text is.
+/// The side that a text names.
 fn side_of(text: &[u8]) -> Option<Side>
     ensures { option_map (λ s. (s.number, option_map length_unit s.unit)) result ≡ meaning.side_of text.now }
 {
@@ -186,14 +185,14 @@ fn size_of_sides(width: Side, height: Side) -> Result<Paper, PaperError>
     }
 }
 
-/// The paper of these numbers of units, none of which asks for a paper.
+/// The paper of these numbers of units. No unit depends on a paper.
 fn in_units(width: Number, u: Unit, height: Number, v: Unit) -> Result<Paper, PaperError>
     ensures { result ≡ meaning.in_units width (length_unit u) height (length_unit v) }
 {
     paper_of_sides(to_grains(width, u, &a4()), to_grains(height, v, &a4()))
 }
 
-/// The paper with these sides, if they may be a paper's.
+/// The paper with these sides, if a paper may have them.
 fn paper_of_sides(width: Grains, height: Grains) -> Result<Paper, PaperError>
     ensures { result ≡ meaning.paper_of_sides width height }
 {

@@ -7,7 +7,7 @@ use crate::fields::{is_zero, points_of};
 use dsc::next_field;
 use lengths::{Grains, Paper};
 
-/// Programs' sizes of one paper may differ by 15 points.
+/// Programs may differ by 15 points in the size of one paper.
 const NEARNESS: i128 = 15 * 127_000_000_000;
 
 /// The grains of one point, the shortest side.
@@ -25,9 +25,8 @@ pub struct Edges {
     pub top: Grains,
 }
 
-/// The paper of a box where this one would be taken without it: its own, if it begins at 0 0. Else, if it reaches over
-/// that paper by more than 15 points, the paper that leaves as much room to the right of it as to the left, and above
-/// as below.
+/// The paper that a box gives, if `paper` is used without it. A box that begins at 0 0 is itself the paper. Another box that reaches over `paper` by
+/// more than 15 points gives the paper with equal room to its left and right, and below and above.
 pub fn paper_of_box(paper: &Paper, value: &[u8]) -> Option<Paper>
     ensures { result ≡ meaning.paper_of_box paper.now (fields_in value.now) }
 {
@@ -52,7 +51,7 @@ pub(crate) fn box_paper(value: &[u8]) -> Option<Paper>
     }
 }
 
-/// The paper of a box that reaches over this one, and begins neither left of it nor below it.
+/// The paper of a box that reaches over this one and begins neither to the left of it nor below it.
 fn wider_paper(paper: &Paper, value: &[u8]) -> Option<Paper>
     ensures { result ≡ meaning.wider_paper paper.now (fields_in value.now) }
 {
@@ -86,7 +85,7 @@ fn is_past(side: Grains, edge: Grains) -> bool
     side.get() + NEARNESS < edge.get()
 }
 
-/// The paper that leaves as much room to the right of the box as to the left, and above as below.
+/// The paper with as much room to the right of the box as to the left, and above as below.
 fn paper_round(edges: &Edges) -> Option<Paper>
     ensures { result ≡ meaning.paper_round edges.now }
 {
@@ -152,7 +151,7 @@ fn paper_of_sides(width: i128, height: i128) -> Option<Paper>
     Paper::new(Grains::new(width)?, Grains::new(height)?)
 }
 
-/// The same, if no side is so long as no number of a box is.
+/// The same, unless a side is longer than any number of a box.
 fn shorter_paper(width: i128, height: i128) -> Option<Paper>
     ensures { result ≡ meaning.shorter_paper width height }
 {

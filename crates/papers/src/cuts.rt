@@ -7,24 +7,24 @@ ghost use Rattle.papers.specs.Cuts.{cut_of, is_cut as is_cut_by, with_cut_page a
 use crate::smallest_cover;
 use lengths::Paper;
 
-/// Two sides that differ by at most this number of grains, 15 points, count as one.
+/// Two sides that differ by at most this number of grains, 15 points, count as equal.
 const NEARNESS: u128 = 15 * 127_000_000_000;
 
-/// Pages of a document that a paper cuts.
+/// The pages of a document that a paper cuts.
 #[derive(Clone, Copy)]
 pub struct Cut {
-    /// The first of them, counted from 0.
+    /// The first page, counted from 0.
     pub first: usize,
-    /// The last of them.
+    /// The last page.
     pub last: usize,
-    /// Their number.
+    /// The number of pages.
     pub pages: usize,
-    /// The least paper that covers the own ones of all of them.
+    /// The smallest paper that covers the own papers of all of them.
     pub paper: Paper,
 }
 
-/// Which pages a paper cuts, if pages have these papers of their own: those that it doesn't cover. Papers whose sides
-/// differ by at most 15 points count as one, and then none is cut.
+/// The pages that a paper cuts, given the pages' own papers: those whose own paper it doesn't cover. Papers whose sides differ by at most 15 points
+/// count as equal.
 pub fn cut_by(paper: &Paper, own: &[Paper]) -> Option<Cut>
     ensures { result ≡ cut_of paper.now own.now }
 {
@@ -37,7 +37,7 @@ pub fn cut_by(paper: &Paper, own: &[Paper]) -> Option<Cut>
     cut
 }
 
-/// The same pages, and after them this one.
+/// The cut pages with one more after them.
 fn with_cut_page(cut: Option<Cut>, page: usize, paper: &Paper) -> Cut
     requires few { IfSome cut (λ c. c.pages < usize.MAX) }
     ensures { result ≡ with_one cut page paper.now }
@@ -72,7 +72,7 @@ fn covers(paper: &Paper, other: &Paper) -> bool
     other.width().get() <= paper.width().get() && other.height().get() <= paper.height().get()
 }
 
-/// Whether they count as one paper.
+/// Whether two papers count as equal.
 pub(crate) fn is_near(paper: &Paper, other: &Paper) -> bool
     ensures { result ≡ is_near_to paper.now other.now }
 {
@@ -80,7 +80,7 @@ pub(crate) fn is_near(paper: &Paper, other: &Paper) -> bool
         && difference(paper.height().get(), other.height().get()) <= NEARNESS
 }
 
-/// By how much two sides differ.
+/// The difference of two sides.
 fn difference(one: i128, other: i128) -> u128
     requires one { IsTrue (is_side one) }
     requires other { IsTrue (is_side other) }

@@ -6,7 +6,7 @@ ghost use Rattle.papers.specs.Media as meaning;
 
 use lengths::{Grains, Unit, a4, read_number, to_grains};
 
-/// The name in a field: what is between its parentheses, if it has them.
+/// The name in a field, without parentheses around it.
 pub(crate) fn name_in(field: &[u8]) -> &[u8]
     ensures { result.now ≡ meaning.name_in field.now }
 {
@@ -38,7 +38,7 @@ pub(crate) fn leading_blanks(text: &[u8]) -> usize
         .count()
 }
 
-/// The length of the name at the front, to a blank; in parentheses to the first blank after they are closed.
+/// The length of the name at the front, up to a blank; for a name in parentheses up to the first blank after they are closed.
 fn name_len(text: &[u8]) -> usize
     ensures value { result ≡ meaning.name_len text.now }
     ensures within { result ≤ length text.now }
@@ -51,7 +51,7 @@ fn name_len(text: &[u8]) -> usize
     open + len_before_blank(rest)
 }
 
-/// The length of what is before the first closing parenthesis.
+/// The length of the text before the first closing parenthesis.
 fn open_len(text: &[u8]) -> usize
     ensures value { result ≡ prefix_len (λ b. not (b == meaning.closing)) text.now }
     ensures within { result ≤ length text.now }
@@ -59,7 +59,7 @@ fn open_len(text: &[u8]) -> usize
     text.iter().take_while(|b| **b != b')').count()
 }
 
-/// The length of what is before the first blank.
+/// The length of the text before the first blank.
 fn len_before_blank(text: &[u8]) -> usize
     ensures value { result ≡ meaning.plain_len text.now }
     ensures within { result ≤ length text.now }
@@ -81,7 +81,7 @@ pub(crate) fn points_of(field: &[u8]) -> Option<Grains>
     Some(to_grains(number, Unit::Pt, &a4()))
 }
 
-/// Whether there is a length, which is 0.
+/// Whether there is a length and it is 0.
 pub(crate) fn is_zero(length: Option<Grains>) -> bool
     ensures { result ≡ meaning.is_zero length }
 {

@@ -17,8 +17,8 @@ use dsc::{Document, header_len};
 use lengths::Paper;
 use std::alloc::{AllocError, Global};
 
-/// The papers of a document's pages, in order: the one that is asked for, if one is. Else each page's own: what the page
-/// says itself, else what its document says, else the one at home. Refused out of memory alone.
+/// The papers of a document's pages, in order. If a paper is asked for, all pages have it. Otherwise a page has the paper that it names itself, or
+/// that its document names, or the one at home. Refused only for lack of memory.
 pub fn page_papers(
     alloc: Global,
     document: &Document<'_>,
@@ -62,7 +62,7 @@ fn declared_papers(
     )
 }
 
-/// The paper that a document's comments name, and else this one.
+/// The paper that a document's comments name, or else this one.
 fn document_or(text: &[u8], other: &Paper) -> Paper
     ensures { result
         ≡ or_this (told_by_document paper_named other.now (header text.now) (trailer_lines (units_of text.now))) other.now }
@@ -73,7 +73,7 @@ fn document_or(text: &[u8], other: &Paper) -> Paper
     }
 }
 
-/// Each page's own declaration, with the media of these header comments that pages name, and else this paper.
+/// Each page's own declaration, or else this paper. Pages may name media of these header comments.
 fn each_or(
     alloc: Global,
     document: &Document<'_>,
@@ -87,7 +87,7 @@ fn each_or(
     each_with(alloc, document, &known, other)
 }
 
-/// Each page's own declaration, with these media, and else this paper.
+/// Each page's own declaration, with these media, or else this paper.
 fn each_with(
     alloc: Global,
     document: &Document<'_>,
@@ -105,7 +105,7 @@ fn each_with(
     Ok(papers)
 }
 
-/// The paper of a page: what it says itself, and else this one, which is its document's.
+/// The paper that a page names itself, or else this one, its document's.
 fn page_paper(known: &KnownMedia, page: &[u8], other: &Paper) -> Paper
     ensures { result ≡ page_or (known_paper known.now) (page_head page.now) other.now }
 {
@@ -115,8 +115,8 @@ fn page_paper(known: &KnownMedia, page: &[u8], other: &Paper) -> Paper
     }
 }
 
-/// The paper that a page names in the comments after its first line: by its `%%PageMedia:`, if that names a medium that
-/// is known, and else by its `%%PageBoundingBox:`, where this paper would be taken without it.
+/// The paper that a page names in the comments after its first line: by `%%PageMedia:`, if that names a known medium, or else by
+/// `%%PageBoundingBox:`. `other` is the one used without a box.
 fn told_by_page(known: &KnownMedia, page: &[u8], other: &Paper) -> Option<Paper>
     ensures { result ≡ told (known_paper known.now) other.now (page_head page.now) }
 {
@@ -136,7 +136,7 @@ fn named_paper(known: &KnownMedia, head: &[u8]) -> Option<Paper>
     known.paper_of(medium_name(head)?)
 }
 
-/// The paper that a page's box gives, in the comments after its first line, where this one would be taken without it.
+/// The paper that a page's box gives, in the comments after its first line. `other` is the one used without a box.
 fn boxed_paper(head: &[u8], other: &Paper) -> Option<Paper>
     ensures { result ≡ option_and_then (paper_of_box_at other.now)
         (comment_fields (codes "%%PageBoundingBox") (head_of (length head.now) head.now)) }

@@ -1,4 +1,4 @@
-//! Papers that count as one, since programs round the sizes of one paper differently.
+//! Papers that count as equal, since programs round the sizes of one paper differently.
 ghost use Rattle.std.specs.Prelude.{◌≡◌, ℕ, suc, ◌++◌, IfOk, OnOk};
 ghost use Rattle.papers.specs.AsOne.{merge_near_sizes as counted_as_one, first_instead_of as first_instead, is_used as is_paper_used};
 ghost use Rattle.papers.specs.AsOne.{apart_from, is_larger as is_larger_than, kind_of as kind_made, kinds as kinds_with, largest_of};
@@ -9,21 +9,21 @@ use crate::smallest_cover;
 use lengths::Paper;
 use std::alloc::{AllocError, Global};
 
-/// The most kinds of papers: with more, a page would take the time of all of them.
+/// The most kinds of papers. Each page is compared with all kinds, so more would take time.
 const MOST_KINDS: usize = 64;
 
-/// Papers that count as one.
+/// Papers that count as equal.
 #[derive(Clone, Copy)]
 struct PaperKind {
     /// The largest of them, to which the others are near.
     first: Paper,
-    /// The least paper that covers all of them.
+    /// The smallest paper that covers all of them.
     paper: Paper,
 }
 
-/// The papers of pages, each as the one as which it counts among those that are taken: the largest of these, the widest or of
-/// several the highest, makes a kind with all near to it, by at most 15 points on each side; then the largest that is left, up to
-/// 64 kinds. A paper of a kind counts as the least that covers the kind, another one stays as it is. Refused out of memory alone.
+/// The papers of pages, with sizes that differ only by rounding made equal. The largest of the papers that are taken (the widest, and the highest of
+/// these) makes a kind with all that differ by at most 15 points on each side. Then the largest that is left makes one, up to 64 kinds. A paper of a
+/// kind becomes the smallest one that covers the kind; the others stay as they are. Refused only for lack of memory.
 pub fn merge_near_sizes(
     alloc: Global,
     taken: &[Paper],
@@ -39,7 +39,7 @@ pub fn merge_near_sizes(
     Ok(papers)
 }
 
-/// The first page's own paper, if no page has this one, or one that counts as the same.
+/// The first page's own paper, unless some page has this paper or one that counts as equal.
 pub fn first_instead_of(paper: &Paper, own: &[Paper]) -> Option<Paper>
     ensures { result ≡ first_instead paper.now own.now }
 {
@@ -49,7 +49,7 @@ pub fn first_instead_of(paper: &Paper, own: &[Paper]) -> Option<Paper>
     }
 }
 
-/// Whether a page has this paper, or one that counts as the same.
+/// Whether a page has this paper, or one that counts as equal.
 fn is_used(paper: &Paper, own: &[Paper]) -> bool
     ensures { result ≡ is_paper_used paper.now own.now }
 {
@@ -82,7 +82,7 @@ fn take_kind(kinds: &mut Vec<PaperKind>, rest: &mut Vec<Paper>) -> Result<(), Al
     Ok(())
 }
 
-/// Keeps those that aren't near to this one.
+/// Keeps the papers that aren't near to this one.
 fn keep_apart(papers: &mut Vec<Paper>, first: &Paper)
     ensures { papers.new.items ≡ apart_from first.now papers.old.items }
 {
@@ -112,7 +112,7 @@ fn is_larger(paper: &Paper, other: &Paper) -> bool
             && other.height().get() < paper.height().get())
 }
 
-/// The kind of those near to this one.
+/// The kind of the papers near to this one.
 fn kind_of(first: &Paper, papers: &[Paper]) -> PaperKind
     ensures { result ≡ kind_made first.now papers.now }
 {
@@ -128,7 +128,7 @@ fn kind_of(first: &Paper, papers: &[Paper]) -> PaperKind
     }
 }
 
-/// As which paper a paper counts.
+/// The paper as which a paper counts.
 fn paper_among(kinds: &[PaperKind], paper: &Paper) -> Paper
     ensures { result ≡ paper_in kinds.now paper.now }
 {

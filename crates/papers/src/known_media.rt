@@ -16,16 +16,15 @@ use lengths::Paper;
 use std::alloc::{AllocError, Global};
 use std::collections::BTreeMap;
 
-/// The media that pages name, by their names. Each has the paper of the first one of the header with its name, if the sides
-/// may be a paper's, once that is found. So they take memory for pages alone, however many media a header has.
+/// The media that pages name, by their names. Once it is found, each has the paper of the header's first medium of that name, if the sides may be a
+/// paper's. Memory is taken only for media that pages name, not for all of the header's.
 #[derive(Drop)]
 pub(crate) struct KnownMedia {
     papers: BTreeMap<Vec<u8>, Option<Option<Paper>>>,
 }
 
 impl KnownMedia {
-    /// Those of this document's pages, by the first `%%DocumentMedia:` among its header comments and the lines that continue
-    /// it.
+    /// The media of this document's pages, by the first `%%DocumentMedia:` of its header and the lines that continue it.
     pub(crate) fn read(
         alloc: Global,
         document: &Document<'_>,
@@ -45,7 +44,7 @@ impl KnownMedia {
         }
     }
 
-    /// Their names.
+    /// The names of these media.
     fn named(alloc: Global, document: &Document<'_>) -> Result<KnownMedia, AllocError>
         ensures { IfOk result (λ known. (k : ℕ) → k < length (pages document.now)
             → IsNameKept known (slice_index_or (pages document.now) k [])) }
@@ -73,7 +72,7 @@ impl KnownMedia {
         }
     }
 
-    /// Puts what is found at this name, in the place of what is there.
+    /// Stores the result for this name, in place of the earlier one.
     fn put(&mut self, name: Vec<u8>, found: Option<Option<Paper>>) -> Result<(), AllocError>
         ensures { OnOk result ((at : List ℕ) → found_at self.new at ≡ update bytes_eq (found_at self.old) name.items (Some found) at) }
     {
@@ -81,7 +80,7 @@ impl KnownMedia {
         Ok(())
     }
 
-    /// Finds their papers: among the first medium, and those of the lines after it that continue it.
+    /// Finds their papers: in the first medium, and in the lines that continue it.
     fn find(&mut self, alloc: Global, first: &[u8], others: &[u8]) -> Result<(), AllocError>
         ensures { OnOk result ((at : List ℕ) → found_at self.new at
             ≡ option_map (λ found. with_media at found (flat_map medium_in (first.now ∷ continued (contents others.now))))
@@ -132,7 +131,7 @@ impl KnownMedia {
         self.put(name, Some(paper))
     }
 
-    /// Whether this name is kept, and nothing found of it.
+    /// Whether this name is kept without a result yet.
     fn is_missing(&self, name: &[u8]) -> bool
         ensures { result ≡ is_not_found (found_at self.now name.now) }
     {

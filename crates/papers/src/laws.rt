@@ -4,17 +4,17 @@ ghost use Rattle.papers.specs.SetSizes.{SizeIsSet};
 ghost use Rattle.papers.specs.Found.{PapersAreFound};
 ghost use Rattle.papers.specs.AsOne.{KindsAreOfLargest, NearAreOne, NothingIsCut, OrderIsNothing};
 
-/// The lines by which sheets report their paper begin nothing.
+/// The lines by which sheets report their paper begin no part of a document.
 pub fn telling_is_tame()
     ensures { TellingIsTame }
 {}
 
-/// Each sheet begins with the page size of its own paper, if that of any of the sheets was set before.
+/// If any sheet sets its page size, each sheet begins by setting that of its own paper.
 pub fn size_is_set()
     ensures { SizeIsSet }
 {}
 
-/// In what was written of any number of sheets, each one's own paper is found, as it is printed.
+/// In the output of any number of sheets, each sheet's own paper is found as it is printed.
 pub fn papers_are_found()
     ensures { PapersAreFound }
 {}
@@ -24,7 +24,7 @@ pub fn nothing_is_cut()
     ensures { NothingIsCut }
 {}
 
-/// Papers of one kind all count as one.
+/// Papers of one kind count as equal.
 pub fn near_are_one()
     ensures { NearAreOne }
 {}
@@ -34,7 +34,7 @@ pub fn kinds_are_of_largest()
     ensures { KindsAreOfLargest }
 {}
 
-/// As which papers count doesn't depend on the order of pages, nor on how often they are taken.
+/// The paper as which a paper counts depends neither on the order of pages nor on how often they are taken.
 pub fn order_is_nothing()
     ensures { OrderIsNothing }
 {}

@@ -1,4 +1,4 @@
-//! Papers: what a document and its pages say of theirs, and which count as one.
+//! Papers: which ones a document and its pages name, and which of them count as equal.
 #![tactic(auto)]
 
 mod boxes;

@@ -14,27 +14,26 @@ use dsc::{header_len, next_field, trailer_box};
 use lengths::{Grains, Paper};
 use paper_names::paper_by_name;
 
-/// Programs' sizes of one paper may differ by 15 points.
+/// Programs may differ by 15 points in the size of one paper.
 const NEARNESS: u128 = 15 * 127_000_000_000;
 
-/// What gives the paper: a comment, or else the setup.
+/// The source of a paper: a comment, or the setup.
 #[derive(Clone, Copy, Debug, PartialEq, Eq)]
 pub enum Comment {
     /// The first `%%DocumentMedia:`.
     DocumentMedia,
-    /// The first `%%DocumentPaperSizes:`, of which a field is the name of a paper, perhaps in parentheses.
+    /// The first `%%DocumentPaperSizes:`. One of its fields is the name of a paper, perhaps in parentheses.
     DocumentPaperSizes,
     /// The first `%%BoundingBox:`.
     BoundingBox,
-    /// None: the setup asks for it, by the first `/PageSize [width height]` before the first page.
+    /// No comment: the setup asks for the paper, by the first `/PageSize [width height]` before the first page.
     Setup,
 }
 
-/// The paper of a document for which this one is usual, by its header comments (DSC 3.0, 5.2): by the width and height
-/// of its first `%%DocumentMedia:`, else by the first known name in its `%%DocumentPaperSizes:` (on its side, if the box
-/// at 0 0 has its sides exchanged, to 15 points), else by its `%%BoundingBox:`, as `paper_of_box` has it, else the paper that
-/// its setup asks for, which also goes before the usual one. A box that is `(atend)` is the first `%%BoundingBox:` of the trailer;
-/// a text with a faulty data block has no trailer.
+/// The paper of a document by its header comments (DSC 3.0, 5.2), or else the usual one. The first of these counts: width and height of the first
+/// `%%DocumentMedia:`; the first known name in `%%DocumentPaperSizes:` (on its side, if the box at 0 0 has its sides exchanged, to 15 points);
+/// `%%BoundingBox:`, by `paper_of_box`; the paper that the setup asks for. A box that is `(atend)` is the first `%%BoundingBox:` of the trailer. A
+/// text with a faulty data block has no trailer.
 pub fn document_paper(text: &[u8], usual: &Paper) -> Option<(Paper, Comment)>
     ensures { result ≡ meaning.document_paper usual.now text.now }
 {
@@ -45,7 +44,7 @@ pub fn document_paper(text: &[u8], usual: &Paper) -> Option<(Paper, Comment)>
     }
 }
 
-/// The same, by its comments alone.
+/// The same, by the comments alone.
 pub(crate) fn document_told(text: &[u8], usual: &Paper) -> Option<(Paper, Comment)>
     ensures { result ≡ meaning.document_told usual.now text.now }
 {
@@ -77,7 +76,7 @@ fn corner_paper(value: Option<&[u8]>) -> Option<Paper>
     box_paper(value?)
 }
 
-/// The paper as this box lies: on its side, if the box has its sides exchanged.
+/// The paper, on its side if this box has its sides exchanged.
 fn lying_as(told: Option<Paper>, paper: Paper) -> Paper
     ensures { result ≡ meaning.lying_as told paper }
 {
@@ -87,14 +86,14 @@ fn lying_as(told: Option<Paper>, paper: Paper) -> Paper
     }
 }
 
-/// Whether one has the sides of the other exchanged.
+/// Whether one paper has the sides of the other exchanged.
 fn has_exchanged_sides(told: &Paper, paper: &Paper) -> bool
     ensures { result ≡ (meaning.are_near told.now.width paper.now.height && meaning.are_near told.now.height paper.now.width) }
 {
     are_near(told.width(), paper.height()) && are_near(told.height(), paper.width())
 }
 
-/// Whether two sides count as one, since programs round them differently.
+/// Whether two sides count as equal, since programs round them differently.
 fn are_near(one: Grains, other: Grains) -> bool
     requires one { IsTrue (is_side one) }
     requires other { IsTrue (is_side other) }
@@ -103,7 +102,7 @@ fn are_near(one: Grains, other: Grains) -> bool
     (one.get() - other.get()).unsigned_abs() <= NEARNESS
 }
 
-/// The paper of the first known name in the first list of names among the comments, which lines may continue.
+/// The paper of the first known name in the first list of names among the comments. Lines may continue the list.
 fn named_in(header: &[u8]) -> Option<Paper>
     ensures { result ≡ meaning.paper_of_first_name_in
         (meaning.comment_values (codes "%%DocumentPaperSizes") (meaning.contents header.now)) }
@@ -129,7 +128,7 @@ fn named_behind(text: &[u8]) -> Option<Paper>
     None
 }
 
-/// The paper of the first field that is the name of one.
+/// The paper of the first field that names one.
 fn first_named(value: &[u8]) -> Option<Paper>
     ensures { result ≡ meaning.paper_of_first_name (fields_in value.now) }
 {

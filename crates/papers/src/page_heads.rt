@@ -71,8 +71,7 @@ pub fn first_name(value: &[u8]) -> Option<&[u8]>
     Some(name)
 }
 
-/// Whether a line with this content goes on with that run: a comment, the one that begins a page's setup too, but none
-/// that begins anything else.
+/// Whether a line with this content belongs to that run: a comment, including the one that begins a page's setup, but none that begins another part.
 fn is_in_head(content: &[u8]) -> bool
     ensures { result ≡ is_in_head content.now }
 {

@@ -13,7 +13,7 @@ use crate::page_heads::{behind_first_line, value_in_head};
 use dsc::{Document, header_len};
 use lengths::{Grains, Paper};
 
-/// A page's own box, and else this one, unless the page names a medium.
+/// A page's own box, or else this one, unless the page names a medium.
 fn page_box(page: &[u8], other: Option<&[u8]>) -> Option<Edges>
     ensures { result ≡ meaning.page_box (option_map (λ v. fields_in v.now) other.entry) page.now }
 {
@@ -24,7 +24,7 @@ fn page_box(page: &[u8], other: Option<&[u8]>) -> Option<Edges>
     }
 }
 
-/// This box, unless the comments name a medium: with several media it covers them all.
+/// This box, unless the comments name a medium. With several media, the document's box covers all of them.
 fn unless_medium<'t>(head: &[u8], other: Option<&'t [u8]>) -> Option<&'t [u8]>
     ensures { option_map (λ v. fields_in v.now) result ≡ meaning.unless_named
         (comment_fields (codes "%%PageMedia") (head_of (length head.now) head.now)) (option_map (λ v. fields_in v.now) other.entry) }
@@ -41,36 +41,36 @@ fn edges_if(value: Option<&[u8]>) -> Option<Edges>
     edges_of(value?)
 }
 
-/// How pages are placed.
+/// Pages with the papers by which they are placed.
 #[derive(Clone, Copy)]
 pub struct PlacedPages<'p, 'd> {
-    /// The document, which has their boxes: each page's own, and else the document's, unless the page names a medium.
+    /// The document, which has the boxes of its pages: each page's own, or else the document's, unless the page names a medium.
     pub document: &'p Document<'d>,
-    /// Which of them are taken.
+    /// Whether each page is taken.
     pub taken: &'p [bool],
     /// The papers by which they are placed.
     pub papers: &'p [Paper],
-    /// Their own papers.
+    /// The pages' own papers.
     pub own: &'p [Paper],
-    /// Whether those that their papers cut are reported apart, as `cut_by` finds them.
+    /// Whether pages that their papers cut are reported apart, as `cut_by` finds them.
     pub cut_apart: bool,
 }
 
 /// Pages that reach beyond the papers by which they are placed.
 #[derive(Clone, Copy)]
 pub struct Reach {
-    /// The first of them, counted from 0.
+    /// The first page, counted from 0.
     pub first: usize,
     /// The paper by which it is placed.
     pub paper: Paper,
-    /// How far it reaches.
+    /// The edges of its drawing.
     pub edges: Edges,
     /// The number of pages.
     pub pages: usize,
 }
 
-/// Which pages that are taken reach beyond the papers by which they are placed, by more than a point: by their boxes, and by
-/// their own papers if those are cut.
+/// The pages that are taken and reach beyond the papers by which they are placed, by more than a point. Their boxes show it, or their own papers if
+/// those are cut.
 pub fn reach_beyond(pages: &PlacedPages<'_, '_>) -> Option<Reach>
     ensures { result ≡ meaning.reach_of (meaning.placing pages.now.taken.now pages.now.own.now
         (meaning.page_boxes (bytes_of pages.now.document.now) pages.now.document.now) pages.now.cut_apart) pages.now.papers.now }
@@ -94,7 +94,7 @@ fn reach_with(pages: &PlacedPages<'_, '_>, other: Option<&[u8]>) -> Option<Reach
     reach
 }
 
-/// The same pages, and after them this one if its edges are beyond its paper.
+/// The pages so far, and this one if its edges are beyond its paper.
 fn with_if_beyond(
     reach: Option<Reach>,
     page: usize,
@@ -112,7 +112,7 @@ fn with_if_beyond(
     }
 }
 
-/// The same pages, and after them this one.
+/// The pages so far, and this one.
 fn with_reaching_page(reach: Option<Reach>, page: usize, paper: &Paper, edges: Edges) -> Reach
     requires few { IfSome reach (λ r. r.pages < usize.MAX) }
     ensures { result ≡ meaning.with_reaching_page reach (page, paper.now, edges) }
@@ -131,7 +131,7 @@ fn with_reaching_page(reach: Option<Reach>, page: usize, paper: &Paper, edges: E
     }
 }
 
-/// How far a page reaches, if it is taken.
+/// The edges to which a page reaches, if it is taken.
 fn extent_at(
     pages: &PlacedPages<'_, '_>,
     other: Option<&[u8]>,
@@ -195,7 +195,7 @@ fn paper_edges(paper: &Paper) -> Option<Edges>
     })
 }
 
-/// So much, a point, is left for rounding.
+/// The tolerance for rounding: a point.
 const ROUNDING: i128 = 127_000_000_000;
 
 /// Whether edges are beyond a paper.
@@ -206,7 +206,7 @@ fn is_beyond(paper: &Paper, edges: &Edges) -> bool
         || (is_past(paper.width(), edges.right.get()) || is_past(paper.height(), edges.top.get()))
 }
 
-/// Whether it is past this length by more than is left for rounding.
+/// Whether a place is past this length by more than the tolerance.
 fn is_past(length: Grains, grains: i128) -> bool
     ensures { result ≡ int_lt (length +ℤ meaning.rounding) grains }
 {

@@ -9,7 +9,7 @@ use crate::fields::{leading_blanks, points_of};
 use dsc::{comment_value, first_content, line_end_after, next_field};
 use lengths::Paper;
 
-/// The paper that is taken of a document without comments: the one that its setup asks for, or else the one at home.
+/// The paper of a document without comments: the one that its setup asks for, or else the one at home.
 pub(crate) fn usual_in(text: &[u8], home: &Paper) -> Paper
     ensures { result ≡ meaning.usual_in home.now text.now }
 {
@@ -35,7 +35,7 @@ pub(crate) fn set_size(text: &[u8]) -> Option<Paper>
     None
 }
 
-/// Whether a page begins with this line.
+/// Whether a line with this content begins a page.
 fn begins_page(content: &[u8]) -> bool
     ensures { result ≡ is_comment (codes "%%Page") content.now }
 {
@@ -56,7 +56,7 @@ fn size_behind(text: &[u8]) -> Option<Paper>
     two_sides(in_brackets(text)?)
 }
 
-/// What follows the first `/PageSize` of a line.
+/// The text after the first `/PageSize` of a line.
 fn behind_key(content: &[u8]) -> Option<&[u8]>
     ensures { option_map (λ text. text.now) result ≡ meaning.behind_key content.now }
 {
@@ -71,7 +71,7 @@ fn behind_key(content: &[u8]) -> Option<&[u8]>
     None
 }
 
-/// What is in the brackets that a text begins with.
+/// The text in the brackets at the start of a text.
 fn in_brackets(text: &[u8]) -> Option<&[u8]>
     ensures { option_map (λ inside. inside.now) result ≡ meaning.in_brackets text.now }
 {
@@ -83,7 +83,7 @@ fn in_brackets(text: &[u8]) -> Option<&[u8]>
     Some(inside)
 }
 
-/// The length of what is before the first closing bracket.
+/// The length of the text before the first closing bracket.
 fn open_len(text: &[u8]) -> usize
     ensures value { result ≡ meaning.open_len text.now }
     ensures within { result ≤ length text.now }

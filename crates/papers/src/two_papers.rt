@@ -1,11 +1,11 @@
-//! What is made of two papers.
+//! Calls on two papers.
 ghost use Rattle.std.specs.Prelude.{◌≡◌, IsTrue};
 ghost use Rattle.rules.specs.Papers.{is_side};
 ghost use Rattle.papers.specs.Own.{smallest_cover as covering_paper, larger as larger_side};
 
 use lengths::{Grains, Paper};
 
-/// The least paper that covers both.
+/// The smallest paper that covers both.
 pub fn smallest_cover(a: &Paper, b: &Paper) -> Paper
     ensures { result ≡ covering_paper a.now b.now }
 {

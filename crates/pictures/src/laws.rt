@@ -107,12 +107,12 @@ pub fn made_sheets_show_the_pages()
     ensures { MadeSheetsShowThePages }
 {}
 
-/// After the guard's text each of its names means what is said of it, and all else is as it was.
+/// After the guard's text each of its names means what is defined for it, and everything else is unchanged.
 pub fn guard_defines()
     ensures { GuardDefines }
 {}
 
-/// A guard does nothing where there is one.
+/// Inserting the guard again changes nothing.
 pub fn guarded_twice()
     ensures { GuardedTwice }
 {}
@@ -127,17 +127,17 @@ pub fn device_is_left()
     ensures { DeviceIsLeft }
 {}
 
-/// Elsewhere it hands on the keys that say how a printer treats its paper, and nothing else.
+/// Elsewhere it passes on only the keys that say how a printer treats its paper.
 pub fn device_is_handed()
     ensures { DeviceIsHanded }
 {}
 
-/// The papers' names that are there are made to do nothing, and no others are.
+/// The names of papers that are defined are made to do nothing; no others are added.
 pub fn papers_are_left()
     ensures { PapersAreLeft }
 {}
 
-/// A page that names a paper does nothing by that, by itself and in its place.
+/// A page that names a paper does nothing by that, neither by itself nor in its place.
 pub fn paper_is_nothing()
     ensures { PaperIsNothing }
 {}
@@ -162,12 +162,12 @@ pub fn default_is_the_pages()
     ensures { DefaultIsThePages }
 {}
 
-/// ImposeClip clips to the outlines of the page and of all pages round it.
+/// ImposeClip clips to the outlines of the page and of all pages around it.
 pub fn outer_is_kept()
     ensures { OuterIsKept }
 {}
 
-/// `initclip` clips to the page's own outline, and to those of the pages round it.
+/// `initclip` clips to the page's own outline, and to those of the pages around it.
 pub fn clip_is_the_pages()
     ensures { ClipIsThePages }
 {}
@@ -187,7 +187,7 @@ pub fn asks_userdict()
     ensures { AsksUserdict }
 {}
 
-/// And that one does what userdict's does.
+/// That procedure does what userdict's `showpage` does.
 pub fn asking_shows()
     ensures { AskingShows }
 {}
@@ -202,7 +202,7 @@ pub fn shelter_commutes()
     ensures { ShelterCommutes }
 {}
 
-/// The guard's names do to a page by itself what the operators do where nothing is round it.
+/// The guard's names do to a page by itself what the operators do without anything around them.
 pub fn by_itself_as_the_operators()
     ensures { ByItselfAsTheOperators }
 {}
@@ -217,7 +217,7 @@ pub fn guarded_sheets_are_printed()
     ensures { GuardedSheetsArePrinted }
 {}
 
-/// A machine prints of an output of a guarded document, sheet by sheet, what its pages paint by themselves, placed.
+/// Given an output of a guarded document, a machine prints, sheet by sheet, what its pages paint by themselves, placed.
 pub fn guarded_sheets_show_the_pages()
     ensures { GuardedSheetsShowThePages }
 {}
@@ -227,18 +227,17 @@ pub fn guard_is_enough()
     ensures { GuardIsEnough }
 {}
 
-/// It stays so where other names are defined.
+/// It stays so if other names are defined.
 pub fn stays_guarded()
     ensures { StaysGuarded }
 {}
 
-/// A machine prints of what impose makes of a document, sheet by sheet, what the document's pages paint by themselves,
-/// placed.
+/// Given what impose makes of a document, a machine prints, sheet by sheet, what the document's pages paint by themselves, placed.
 pub fn guarded_document_is_shown()
     ensures { GuardedDocumentIsShown }
 {}
 
-/// Sheets of one paper are reported as one, in the header alone.
+/// If all sheets have one paper, it is reported once, in the header.
 pub fn one_paper_is_told_as_one()
     ensures { OnePaperIsToldAsOne }
 {}
@@ -248,8 +247,8 @@ pub fn telling_is_quiet()
     ensures { TellingIsQuiet }
 {}
 
-/// A machine prints of what impose makes of a document on sheets that are reported as one paper, by whatever layout, what the
-/// document's pages paint by themselves, placed.
+/// Given what impose makes of a document on sheets that are reported as one paper, by whatever layout, a machine prints what the document's pages
+/// paint by themselves, placed.
 pub fn made_document_is_shown()
     ensures { MadeDocumentIsShown }
 {}
@@ -264,12 +263,12 @@ pub fn own_sheets_are_printed()
     ensures { OwnSheetsArePrinted }
 {}
 
-/// A machine prints of what impose makes of such a document, sheet by sheet, what its pages paint by themselves, placed.
+/// Given what impose makes of such a document, a machine prints, sheet by sheet, what its pages paint by themselves, placed.
 pub fn own_showpage_is_shown()
     ensures { OwnShowpageIsShown }
 {}
 
-/// And so it prints what impose makes of such a document on sheets that are reported as one paper, by whatever layout.
+/// The same holds for sheets that are reported as one paper, by whatever layout.
 pub fn own_made_document_is_shown()
     ensures { OwnMadeDocumentIsShown }
 {}
@@ -289,12 +288,12 @@ pub fn silenced_sheets_are_printed()
     ensures { SilencedSheetsArePrinted }
 {}
 
-/// A machine prints of what impose makes of such a document, sheet by sheet, what its pages paint by themselves, placed.
+/// Given what impose makes of such a document, a machine prints, sheet by sheet, what its pages paint by themselves, placed.
 pub fn silenced_document_is_shown()
     ensures { SilencedDocumentIsShown }
 {}
 
-/// And so it prints what impose makes of such a document on sheets that are reported as one paper, by whatever layout.
+/// The same holds for sheets that are reported as one paper, by whatever layout.
 pub fn silenced_made_document_is_shown()
     ensures { SilencedMadeDocumentIsShown }
 {}
@@ -304,17 +303,17 @@ pub fn guard_takes_sheets()
     ensures { GuardTakesSheets }
 {}
 
-/// It stays so where other names are defined.
+/// It stays so if other names are defined.
 pub fn stays_taking_sheets()
     ensures { StaysTakingSheets }
 {}
 
-/// A sheet of another document, placed as a page, paints its own picture, placed.
+/// Another document's sheet that is placed as a page paints its own picture, placed.
 pub fn sheet_is_placed()
     ensures { SheetIsPlaced }
 {}
 
-/// And that is the picture of its pages, each in the one place within the other.
+/// That is the picture of the sheet's pages, each with the two places combined.
 pub fn sheet_is_composed()
     ensures { SheetIsComposed }
 {}
@@ -324,12 +323,12 @@ pub fn sheets_of_sheets_are_printed()
     ensures { SheetsOfSheetsArePrinted }
 {}
 
-/// A machine prints of what impose makes of a run's output the sheets of that run, placed.
+/// Given what impose makes of a run's output, a machine prints the sheets of that run, placed.
 pub fn two_runs_are_shown()
     ensures { TwoRunsAreShown }
 {}
 
-/// And so it prints two runs that make sheets by whatever layouts, and add no lines but comments.
+/// The same holds for two runs that make sheets by whatever layouts, and add only comments.
 pub fn two_made_runs_are_shown()
     ensures { TwoMadeRunsAreShown }
 {}

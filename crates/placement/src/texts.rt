@@ -17,7 +17,7 @@ use pagespec::Item;
 use std::alloc::AllocError;
 use std::marker::Model;
 
-/// A coordinate of a path, in grains: a length, or what is between two.
+/// A coordinate of a path, in grains: a length, or the difference of two.
 #[derive(Clone, Copy)]
 struct Coordinate {
     grains: i128,
@@ -85,7 +85,7 @@ pub fn opening_text(
     opening_within(item, paper, border, Grains::ZERO, out)
 }
 
-/// The same with a border that is drawn so far within each edge. The clip is still to the whole paper.
+/// The same, with a border this far within each edge. The clip is still to the whole paper.
 pub fn opening_within(
     item: &Item,
     paper: &Paper,
@@ -194,7 +194,7 @@ fn append_scales(matrix: &Matrix, out: &mut Vec<u8>) -> Result<(), AllocError>
     append_scale(b" ", matrix.d, out)
 }
 
-/// The line that draws a border so far within the paper's edges, if there is one.
+/// Appends the line that draws a border this far within the paper's edges, if a border is asked for.
 #[tactic(auto, using(crate::proofs::Keeping::keeps_more))]
 fn append_border(
     paper: &Paper,
@@ -216,7 +216,7 @@ fn append_border(
     append_plain_text(b" stroke grestore\n", out)
 }
 
-/// The path so far within the paper's edges.
+/// Appends the path this far within the paper's edges.
 #[tactic(auto, using(crate::proofs::Keeping::keeps_more))]
 fn append_inner(paper: &Paper, inset: Grains, out: &mut Vec<u8>) -> Result<(), AllocError>
     ensures appended { OnOk result (out.new.items ≡ out.old.items

@@ -1,4 +1,4 @@
-//! The picture of a plan.
+//! The drawing of sheets.
 ghost use Rattle.std.specs.Prelude.{◌≡◌, ◌+◌, ◌*◌, ◌/◌, ◌<◌, ◌≤◌, ◌++◌, flat_map, length, take, OnOk, IfOk, Some, slice_get};
 ghost use Rattle.rules.specs.Made.{MadeSheet, Placed};
 ghost use Rattle.pagespec.specs.Items.{item_of};
@@ -17,9 +17,9 @@ use placement::{Matrix, matrix_of};
 use sheet_plan::{MadeSheets, PlacedSlot};
 use std::alloc::{AllocError, Global};
 
-/// A picture of these sheets, as an SVG: each sheet with its name and its paper, and on it each page under the matrix
-/// that places it: its outline, its number, counted from 1, and an arrow to its head; and above the pages these lines.
-/// There are four sheets in a row, each as large as its square allows. Of more sheets than `most` the first are drawn, and a line says how many more there are.
+/// A drawing of these sheets, as an SVG. Each sheet has its name and its paper. Each page on it is under the matrix that places it, with its outline,
+/// its number, counted from 1, and an arrow to its head. The guides are drawn above the pages. Four sheets are in a row, each as large as its square
+/// allows. If there are more sheets than `most`, the first are drawn, and a line has the number of the others.
 pub fn preview_text(
     alloc: Global,
     sheets: &MadeSheets,
@@ -37,7 +37,7 @@ pub fn preview_text(
     Ok(text)
 }
 
-/// All `count` sheets, or the first of them.
+/// Appends all `count` sheets, or the first of them.
 fn append_all(
     sheets: &MadeSheets,
     sides: Sides,
@@ -58,7 +58,7 @@ fn append_all(
     Ok(())
 }
 
-/// The beginning of a picture with the first sheets, and these.
+/// Appends the beginning of a drawing, and the first sheets.
 fn append_first(
     sheets: &MadeSheets,
     sides: Sides,
@@ -97,7 +97,7 @@ fn append_picture_start(count: u32, out: &mut Vec<u8>) -> Result<(), AllocError>
 const STYLE: &[u8] =
     b"<style>rect,line{vector-effect:non-scaling-stroke}.sheet{fill:white;stroke:black}.page{fill:lightblue;fill-opacity:.4;stroke:navy}.margin{stroke:gray;stroke-dasharray:2}.fold{stroke:red;stroke-dasharray:6}.cut{stroke:red}.note{stroke:gray}path{fill:navy}text{font:30px sans-serif;text-anchor:middle}.name{font-size:13px}</style>\n";
 
-/// On it all else is drawn.
+/// The background of a drawing.
 const GROUND: &[u8] = b"<rect width='100%' height='100%' fill='white'/>\n";
 
 /// The number of sheets that aren't drawn, below those that are.
@@ -152,7 +152,7 @@ fn append_sheet(
     Ok(())
 }
 
-/// Where the square of a sheet begins.
+/// Appends the start of the square of a sheet.
 fn append_square(sheet: u32, out: &mut Vec<u8>) -> Result<(), AllocError>
     ensures { OnOk result (out.new.items ≡ out.old.items ++ square_at sheet) }
 {
@@ -180,7 +180,7 @@ fn append_view(paper: &Paper, out: &mut Vec<u8>) -> Result<(), AllocError>
     Ok(())
 }
 
-/// The pages of a sheet.
+/// Appends the pages of a sheet.
 fn append_pages(sheets: &MadeSheets, sheet: u32, out: &mut Vec<u8>) -> Result<(), AllocError>
     requires { sheet < length sheets.now }
     ensures { OnOk result (out.new.items ≡ out.old.items ++ flat_map slot_picture (slots_at sheets.now sheet)) }
@@ -201,7 +201,7 @@ fn append_page_in_slot(placed: Option<PlacedSlot<'_>>, out: &mut Vec<u8>) -> Res
     }
 }
 
-/// A page where an item places it.
+/// Appends a page at the place that an item gives it.
 fn append_placed_page(
     page: u32,
     item: &Item,
@@ -218,7 +218,7 @@ fn append_placed_page(
     Ok(())
 }
 
-/// A group that a matrix sends where it sends points in PostScript.
+/// Appends a group under a matrix, which sends points as in PostScript.
 fn append_under(matrix: &Matrix, out: &mut Vec<u8>) -> Result<(), AllocError>
     ensures { OnOk result (out.new.items ≡ out.old.items ++ under (matrix_value matrix.now)) }
 {
@@ -238,7 +238,7 @@ fn append_under(matrix: &Matrix, out: &mut Vec<u8>) -> Result<(), AllocError>
     Ok(())
 }
 
-/// A page with its number and the way to its head.
+/// Appends a page with its number and an arrow to its head.
 fn append_page(paper: &Paper, number: u64, out: &mut Vec<u8>) -> Result<(), AllocError>
     ensures { OnOk result (out.new.items ≡ out.old.items ++ page_drawing paper.now number) }
 {
@@ -275,7 +275,7 @@ fn append_outline(kind: &[u8], paper: &Paper, out: &mut Vec<u8>) -> Result<(), A
     Ok(())
 }
 
-/// As wide and as high as a paper.
+/// Appends the width and the height of a paper.
 fn append_as_large(paper: &Paper, out: &mut Vec<u8>) -> Result<(), AllocError>
     ensures { OnOk result (out.new.items ≡ out.old.items ++ as_large paper.now) }
 {
@@ -287,7 +287,7 @@ fn append_as_large(paper: &Paper, out: &mut Vec<u8>) -> Result<(), AllocError>
     Ok(())
 }
 
-/// A part of a picture that shows nothing beyond such a paper.
+/// Appends the start of a part of a drawing that shows nothing beyond this paper.
 fn append_clip(paper: &Paper, out: &mut Vec<u8>) -> Result<(), AllocError>
     ensures { OnOk result (out.new.items ≡ out.old.items ++ clipped paper.now) }
 {
@@ -297,7 +297,7 @@ fn append_clip(paper: &Paper, out: &mut Vec<u8>) -> Result<(), AllocError>
     Ok(())
 }
 
-/// A group in which heights on this paper are counted the other way round.
+/// Appends a group in which heights on this paper are counted from below.
 fn append_flip(paper: &Paper, out: &mut Vec<u8>) -> Result<(), AllocError>
     ensures { OnOk result (out.new.items ≡ out.old.items ++ flipped paper.now) }
 {
@@ -307,7 +307,7 @@ fn append_flip(paper: &Paper, out: &mut Vec<u8>) -> Result<(), AllocError>
     Ok(())
 }
 
-/// The name and the paper of a sheet, and the end of its square.
+/// Appends the name and the paper of a sheet, and the end of its square.
 fn append_caption(
     sides: Sides,
     sheet: u32,

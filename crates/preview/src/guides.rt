@@ -1,11 +1,11 @@
-//! Lines on sheets.
+//! Lines on drawn sheets.
 ghost use Rattle.std.specs.Prelude.{◌≡◌, ◌++◌, OnOk};
 ghost use Rattle.preview.specs.Guides.{guide_picture, guides_picture, kind_name as name_of_kind};
 
 use lengths::{Grains, print_points};
 use std::alloc::AllocError;
 
-/// Why a line is drawn: it shows the margin that is kept free, or a sheet is folded there, or cut, or notes are written on it.
+/// The meaning of a line: the edge of the margin, a fold, a cut, or a line for notes.
 #[derive(Clone, Copy, Debug, PartialEq, Eq)]
 pub enum GuideKind {
     Margin,
@@ -14,7 +14,7 @@ pub enum GuideKind {
     Note,
 }
 
-/// A line on a sheet, from a point to another one: how far each is from the left edge, and from the lower one.
+/// A line on a sheet between two points, each given by its distances from the left and the lower edge.
 #[derive(Clone, Copy, Debug, PartialEq, Eq)]
 pub struct Guide {
     pub kind: GuideKind,
@@ -50,7 +50,7 @@ fn append_guide(guide: &Guide, out: &mut Vec<u8>) -> Result<(), AllocError>
     Ok(())
 }
 
-/// The style that a line has.
+/// The style of a line of this kind.
 fn kind_name(kind: GuideKind) -> &'static [u8]
     ensures { result.now ≡ name_of_kind kind }
 {

@@ -1,4 +1,4 @@
-//! A look at sheets before they are imposed: the text of their plan, and a picture of it.
+//! A look at sheets before they are imposed: the list of their plan, and a drawing.
 #![tactic(auto)]
 
 mod drawing;

@@ -1,4 +1,4 @@
-//! The text of a plan.
+//! The list of a plan.
 ghost use Rattle.std.specs.Prelude.{◌≡◌, ◌+◌, ◌*◌, ◌/◌, ◌%◌, ◌<◌, ◌≤◌, ◌-◌, ◌++◌, length, OnOk, IfOk};
 ghost use Rattle.sheet_plan.specs.OfSheets.{placed_of, slots_at};
 ghost use Rattle.preview.specs.Listing.{back_text, blank_in, blanks_of, blanks_on, edge_line, edge_name as name_of_edge, flip_text};
@@ -12,12 +12,11 @@ use crate::ways::append_ways;
 use sheet_plan::{MadeSheets, PlacedSlot};
 use std::alloc::{AllocError, Global};
 
-/// The text of a plan of these sheets: for each sheet, or for each leaf if they are printed on both sides, a line with the
-/// pages in its places, counted from 1, row by row as one holds the sheet for them to be upright; then a line that says how
-/// many sheets, leaves and blank places there are; one that names the edge on which leaves are flipped; and one for each way
-/// in which pages lie on sheets, with their papers and the scale. Of more sheets or leaves than `most` the first half of that many
-/// and the last are listed, and between them a line says how many are left out. Of more than 16 ways a last line is for
-/// the others.
+/// The list of these sheets. Each sheet, or each leaf if sheets are printed on both sides, has a line with the pages in its places, counted from 1,
+/// row by row, with the sheet held so that they are upright. Then come a line with the numbers of sheets, leaves and blank places; one with the edge
+/// on which leaves are flipped; and one for each way in which pages lie on sheets, with papers and scale. If there are more sheets or leaves than
+/// `most`, the first half of that many and the last are listed, with the number of the others between them. If there are more than 16 ways, a last
+/// line is for the others.
 pub fn plan_text(
     alloc: Global,
     sheets: &MadeSheets,
@@ -35,7 +34,7 @@ pub fn plan_text(
     Ok(text)
 }
 
-/// The number of lines of this number of sheets.
+/// The number of lines for this number of sheets.
 fn row_count(sides: Sides, sheets: u32) -> u32
     ensures { result ≡ row_count_of sides sheets }
 {
@@ -45,7 +44,7 @@ fn row_count(sides: Sides, sheets: u32) -> u32
     }
 }
 
-/// The lines of all `count` sheets, or of the first and the last ones.
+/// Appends the lines of all `count` sheets, or of the first and the last ones.
 fn append_shortened(
     sheets: &MadeSheets,
     reading: &Reading,
@@ -69,7 +68,7 @@ fn append_shortened(
     Ok(())
 }
 
-/// The lines from one up to another.
+/// Appends the lines from one up to another.
 fn append_rows(
     sheets: &MadeSheets,
     reading: &Reading,
@@ -166,7 +165,7 @@ fn append_back(
     Ok(())
 }
 
-/// The line in the place of `count` others.
+/// Appends the line in place of `count` others.
 fn append_left_out(count: u32, out: &mut Vec<u8>) -> Result<(), AllocError>
     ensures { OnOk result (out.new.items ≡ out.old.items ++ left_out_line count) }
 {
@@ -195,7 +194,7 @@ fn append_totals(
     Ok(())
 }
 
-/// The number of leaves that these sheets are, if they are printed on both sides.
+/// Appends the number of leaves of these sheets, if they are printed on both sides.
 fn append_leaves(sides: Sides, sheets: u32, out: &mut Vec<u8>) -> Result<(), AllocError>
     ensures { OnOk result (out.new.items ≡ out.old.items ++ leaves_text sides sheets) }
 {
@@ -209,7 +208,7 @@ fn append_leaves(sides: Sides, sheets: u32, out: &mut Vec<u8>) -> Result<(), All
     Ok(())
 }
 
-/// On which edge leaves are flipped.
+/// Appends the edge on which leaves are flipped.
 fn append_flip(sides: Sides, out: &mut Vec<u8>) -> Result<(), AllocError>
     ensures { OnOk result (out.new.items ≡ out.old.items ++ flip_text sides) }
 {
@@ -219,7 +218,7 @@ fn append_flip(sides: Sides, out: &mut Vec<u8>) -> Result<(), AllocError>
     }
 }
 
-/// That it is this edge.
+/// Appends this edge.
 fn append_flip_edge(flip: Edge, out: &mut Vec<u8>) -> Result<(), AllocError>
     ensures { OnOk result (out.new.items ≡ out.old.items ++ edge_line flip) }
 {

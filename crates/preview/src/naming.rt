@@ -1,4 +1,4 @@
-//! How sheets are numbered and named.
+//! The numbers and names of sheets.
 ghost use Rattle.std.specs.Prelude.{◌≡◌, ◌<◌, ◌++◌, OnErr, OnOk, IfOk, decimal, length, vec_len, vec_capacity, ◌+◌};
 ghost use Rattle.preview.specs.Naming.{face_text, side_name, size_in_points};
 
@@ -14,15 +14,15 @@ pub enum Edge {
     Long,
 }
 
-/// How sheets are printed: on one side of the paper; or on both sides, each two sheets as the front and the back of a
-/// leaf, by a printer that flips it on this edge.
+/// How sheets are printed: on one side of the paper, or on both sides. On both sides every two sheets are the front and the back of a leaf, and the
+/// printer flips it on this edge.
 #[derive(Clone, Copy, Debug, PartialEq, Eq)]
 pub enum Sides {
     One,
     Both { flip: Edge },
 }
 
-/// The number of sheets. More than a `u32` can count are reported as out of memory, as are their lines.
+/// The number of sheets. A number beyond `u32` is reported as out of memory, since its lines would be.
 pub(crate) fn number_of_sheets(sheets: &MadeSheets) -> Result<u32, AllocError>
     ensures value { IfOk result (λ count. count ≡ length sheets.now) }
     ensures many { OnErr result (u32.MAX < length sheets.now) }
@@ -55,7 +55,7 @@ pub(crate) fn append_sheet_name(
     Ok(())
 }
 
-/// Which face of a leaf a sheet is.
+/// The side of the leaf that a sheet is.
 fn face_of(sheet: u32) -> &'static [u8]
     ensures { result.now ≡ face_text sheet }
 {

@@ -12,8 +12,8 @@ use layouts::{FillOrder, Grid, Order, Turned, read_sides};
 use sheet_plan::{MadeSheets, PlacedSlot};
 use std::alloc::AllocError;
 
-/// Where the places of a sheet are: in the cells of a grid, in this order; or it has one place, a tile of a page that goes
-/// over sheets in rows and columns, row by row from the head, and each from the left.
+/// Where the places of a sheet are. They are in the cells of a grid, in this order; or there is one place, a tile of a page that goes over columns
+/// and rows of sheets, row by row from the head, each from the left.
 #[derive(Clone, Copy)]
 pub enum Places {
     Cells { grid: Grid, order: Order },
@@ -55,14 +55,14 @@ pub(crate) fn append_places(
 #[derive(Clone, Copy)]
 struct CellSheet<'s> {
     sheets: &'s MadeSheets,
-    /// Which of the sheets it is.
+    /// The number of the sheet.
     number: u32,
     grid: Grid,
     order: Order,
 }
 
 impl<'s> CellSheet<'s> {
-    /// The cells row by row, as one holds the sheet for its pages to be upright.
+    /// Appends the cells row by row, with the sheet held so that its pages are upright.
     fn append_cells(&self, out: &mut Vec<u8>) -> Result<(), AllocError>
         requires { self.now.number < length self.now.sheets.now }
         ensures { OnOk result (out.new.items ≡ out.old.items
@@ -74,7 +74,7 @@ impl<'s> CellSheet<'s> {
         Ok(())
     }
 
-    /// The cells of a row, and what is before it.
+    /// Appends the sign before a row, and its cells.
     fn append_row(&self, row: u32, out: &mut Vec<u8>) -> Result<(), AllocError>
         requires number { self.now.number < length self.now.sheets.now }
         requires row { row < self.now.grid.rows }
@@ -100,7 +100,7 @@ impl<'s> CellSheet<'s> {
         Ok(())
     }
 
-    /// The text of a cell, and the sign before it.
+    /// Appends the sign before a cell, and its text.
     fn append_cell(&self, row: u32, column: u32, out: &mut Vec<u8>) -> Result<(), AllocError>
         requires number { self.now.number < length self.now.sheets.now }
         requires row { row < self.now.grid.rows }
@@ -129,7 +129,7 @@ fn bar(column: u32) -> &'static [u8]
     if column == 0 { b"" } else { b" | " }
 }
 
-/// The row and the column of a cell as one reads the sheet.
+/// The row and column of a cell, as one reads the sheet.
 fn read_cell(turned: Turned, grid: Grid, row: u32, column: u32) -> (u32, u32)
     requires row { row < grid.rows }
     requires column { column < grid.columns }
@@ -144,7 +144,7 @@ fn read_cell(turned: Turned, grid: Grid, row: u32, column: u32) -> (u32, u32)
     }
 }
 
-/// Which place is in this row and this column.
+/// The place in this row and column.
 fn place_at(order: &Order, grid: Grid, row: u32, column: u32) -> u64
     requires row { row < grid.rows }
     requires column { column < grid.columns }
@@ -163,7 +163,7 @@ fn place_at(order: &Order, grid: Grid, row: u32, column: u32) -> u64
     }
 }
 
-/// The text of the place with this number, which the sheet may not have.
+/// Appends the text of the place with this number, if the sheet has it.
 fn append_numbered_place(
     sheets: &MadeSheets,
     sheet: u32,
@@ -209,7 +209,7 @@ fn append_tile(
     Ok(())
 }
 
-/// Which tile of its page a sheet is.
+/// Appends the column and row of the tile that a sheet is.
 fn append_tile_name(grid: Grid, sheet: u32, out: &mut Vec<u8>) -> Result<(), AllocError>
     ensures { OnOk result (out.new.items ≡ out.old.items ++ tile_name grid sheet) }
 {

@@ -1,4 +1,4 @@
-//! In which ways pages lie on sheets.
+//! The ways in which pages lie on sheets.
 ghost use Rattle.std.specs.Prelude.{◌≡◌, ◌<◌, ◌++◌, ◌||◌, nat_lt, length, OnOk, IfOk, Some, slice_get};
 ghost use Rattle.std.specs.List.{fold, list_any};
 ghost use Rattle.rules.specs.Made.{MadeSheet};
@@ -15,7 +15,7 @@ use std::alloc::{AllocError, Global};
 /// The most ways that are listed.
 const MOST_TOLD: usize = 16;
 
-/// How a page lies on a sheet: their papers, and the page's scale.
+/// How a page lies on a sheet: the two papers, and the page's scale.
 #[derive(Clone, Copy, PartialEq, Eq)]
 pub(crate) struct Way {
     pub(crate) page: Paper,
@@ -48,7 +48,7 @@ fn append_lines(ways: &[Way], out: &mut Vec<u8>) -> Result<(), AllocError>
     Ok(())
 }
 
-/// This way. A call, so that a proof has its value by name.
+/// The way with this number. It is a function so that a proof can name its value.
 fn way_at(ways: &[Way], number: usize) -> &Way
     requires { number < length ways.now }
     ensures { slice_get ways.now number ≡ Some result.now }
@@ -56,7 +56,7 @@ fn way_at(ways: &[Way], number: usize) -> &Way
     &ways[number]
 }
 
-/// The line of a way; in place of the first that isn't listed, one for all others.
+/// Appends the line of a way; in place of the first that isn't listed, one line for all others.
 fn append_way_line(number: usize, way: &Way, out: &mut Vec<u8>) -> Result<(), AllocError>
     ensures { OnOk result (out.new.items ≡ out.old.items ++ way_line number way.now) }
 {
@@ -88,7 +88,7 @@ fn append_way(way: &Way, out: &mut Vec<u8>) -> Result<(), AllocError>
     Ok(())
 }
 
-/// The different ways in which pages lie on the first `count` sheets. One more is kept than are listed, and no others.
+/// The different ways in which pages lie on the first `count` sheets, up to one more than are listed.
 fn different_ways(alloc: Global, sheets: &MadeSheets, count: u32) -> Result<Vec<Way>, AllocError>
     requires { count ≡ length sheets.now }
     ensures { IfOk result (λ ways. ways.items ≡ ways_of sheets.now) }
@@ -147,7 +147,7 @@ fn note_slot(
     }
 }
 
-/// Adds a way, if it is none of these and fewer are kept than may be.
+/// Adds a way, unless it is there or the list is full.
 fn add_way(way: Way, ways: &mut Vec<Way>) -> Result<(), AllocError>
     ensures { OnOk result (ways.new.items ≡ with_way ways.old.items way) }
 {
@@ -158,7 +158,7 @@ fn add_way(way: Way, ways: &mut Vec<Way>) -> Result<(), AllocError>
     Ok(())
 }
 
-/// Whether as many are kept as may be, or one of them is the same.
+/// Whether the list is full or has this way.
 fn is_full_or_there(ways: &[Way], way: &Way) -> bool
     ensures { result ≡ (nat_lt most_ways (length ways.now) || list_any (is_same_way way.now) ways.now) }
 {

@@ -1,5 +1,4 @@
-//! The program: it reads a document and writes its sheets, each from or to a file that the command line names, or the
-//! standard one.
+//! The program: it reads a document and writes its sheets. The command line names both files, or they are the standard streams.
 #![tactic(auto)]
 
 use pstops_cli::{CommandFault, Fault, fault_line, pstops};

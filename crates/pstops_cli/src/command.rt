@@ -1,4 +1,4 @@
-//! What the words after the program's name ask for.
+//! The request that the words after the program's name make.
 ghost use Rattle.std.specs.Prelude.{◌≡◌, IfOk, IfErr, codes, is_some, map, true, string_bytes};
 ghost use Rattle.clap.specs.Words.{first_value, found_of, matches_of, one_of, rows_of, rule_of};
 ghost use Rattle.imposer.specs.Workers.{AreWorkers};
@@ -22,9 +22,9 @@ use std::alloc::{AllocError, Global};
 pub struct Request {
     /// The page specification, as it was written.
     pub spec: String,
-    /// The file that is read; standard input if there is none.
+    /// The input file; None for standard input.
     pub infile: Option<String>,
-    /// The file that is written; standard output if there is none.
+    /// The output file; None for standard output.
     pub outfile: Option<String>,
     /// The other options of a run.
     pub options: Options,
@@ -37,9 +37,9 @@ pub struct Request {
 pub enum CommandFault {
     /// The command doesn't take the words.
     BadWords,
-    /// A paper is named that there isn't.
+    /// The paper has an unknown name.
     UnknownPaper,
-    /// The value of the option with this letter is no length that it takes.
+    /// The value of the option with this letter isn't a length that it takes.
     BadLength(char),
     /// There was no memory for the request.
     NoMemory,
@@ -53,20 +53,18 @@ impl From<AllocError> for CommandFault {
     }
 }
 
-/// The request that the words after the program's name make:
-/// `[-q] [-s sides] [-p paper] [-w W] [-h H] [-d width] [-j preparers] [-k imposers] SPECS [INFILE [OUTFILE]]`, as in
-/// pstops(1) but for `-j` and `-k`, and for `-s`, which is that of psbook(1).
+/// The request that the words after the program's name make: `[-q] [-s sides] [-p paper] [-w W] [-h H] [-d width] [-j preparers] [-k imposers] SPECS
+/// [INFILE [OUTFILE]]`. The options are those of pstops(1), `-s` of psbook(1), and `-j` and `-k`.
 ///
-/// `-q` leaves the report line out, and SPECS is a page specification, which isn't looked at here. `-s` asks for
-/// signatures of so many sides, a whole number from 4 to 1,000,000; that it is a multiple of four isn't looked at here
-/// either. `-p` names the paper, which is a4 if none is named; `-w` replaces its width and `-h` its height. `-d` asks
-/// for a border of this width round each page, and a width of 0 for none. A length is a number and its unit, `pt`,
-/// `cm`, `mm` or `in`, without which it is in points. `-j` and `-k` are how many threads prepare pages and how many
-/// impose sheets: whole numbers from 1 to 16, 2 if they aren't named.
+/// `-q` leaves the report line out. SPECS is a page specification, which isn't read here. `-s` asks for signatures of this many sides, a whole number
+/// from 4 to 1,000,000; that it is a multiple of four isn't tested here. `-p` names the paper, a4 by default; `-w` replaces its width and `-h` its
+/// height. `-d` asks for a border of this width round each page; a width of 0 is none. A length is a number and its unit, `pt`, `cm`, `mm` or `in`;
+/// without a unit it is in points. `-j` and `-k` are the numbers of threads that prepare pages and that impose sheets: whole numbers from 1 to 16, 2
+/// by default.
 ///
-/// Words that the command doesn't take are `BadWords`, and so are other values of `-s`, `-j` and `-k`. Among words that
-/// it takes, a paper without a name comes first as `UnknownPaper`, then as `BadLength` the values of `-w` and `-h`,
-/// which are lengths above zero, and of `-d`, which isn't below zero, whatever their order.
+/// Words that the command doesn't take are `BadWords`, and so are other values of `-s`, `-j` and `-k`. Among accepted words an unknown paper comes
+/// first, as `UnknownPaper`. Then the values of `-w` and `-h`, which must be above zero, and of `-d`, which mustn't be negative, are `BadLength`, in
+/// whatever order the words are.
 #[tactic(auto, using(crate::proofs::SimpleCommand::pstops_is_simple))]
 pub fn read_command(alloc: Global, words: &[String]) -> Result<Request, CommandFault>
     ensures taken { IfOk result (λ _. TakesWords (map string_bytes words.now)) }
@@ -151,14 +149,14 @@ fn sides_option(matches: &ArgMatches<'_>) -> Option<u32>
     number_of(matches, "sides")
 }
 
-/// The number of workers that an argument names, 2 if it isn't there.
+/// The number of workers that an argument names; 2 without the argument.
 fn worker_count(matches: &ArgMatches<'_>, id: &str) -> u32
     ensures { result ≡ meaning.count_named (one_of id.now (rows_of (found_of matches.now))) }
 {
     number_of(matches, id).unwrap_or(2)
 }
 
-/// The command. Its own help and version options are switched off, so that their letters are free.
+/// The command. Clap's own help and version options are switched off, so their letters are free.
 fn pstops_command<'a>(alloc: Global) -> Result<Command<'a>, AllocError>
     ensures { IfOk result IsChain }
 {

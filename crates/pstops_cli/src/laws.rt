@@ -3,7 +3,7 @@ ghost use Rattle.std.specs.Prelude.{◌≡◌, true};
 ghost use Rattle.clap.specs.Words.{is_simple};
 ghost use Rattle.pstops_cli.specs.Command.{pstops};
 
-/// The command is a simple one: the words alone decide whether it takes them and what it finds among them.
+/// The command is a simple one: only the words decide whether it takes them, and which values it finds among them.
 #[tactic(auto, using(crate::proofs::SimpleCommand::pstops_is_simple))]
 pub fn the_command_is_simple()
     ensures { is_simple pstops ≡ true }

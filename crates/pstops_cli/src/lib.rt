@@ -1,4 +1,4 @@
-//! The command of pstops: what its words ask for, and which line and exit status each outcome has.
+//! The command of pstops: the request of its words, and the line and exit status of each outcome.
 #![tactic(auto)]
 
 mod command;

@@ -1,4 +1,4 @@
-//! What is said on standard error, and with which exit status the program ends.
+//! The line on standard error, and the exit status.
 ghost use Rattle.std.specs.Prelude.{◌≡◌, IfOk, string_bytes};
 ghost use Rattle.pstops_cli.specs.Messages.{command_message as text_of_command, document_message as text_of_document};
 ghost use Rattle.pstops_cli.specs.Messages.{fault_exit_status as status_of_fault, fault_message as text_of_fault};
@@ -39,7 +39,7 @@ pub fn fault_line(alloc: Global, fault: &Fault) -> Result<(u8, Vec<u8>), AllocEr
     Ok((fault_exit_status(fault), line_of(alloc, text.as_str())?))
 }
 
-/// The line of a run that finished.
+/// The report line of a finished run.
 pub(crate) fn report_line(alloc: Global, report: &Report) -> Result<Vec<u8>, AllocError>
     ensures { IfOk result (λ line. line.items ≡ program_line (text_of_report report.now)) }
 {

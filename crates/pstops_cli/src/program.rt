@@ -1,4 +1,4 @@
-//! The whole program, over the files and standard streams around it.
+//! The whole program, over a world of files and standard streams.
 ghost use Rattle.std.specs.Prelude.{◌≡◌, ◌<◌, ◌⊎◌, IfOk, IfErr, map, option_map, string_bytes};
 ghost use Rattle.std.specs.IoError.{error_kind};
 ghost use Rattle.std.specs.declared.io.ErrorKind.TheVariants.{OutOfMemory};
@@ -29,14 +29,13 @@ pub struct ExitReport<W: World> {
     pub status: u8,
     /// The line for standard error, empty if there is none.
     pub line: Vec<u8>,
-    /// The world, if no output was created in it, or the output.
+    /// The world if no output was created in it, or the output.
     pub rest: Rest<W, W::Output>,
 }
 
 /// The program: it reads the words after its name, then its input whole, creates its output, runs, and flushes.
 ///
-/// The input is closed before the output is created, so both may be one file. A file that can't be opened can't be
-/// read.
+/// The input is closed before the output is created, so both may be one file.
 pub fn pstops<R: Threads + Wait + Sync, W: World>(
     rt: &R,
     alloc: Global,
@@ -79,7 +78,7 @@ fn read<W: World>(
     }
 }
 
-/// All that the file of this name, or standard input, gives.
+/// All bytes of the file of this name, or of standard input.
 fn input_of<W: World>(
     alloc: Global,
     name: Option<&str>,
@@ -118,10 +117,10 @@ fn ended_with<W: World>(alloc: Global, fault: &Fault, rest: Rest<W, W::Output>) 
     ExitReport { status, line, rest }
 }
 
-/// The number of bytes that are written at once, if sheets are smaller.
+/// The buffer's size: sheets that are smaller are written together.
 const WRITTEN_AT_ONCE: usize = 16_384;
 
-/// Creates the output, runs the request into it, and flushes what it wrote.
+/// Creates the output, runs the request into it, and flushes it.
 fn run_in<R: Threads + Wait + Sync, W: World>(
     rt: &R,
     alloc: Global,
@@ -152,7 +151,7 @@ fn run_in<R: Threads + Wait + Sync, W: World>(
     ExitReport { status, line, rest }
 }
 
-/// Why an output couldn't be created: for want of memory, or because the world refused it.
+/// The fault of an output that couldn't be created: out of memory, or the world refused it.
 fn fault_of_creating(cause: &io::Error) -> Fault
     ensures { ((error_kind cause.now ≡ OutOfMemory) × (result ≡ faults.Run (runs.NoMemory 0)))
         ⊎ (¬ (error_kind cause.now ≡ OutOfMemory) × (result ≡ faults.Create)) }

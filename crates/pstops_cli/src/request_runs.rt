@@ -1,4 +1,4 @@
-//! The run of a request, and what is said of how it ended.
+//! The run of a request, and the line and status of its end.
 ghost use Rattle.std.specs.Prelude.{◌≡◌, ◌<◌, ◌^◌, [], false, Option, Result, IfOk, OnErr, string_bytes};
 ghost use Rattle.std.specs.Io.KnownBytes.{Appends};
 ghost use Rattle.rules.specs.Output.{output};
@@ -15,11 +15,10 @@ use std::alloc::{AllocError, Global};
 use std::sync::Wait;
 use std::thread::Threads;
 
-/// Runs a request on an input, and gives the exit status and the line for standard error, which is empty if there is
-/// none.
+/// Runs a request on an input, and returns the exit status and the line for standard error, which may be empty.
 ///
-/// The status is 0 if the run finished, and its line is then the report unless the request is quiet. If the line
-/// finds no memory it is empty and the status is 3.
+/// The status is 0 if the run finished; the line is then the report, unless the request is quiet. If there is no memory for the line, it is empty and
+/// the status is 3.
 pub fn run_request<R: Threads + Wait + Sync, S: Sink>(
     rt: &R,
     alloc: Global,
@@ -52,7 +51,7 @@ pub fn run_request<R: Threads + Wait + Sync, S: Sink>(
     }
 }
 
-/// The exit status and the line of a run that ended so.
+/// The exit status and the line of a run with this outcome.
 fn ending_of(
     alloc: Global,
     quiet: bool,

@@ -1,4 +1,4 @@
-//! What the values of the options mean.
+//! The values of the options.
 ghost use Rattle.std.specs.Prelude.{◌≡◌, option_map};
 ghost use Rattle.pstops_cli.specs.Values as meaning;
 
@@ -7,8 +7,8 @@ use command_words::border_named;
 use imposer::{Options, Workers};
 use lengths::{Paper, length_named, paper_by_name};
 
-/// The options that the values of `-p`, `-w`, `-h` and `-d` name, beside these sides of a signature and workers. The
-/// first in this order that names none is the fault.
+/// The options with these values of `-p`, `-w`, `-h` and `-d`, with these sides of a signature and these workers. The first invalid value in this
+/// order is the fault.
 pub(crate) fn options_named(
     paper: Option<&str>,
     width: Option<&str>,

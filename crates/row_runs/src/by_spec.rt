@@ -17,8 +17,8 @@ use sheet_plan::MadeSheets;
 use sheet_text::SheetExtras;
 use std::alloc::Global;
 
-/// What is imposed of a document, which was read before, by a specification: which of its pages, in signatures or not, on
-/// sheets of this paper and all of that one; and a border round each page, wider than nothing, if one is asked for.
+/// The work of a specification: the pages chosen of a document that was read before, perhaps in signatures, the paper of all pages, that of the
+/// sheets, and a border round each page if one is asked for.
 #[derive(Clone, Copy)]
 pub struct SpecJob<'j, 'd> {
     pub document: &'j Document<'d>,
@@ -31,9 +31,8 @@ pub struct SpecJob<'j, 'd> {
 }
 
 impl<'j, 'd> SpecJob<'j, 'd> {
-    /// The sheets of the specification on the row, and the lines that report their papers. What is wrong with the row is
-    /// refused first, then a limit that they pass.
-    /// Whoever creates an output plans them before: `Plan::of_sheets` refuses what is left.
+    /// The sheets of the specification on the row, and the lines that report their papers. Refused first for a fault of the row, then for a limit. A
+    /// caller that creates an output plans the sheets before: `Plan::of_sheets` refuses what is left to refuse.
     pub fn lay(&self, alloc: Global) -> Result<(MadeSheets, SheetExtras), SheetError>
         requires { IfSome self.now.signing MayBeSewn }
         ensures made { IfOk result (λ laid. AreBySpec self.now laid.0) }

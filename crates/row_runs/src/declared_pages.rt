@@ -1,4 +1,4 @@
-//! How many pages a document says that it has.
+//! The number of pages that a document declares.
 ghost use Rattle.std.specs.Prelude.{◌≡◌, ◌<◌, ◌≤◌, ◌+◌, codes, drop, length, option_map};
 ghost use Rattle.dsc.specs.Fields.{fields_in};
 ghost use Rattle.rules.specs.Units.{line_len};
@@ -11,8 +11,8 @@ use dsc::{
 use memchr::memmem::FinderRev;
 use papers::first_comment;
 
-/// The number of pages that a document declares, by the first `%%Pages:` of its header; if that is `(atend)`, by the first one
-/// after the last `%%Trailer` that is in no embedded document (DSC 3.0, 5.1).
+/// The number of pages that a document declares: by the first `%%Pages:` of its header or, if that is `(atend)`, by the first one after the last
+/// `%%Trailer` outside embedded documents (DSC 3.0, 5.1).
 pub fn declared_page_count(text: &[u8]) -> Option<usize>
     ensures { result ≡ meaning.declared_page_count text.now }
 {
@@ -20,7 +20,7 @@ pub fn declared_page_count(text: &[u8]) -> Option<usize>
     count_by(pages_field(header)?, text)
 }
 
-/// The number of pages that a field of this document's header declares.
+/// The number of pages that this field of a document's header declares.
 fn count_by(field: &[u8], text: &[u8]) -> Option<usize>
     ensures { result ≡ meaning.count_by field.now (meaning.last_lines text.now) }
 {
@@ -38,14 +38,14 @@ fn pages_field(lines: &[u8]) -> Option<&[u8]>
     first_field(pages_value(lines)?)
 }
 
-/// The first field of the first `%%Pages:` among these lines that is in no embedded document.
+/// The first field of the first `%%Pages:` among these lines, outside embedded documents.
 fn last_field(lines: &[u8]) -> Option<&[u8]>
     ensures { option_map (λ field. field.now) result ≡ meaning.first_field (meaning.pages_outside 0 (contents lines.now)) }
 {
     first_field(value_outside(lines)?)
 }
 
-/// What comes after the colon of that comment.
+/// The text after the colon of that comment.
 fn value_outside(lines: &[u8]) -> Option<&[u8]>
     ensures { option_map (λ value. fields_in value.now) result ≡ meaning.pages_outside 0 (contents lines.now) }
 {
@@ -63,7 +63,7 @@ fn value_outside(lines: &[u8]) -> Option<&[u8]>
     None
 }
 
-/// What comes after the colon, if a line with this content is a `%%Pages:` and in no embedded document.
+/// The text after the colon, if a line with this content is a `%%Pages:` outside embedded documents.
 fn value_at(depth: usize, content: &[u8]) -> Option<&[u8]>
     ensures { option_map (λ value. fields_in value.now) result ≡ meaning.pages_at depth content.now }
 {
@@ -71,7 +71,7 @@ fn value_at(depth: usize, content: &[u8]) -> Option<&[u8]>
     if depth == 0 { Some(value) } else { None }
 }
 
-/// How many embedded documents are open behind a line with this content.
+/// The number of embedded documents that are open after a line with this content.
 fn depth_behind(depth: usize, content: &[u8]) -> usize
     requires { depth < usize.MAX }
     ensures value { result ≡ meaning.depth_behind depth content.now }
@@ -104,7 +104,7 @@ fn pages_value(lines: &[u8]) -> Option<&[u8]>
     }
 }
 
-/// The text after the last `%%Trailer`; all, if there is none. It is searched for from the end, where it is in most documents.
+/// The text after the last `%%Trailer`, or all of it if there is none. The search begins at the end, where the trailer of most documents is.
 fn last_lines(text: &[u8]) -> &[u8]
     ensures { contents result.now ≡ meaning.last_lines text.now }
 {
@@ -121,7 +121,7 @@ fn last_lines(text: &[u8]) -> &[u8]
     text
 }
 
-/// Whether a line that begins the trailer begins at this byte.
+/// Whether a line that begins the trailer starts at this byte.
 fn trailer_at(text: &[u8], at: usize) -> bool
     requires { at ≤ length text.now }
     ensures { result ≡ meaning.trailer_at at text.now }
@@ -130,7 +130,7 @@ fn trailer_at(text: &[u8], at: usize) -> bool
     begins_line(text, at) && is_trailer_line(first_content(line))
 }
 
-/// Whether a line begins at this byte, which is no line feed.
+/// Whether a line starts at this byte, which is not a line feed.
 fn begins_line(text: &[u8], at: usize) -> bool
     requires { at ≤ length text.now }
     ensures { result ≡ meaning.begins_line at text.now }
@@ -142,7 +142,7 @@ fn begins_line(text: &[u8], at: usize) -> bool
     before == b'\r' || before == b'\n'
 }
 
-/// The text after the line that begins at this byte.
+/// The text after the line that starts at this byte.
 fn after_line(text: &[u8], at: usize) -> &[u8]
     requires { at ≤ length text.now }
     ensures { result.now ≡ drop (line_len (drop at text.now)) (drop at text.now) }
@@ -158,7 +158,7 @@ fn is_trailer_line(content: &[u8]) -> bool
     key_of(content) == b"%%Trailer".as_slice()
 }
 
-/// The number that digits make, or the greatest one.
+/// The value of the digits, or the greatest number.
 fn value_of_digits(field: &[u8]) -> Option<usize>
     ensures { result ≡ meaning.value_of_digits field.now }
 {

@@ -11,19 +11,19 @@ use thiserror::Error;
 /// Why a row isn't imposed, in the order of the checks.
 #[derive(Clone, Copy, Debug, PartialEq, Eq, Error)]
 pub enum SheetError {
-    /// There is no such row, never for memory.
+    /// There is no such row. Never out of memory.
     #[error(transparent)]
     Row(RowError),
-    /// A page of the row can't be placed in a cell, never for memory.
+    /// A page of the row can't be placed in a cell. Never out of memory.
     #[error(transparent)]
     Arrangement(ArrangementError),
-    /// A page of the row can't be such a poster, never for memory.
+    /// A page of the row can't be such a poster. Never out of memory.
     #[error(transparent)]
     Poster(PosterError),
-    /// The sheets can't be planned, never for memory.
+    /// The sheets can't be planned. Never out of memory.
     #[error(transparent)]
     Sheets(MadeError),
-    /// A page that is moved on a back, or turned, would have an offset of 100,000 points or more.
+    /// A page would be moved by 100,000 points or more, because it is on a back or turned.
     #[error("a page would be placed 100,000 points or more away")]
     OutOfReach,
     /// Memory was refused.
@@ -31,7 +31,7 @@ pub enum SheetError {
     NoMemory,
 }
 
-/// The name of an error of the plan.
+/// An error of the plan as one of this type.
 pub fn plan_error(error: MadeError) -> SheetError
     ensures { result ≡ of_made_plan error }
 {

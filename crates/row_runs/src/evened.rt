@@ -8,7 +8,7 @@ use layouts::ArrangementError;
 use lengths::Paper;
 use row_sheets::at_one_scale;
 
-/// The laying, with one scale for all pages of the row if that is asked for.
+/// The laying, with one scale for all pages of the row if that is requested.
 pub(crate) fn at_common_scale(
     same_scale: bool,
     laying: &Laying,

@@ -15,8 +15,7 @@ use preview::{Guide, GuideKind};
 use row_sheets::Poster;
 use std::alloc::{AllocError, Global};
 
-/// The lines of a laying: its margins, where sheets are cut between their cells, and where booklets and zines are
-/// folded; and the lines for notes that are asked for.
+/// The guides of a laying: its margins, the cuts between cells, the folds of booklets and zines, and the lines for notes that are requested.
 pub(crate) fn guides_of(
     alloc: Global,
     marks: Marks,
@@ -47,7 +46,7 @@ fn push_guides(laying: &Laying, guides: &mut Vec<Guide>) -> Result<(), AllocErro
     }
 }
 
-/// Adds the lines for notes that are asked for.
+/// Adds the lines for notes that are requested.
 fn push_notes(
     alloc: Global,
     marks: Marks,
@@ -88,7 +87,7 @@ fn note_guide(line: &Stroke) -> Guide
     }
 }
 
-/// A sheet of a poster, with its margins.
+/// A sheet of a poster with its margins.
 fn tile_room(poster: &Poster) -> Room
     requires { poster.now.edge ≤ 10_000_000_000 }
     ensures { result ≡ tile_room_of poster.now }
@@ -105,7 +104,7 @@ fn tile_room(poster: &Poster) -> Room
     }
 }
 
-/// Adds the lines of a setting, of this kind between its cells.
+/// Adds the guides of a setting; those between its cells have this kind.
 fn push_lines(kind: GuideKind, setting: &Setting, guides: &mut Vec<Guide>) -> Result<(), AllocError>
     ensures { OnOk result (guides.new.items ≡ guides.old.items ++ setting_guides kind setting.now) }
 {
@@ -114,7 +113,7 @@ fn push_lines(kind: GuideKind, setting: &Setting, guides: &mut Vec<Guide>) -> Re
     Ok(())
 }
 
-/// Adds the lines of margins, which may be nothing.
+/// Adds the guides of margins, if there are any.
 fn push_margin(room: &Room, guides: &mut Vec<Guide>) -> Result<(), AllocError>
     ensures { OnOk result (guides.new.items ≡ guides.old.items ++ margin_lines room.now) }
 {
@@ -123,7 +122,7 @@ fn push_margin(room: &Room, guides: &mut Vec<Guide>) -> Result<(), AllocError>
     Ok(())
 }
 
-/// Adds those along the edges on both sides.
+/// Adds the guides of the left and right margins.
 fn push_upright_margin(room: &Room, guides: &mut Vec<Guide>) -> Result<(), AllocError>
     ensures { OnOk result (guides.new.items ≡ guides.old.items ++ upright_margin room.now) }
 {
@@ -133,7 +132,7 @@ fn push_upright_margin(room: &Room, guides: &mut Vec<Guide>) -> Result<(), Alloc
     Ok(())
 }
 
-/// Adds those along the lower and the upper edge.
+/// Adds the guides of the lower and upper margins.
 fn push_level_margin(room: &Room, guides: &mut Vec<Guide>) -> Result<(), AllocError>
     ensures { OnOk result (guides.new.items ≡ guides.old.items ++ level_margin room.now) }
 {
@@ -189,7 +188,7 @@ fn push_level_lines(
     Ok(())
 }
 
-/// The line before one of several cells side by side.
+/// The line before cell k of several cells side by side.
 fn upright_line(kind: GuideKind, room: &Room, parts: u32, k: u32) -> Guide
     requires { k < parts }
     ensures { result ≡ upright_line_of kind room.now parts k }
@@ -198,7 +197,7 @@ fn upright_line(kind: GuideKind, room: &Room, parts: u32, k: u32) -> Guide
     upright(kind, &room.paper, x)
 }
 
-/// The line below one of several cells one above another.
+/// The line below cell k of several cells one above another.
 fn level_line(kind: GuideKind, room: &Room, parts: u32, k: u32) -> Guide
     requires { k < parts }
     ensures { result ≡ level_line_of kind room.now parts k }
@@ -207,7 +206,7 @@ fn level_line(kind: GuideKind, room: &Room, parts: u32, k: u32) -> Guide
     level(kind, &room.paper, y)
 }
 
-/// A line that is so far from the left edge.
+/// A line at this distance from the left edge.
 fn upright(kind: GuideKind, paper: &Paper, x: Grains) -> Guide
     ensures { result ≡ upright_of kind paper.now x }
 {
@@ -218,7 +217,7 @@ fn upright(kind: GuideKind, paper: &Paper, x: Grains) -> Guide
     }
 }
 
-/// A line that lies so far from the lower edge.
+/// A line at this distance from the lower edge.
 fn level(kind: GuideKind, paper: &Paper, y: Grains) -> Guide
     ensures { result ≡ level_of kind paper.now y }
 {

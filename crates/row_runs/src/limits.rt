@@ -1,4 +1,4 @@
-//! Limits that are looked at before a sheet is made.
+//! Limits that are tested before a sheet is made.
 ghost use Rattle.std.specs.Prelude.{◌≡◌, ◌<◌, ◌^◌};
 ghost use Rattle.row_runs.specs.Limits.{limit_in as limit_of_laying, limit_passed as first_passed};
 
@@ -11,8 +11,8 @@ const MOST_SLOTS: u128 = 4_096;
 
 const MOST_PLACES: u128 = 4_000_000;
 
-/// The limit of a plan that the sheets of this number of entries would pass. Only cards and posters have more places than there
-/// are entries, but for the last sheet.
+/// The limit of a plan that the sheets of this number of entries would pass. Only cards and posters have more slots than entries, apart from the last
+/// sheet.
 pub(crate) fn limit_in(laying: &Laying, entries: usize) -> Option<MadeError>
     ensures { result ≡ limit_of_laying laying.now entries }
 {
@@ -29,7 +29,7 @@ pub(crate) fn limit_in(laying: &Laying, entries: usize) -> Option<MadeError>
     }
 }
 
-/// The first limit that this number of sheets would pass, with this number of places on each.
+/// The first limit that this number of sheets would pass, with this number of slots on each.
 fn limit_passed(sheets: u128, places: u128) -> Option<MadeError>
     requires { places < 2 ^ 32 }
     ensures { result ≡ first_passed sheets places }

@@ -20,8 +20,8 @@ use preview::{Guide, plan_text, preview_text};
 use sheet_plan::{MadeError, MadeSheets, Plan};
 use std::alloc::{AllocError, Global};
 
-/// The text of the plan of the sheets that a run would impose. Of more sheets or leaves than `most` the middle is
-/// left out. What the run refuses is refused as it does.
+/// The list of the sheets that a run would impose. If there are more sheets or leaves than `most`, the middle is left out. The faults are those of
+/// the run.
 pub fn row_plan(alloc: Global, job: &RowJob<'_, '_>, most: u32) -> Result<Vec<u8>, SheetError>
     requires asked { MayBeAsked job.now.asked }
     ensures told { IfOk result (λ text. TellsPlan job.now most text.items) }
@@ -36,9 +36,8 @@ pub fn row_plan(alloc: Global, job: &RowJob<'_, '_>, most: u32) -> Result<Vec<u8
     }
 }
 
-/// The picture of the sheets that a run would impose, as an SVG, with margin, cuts, fold and lines for notes on each if they
-/// are the same.
-/// Of more sheets than `most` the first are drawn. What the run refuses is refused as it does.
+/// The drawing of the sheets that a run would impose, as an SVG. Margins, cuts, folds and lines for notes are drawn on each sheet if all sheets have
+/// the same. If there are more sheets than `most`, the first are drawn. The faults are those of the run.
 pub fn row_preview(alloc: Global, job: &RowJob<'_, '_>, most: u32) -> Result<Vec<u8>, SheetError>
     requires asked { MayBeAsked job.now.asked }
     ensures told { IfOk result (λ text. TellsPicture job.now most text.items) }
@@ -51,7 +50,7 @@ pub fn row_preview(alloc: Global, job: &RowJob<'_, '_>, most: u32) -> Result<Vec
     }
 }
 
-/// The picture of these sheets of a job.
+/// The drawing of these sheets of a job.
 fn drawn(
     alloc: Global,
     sheets: &MadeSheets,
@@ -69,7 +68,7 @@ fn drawn(
     Ok(text)
 }
 
-/// The lines on each sheet of a job.
+/// The guides on each sheet of a job.
 fn guides_for(alloc: Global, job: &RowJob<'_, '_>) -> Result<Vec<Guide>, AllocError>
     requires { MayBeAsked job.now.asked }
     ensures { IfOk result (λ guides. guides.items ≡ guides_on job.now) }

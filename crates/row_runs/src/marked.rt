@@ -7,9 +7,8 @@ use dressing::{Marks, Stroke, cut_marks, fold_marks, note_lines, outer_cut_marks
 use layouts::Setting;
 use std::alloc::{AllocError, Global};
 
-/// The strokes on each sheet of a laying, of the marks that are asked for. A laying that isn't folded has no fold marks,
-/// and one that isn't cut no cut marks; pages as they are, zines and posters have none. Lines for notes are on sheets whose cells
-/// are filled in turn.
+/// The requested strokes on each sheet of a laying. Only layings that are folded have fold marks, and only those that are cut have cut marks. Pages
+/// as they are, zines and posters have none. Lines for notes are on sheets whose cells are filled in turn.
 pub(crate) fn strokes_of(
     alloc: Global,
     marks: Marks,
@@ -43,7 +42,7 @@ fn booklet_strokes(
     Ok(strokes)
 }
 
-/// The cut marks, and then the lines for notes.
+/// The cut marks, then the lines for notes.
 fn cut_and_ruled(alloc: Global, marks: Marks, setting: &Setting) -> Result<Vec<Stroke>, AllocError>
     ensures { IfOk result (λ strokes. strokes.items ≡ cut_of marks.cut setting.now ++ ruled_of marks.ruled setting.now) }
 {

@@ -19,8 +19,7 @@ use sheet_plan::MadeSheets;
 use sheet_text::Numbers;
 use std::alloc::{AllocError, Global};
 
-/// The numbers asked for of a document with this number of pages, if any are. On backs they are moved as their pages are, if
-/// they can be.
+/// The requested numbers for a document with this number of pages. On backs they are moved with their pages, if the places can be written.
 pub(crate) fn numbers_on(
     alloc: Global,
     pages: u32,
@@ -55,7 +54,7 @@ pub(crate) fn numbers_on(
     }))
 }
 
-/// The sheets that are asked for, with each page named by its place in the row.
+/// The requested sheets, with each page named by its place in the row.
 fn places_of(
     alloc: Global,
     pages: u32,
@@ -95,7 +94,7 @@ fn named_places(alloc: Global, row: &[Option<u32>]) -> Result<Vec<Option<u32>>, 
     Ok(places)
 }
 
-/// An entry of the row with its page named so.
+/// An entry of the row, with its page named by its place.
 fn named_at(row: &[Option<u32>], place: u32) -> Option<u32>
     requires { place < length row.now }
     ensures { (entry : Option ℕ) → slice_get row.now place ≡ Some entry → result ≡ place_named place entry }
@@ -106,7 +105,7 @@ fn named_at(row: &[Option<u32>], place: u32) -> Option<u32>
     }
 }
 
-/// The papers of its pages, in their order.
+/// The papers of the row's pages, in order.
 fn papers_on_row(
     alloc: Global,
     papers: &[Paper],
@@ -131,7 +130,7 @@ fn entry_paper(papers: &[Paper], other: &Paper, entry: Option<u32>) -> Paper
     }
 }
 
-/// The paper of sheets, which pages have whose own isn't known.
+/// The paper of the sheets, used for pages whose own paper isn't known.
 fn sheet_paper(laying: &Laying) -> &Paper
     ensures { result.now ≡ sheet_paper_of laying.now }
 {
@@ -142,7 +141,7 @@ fn sheet_paper(laying: &Laying) -> &Paper
     }
 }
 
-/// How far the foot of a cell is below the middle of its page; none where pages are their own cells.
+/// The distance from the middle of a page down to the foot of its cell; None where pages are their own cells.
 fn below_middle(laying: &Laying) -> Option<Grains>
     ensures { result ≡ below_of laying.now }
 {

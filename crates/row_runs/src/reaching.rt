@@ -13,10 +13,10 @@ use layouts::Room;
 use pagespec::Turn;
 use sheet_plan::{MadeError, MadeSheets, PlacedSlot};
 
-/// More sheets can't be planned.
+/// The most sheets of a plan.
 const MOST_SHEETS: usize = 1_000_000;
 
-/// Whether these sheets can be moved and turned so: they are few enough to be planned, and no page comes out of reach.
+/// Whether these sheets can be moved and turned: there are few enough to be planned, and no page comes out of reach.
 pub(crate) fn check_reach(
     turn: Turn,
     swap: &Option<Room>,

@@ -1,4 +1,4 @@
-//! How the sheets of a laying are read.
+//! How the sheets of a laying are printed and read.
 ghost use Rattle.std.specs.Prelude.{◌≡◌, if◌then◌else◌};
 ghost use Rattle.layouts.specs.Cells.{held_height, held_width};
 ghost use Rattle.layouts.specs.Grids.{plain_order as order_of_one};
@@ -13,7 +13,7 @@ use lengths::Paper;
 use preview::{Edge, Places, Reading, Sides};
 use row_sheets::Poster;
 
-/// On which sides the sheets of a laying are printed, and where their places are.
+/// The sides on which the sheets of a laying are printed, and where their places are.
 pub(crate) fn reading_of(swap: &Option<Room>, laying: &Laying) -> Reading
     ensures { result ≡ reading_in swap.now laying.now }
 {
@@ -23,7 +23,7 @@ pub(crate) fn reading_of(swap: &Option<Room>, laying: &Laying) -> Reading
     }
 }
 
-/// On which sides they are printed if this room is exchanged on backs, or else as they are laid.
+/// The sides on which sheets are printed: both, if this room is exchanged on backs, or else those of the laying.
 pub(crate) fn sides_by(swap: &Option<Room>, laying: &Laying) -> Sides
     ensures { result ≡ sides_of_swapped_room swap.now laying.now }
 {
@@ -35,7 +35,7 @@ pub(crate) fn sides_by(swap: &Option<Room>, laying: &Laying) -> Sides
     }
 }
 
-/// The edge of a sheet that is as long as it is high.
+/// The edge of a sheet along its height.
 fn edge_as_printed(paper: &Paper) -> Edge
     ensures { result ≡ edge_printed paper.now }
 {
@@ -46,7 +46,7 @@ fn edge_as_printed(paper: &Paper) -> Edge
     }
 }
 
-/// Whether sheets are printed on one side, or leaves on both; and on which edge these are flipped.
+/// How sheets are printed: on one side, or on both, with the edge on which leaves are flipped.
 fn printed_sides(laying: &Laying) -> Sides
     ensures { result ≡ sides_in laying.now }
 {
@@ -64,14 +64,14 @@ fn printed_sides(laying: &Laying) -> Sides
     }
 }
 
-/// The edge on which a booklet's leaves are flipped, whose backs are turned by half or not.
+/// The edge on which a booklet's leaves are flipped, given whether backs are rotated by 180 degrees.
 fn edge_of_backs(turned: bool) -> Edge
     ensures { result ≡ (if turned then Long else Short) }
 {
     if turned { Edge::Long } else { Edge::Short }
 }
 
-/// The edge on which leaves are turned over like the page of a book, as one reads them.
+/// The edge on which leaves are turned over like the pages of a book, as one reads them.
 fn edge_at_side(setting: &Setting) -> Edge
     ensures { result ≡ edge_of setting.now }
 {
@@ -83,7 +83,7 @@ fn edge_at_side(setting: &Setting) -> Edge
     }
 }
 
-/// How wide and how high the sheet is, as one reads it.
+/// The width and height of the sheet, as one reads it.
 fn sides_read(setting: &Setting) -> (u64, u64)
     ensures width { result.0 ≡ width_read setting.now }
     ensures height { result.1 ≡ height_read setting.now }
@@ -95,7 +95,7 @@ fn sides_read(setting: &Setting) -> (u64, u64)
     }
 }
 
-/// How wide and how high it is, as one holds it for its pages to be upright.
+/// The width and height of the sheet, held so that its pages are upright.
 fn sides_held(turned: bool, paper: &Paper) -> (u64, u64)
     ensures width { result.0 ≡ held_width turned paper.now }
     ensures height { result.1 ≡ held_height turned paper.now }
@@ -108,7 +108,7 @@ fn sides_held(turned: bool, paper: &Paper) -> (u64, u64)
     }
 }
 
-/// The cells in which places are; or the tiles of a poster.
+/// The cells that are the places, or the tiles of a poster.
 fn places_of(laying: &Laying) -> Places
     ensures { result ≡ places_read laying.now }
 {
@@ -127,7 +127,7 @@ fn places_of(laying: &Laying) -> Places
     }
 }
 
-/// A sheet with one place.
+/// A grid with one cell.
 fn single() -> Grid
     ensures { result ≡ single_grid }
 {
@@ -148,7 +148,7 @@ fn plain_order() -> Order
     }
 }
 
-/// The tiles of a poster. One without tiles has no sheets.
+/// The tiles of a poster. A poster without tiles has no sheets.
 fn tiles_of(poster: &Poster) -> Grid
     ensures { result ≡ tiles_in poster.now }
 {

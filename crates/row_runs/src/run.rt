@@ -36,9 +36,9 @@ pub struct RowJob<'j, 'd> {
 }
 
 impl<'j, 'd> RowJob<'j, 'd> {
-    /// The sheets that are asked for, with backs moved and pages turned, and the lines that report their papers and draw their
-    /// marks and numbers. What is wrong with the row is refused first, then a page that fits no cell. Whoever creates an output plans
-    /// them before: `Plan::of_sheets` refuses what is left.
+    /// The requested sheets, with backs moved and pages turned, and the lines that report their papers and draw their marks and numbers. Refused
+    /// first for a fault of the row, then for a page that fits no cell. A caller that creates an output plans the sheets before: `Plan::of_sheets`
+    /// refuses what is left to refuse.
     pub fn lay(&self, alloc: Global) -> Result<(MadeSheets, SheetExtras), SheetError>
         requires { MayBeAsked self.now.asked }
         ensures turned { IfOk result (λ laid. AreTurned self.now laid.0) }

@@ -1,4 +1,4 @@
-//! The sheets that are asked for.
+//! Sheets as they are requested.
 ghost use Rattle.std.specs.Prelude.{◌≡◌, ◌<◌, ◌≤◌, IfErr, IfOk, IfSome, OnOk, Ok, None, Some, length, option_map, ℕ};
 ghost use Rattle.rules.specs.Choice.{most_entries};
 ghost use Rattle.rows.specs.Sewing.{MayBeSewn, signing_of};
@@ -29,43 +29,41 @@ pub enum Laying {
     AsTheyAre { blank: Paper },
     /// Each page fitted into cells of sheets.
     InCells { setting: Setting, scheme: Scheme },
-    /// Each page over several sheets, one page after the other; a blank leaves as many sheets blank.
+    /// Each page over several sheets, one page after the other. A blank leaves as many sheets blank.
     Poster { poster: Poster },
 }
 
-/// In which cells of the sheets the entries of a row are.
+/// The cells of the sheets in which the entries of a row are.
 #[derive(Clone, Copy)]
 pub enum Scheme {
-    /// In this number of cells, from cell to cell and from sheet to sheet.
+    /// In this number of cells a sheet, from cell to cell and then from sheet to sheet.
     Grid { cells: u32 },
-    /// Each in this number of cells.
+    /// Each entry in all of this number of cells.
     Cards { cells: u32 },
-    /// In this number of cells, from sheet to sheet and from cell to cell.
+    /// In this number of cells a sheet, from sheet to sheet and then from cell to cell.
     Stack { cells: u32 },
-    /// The same on both sides of leaves, in all cells.
+    /// Like a stack on both sides of leaves, in all cells.
     Leaves,
-    /// Two entries on each side of leaves, for a row in signatures; for printers that flip a sheet about its longer edge
-    /// the backs are turned by half. Pages of a signature's innermost leaf are moved towards the fold by the creep, in
-    /// 10^-5 of a point, those of its outermost not at all, and the others in between.
+    /// Two entries on each side of leaves, for a row in signatures. For printers that flip a sheet on its long edge the backs are rotated by 180
+    /// degrees. The pages of a signature's innermost leaf are moved towards the fold by the creep, in 10^-5 of a point, those of the outermost not at
+    /// all, the others in equal steps.
     Booklet { turned_backs: bool, creep: u64 },
-    /// Eight entries on one side of each sheet, which is folded and cut: in two rows of four cells, the first of which is turned
-    /// by half.
+    /// Eight entries on one side of each sheet, to be folded and cut: two rows of four cells, the first rotated by 180 degrees.
     Zine,
 }
 
-/// A request for sheets of a document: which pages, in signatures or not, and how they are laid.
+/// A request for sheets of a document: the pages, their signatures if any, and the layout.
 #[derive(Clone, Copy)]
 pub struct SheetRequest<'t> {
     pub choice: Choice<'t>,
     pub signing: Option<Signing>,
     pub laying: Laying,
-    /// Whether all pages that are fitted into cells have the scale of the largest paper.
+    /// Whether all pages in cells have the scale of the largest paper.
     pub same_scale: bool,
 }
 
-/// The sheets that are asked for of a document, whose pages' papers are in their order. A page whose paper
-/// isn't known has the sheet's. What is wrong with the row is refused first, then the first page that fits no cell, or
-/// can't be a poster, then cards and posters that pass a limit of a plan: none of their sheets is made.
+/// The requested sheets of a document, given the papers of its pages. A page whose paper isn't known has the sheet's. Refused first for a fault of
+/// the row, then for the first page that fits no cell or can't be a poster, then for a limit that cards and posters pass before any sheet is made.
 pub fn make_sheets(
     alloc: Global,
     pages: u32,
@@ -96,7 +94,7 @@ pub fn make_sheets(
     lay_row(alloc, &laying, leaves, papers, entries)
 }
 
-/// The number of leaves of a signature of the row; none if it isn't put into signatures.
+/// The number of leaves of a signature of the row; None without signatures.
 pub(crate) fn leaves_in(signing: Option<Signing>, row: &[Option<u32>]) -> u32
     requires sewn { IfSome signing MayBeSewn }
     requires some { 0 < length row.now }
@@ -109,7 +107,7 @@ pub(crate) fn leaves_in(signing: Option<Signing>, row: &[Option<u32>]) -> u32
     }
 }
 
-/// The name of a refusal of the row.
+/// A refusal of the row as an error of this type.
 pub(crate) fn row_error(error: RowError) -> SheetError
     ensures { result ≡ of_row error }
 {
@@ -119,7 +117,7 @@ pub(crate) fn row_error(error: RowError) -> SheetError
     }
 }
 
-/// The name of a refusal of the cells.
+/// A refusal of the cells as an error of this type.
 fn arrangement_error(error: ArrangementError) -> SheetError
     ensures { result ≡ of_arrangement error }
 {
@@ -129,7 +127,7 @@ fn arrangement_error(error: ArrangementError) -> SheetError
     }
 }
 
-/// The name of a refusal of a poster.
+/// A refusal of a poster as an error of this type.
 fn poster_error(error: PosterError) -> SheetError
     ensures { result ≡ of_poster error }
 {
@@ -139,7 +137,7 @@ fn poster_error(error: PosterError) -> SheetError
     }
 }
 
-/// The row on sheets; if it is in signatures, each has this number of leaves.
+/// The row on sheets. A signature, if there are any, has this number of leaves.
 pub(crate) fn lay_row(
     alloc: Global,
     laying: &Laying,
@@ -175,7 +173,7 @@ pub(crate) fn lay_row(
     }
 }
 
-/// Why a row isn't laid whose sheets would pass this limit. A page that has no place is reported before it.
+/// Why a row whose sheets would pass this limit isn't laid. A page without a place is reported first.
 fn over_limit(
     laying: &Laying,
     papers: &[Paper],

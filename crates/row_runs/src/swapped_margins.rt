@@ -1,4 +1,4 @@
-//! Sheets that are printed on both sides, fronts and backs in turn: on backs left and right margins are exchanged.
+//! Sheets that are printed on both sides, fronts and backs in turn, with left and right margins exchanged on backs.
 ghost use Rattle.std.specs.Prelude.{◌≡◌, ◌^◌, ◌≤◌, IfOk, IfSome, is_some, length, nat_abs, true};
 ghost use Rattle.rules.specs.Run.{most_sheets};
 ghost use Rattle.rules.specs.Specification.{Upright};
@@ -13,7 +13,7 @@ use pagespec::{Item, Turn};
 use sheet_plan::MadeSheets;
 use std::alloc::{AllocError, Global};
 
-/// The room of a laying's cells, if it is to be exchanged on backs.
+/// The room of a laying's cells, if it is exchanged on backs.
 pub(crate) fn swapped_room_in(swapped: bool, laying: &Laying) -> Option<Room>
     ensures { result ≡ meaning.swapped_room_in swapped laying.now }
 {
@@ -23,7 +23,7 @@ pub(crate) fn swapped_room_in(swapped: bool, laying: &Laying) -> Option<Room>
     }
 }
 
-/// The same sheets with left and right exchanged on backs.
+/// The same sheets, with left and right margins exchanged on backs.
 pub(crate) fn swapped_sheets(
     alloc: Global,
     swap: &Option<Room>,
@@ -36,15 +36,14 @@ pub(crate) fn swapped_sheets(
     turned_sheets(alloc, Turn::None, swap, sheets)
 }
 
-/// Only backs, which are every second sheet, are moved into the exchanged room.
+/// The room that is exchanged on this sheet: only backs, every second sheet, are moved.
 pub(crate) fn swapped_room_on(swap: &Option<Room>, sheet: u32) -> Option<Room>
     ensures { result ≡ meaning.swapped_room_on swap.now sheet }
 {
     if sheet % 2 == 1 { *swap } else { None }
 }
 
-/// The item by which a page is placed once it is moved from this room into the exchanged one, if there is one and the offset can
-/// be written.
+/// The item of a page that is moved from this room into the exchanged one. None if the offset can't be written. Without a room the item stays.
 pub(crate) fn moved_item(swap: &Option<Room>, item: &Item) -> Option<Item>
     ensures value { IfSome result (λ moved. item_of moved ≡ meaning.moved_item swap.now (item_of item.now)) }
     ensures near { is_some result ≡ is_moved_near swap.now (item_of item.now) }
@@ -61,7 +60,7 @@ pub(crate) fn moved_item(swap: &Option<Room>, item: &Item) -> Option<Item>
     }
 }
 
-/// How far it is to the right from a room to the exchanged one.
+/// The distance to the right from a room to the exchanged one.
 fn swap_shift(room: &Room) -> i64
     ensures value { result ≡ meaning.swap_shift room.now }
     ensures in_range { nat_abs result ≤ 10 ^ 17 }

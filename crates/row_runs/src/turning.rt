@@ -17,7 +17,7 @@ use pagespec::{Item, Measure, Turn};
 use sheet_plan::{MadeSheets, MadeSlot, PlacedSlot};
 use std::alloc::{AllocError, Global};
 
-/// The paper that a page has once it is turned: by a quarter its sides are exchanged.
+/// The paper of a page once it is turned: a quarter turn exchanges its sides.
 pub fn turned_paper(turn: Turn, paper: &Paper) -> Paper
     ensures { result ≡ meaning.turned_paper (turn_of turn) paper.now }
 {
@@ -27,7 +27,7 @@ pub fn turned_paper(turn: Turn, paper: &Paper) -> Paper
     }
 }
 
-/// The papers that pages have once they are turned.
+/// The papers of pages once they are turned.
 pub fn turned_papers(
     alloc: Global,
     turn: Turn,
@@ -51,8 +51,8 @@ fn all_papers(alloc: Global, turn: Turn, papers: &[Paper]) -> Result<Vec<Paper>,
     Ok(turned)
 }
 
-/// The same sheets with the pages turned, which were laid as pages of the papers that they have then. Before that what is on
-/// backs is moved from this room into the exchanged one, if there is one.
+/// The same sheets with the pages turned; they were laid as pages of the turned papers. Pages on backs are first moved from this room into the
+/// exchanged one, if there is one.
 pub(crate) fn turned_sheets(
     alloc: Global,
     turn: Turn,
@@ -89,7 +89,7 @@ fn all_sheets(
     Ok(turned)
 }
 
-/// The slots of a sheet, moved and turned, in place of those that were there.
+/// The slots of a sheet, moved and turned, in place of the earlier ones.
 fn turn_slots(
     slots: &mut Vec<MadeSlot>,
     turn: Turn,
@@ -126,7 +126,7 @@ fn turned_slot(turn: Turn, swap: &Option<Room>, slot: Option<PlacedSlot<'_>>) ->
     }
 }
 
-/// An item whose page is moved first, and then turned, if its offsets can be written.
+/// An item whose page is first moved and then turned, if its offsets can be written.
 pub(crate) fn changed_item(
     turn: Turn,
     swap: &Option<Room>,
@@ -141,7 +141,7 @@ pub(crate) fn changed_item(
     turned_item(turn, paper, &moved)
 }
 
-/// The item by which a page is placed where this one places a page of its turned paper, if its offsets can be written.
+/// The item that places a page where this one places a page of the turned paper, if its offsets can be written.
 fn turned_item(turn: Turn, paper: &Paper, item: &Item) -> Option<Item>
     ensures value { IfSome result (λ turned. item_of turned ≡ meaning.turned_item (turn_of turn) paper.now (item_of item.now)) }
     ensures near { is_some result ≡ reaching.is_turned_near (turn_of turn) paper.now (item_of item.now) }
@@ -157,7 +157,7 @@ fn turned_item(turn: Turn, paper: &Paper, item: &Item) -> Option<Item>
     })
 }
 
-/// One turn, and then another.
+/// One turn followed by another.
 fn turn_sum(turn: Turn, other: Turn) -> Turn
     ensures { turn_of result ≡ meaning.turn_sum (turn_of turn) (turn_of other) }
 {
@@ -169,7 +169,7 @@ fn turn_sum(turn: Turn, other: Turn) -> Turn
     }
 }
 
-/// A quarter turn more to the left.
+/// The turn with a further quarter to the left.
 fn quarter_left(turn: Turn) -> Turn
     ensures { turn_of result ≡ meaning.quarter_left (turn_of turn) }
 {
@@ -181,7 +181,7 @@ fn quarter_left(turn: Turn) -> Turn
     }
 }
 
-/// Where the lower left corner of a page is on its turned paper, which is so wide and high.
+/// The lower left corner of a page on its turned paper, which has this width and height.
 fn turned_corner(turn: Turn, width: i64, height: i64) -> (i64, i64)
     requires width { nat_abs width ≤ 10 ^ 17 }
     requires height { nat_abs height ≤ 10 ^ 17 }
@@ -215,7 +215,7 @@ fn turned_by(turn: Turn, x: i64, y: i64) -> (i64, i64)
     }
 }
 
-/// How long a side is at this scale, in 10^-5 of a point, of which none is lost.
+/// The length of a side at this scale, in 10^-5 of a point, rounded up.
 fn scaled_length(scale: Number, side: Grains) -> i64
     requires { IsTrue (is_side side) }
     ensures value { result ≡ pos (meaning.scaled_length scale side) }
@@ -225,7 +225,7 @@ fn scaled_length(scale: Number, side: Grains) -> i64
     ((length + 1_269_999_999_999_999) / 1_270_000_000_000_000) as i64
 }
 
-/// This many 10^-5 of a point farther, if that can be written.
+/// The measure increased by this many 10^-5 of a point, if it can be written.
 pub(crate) fn shifted(by: i64, measure: Measure) -> Option<Measure>
     requires { nat_abs by ≤ 10 ^ 17 }
     ensures value { IfSome result (λ moved. measure_of moved ≡ meaning.shifted by (measure_of measure)) }

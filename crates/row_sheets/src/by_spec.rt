@@ -25,8 +25,8 @@ pub struct SpecOnRow<'s> {
     pub page: Paper,
 }
 
-/// The sheets of a specification on a row: the places that its items name are entries of the row. Sheets or slots of which
-/// there would be more than a plan may have are refused before any memory is asked for.
+/// The sheets of a specification on a row: its items name entries of the row. If there would be more sheets or slots than a plan may have, they are
+/// refused before any memory is asked for.
 pub fn spec_sheets(alloc: Global, on: &SpecOnRow<'_>) -> Result<MadeSheets, MadeError>
     ensures made { IfOk result (λ made. made ≡ by_spec on.now.spec.now on.now.sheet on.now.page on.now.row.now) }
     ensures few { IfOk result AreFew }
@@ -75,7 +75,7 @@ fn slots_per_block(groups: &[Vec<Item>]) -> u128
     slots
 }
 
-/// Puts the sheets of a block after the others.
+/// Adds the sheets of a block.
 fn push_block(
     alloc: Global,
     made: &mut MadeSheets,
@@ -95,7 +95,7 @@ fn push_block(
     Ok(())
 }
 
-/// The slots of a group in place of those that were there.
+/// The slots of a group, in place of the earlier ones.
 fn fill_sheet(
     slots: &mut Vec<MadeSlot>,
     on: &SpecOnRow<'_>,

@@ -1,4 +1,4 @@
-//! Whether the pages of a row can be laid, looked at without a sheet being made.
+//! Tests whether the pages of a row can be laid, without making a sheet.
 ghost use Rattle.std.specs.Prelude.{◌≡◌, ◌<◌, IfErr, OnOk, Some, ℕ};
 ghost use Rattle.rules.specs.Signatures.{entry_of};
 ghost use Rattle.layouts.specs.Cells.{size};
@@ -11,8 +11,7 @@ use crate::selecting::paper_or;
 use layouts::{ArrangementError, Setting};
 use lengths::Paper;
 
-/// Whether each page of the row has its place in a cell; a page whose paper isn't known has the sheet's. The first page that
-/// has none is reported.
+/// Tests that each page of the row has a place in a cell. A page whose paper isn't known has the sheet's. The first page without a place is reported.
 pub fn check_cells(
     setting: &Setting,
     papers: &[Paper],
@@ -45,8 +44,7 @@ fn check_cell(
     Ok(())
 }
 
-/// Whether each page of the row can be such a poster; a page whose paper isn't known has the sheets'. The first page that
-/// can't is reported.
+/// Tests that each page of the row can be such a poster. A page whose paper isn't known has the sheets'. The first page that can't is reported.
 pub fn check_posters(
     poster: &Poster,
     papers: &[Paper],

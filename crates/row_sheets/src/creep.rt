@@ -1,5 +1,4 @@
-//! Booklets whose leaves creep: in a folded signature the inner leaves stick out, so what is on them is moved towards
-//! the fold.
+//! Booklets whose leaves creep. In a folded signature the inner leaves stick out, so their pages are moved towards the fold.
 ghost use Rattle.std.specs.Prelude.{◌≡◌, ◌+◌, ◌-◌, ◌*◌, ◌<◌, ◌≤◌, ◌+ℤ◌, ◌*ℤ◌, pos, nat_abs, IfOk, IfErr, IfSome, OnOk, Some, length};
 ghost use Rattle.std.specs.Prelude.{nat_le, slice_get, true};
 ghost use Rattle.rules.specs.Numbers.{greatest_number};
@@ -26,23 +25,22 @@ use std::alloc::Global;
 /// How far the leaves of a signature creep.
 #[derive(Clone, Copy, Debug, PartialEq, Eq)]
 pub struct Creep {
-    /// How far pages of the innermost leaf are moved towards the fold, in 10^-5 of a point. The outermost leaf stays.
+    /// The distance by which pages of the innermost leaf are moved towards the fold, in 10^-5 of a point. The outermost leaf stays.
     pub innermost: u64,
     /// The number of leaves of a signature.
     pub leaves: u32,
 }
 
-/// A side of a leaf: whether it is turned by half, and how far its pages are moved.
+/// A side of a leaf: whether it is rotated by 180 degrees, and the distance by which its pages are moved.
 #[derive(Clone, Copy)]
 struct LeafSide {
     by_half: bool,
     creep: u64,
 }
 
-/// The sides of a booklet's leaves, fronts and backs in turn, for a row that is in signature order: two entries on each
-/// side. For printers that flip a sheet about its longer edge the backs are turned by half. Each page is moved towards the
-/// fold as far as its leaf creeps, and is refused if it would cross it: the first one is reported. A page whose paper isn't
-/// known has the sheet's.
+/// The sides of a booklet's leaves, fronts and backs in turn, for a row in signature order: two entries on each side. For printers that flip a sheet
+/// on its long edge the backs are rotated by 180 degrees. Each page is moved towards the fold as its leaf creeps. The first page that would cross the
+/// fold is reported. A page whose paper isn't known has the sheet's.
 pub fn creeping_booklet_sheets(
     alloc: Global,
     setting: &Setting,
@@ -81,14 +79,14 @@ pub fn creeping_booklet_sheets(
     Ok(made)
 }
 
-/// Whether this side is turned by half.
+/// Whether this side is rotated by 180 degrees.
 fn is_half_turned(turned_backs: bool, s: u32) -> bool
     ensures { result ≡ is_turned_on turned_backs s }
 {
     turned_backs && s % 2 == 1
 }
 
-/// How far the pages of a side are moved.
+/// The distance by which the pages of a side are moved.
 fn creep_on(creep: Creep, s: u32) -> u64
     ensures { result ≡ creep_on_side creep.innermost creep.leaves s }
 {
@@ -99,7 +97,7 @@ fn creep_on(creep: Creep, s: u32) -> u64
     (u128::from(leaf) * u128::from(creep.innermost) / u128::from(creep.leaves - 1)) as u64
 }
 
-/// The page in a half of the same side of the leaf before, if that leaf creeps as far.
+/// The page in this half on the same side of the leaf before, if that leaf creeps as far.
 fn half_before(made: &MadeSheets, creep: Creep, s: u32, cell: u32) -> Option<PlacedSlot<'_>>
     requires sheet { s ≤ length made.now }
     requires cell { 2 ≤ s → cell < length (slots_at made.now (s - 2)) }
@@ -112,7 +110,7 @@ fn half_before(made: &MadeSheets, creep: Creep, s: u32, cell: u32) -> Option<Pla
     made.placed(s - 2, cell)
 }
 
-/// An entry of a row in a half of a side. A page of the same paper as the one before has the same item.
+/// An entry of a row in a half of a side. Its item is that of the leaf before, if the page has the same paper.
 fn creeping_slot(
     setting: &Setting,
     papers: &[Paper],
@@ -141,7 +139,7 @@ fn creeping_slot(
     Ok(MadeSlot::Placed { page, item, paper })
 }
 
-/// A page of this paper there.
+/// A page of this paper in a half of a side.
 fn creeping_item(
     setting: &Setting,
     paper: &Paper,
@@ -183,7 +181,7 @@ fn half_item(
     }
 }
 
-/// The check that a page of this paper doesn't cross the fold of a leaf that creeps so far.
+/// Tests that a page of this paper doesn't cross the fold if its leaf creeps this far.
 fn check_fold(setting: &Setting, paper: &Paper, creep: u64) -> Result<(), ArrangementError>
     requires halves { AreHalves setting.now }
     ensures possible { OnOk result
@@ -201,14 +199,14 @@ fn check_fold(setting: &Setting, paper: &Paper, creep: u64) -> Result<(), Arrang
     }
 }
 
-/// Whether there is room at the fold for a leaf to creep so far.
+/// Whether there is room at the fold for a leaf to creep this far.
 fn has_creep_room(slack: u128, gap: u64, creep: u64) -> bool
     ensures { result ≡ nat_le (2 * creep) (2 * slack + gap) }
 {
     2 * u128::from(creep).saturating_sub(slack) <= u128::from(gap)
 }
 
-/// How far up a page is moved that is moved towards the fold.
+/// The distance up by which a page is moved towards the fold.
 fn towards_fold(right_to_left: bool, by_half: bool, cell: u32, creep: u64) -> i64
     requires { creep < 10_000_000_000 }
     ensures value { result ≡ up_to_fold right_to_left by_half cell creep }
@@ -220,7 +218,7 @@ fn towards_fold(right_to_left: bool, by_half: bool, cell: u32, creep: u64) -> i6
     if by_half { -up } else { up }
 }
 
-/// A page that is moved up by a length in 10^-5 of a point; its offset is in points.
+/// An item moved up by a length in 10^-5 of a point; its offset is in points.
 fn moved_up(item: Item, by: i64) -> Item
     requires by { nat_abs by < 10_000_000_000 }
     requires reach { nat_abs ((item_of item).y.number +ℤ (pos 10_000 *ℤ by)) ≤ greatest_number }
@@ -242,7 +240,7 @@ fn moved_up(item: Item, by: i64) -> Item
     }
 }
 
-/// A length in 10^-5 of a point, in 10^-9 of a point.
+/// A length in 10^-5 of a point, converted to 10^-9 of a point.
 fn in_billionths(by: i64) -> i64
     requires { nat_abs by < 10_000_000_000 }
     ensures { result ≡ pos 10_000 *ℤ by }

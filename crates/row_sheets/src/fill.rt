@@ -24,7 +24,7 @@ use rows::entry_at;
 use sheet_plan::{MadeSheets, MadeSlot, PlacedSlot};
 use std::alloc::Global;
 
-/// In which cells the entries of a row are, one after the other.
+/// How a row fills the cells of sheets.
 #[derive(Clone, Copy, Debug, PartialEq, Eq)]
 enum CellKind {
     Grid,
@@ -42,8 +42,7 @@ struct Shape {
     cells: u32,
 }
 
-/// The row on sheets of this number of cells, from cell to cell and from sheet to sheet. A page whose paper isn't known has the
-/// sheet's.
+/// The row on sheets of this number of cells, from cell to cell and then from sheet to sheet. A page whose paper isn't known has the sheet's.
 pub fn grid_sheets(
     alloc: Global,
     setting: &Setting,
@@ -79,7 +78,7 @@ pub fn card_sheets(
     fill_cells(alloc, setting, papers, row, CellKind::Cards, cells)
 }
 
-/// A stack: the pile of sheets is cut, its parts are laid on one another, and the row runs on.
+/// A stack: if the pile of sheets is cut and its parts are laid on one another, the row runs on.
 pub fn stack_sheets(
     alloc: Global,
     setting: &Setting,
@@ -97,8 +96,7 @@ pub fn stack_sheets(
     fill_cells(alloc, setting, papers, row, CellKind::Stack, cells)
 }
 
-/// A stack of leaves that are printed on both sides: fronts and backs in turn, with each page behind its predecessor or on
-/// the next leaf.
+/// A stack of leaves that are printed on both sides: fronts and backs in turn. Each entry is on the back of the one before it, or on the next leaf.
 pub fn leaf_sheets(
     alloc: Global,
     setting: &Setting,
@@ -116,8 +114,7 @@ pub fn leaf_sheets(
     }
 }
 
-/// A zine: eight entries on one side of each sheet, which is folded thrice and cut once. Its first row of cells is turned by
-/// half.
+/// A zine: eight entries on one side of each sheet, which is folded thrice and cut once. The first row of cells is rotated by 180 degrees.
 pub fn zine_sheets(
     alloc: Global,
     setting: &Setting,
@@ -163,7 +160,7 @@ fn fill_cells(
     }
 }
 
-/// Why the cells aren't filled. The first page of the row that doesn't fit is reported, on whatever sheet it would be.
+/// Why the cells aren't filled: for the first page of the row that doesn't fit, on whatever sheet it would be.
 fn first_refusal(setting: &Setting, papers: &[Paper], row: &[Option<u32>]) -> ArrangementError
     requires { 0 < size setting.now.grid }
     ensures { IsRefusedFor (filling setting.now papers.now) row.now result }
@@ -236,7 +233,7 @@ fn filled(
     Ok(made)
 }
 
-/// The slots of the sheet after those that are made, in place of those that were there.
+/// The slots of the next sheet, in place of the earlier ones.
 fn fill_slots(
     slots: &mut Vec<MadeSlot>,
     made: &MadeSheets,
@@ -297,7 +294,7 @@ pub(crate) fn same_item(before: Option<PlacedSlot<'_>>, paper: &Paper) -> Option
     }
 }
 
-/// An entry of a row in a cell that is filled so.
+/// An entry of a row in a cell that is filled in this way.
 fn slot_by(
     setting: &Setting,
     papers: &[Paper],
@@ -322,7 +319,7 @@ fn slot_by(
     }
 }
 
-/// An entry of a row in a cell, as it lies if the whole sheet is turned by half.
+/// An entry of a row in a cell of a sheet that is rotated by 180 degrees.
 fn back_slot_in(
     setting: &Setting,
     papers: &[Paper],
@@ -343,7 +340,7 @@ fn back_slot_in(
     Ok(MadeSlot::Placed { page, item, paper })
 }
 
-/// An entry of a row in a cell. A page of the same paper as the one that was there before has the same item.
+/// An entry of a row in a cell. Its item is that of the page that was there before, if that has the same paper.
 fn slot_in(
     setting: &Setting,
     papers: &[Paper],
@@ -368,7 +365,7 @@ fn slot_in(
     Ok(MadeSlot::Placed { page, item, paper })
 }
 
-/// Which entry of the row is in this cell of this sheet.
+/// The entry of the row in this cell of this sheet.
 fn place(shape: Shape, setting: &Setting, s: u32, c: u32) -> u128
     ensures { result ≡ place_of shape setting.now s c }
 {
@@ -383,7 +380,7 @@ fn place(shape: Shape, setting: &Setting, s: u32, c: u32) -> u128
     }
 }
 
-/// Which of a zine's eight entries is in this cell of its sheet.
+/// The zine's entry, one of eight, in this cell of its sheet.
 fn zine_place(cell: u128) -> u128
     requires { cell < 4_294_967_296 }
     ensures { result ≡ place_in_zine cell }
@@ -391,7 +388,7 @@ fn zine_place(cell: u128) -> u128
     if cell < 4 { 4 - cell } else { (cell + 1) % 8 }
 }
 
-/// The cell on a front, and on a back the one that is behind it.
+/// The cell itself on a front, and on a back the cell behind it.
 fn cell_on_side(setting: &Setting, s: u32, c: u32) -> u64
     ensures { result ≡ cell_on setting.now s c }
 {
@@ -402,7 +399,7 @@ fn cell_on_side(setting: &Setting, s: u32, c: u32) -> u64
     }
 }
 
-/// The cell that is behind a cell.
+/// The cell behind a cell.
 fn cell_on_back(setting: &Setting, c: u32) -> u128
     ensures value { result ≡ behind_in setting.now c }
     ensures in_range { result < 18_446_744_073_709_551_616 }

@@ -14,7 +14,7 @@ ghost use Rattle.row_sheets.specs.SameScale.{HaveOneScale, OneScaleStands};
 ghost use Rattle.row_sheets.specs.Standing.{FilledStandsInCells};
 ghost use Rattle.row_sheets.specs.Zine.{ZineIsRead, ZineLiesInCells};
 
-/// Of all pages, in signatures or not, the sheets of a specification on their row are those of the rules.
+/// Of all pages, in signatures or not, a specification makes the sheets that the rules define.
 pub fn by_spec_on_all()
     ensures { BySpecOnAll }
 {}
@@ -34,17 +34,17 @@ pub fn cards_are_read()
     ensures { CardsAreRead }
 {}
 
-/// The sheets of a stack, cut, with the piles of their cells laid on one another, are the row.
+/// The sheets of a stack are the row once they are cut and the piles of their cells are laid on one another.
 pub fn stack_is_read()
     ensures { StackIsRead }
 {}
 
-/// The leaves of a stack that is printed on both sides, cut and laid, and read front and back, are the row.
+/// The leaves of a stack that is printed on both sides are the row once they are cut, laid and read front and back.
 pub fn leaves_are_read()
     ensures { LeavesAreRead }
 {}
 
-/// The sheets of a zine, folded, cut and read leaf by leaf, are the row.
+/// The sheets of a zine are the row once they are folded, cut and read leaf by leaf.
 pub fn zine_is_read()
     ensures { ZineIsRead }
 {}
@@ -59,52 +59,52 @@ pub fn cells_lie_behind()
     ensures { CellsLieBehind }
 {}
 
-/// The cell behind a cell is in its row, and as far from the other side.
+/// The cell behind a cell is in the same row, at the same distance from the other side.
 pub fn behind_is_mirror()
     ensures { BehindIsMirror }
 {}
 
-/// Each placed page lies on what the margin leaves of its sheet, whatever its paper.
+/// Each placed page lies within the margins of its sheet, whatever its paper.
 pub fn filled_is_inside()
     ensures { FilledIsInside }
 {}
 
-/// Two placed pages of a sheet are apart by the gap, whatever their papers.
+/// Two placed pages of a sheet are at least the gap apart, whatever their papers.
 pub fn filled_is_apart()
     ensures { FilledIsApart }
 {}
 
-/// The same of sheets that are turned by half: each placed page lies on what the margin leaves of its sheet.
+/// On sheets that are rotated by 180 degrees, too, each placed page lies within the margins.
 pub fn sides_are_inside()
     ensures { SidesAreInside }
 {}
 
-/// And two placed pages are apart by the gap.
+/// On such sheets, too, two placed pages are at least the gap apart.
 pub fn sides_are_apart()
     ensures { SidesAreApart }
 {}
 
-/// Nothing on the sides of a booklet's leaves crosses the fold, whatever the papers: it is one line for all of them.
+/// Nothing on the sides of a booklet's leaves crosses the fold, which is one line for pages of all papers.
 pub fn booklet_keeps_fold()
     ensures { BookletKeepsFold }
 {}
 
-/// The sides of a booklet of which no back is turned are a grid with two cells.
+/// The sides of a booklet without rotated backs are a grid with two cells.
 pub fn booklet_is_grid()
     ensures { BookletIsGrid }
 {}
 
-/// A page of a leaf that creeps lies where it would, moved towards the fold.
+/// A page of a leaf that creeps lies where it would without creep, moved towards the fold.
 pub fn creep_moves()
     ensures { CreepMoves }
 {}
 
-/// The outermost leaf stays, the innermost is moved by the whole creep, and each one no farther than the next one in.
+/// The outermost leaf stays, the innermost is moved by the whole creep, and each leaf is moved no farther than the next one in.
 pub fn creep_grows()
     ensures { CreepGrows }
 {}
 
-/// As long as there is room for it, no leaf that creeps crosses its fold.
+/// If there is room for the creep, no leaf crosses its fold.
 pub fn creep_keeps_sides()
     ensures { CreepKeepsSides }
 {}
@@ -114,12 +114,12 @@ pub fn no_creep_is_plain()
     ensures { NoCreepIsPlain }
 {}
 
-/// Each page of a booklet lies in its half of a leaf, in the middle of it but for its creep.
+/// Each page of a booklet lies in its half of a leaf, in the middle of it apart from its creep.
 pub fn booklet_lies_in_halves()
     ensures { BookletLiesInHalves }
 {}
 
-/// The two pages of a side are apart by the gap, less twice what the leaf creeps.
+/// The two pages of a side are at least the gap, less twice the leaf's creep, apart.
 pub fn booklet_keeps_gap()
     ensures { BookletKeepsGap }
 {}
@@ -149,62 +149,63 @@ pub fn poster_is_in_middle()
     ensures { PosterIsInMiddle }
 {}
 
-/// A poster that isn't refused has tiles, which are longer than they overlap.
+/// A poster that isn't refused has tiles, which are longer than their overlap.
 pub fn poster_has_tiles()
     ensures { PosterHasTiles }
 {}
 
-/// So each point of each page of a row of posters is shown on one of its sheets.
+/// Each point of each page in a row of posters is shown on one of the page's sheets.
 pub fn row_is_shown()
     ensures { RowIsShown }
 {}
 
-/// Pages that have their places are each fitted into its cell, and read in order.
+/// Pages that aren't refused are each fitted into a cell, and read in order.
 pub fn filled_stands_in_cells()
     ensures { FilledStandsInCells }
 {}
 
-/// With one scale for a row all its pages have that of the largest paper, the least of their own.
+/// With one scale for a row, all its pages have that of the largest paper, the least of their own.
 pub fn have_one_scale()
     ensures { HaveOneScale }
 {}
 
-/// And each lies in its cell then.
+/// With one scale, each page lies in its cell.
 pub fn one_scale_stands()
     ensures { OneScaleStands }
 {}
 
-/// With pages of one paper, the sheets of a grid are those of the specification that is arranged so.
+/// For pages of one paper, the sheets of a grid are those of the specification of the same arrangement.
 pub fn grid_is_specified()
     ensures { GridIsSpecified }
 {}
 
-/// With pages of one paper, the sides of a booklet of which no back is turned are those of the specification that is bound so.
+/// For pages of one paper, the sides of a booklet without rotated backs are those of the specification of the same binding.
 pub fn booklet_is_specified()
     ensures { BookletIsSpecified }
 {}
 
-/// The specification that is printed for a grid, read again, makes the sheets of all pages.
+/// The printed specification of a grid, read again, makes the sheets of all pages.
 pub fn printed_is_imposed()
     ensures { PrintedIsImposed }
 {}
 
-/// So does that of a booklet, flipped on its short edge.
+/// The printed specification of a booklet for the short edge, read again, makes its sheets.
 pub fn printed_booklet_is_imposed()
     ensures { PrintedBookletIsImposed }
 {}
 
-/// So does that of a booklet whose backs are turned, but for the pages that items name, which nothing is written of.
+/// The printed specification of a booklet with rotated backs, read again, makes its sheets, apart from the page numbers of items, which aren't
+/// written.
 pub fn printed_backs_are_imposed()
     ensures { PrintedBacksAreImposed }
 {}
 
-/// Of a sheet the same is written whichever pages its items name.
+/// The text of a sheet doesn't depend on the page numbers of its items.
 pub fn nothing_is_written_of_numbers()
     ensures { NothingIsWrittenOfNumbers }
 {}
 
-/// A row of pages is laid as all pages of the document that consists of them, in the same cells.
+/// A row of pages is laid out as all pages of a document with just these pages, in the same cells.
 pub fn row_is_document()
     ensures { RowIsDocument }
 {}

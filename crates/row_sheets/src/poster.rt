@@ -22,9 +22,9 @@ pub struct Poster {
     pub sheet: Paper,
     pub columns: u32,
     pub rows: u32,
-    /// Kept free along the edges of each sheet, in 10^-5 of a point.
+    /// The margin along the edges of each sheet, in 10^-5 of a point.
     pub edge: u64,
-    /// How far neighbouring sheets overlap, in 10^-5 of a point.
+    /// The overlap of neighbouring sheets, in 10^-5 of a point.
     pub overlap: u64,
 }
 
@@ -48,8 +48,7 @@ pub enum PosterError {
     NoMemory,
 }
 
-/// A page on the tiles: its scale, in 10^-9, where it begins on the first one, and how far the next ones are, in 10^-5 of a
-/// point.
+/// A page on the tiles: its scale, in 10^-9, its place on the first tile, and the distances between tiles, in 10^-5 of a point.
 #[derive(Clone, Copy, Debug, PartialEq, Eq)]
 struct PosterFit {
     scale: u64,
@@ -71,8 +70,7 @@ pub fn check_poster(poster: &Poster, page_paper: &Paper) -> Result<(), PosterErr
     Ok(())
 }
 
-/// One page over the sheets of a poster, row by row from the head, and each from the left: as large as they allow, and in
-/// the middle of them all.
+/// One page over the sheets of a poster, row by row from the head, each from the left: as large as they allow, and centred on all of them.
 pub fn poster_sheets(
     alloc: Global,
     poster: &Poster,
@@ -160,7 +158,7 @@ fn laid_on(poster: &Poster, page_paper: &Paper) -> Result<PosterFit, PosterError
     })
 }
 
-/// The part of a side between its margins, in 10^-5 of a point; the side is in grains.
+/// The part of a side, which is in grains, between its margins, in 10^-5 of a point.
 fn tile(side: u64, edge: u64) -> u64
     ensures { result ≡ tile_of side edge }
 {
@@ -177,8 +175,7 @@ fn length(tile: u64, stride: u64, tiles: u32) -> u128
     u128::from(tiles - 1) * u128::from(stride) + u128::from(tile)
 }
 
-/// The page on the tile in this column, and in this row from the foot. All pages of one paper have the same item, so that
-/// sheets keep it once.
+/// The page on the tile in this column, and in this row from the foot. Pages of one paper have the same items, so sheets store these once.
 fn tile_item(laid: &PosterFit, column: u32, row: u32) -> Item
     requires near { IsNear laid.now column row }
     requires scale { laid.now.scale ≤ greatest_number }

@@ -10,8 +10,8 @@ use lengths::Paper;
 use sheet_plan::{MadeSheets, MadeSlot};
 use std::alloc::Global;
 
-/// The pages of a row, each over the sheets of such a poster, one page after the other. A blank leaves as many sheets
-/// blank, and a page whose paper isn't known has the sheets'. The first page that can't be a poster is reported.
+/// The pages of a row, each over the sheets of such a poster, one after the other. A blank leaves as many sheets blank. A page whose paper isn't
+/// known has the sheets'. The first page that can't be a poster is reported.
 pub fn poster_row_sheets(
     alloc: Global,
     poster: &Poster,

@@ -8,8 +8,8 @@ use crate::selecting::paper_or;
 use layouts::{ArrangementError, Setting};
 use lengths::{Number, Paper};
 
-/// The cells with one scale for all pages of the row: that of the largest paper, the least of the pages' own. A page whose
-/// paper isn't known has the sheet's. The first page that has no scale of its own is reported.
+/// The cells with one scale for all pages of the row: that of the largest paper, the least of the pages' own. A page whose paper isn't known has the
+/// sheet's. The first page without a scale of its own is reported.
 pub fn at_one_scale(
     setting: &Setting,
     papers: &[Paper],
@@ -31,7 +31,7 @@ pub fn at_one_scale(
     })
 }
 
-/// The least scale with one more entry.
+/// The least scale so far, with one more entry.
 fn with_entry(
     setting: &Setting,
     papers: &[Paper],

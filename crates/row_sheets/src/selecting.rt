@@ -24,7 +24,7 @@ pub fn select(
     Ok(made)
 }
 
-/// Puts a sheet with this entry after the others.
+/// Adds a sheet with this entry.
 fn push_entry(
     made: &mut MadeSheets,
     entry: Option<u32>,
@@ -51,7 +51,7 @@ fn push_entry(
     }
 }
 
-/// The paper of a page, and another one if the page isn't there.
+/// The paper of a page, or the other one if the page isn't there.
 pub(crate) fn paper_or(papers: &[Paper], page: u32, other: &Paper) -> Paper
     ensures { result ≡ paper_of papers.now other.now page }
 {
@@ -62,7 +62,7 @@ pub(crate) fn paper_or(papers: &[Paper], page: u32, other: &Paper) -> Paper
     }
 }
 
-/// The item by which a page is placed as it is.
+/// The item that leaves a page as it is.
 fn as_it_is() -> Item
     ensures { item_of result ≡ item_as_it_is }
 {

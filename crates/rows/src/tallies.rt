@@ -12,8 +12,8 @@ use crate::found_ranges::{ResolvedRange, read_range};
 
 const MOST_ENTRIES: u64 = 1_000_000;
 
-/// Where the first range begins that the document lacks, where the first one begins that exceeds the limit of
-/// entries, and, if there is neither, the number of entries.
+/// The place of the first range with a page that the document lacks; that of the first range that exceeds the limit of entries; and, if there is
+/// neither, the number of entries.
 #[derive(Clone, Copy)]
 pub(crate) struct Tally {
     pub missing: Option<usize>,

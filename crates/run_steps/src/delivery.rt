@@ -21,24 +21,24 @@ use std::sync::Wait;
 /// The result of a delivery.
 #[derive(Debug, Drop)]
 pub struct Delivered<'d> {
-    /// By which the page is read from the shelf.
+    /// The receipt, by which the page is read from the shelf.
     pub receipt: Receipt<'d>,
-    /// Whether the page is published at the receipt's index, or kept the index that it had.
+    /// Whether the page is now published at the receipt's index, or kept an earlier index.
     pub published: Published,
     /// The answer of each mark, one for each place of the page, in order.
     pub replies: Vec<Reply>,
     /// The answer of each closing, one for each group of a wide sheet that a mark filled, in order.
     pub closings: Vec<Closing>,
-    /// The sheets that the page completed and that the queue had no room for, in order.
+    /// The sheets that the page completed and for which the queue had no room, in order.
     pub handed_back: Vec<u32>,
 }
 
-/// Why a page was not delivered. Table and queue are as they were, and so are seat and pass.
+/// Why a page was not delivered. Table, queue, seat and pass are unchanged.
 #[derive(Drop)]
 pub enum DeliverError<'d> {
-    /// A growth was refused. The shelf is as it was too, and the page comes back.
+    /// A growth was refused. The shelf is unchanged too, and the page is returned.
     NoMemory(Prepared<'d>),
-    /// The page is on the shelf, at an index past those that a receipt can name.
+    /// The page is on the shelf, at an index beyond those that a receipt can have.
     ShelfFull(Overflow<'d>),
 }
 
@@ -52,11 +52,10 @@ impl Debug for DeliverError<'_> {
     }
 }
 
-/// Puts a page on the shelf, publishes it, and marks its places in order. If a mark fills a group of a wide sheet, the
-/// group is closed next, before any other place is marked. If a mark or a closing completes a sheet, the sheet is put
-/// on the queue next. It may wait for other threads that are at the shelf or the queue.
+/// Puts a page on the shelf, publishes it, and marks its places in order. A group of a wide sheet that a mark fills is closed before the next place
+/// is marked. A sheet that a mark or a closing completes is put on the queue at once. The call may wait for other threads at the shelf or the queue.
 ///
-/// The table is one of the plan. Each growth is made before anything is called, so a refused one leaves all as it was.
+/// The table is one of the plan. All growth comes before the first call, so a refusal changes nothing.
 pub fn deliver<'d, R: Wait>(
     rt: &R,
     alloc: Global,
@@ -112,13 +111,13 @@ pub struct Delivery<'f, 'p, 't, 'd> {
     pub table: &'f GatherTable<'t>,
     pub shelf: &'f Shelf<'d>,
     pub ready: &'f Ready,
-    /// Whether pages are put as ones of the document that the shelf is of, so that an imposer needn't compare them.
+    /// Whether pages are put as the shelf's document's own, so that an imposer needn't compare them.
     pub as_own: bool,
     ghost same_plan: { table.now.layout ≡ layout plan.now },
 }
 
 impl<'f, 'p, 't, 'd> Delivery<'f, 'p, 't, 'd> {
-    /// Does what `deliver` does, with memory for its answers that an earlier delivery leaves.
+    /// Does what `deliver` does, with memory left by an earlier delivery.
     pub fn deliver<R: Wait>(
         &self,
         rt: &R,
@@ -184,8 +183,7 @@ impl<'f, 'p, 't, 'd> Delivery<'f, 'p, 't, 'd> {
         })
     }
 
-    /// Marks the places in order, each with the closing and the put that follow from its mark. There is room for all
-    /// that is answered.
+    /// Marks the places in order, each with the closing and the put that follow from its mark. There is room for all answers.
     fn mark_places<R: Wait>(
         &self,
         rt: &R,
@@ -227,7 +225,7 @@ impl<'f, 'p, 't, 'd> Delivery<'f, 'p, 't, 'd> {
     }
 }
 
-/// The answers to a delivery at the places of a page, and the sheets that are handed back, with the memory for them.
+/// The answers to a delivery at the places of a page, and the sheets that are handed back, in reused memory.
 #[derive(Drop)]
 pub struct Answers {
     replies: Vec<Reply>,
@@ -236,7 +234,7 @@ pub struct Answers {
 }
 
 impl Answers {
-    /// None yet.
+    /// No answers yet.
     pub fn new(alloc: Global) -> Self {
         Answers {
             replies: Vec::new(alloc),
@@ -245,7 +243,7 @@ impl Answers {
         }
     }
 
-    /// The memory of the answers of an earlier delivery, which are let go.
+    /// The memory of an earlier delivery's answers, which are dropped.
     pub fn of(delivered: Delivered<'_>) -> Self {
         let Delivered {
             receipt: _,
@@ -309,7 +307,7 @@ fn push_closing(closings: &mut Vec<Closing>, closing: Option<Closing>)
     }
 }
 
-/// Whether a mark that was answered so completed its sheet, or the closing of the group that it filled did.
+/// Whether a mark with this reply completed its sheet, or the closing of the group that it filled did.
 fn completes_sheet(reply: Reply, closing: Option<Closing>) -> bool
     ensures { result ≡ completes_sheet reply closing }
 {

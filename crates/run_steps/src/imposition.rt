@@ -1,4 +1,4 @@
-//! A sheet is made of the pages that are shelved.
+//! A sheet is made of pages from the shelf.
 ghost use Rattle.std.specs.Prelude.{◌≡◌, ◌↔◌, ℕ, ◌+◌, ◌-◌, ◌<◌, ◌≤◌, ◌++◌, ◌∷◌, [], IfOk, OnOk, OnErr, MatchResult, length};
 ghost use Rattle.std.specs.Prelude.{IsTrue, Some, slice_get, slice_index_or, true};
 ghost use Rattle.rules.specs.Parts.{pages};
@@ -32,15 +32,14 @@ pub struct Imposed {
 pub enum ImposeError {
     #[error("out of memory")]
     NoMemory,
-    /// The shelf showed no entry at a page's index, or one that isn't the document's page.
+    /// The shelf had no entry at a page's index, or the entry isn't the document's page.
     #[error("a page is not on the shelf")]
     NotShown,
 }
 
-/// Makes the text of a complete sheet, counted from 0, of the pages that lie on the shelf. The text is that of
-/// `sheet_text`. The table is one for the job's plan, and the seat has seen the sheet complete: a look that was
-/// answered 0 shows it. Each page of the sheet is looked up in slot order. After a refusal some of the first were, and
-/// at `NotShown` one at least.
+/// Makes the text of a complete sheet, counted from 0, of the pages on the shelf, as `sheet_text` does. The table is one for the job's plan. The seat
+/// has seen the sheet complete, by a look that was answered 0. Pages are looked up in slot order. After a refusal some of the first pages were looked
+/// up, and after `NotShown` at least one.
 pub fn impose<'d>(
     alloc: Global,
     seat: &mut Seat,
@@ -72,22 +71,21 @@ pub fn impose<'d>(
     Ok(Imposed { sheet, text })
 }
 
-/// The sources of imposed sheets: a job, the table of its plan, and the shelf on which the pages lie. The texts of the
-/// sheets refer to long bodies, which stay on the shelf.
+/// The sources of imposed sheets: a job, the table of its plan, and the shelf with the pages. The sheets' texts refer to long bodies, which stay on
+/// the shelf.
 #[derive(Drop)]
 pub struct Imposition<'s, 'r, 't, 'd> {
     pub job: &'s Job<'r, 'd>,
     pub table: &'s GatherTable<'t>,
     pub shelf: &'r Shelf<'d>,
-    /// Whether the shelf is that of the job's document. Then a page that was put as its own isn't compared with it.
+    /// Whether the shelf is that of the job's document. Then a page that was put as the document's own isn't compared with it.
     pub is_of_document: bool,
     ghost of_document: { IsTrue is_of_document → IsShelfOf shelf.now job.now.units },
     ghost same_plan: { table.now.layout ≡ layout job.now.plan },
 }
 
 impl<'s, 'r, 't, 'd> Imposition<'s, 'r, 't, 'd> {
-    /// Does what `impose` does, with texts before placed pages that were kept from other sheets, and in the memory of
-    /// this text. What it had before is gone.
+    /// Does what `impose` does, with openings that are kept from other sheets, and in the memory of this text, whose content is dropped.
     pub fn impose(
         &self,
         text: &mut Rope<'r>,
@@ -216,8 +214,7 @@ impl<'s, 'r, 't, 'd> Imposition<'s, 'r, 't, 'd> {
     }
 }
 
-/// Looks once, and answers whether that shows the sheet complete: no slot of it is missing, or, if it is wide, no group of it
-/// is open.
+/// Looks once, and returns whether the sheet is seen complete: no slot of it is missing, or no group of a wide one is open.
 pub fn is_complete(seat: &mut Seat, table: &GatherTable<'_>, sheet: u32) -> bool
     requires seat { IsSeatOf table.now seat.old }
     requires sheet { sheet < length table.now.layout.sheets }

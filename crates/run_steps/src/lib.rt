@@ -1,5 +1,4 @@
-//! The two steps of a run: a page is delivered, and a sheet is imposed. Any number of threads may make them beside each
-//! other.
+//! The two steps of a run: delivering a page, and imposing a sheet. Any number of threads may make them side by side.
 #![tactic(auto)]
 
 mod delivery;

@@ -10,8 +10,8 @@ use crate::told::append_paper_report;
 use lengths::Paper;
 use std::alloc::AllocError;
 
-/// The lines of an output: those of its header, after the count of sheets, and those of its sheets. Of these only what all
-/// have is kept: the others are made when a sheet is written.
+/// The lines that an output gets besides its pages: those of the header after the number of sheets, and those of its sheets. Only lines that all
+/// sheets have are stored; the others are made when a sheet is written.
 #[derive(Drop)]
 pub struct SheetExtras {
     pub header: Lines,
@@ -19,7 +19,7 @@ pub struct SheetExtras {
     pub tells_papers: bool,
     /// The lines at the end of each sheet, before its `showpage`.
     pub finish: Lines,
-    /// The numbers of its pages, which are drawn after these.
+    /// The numbers of its pages, which are drawn after these lines.
     pub numbers: Option<Numbers>,
 }
 
@@ -34,7 +34,7 @@ impl SheetExtras {
         Ok(())
     }
 
-    /// Appends the lines at the end of a sheet. What all sheets have isn't copied if it has 4,096 bytes or more.
+    /// Appends the lines at the end of a sheet. Lines that all sheets have aren't copied if they have 4,096 bytes or more.
     pub(crate) fn append_finish<'n>(
         &'n self,
         sheet: u32,

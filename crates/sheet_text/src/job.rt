@@ -20,8 +20,8 @@ use sheet_plan::{MadeSheets, PlacedSlot, Plan};
 use std::alloc::AllocError;
 use std::marker::Model;
 
-/// A plan of the pages of a document, the papers that they are made for, a border round each placed page, if one is
-/// asked for, how far it is within the page's edges, and the lines that the output gets besides.
+/// A run's work: a plan of the pages of a document, the pages' papers, a border round each placed page if one is asked for, its distance from the
+/// page's edges, and the lines that the output gets besides.
 #[derive(Drop)]
 pub struct Job<'j, 'd> {
     plan: &'j Plan<'j>,
@@ -56,7 +56,7 @@ impl<'j, 'd> Model for Job<'j, 'd> {
 }
 
 impl<'j, 'd> Job<'j, 'd> {
-    /// The plan is one of the document's pages, which have one paper.
+    /// The job of a plan whose pages all have one paper.
     pub fn new(
         plan: &'j Plan<'j>,
         document: &'j Document<'d>,
@@ -85,8 +85,7 @@ impl<'j, 'd> Job<'j, 'd> {
         }
     }
 
-    /// The plan is that of these sheets, on the document's pages, and they have the lines of this dress. A border is drawn so
-    /// far within each edge of its page.
+    /// The job of these sheets, which the plan is made of, with the lines of this dress. A border is drawn this far within each edge of its page.
     pub fn made(
         plan: &'j Plan<'j>,
         document: &'j Document<'d>,

@@ -1,5 +1,4 @@
-//! The text of a sheet: its page line, each page placed in its slot, the lines that it gets besides, and one `showpage`. It
-//! knows no threads.
+//! The text of a sheet: its page line, each page placed in its slot, the lines that it gets besides, and one `showpage`. No threads are involved.
 #![tactic(auto)]
 
 mod dress;

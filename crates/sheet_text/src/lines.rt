@@ -58,7 +58,7 @@ impl Lines {
     }
 }
 
-/// Appends a line and its line end, or a part of that.
+/// Appends a line and its line end. If memory is refused, a part of them may be appended.
 fn append_line(text: &mut Vec<u8>, line: &[u8]) -> Result<(), AllocError>
     ensures appended { OnOk result (text.new.items ≡ text.old.items ++ (line.now ++ 10 ∷ [])) }
     ensures begins { take (length text.old.items) text.new.items ≡ text.old.items }

@@ -14,19 +14,19 @@ use pagespec::Turn;
 use sheet_plan::{MadeSheets, PlacedSlot};
 use std::alloc::AllocError;
 
-/// How far a number is above the foot of its cell, in grains: 18 points.
+/// The height of a number above the foot of its cell, in grains: 18 points.
 const ABOVE_FOOT: i128 = 2_286_000_000_000;
 
-/// The numbers of the pages on sheets.
+/// The numbers of pages that are drawn on sheets.
 #[derive(Drop)]
 pub struct Numbers {
-    /// How large they are.
+    /// The size of their font.
     pub size: Grains,
-    /// That of the row's first page.
+    /// The number of the row's first page.
     pub first: u32,
     /// The sheets, on which each page is named by its place in the row, counted from 0.
     pub places: MadeSheets,
-    /// How far the foot of a page's cell is below the middle of the page; none if the page is its own cell.
+    /// The distance from the middle of a page down to the foot of its cell; None if the page is its own cell.
     pub below: Option<Grains>,
 }
 
@@ -88,7 +88,7 @@ fn append_font(size: Grains, text: &mut Rope<'_>) -> Result<(), AllocError>
     Ok(())
 }
 
-/// Where a page's lower left corner is, and how the page is turned.
+/// Appends the place of a page's lower left corner, and the page's turn.
 fn append_page_corner(placed: &PlacedSlot<'_>, text: &mut Rope<'_>) -> Result<(), AllocError>
     ensures { OnOk result (text.new ≡ text.old ++ corner_text placed.now.paper.now (item_of placed.now.item.now)) }
 {
@@ -102,7 +102,7 @@ fn append_page_corner(placed: &PlacedSlot<'_>, text: &mut Rope<'_>) -> Result<()
     Ok(())
 }
 
-/// How far a page is turned to the left.
+/// The degrees by which a page is turned to the left.
 fn degrees(turn: Turn) -> &'static [u8]
     ensures { result.now ≡ degrees_of (turn_of turn) }
 {
@@ -114,7 +114,7 @@ fn degrees(turn: Turn) -> &'static [u8]
     }
 }
 
-/// Where a page's number is, from the page's lower left corner on.
+/// Appends the place of a page's number, from the page's lower left corner on.
 fn append_foot(
     below: Option<Grains>,
     placed: &PlacedSlot<'_>,
@@ -129,7 +129,7 @@ fn append_foot(
     Ok(())
 }
 
-/// How far a number is above the page's lower edge.
+/// The height of a number above the page's lower edge.
 fn rise(below: Option<Grains>, placed: &PlacedSlot<'_>) -> i128
     ensures value { result ≡ rise_of below placed.now.paper.now (item_of placed.now.item.now) }
     ensures in_range { nat_abs result ≤ 2 * 10 ^ 23 }
@@ -142,7 +142,7 @@ fn rise(below: Option<Grains>, placed: &PlacedSlot<'_>) -> i128
     }
 }
 
-/// How far the middle of a page's side is from its beginning, as large as the page is on the sheet.
+/// The distance from the start of a page's side to its middle, on the sheet.
 fn middle(scale: Number, side: Grains) -> i128
     requires { IsTrue (is_side side) }
     ensures value { result ≡ pos (middle_of scale side) }
@@ -151,7 +151,7 @@ fn middle(scale: Number, side: Grains) -> i128
     (scaled(scale, side) / 2_000_000_000) as i128
 }
 
-/// A side as large as the page is on the sheet, in 10^-9 of a grain.
+/// The length of a page's side on the sheet, in 10^-9 of a grain.
 fn scaled(scale: Number, side: Grains) -> u128
     requires { IsTrue (is_side side) }
     ensures value { result ≡ nat_abs scale * nat_abs side }
@@ -160,7 +160,7 @@ fn scaled(scale: Number, side: Grains) -> u128
     u128::from(scale.billionths().unsigned_abs()) * side.get().unsigned_abs()
 }
 
-/// The number, in the middle of its place.
+/// Appends the number, centred at its place.
 fn append_shown(number: u64, text: &mut Rope<'_>) -> Result<(), AllocError>
     ensures { OnOk result (text.new ≡ text.old ++ shown_text number) }
 {

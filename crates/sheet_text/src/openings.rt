@@ -56,7 +56,7 @@ impl Openings {
         }
     }
 
-    /// Appends what is written before a page that this item places, which is made for this paper.
+    /// Appends the text before a page of this paper that this item places.
     pub(crate) fn append(
         &mut self,
         job: &Job<'_, '_>,
@@ -76,7 +76,7 @@ impl Openings {
         Ok(())
     }
 
-    /// Appends the text if it is kept, or nothing, and reports which.
+    /// Appends the text if it is kept. Returns whether it was.
     fn append_kept(
         &self,
         job: &Job<'_, '_>,
@@ -97,7 +97,7 @@ impl Openings {
         Ok(false)
     }
 
-    /// Keeps a text, if few are kept.
+    /// Keeps a text, unless 64 are kept.
     fn keep(
         &mut self,
         job: &Job<'_, '_>,
@@ -123,7 +123,7 @@ impl Openings {
 }
 
 impl Opening {
-    /// The text, if it is the one for a page that this item places.
+    /// The text, if it belongs to a page that this item places.
     fn text_for(&self, job: &Job<'_, '_>, item: &Item, paper: &Paper) -> Option<&[u8]>
         ensures { IfSome result (λ text. text.now ≡ opening (record { paper = paper.now; border = job.now.border }) (item_of item.now)) }
     {

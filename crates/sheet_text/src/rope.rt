@@ -8,11 +8,10 @@ use placement::closing_text;
 use std::alloc::{AllocError, Global};
 use std::marker::Model;
 
-/// A slice of at least this many bytes stays where it is. A shorter one costs less to copy than to keep apart.
+/// Slices of at least this length stay where they are. Shorter ones are cheaper to copy than to keep apart.
 pub(crate) const LEAST_BORROWED: usize = 4_096;
 
-/// A text in pieces: bytes of its own, and between them slices of bytes that live longer and aren't copied. A contract
-/// sees it as the list of all its bytes.
+/// A text in pieces: bytes of its own, and between them slices that live longer and aren't copied. A contract sees it as the list of all its bytes.
 #[derive(Drop)]
 pub struct Rope<'r> {
     pub(crate) own: Vec<u8>,
@@ -102,7 +101,7 @@ impl<'r> Rope<'r> {
         print_points(length, &mut self.own)
     }
 
-    /// Appends a number of grains likewise.
+    /// Appends a length that is given as a number of grains, in points. If memory is refused, nothing is appended.
     pub(crate) fn append_grains(&mut self, grains: i128) -> Result<(), AllocError>
         requires { nat_abs grains ≤ 2 * 10 ^ 23 }
         ensures { OnOk result (self.new ≡ self.old ++ points_text grains) }
@@ -110,12 +109,12 @@ impl<'r> Rope<'r> {
         print_grains(grains, &mut self.own)
     }
 
-    /// For how many bytes of its own it has memory.
+    /// The number of its own bytes for which it has memory.
     pub fn capacity(&self) -> usize {
         self.own.capacity()
     }
 
-    /// Its pieces from the first on.
+    /// Its pieces, in order.
     pub fn pieces(&self) -> Pieces<'_, 'r>
         ensures { result ≡ self.now }
     {
@@ -175,7 +174,7 @@ impl<'p, 'r> Pieces<'p, 'r> {
         Some(count)
     }
 
-    /// Takes the next piece, which has a byte at least. None if none is left.
+    /// Takes the next piece, which has at least one byte. None if no piece is left.
     pub fn take_next(&mut self) -> Option<&'p [u8]>
         ensures taken { IfSome result (λ piece. self.old ≡ piece.now ++ self.new) }
         ensures some { IfSome result (λ piece. 0 < length piece.now) }

@@ -41,8 +41,8 @@ pub fn sheet_rope<'r>(alloc: Global, job: &Job<'r, '_>, sheet: u32) -> Result<Ro
     Ok(text)
 }
 
-/// Makes a text the page line of a sheet and the lines at its start. What it had before is gone, and its memory is used
-/// again. A text without memory gets room for about all that is copied into the text of the sheet.
+/// Makes a text the page line of a sheet and the lines at its start. Its earlier content is dropped, and its memory is reused. A text without memory
+/// gets room for about all that is copied into the text of the sheet.
 pub fn begin_sheet(text: &mut Rope<'_>, job: &Job<'_, '_>, sheet: u32) -> Result<(), AllocError>
     requires { sheet < length job.now.plan.sheets }
     ensures { OnOk result (text.new ≡ page_line sheet ++ lines_text (sheet_of job.now sheet).start) }
@@ -57,8 +57,8 @@ pub fn begin_sheet(text: &mut Rope<'_>, job: &Job<'_, '_>, sheet: u32) -> Result
     Ok(())
 }
 
-/// Appends the lines at the end of a sheet, and the line that ends it and prints it. Those that all sheets have aren't copied
-/// if they have 4,096 bytes or more.
+/// Appends the lines at the end of a sheet, and the line that ends and prints it. Lines that all sheets have aren't copied if they have 4,096 bytes
+/// or more.
 pub fn end_sheet<'r>(text: &mut Rope<'r>, job: &Job<'r, '_>, sheet: u32) -> Result<(), AllocError>
     requires { sheet < length job.now.plan.sheets }
     ensures { OnOk result (text.new ≡
@@ -69,8 +69,8 @@ pub fn end_sheet<'r>(text: &mut Rope<'r>, job: &Job<'r, '_>, sheet: u32) -> Resu
     Ok(())
 }
 
-/// About how many bytes are copied into the text of a sheet without lines of its own, and seldom fewer than that, so that
-/// they aren't moved while it is made.
+/// About the number of bytes that are copied into the text of a sheet, without lines of its own. It is seldom too small, so the bytes aren't moved
+/// while the text is made.
 fn likely_len(job: &Job<'_, '_>, sheet: u32) -> usize
     requires { sheet < length job.now.plan.sheets }
     ensures { result ≤ most_room job.now sheet }
@@ -82,8 +82,8 @@ fn likely_len(job: &Job<'_, '_>, sheet: u32) -> usize
     len
 }
 
-/// About how many bytes are copied for a slot: those of a page that isn't borrowed, and the texts round it, which have
-/// about two hundred bytes. None for a blank one.
+/// About the number of bytes that are copied for a slot: those of a page that isn't borrowed, and about two hundred for the texts round it. 0 for a
+/// blank slot.
 fn likely_slot_len(job: &Job<'_, '_>, sheet: u32, slot: u16) -> usize
     requires sheet { sheet < length job.now.plan.sheets }
     requires slot { slot < length (pages_on job.now.plan sheet) }
@@ -97,7 +97,7 @@ fn likely_slot_len(job: &Job<'_, '_>, sheet: u32, slot: u16) -> usize
     copied_len(body).saturating_add(256)
 }
 
-/// The number of these bytes that are copied, if they may be borrowed.
+/// The number of these bytes that are copied, since long ones are borrowed.
 fn copied_len(bytes: &[u8]) -> usize
     ensures { result ≤ length bytes.now }
 {
@@ -163,8 +163,8 @@ fn append_slot(
     Ok(())
 }
 
-/// Appends a prepared body as it is placed in a slot that isn't blank: the texts that open and close it round it. The
-/// body itself isn't copied if it has 4,096 bytes or more.
+/// Appends the prepared body of the page in a slot that isn't blank, between the texts that open and close it. A body of 4,096 bytes or more isn't
+/// copied.
 pub fn append_placed<'r>(
     text: &mut Rope<'r>,
     openings: &mut Openings,

@@ -3,7 +3,7 @@ use crate::dress::SheetExtras;
 use lengths::Paper;
 use sheet_plan::MadeSheets;
 
-/// One paper for all pages; or sheets that were made, whose pages have papers of their own, and their lines.
+/// One paper for all pages; or made sheets, whose pages have papers of their own, with their lines.
 #[derive(Drop)]
 pub(crate) enum SheetPapers<'j> {
     One(Paper),

@@ -8,8 +8,7 @@ use std::alloc::{AllocError, Global};
 use std::marker::Model;
 use std::mem;
 
-/// Sheets, counted from 0, with their texts in pieces, whose own bytes lie one after the other in the same memory. A
-/// contract sees the list of both.
+/// Sheets, counted from 0, with their texts in pieces. The texts' own bytes share one block of memory. A contract sees a list of sheets and texts.
 #[derive(Drop)]
 pub struct Texts<'r> {
     alloc: Global,
@@ -17,8 +16,7 @@ pub struct Texts<'r> {
     parts: Vec<TextPart<'r>>,
 }
 
-/// A sheet's text: where its own bytes begin and end, and the slices between them, whose places are counted from where
-/// they begin.
+/// A sheet's text: where its own bytes begin and end, and the slices between them, whose places are counted from the text's start.
 #[derive(Drop)]
 struct TextPart<'r> {
     sheet: u32,
@@ -49,7 +47,7 @@ impl<'r> Texts<'r> {
         }
     }
 
-    /// Lets all of them go. Their memory is kept.
+    /// Drops all of them, and keeps their memory.
     pub fn clear(&mut self)
         ensures { self.new ≡ [] }
     {
@@ -78,7 +76,7 @@ impl<'r> Texts<'r> {
         Ok(())
     }
 
-    /// Their number.
+    /// The number of sheets.
     pub fn len(&self) -> usize
         ensures { result ≡ length self.now }
     {
@@ -93,8 +91,8 @@ impl<'r> Texts<'r> {
         self.parts[nth].sheet
     }
 
-    /// The text of a sheet, if it has this index, and those of the next sheets that can be written with it: how many they
-    /// are, so many at most, and their bytes.
+    /// The text of this sheet, if it has this index, with those of up to `most - 1` next sheets that can be written with it: their number, and their
+    /// bytes.
     pub fn joined(&self, sheet: u32, nth: usize, most: u32) -> Option<(u32, Pieces<'_, 'r>)>
         requires most { 0 < most }
         ensures count { IfSome result (λ j. (0 < j.0) × (j.0 ≤ most)) }
@@ -113,8 +111,8 @@ impl<'r> Texts<'r> {
     }
 }
 
-/// The text of this sheet, which has this index, and those of the next sheets that lie right after it: how many they are, so
-/// many at most, and their bytes. If one has slices, it is alone.
+/// The text of this sheet, which has this index, with those of up to `most - 1` next sheets that follow it in memory: their number, and their bytes.
+/// A text with slices is returned alone.
 fn neighbours<'p, 'r>(
     own: &'p [u8],
     parts: &'p [TextPart<'r>],

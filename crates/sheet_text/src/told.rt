@@ -33,7 +33,7 @@ fn append_medium(paper: &Paper, text: &mut Rope<'_>) -> Result<(), AllocError>
     Ok(())
 }
 
-/// The last of the lines that set the device's page size, which does.
+/// Appends the last of the lines that set the device's page size, which sets it.
 fn append_size_if_shown(paper: &Paper, text: &mut Rope<'_>) -> Result<(), AllocError>
     ensures { OnOk result (text.new ≡ text.old ++ line (setting_line paper.now)) }
 {

@@ -1,4 +1,4 @@
-//! The sheets that came before their turn.
+//! Sheets that came before their turn.
 ghost use Rattle.std.specs.Prelude.{◌≡◌, ◌≢◌, ℕ, ◌<◌, ◌≤◌, Some, None, length, slice_get, true, false, All, IfOk, IfSome, IsNone, MatchOption};
 ghost use Rattle.sheet_text.specs.Jobs.{JobView, text_of};
 ghost use Rattle.sheet_text.specs.Texts.{TextsView, sheets_of};
@@ -8,13 +8,13 @@ ghost use Rattle.sheet_writer.specs.Places.{last_entry, buffer_place, in_place, 
 use sheet_text::{Pieces, Texts};
 use std::alloc::{AllocError, Global};
 
-/// Takes sheets that were written. Their memory may be used again.
+/// Takes back sheets that were written, so that their memory can be reused.
 pub trait Spent<'r> {
     /// Takes sheets whose texts are no longer needed.
     fn give_back(&mut self, sheets: Texts<'r>);
 }
 
-/// Where a sheet is: in which group of sheets, and at which index there.
+/// The place of a sheet: its group of sheets, and its index there.
 #[derive(Clone, Copy)]
 pub struct Place {
     pub group: usize,
@@ -31,7 +31,7 @@ pub struct ReorderBuffer<'r> {
 }
 
 impl<'r> ReorderBuffer<'r> {
-    /// This many places, and no sheet yet.
+    /// A buffer with this many places, all empty.
     pub fn new(alloc: Global, count: u32) -> Result<Self, AllocError>
         ensures early { IfOk result (λ early. (job : JobView) → AreEarly job early.groups.items) }
         ensures places { IfOk result (λ early. length early.places.items ≡ count) }
@@ -47,9 +47,8 @@ impl<'r> ReorderBuffer<'r> {
         Ok(ReorderBuffer { places, groups })
     }
 
-    /// Puts sheets in their places. Each can be found if no two of them have the same place. If this replaces
-    /// another sheet, it is as if that one had never come. If other sheets are already where these belong, these
-    /// are dropped; a sheet that never came is made again.
+    /// Puts sheets in their places. Each can be found if no two of them have the same place. A sheet that is replaced counts as one that never came.
+    /// If other sheets are already in these places, the new ones are dropped; a sheet that never came is made again.
     pub fn put(&mut self, finished: Texts<'r>)
         ensures early { (job : JobView) → HaveTexts (text_of job) finished.entry
             → AreEarly job self.old.groups.items → AreEarly job self.new.groups.items }
@@ -75,7 +74,7 @@ impl<'r> ReorderBuffer<'r> {
         self.groups[group] = Some(finished);
     }
 
-    /// Records where each of the sheets is that came together.
+    /// Records where each sheet of a group is.
     fn mark_all(&mut self, finished: &Texts<'_>, group: usize)
         ensures groups { self.new.groups ≡ self.old.groups }
         ensures count { length self.new.places.items ≡ length self.old.places.items }
@@ -113,8 +112,7 @@ impl<'r> ReorderBuffer<'r> {
         sheet as usize % self.groups.len().max(1)
     }
 
-    /// The text of a sheet, if it came, and those of the next sheets that can be written with it: how many they are, so
-    /// many at most, and their bytes.
+    /// The text of a sheet, if it came, with those of up to `most - 1` next sheets that can be written with it: their number, and their bytes.
     pub fn joined(&self, sheet: u32, most: u32) -> Option<(u32, Pieces<'_, 'r>)>
         requires most { 0 < most }
         ensures count { IfSome result (λ j. (0 < j.0) × (j.0 ≤ most)) }
@@ -136,7 +134,7 @@ impl<'r> ReorderBuffer<'r> {
         finished.joined(sheet, nth, most)
     }
 
-    /// The sheets that are all written once this one is, if there are any. Their place is free then.
+    /// The group of sheets that are all written once this one is, if there is one. Its place becomes free.
     pub fn take_written(&mut self, sheet: u32) -> Option<Texts<'r>>
         ensures early { (job : JobView) → AreEarly job self.old.groups.items → AreEarly job self.new.groups.items }
         ensures places { self.new.places ≡ self.old.places }

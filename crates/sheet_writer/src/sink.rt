@@ -14,12 +14,12 @@ use std::marker::Model;
 #[derive(Clone, Copy, Debug, PartialEq, Eq)]
 pub struct SinkFault;
 
-/// Takes bytes in order, as many of a call's as it likes.
+/// Takes bytes in order, a part or all of those of a call.
 pub trait Sink {
     // Which bytes it has taken, if it reports them, and how many calls it has refused.
     ghost seen: { Self → SinkView };
 
-    /// Takes the first of the bytes, at least one, and answers how many.
+    /// Takes the first of the bytes, at least one, and returns their number.
     fn accept(&mut self, bytes: &[u8]) -> Result<usize, SinkFault>
         requires some { 0 < length bytes.now }
         requires countable { IsCountable (seen self.old) }

@@ -21,8 +21,7 @@ pub enum Halt {
     NoMemory,
 }
 
-/// How far the output was written: the sheet that comes next, the number of bytes, and how many of the sheets that were
-/// left at the end no worker imposed.
+/// How far the output is written: the next sheet, the number of bytes, and the number of remaining sheets that no worker imposed.
 #[derive(Clone, Copy, Debug)]
 pub struct Progress {
     pub next: u32,
@@ -60,8 +59,7 @@ pub fn write_in_pieces<S: Sink>(sink: &mut S, progress: Progress, text: Pieces<'
     }
 }
 
-/// How far the output is written after a text was given to the sink; with the whole text it would have this many
-/// bytes.
+/// How far the output is written after a text was given to the sink. `total` is the number of bytes with the whole text.
 fn advanced(progress: Progress, total: u64, handed: Result<(), Stopped>) -> Progress
     requires { IfErr handed (λ e. progress.written + e.written ≤ total) }
     ensures written { OnOk handed (result ≡ record progress { written = total; halted = None }) }
@@ -92,7 +90,7 @@ fn halted(progress: Progress, written: u64, why: Halt) -> Progress
     }
 }
 
-/// Writes the texts of the next sheets, which are this many.
+/// Writes the texts of the next `count` sheets.
 fn write_sheets<S: Sink>(
     job: &Job<'_, '_>,
     sink: &mut S,

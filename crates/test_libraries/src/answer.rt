@@ -4,8 +4,7 @@ use std::alloc::Global;
 use std::fmt::{Debug, Display};
 use std::io::Write;
 
-/// What is shown of an answer: all of it, with a refusal by its name; a refusal by its line; or `yes` instead of an
-/// answer that isn't a refusal.
+/// The form of an answer: all of it, with a refusal by its name; a refusal by its line; or `yes` in place of an answer that isn't a refusal.
 #[derive(Clone, Copy, PartialEq, Eq)]
 pub enum Form {
     Whole,
@@ -47,7 +46,7 @@ impl Answer {
         }
     }
 
-    /// Another answer after this one.
+    /// Adds another answer after this one.
     pub fn add(&mut self, other: Answer) {
         self.note(other.is_whole);
         self.add_bytes(other.bytes.as_slice());
@@ -58,7 +57,7 @@ impl Answer {
         self.note(added.is_ok());
     }
 
-    /// Bytes in quotes, with escapes.
+    /// Appends bytes in quotes, with escapes.
     pub fn quoted(&mut self, bytes: &[u8]) {
         match String::from_utf8_lossy(self.alloc, bytes) {
             Ok(text) => self.show(format_args!("{text:?}")),
@@ -66,13 +65,13 @@ impl Answer {
         }
     }
 
-    /// The same on a line of its own.
+    /// Appends bytes in quotes, on a line of their own.
     pub fn quoted_line(&mut self, bytes: &[u8]) {
         self.quoted(bytes);
         self.text("\n");
     }
 
-    /// Bytes as text, whatever they are.
+    /// Appends bytes as text, whatever they are.
     pub fn lossy(&mut self, bytes: &[u8]) {
         match String::from_utf8_lossy(self.alloc, bytes) {
             Ok(text) => self.text(text.as_str()),
@@ -80,19 +79,19 @@ impl Answer {
         }
     }
 
-    /// A length in points.
+    /// Appends a length in points.
     pub fn points(&mut self, length: Grains) {
         let before = self.bytes.len();
         let added = print_points(length, &mut self.bytes);
         self.note_appended(before, added.is_ok());
     }
 
-    /// Whether something could be added.
+    /// Notes whether something could be added.
     pub fn note(&mut self, is_added: bool) {
         self.is_whole = self.is_whole && is_added;
     }
 
-    /// Notes whether a library could append a text to so many bytes, which stay as they were if it couldn't.
+    /// Notes whether a library could append to a text of this many bytes. If it couldn't, the text has to be unchanged.
     pub fn note_appended(&mut self, before: usize, is_appended: bool) {
         let len = self.bytes.len();
         self.note(is_appended || len != before);
@@ -107,20 +106,20 @@ impl Answer {
         self.note(added.is_ok());
     }
 
-    /// A value on a line of its own.
+    /// Appends a value on a line of its own.
     pub fn line<D: Display + Drop>(&mut self, value: D) {
         self.show(value);
         self.text("\n");
     }
 
-    /// A value on a line of its own, after what it is.
+    /// Appends a value with its label, on a line of its own.
     pub fn labelled<D: Display + Drop>(&mut self, label: &str, value: D) {
         self.text(label);
         self.text(" ");
         self.line(value);
     }
 
-    /// Two values on a line of their own.
+    /// Appends two values on a line of their own.
     pub fn pair<A: Display + Drop, B: Display + Drop>(&mut self, one: A, other: B) {
         self.show(one);
         self.text(" ");
@@ -131,7 +130,7 @@ impl Answer {
         self.text(if is_so { "yes\n" } else { "no\n" });
     }
 
-    /// An error, by its name or by its line.
+    /// Appends an error, by its name or by its line.
     pub fn refusal<E: Debug + Display + Drop>(&mut self, error: E) {
         self.is_refused = true;
         if self.form == Form::Line {

@@ -1,5 +1,5 @@
-//! Calls what its words name, as `paper a4`, and prints the answer. Words may be names of files, which are documents. Without a
-//! word it does nothing.
+//! Makes the call that its words name, such as `paper a4`, and prints the answer. Words may be names of files, which are documents. Without a word it
+//! does nothing.
 #![tactic(auto)]
 
 mod answer;

@@ -1,4 +1,5 @@
-//! The answer of a command, which has it again where each of its growths is refused in turn by the library of `checks/refuse.c`.
+//! The answer of a command. With the library of `checks/refuse.c`, which refuses each growth in turn, the answer must stay the same or report a lack
+//! of memory.
 use crate::answer::Answer;
 use crate::words::{Document, without_form};
 use crate::{documents, programs, specifications};
@@ -7,11 +8,11 @@ use std::sync::Wait;
 use std::thread::Threads;
 use test_tools::{has_refused, refuse};
 
-/// Of each command fewer growths are refused than this, one after the other.
+/// The limit of refused growths of a command, one after the other.
 const MOST_REFUSED: u32 = 1_000;
 
-/// The answer of a command, if it is one, once no growth of it is refused. One in which a growth is refused has no answer,
-/// reports that memory is out, or has the answer that it always has.
+/// The answer of a command, if there is one, once no growth of it is refused. A run in which a growth is refused has no answer, reports a lack of
+/// memory, or has the usual answer.
 pub fn answer_of<R: Threads + Wait + Sync>(
     rt: &R,
     alloc: Global,
@@ -34,7 +35,7 @@ pub fn answer_of<R: Threads + Wait + Sync>(
     Some(usual)
 }
 
-/// The answer of a command, if it is one.
+/// The answer of a command, if there is one.
 fn answer_once<R: Threads + Wait + Sync>(
     rt: &R,
     alloc: Global,
@@ -49,14 +50,14 @@ fn answer_once<R: Threads + Wait + Sync>(
     if is_command { out.whole() } else { None }
 }
 
-/// Whether a call in which a growth is refused may have this answer: it reports that memory is out, with the status 3 if it has
-/// one, or it is the usual one.
+/// Whether a call in which a growth is refused may have this answer: it reports a lack of memory, with status 3 if it has a status, or it is the
+/// usual one.
 fn is_fair(text: &[u8], usual: &[u8]) -> bool {
     let is_failure = text.starts_with(b"status 3\n") || !text.starts_with(b"status");
     text == usual || is_failure && reports_no_memory(text)
 }
 
-/// Whether an answer names an error for want of memory, or has its message.
+/// Whether an answer names an error for lack of memory, or has its message.
 fn reports_no_memory(text: &[u8]) -> bool {
     for start in 0..text.len() {
         let (_, rest) = text.split_at(start);

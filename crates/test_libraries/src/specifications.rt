@@ -1,4 +1,4 @@
-//! Commands that lead from the words of a specification to the sheets.
+//! Commands from the words of a specification to the sheets.
 mod filled;
 mod law_trials;
 mod matrices;

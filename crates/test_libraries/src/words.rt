@@ -33,7 +33,7 @@ pub fn documents_of(
     Ok(documents)
 }
 
-/// The words after `line` or `taken`, which say what is shown of the answer.
+/// The words after `line` or `taken`, which choose the form of the answer.
 pub fn without_form<'w>(out: &mut Answer, words: &'w [String]) -> &'w [String] {
     let form = match word(words, 0) {
         Some("line") => Form::Line,
@@ -68,7 +68,7 @@ pub fn billionths(text: &str) -> Option<Number> {
     Number::new(i64::try_from(number_in(text)?).ok()?)
 }
 
-/// A number of pages, or of something as small.
+/// A number of pages, or another number of that size.
 pub fn count(words: &[String], at: usize) -> Option<u32> {
     count_in(word(words, at)?)
 }
@@ -77,7 +77,7 @@ pub fn count_in(text: &str) -> Option<u32> {
     u32::try_from(number_in(text)?).ok()
 }
 
-/// A paper: its name, or its sides as `WxH`, in 10^-5 of a point, or in grains if a `g` follows.
+/// A paper: its name, or its sides as `WxH` in 10^-5 of a point, or in grains with a `g` at the end.
 pub fn paper(words: &[String], at: usize) -> Option<Paper> {
     let text = word(words, at)?;
     if let Some(paper) = paper_by_name(text) {
@@ -116,7 +116,7 @@ pub fn length(text: &str, unit: i128) -> Option<Grains> {
     Grains::new(number_in(text)?.checked_mul(unit)?)
 }
 
-/// A text, which may be written as `repeat N TEXT BETWEEN FRONT BACK`; the last three may be left out.
+/// A text, which may be given as `repeat N TEXT BETWEEN FRONT BACK`; the last three may be left out.
 pub fn long_text(alloc: Global, text: &str) -> Option<String> {
     if part(text, 0) != "repeat" {
         return String::from_str(alloc, text).ok();
@@ -127,12 +127,12 @@ pub fn long_text(alloc: Global, text: &str) -> Option<String> {
     repeated(alloc, [front, one, between, back], times as usize).ok()
 }
 
-/// A part of a text between spaces; an empty one after the last.
+/// The part of a text with this number, between spaces; empty after the last one.
 fn part(text: &str, at: usize) -> &str {
     text.split(' ').nth(at).unwrap_or("")
 }
 
-/// This many times a text with another between them, after the front and before the back.
+/// A text repeated this many times with another between the copies, after the front and before the back.
 fn repeated(alloc: Global, parts: [&str; 4], times: usize) -> Result<String, NoMemory> {
     let [front, one, between, back] = parts;
     let ones = vec![in alloc; one; times]?;

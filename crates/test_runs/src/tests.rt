@@ -1,4 +1,4 @@
-//! What the trials share: options, large documents, a run with its report, and a table.
+//! Parts that the trials share: options, large documents, a run with its report, and a table.
 ghost use Rattle.std.specs.Prelude.{◌≡◌};
 ghost use Rattle.rules.specs.Sheets.{layout};
 ghost use Rattle.gather_table.specs.Shared.{opening_seat};
@@ -38,10 +38,10 @@ use std::sync::atomic::Ordering::SeqCst;
 use std::thread;
 use std::thread::Threads;
 
-/// How many shares a whole seat has, and a whole pass.
+/// The shares of a whole seat, and of a whole pass.
 const WHOLE: u64 = 4_294_967_296;
 
-/// How often a wait yields before it runs out.
+/// The number of times that a wait yields before it runs out.
 const YIELDS: u32 = 20_000_000;
 
 /// The first page in each of 64 slots.
@@ -56,7 +56,7 @@ const PAGE_65_TIMES: &str = "\
     0+0+0+0+0+0+0+0+0+0+0+0+0+0+0\
 ";
 
-/// Waits until the word is so high, or any wait ran out, and counts a wait that runs out.
+/// Waits until the word has reached this number, or some wait has run out. Counts a wait that runs out.
 fn wait_for(word: &AtomicUsize, height: usize, run_out: &AtomicUsize) {
     for _ in 0..YIELDS {
         if word.load(SeqCst) >= height || run_out.load(SeqCst) > 0 {
@@ -67,7 +67,7 @@ fn wait_for(word: &AtomicUsize, height: usize, run_out: &AtomicUsize) {
     run_out.fetch_add(1, SeqCst);
 }
 
-/// A4 without a border and without signatures, and so many workers.
+/// Options for A4, without a border and without signatures, with these numbers of workers.
 fn workers(preparers: u32, imposers: u32) -> Options {
     Options {
         paper: a4(),
@@ -80,7 +80,7 @@ fn workers(preparers: u32, imposers: u32) -> Options {
     }
 }
 
-/// A document, what is asked of its pages, and how many preparers and imposers run.
+/// A document, the options of its run, and the numbers of preparers and imposers.
 #[derive(Drop)]
 struct Trial<'a> {
     document: &'a str,
@@ -103,7 +103,7 @@ fn run_into<R: Threads + Wait + Sync, G: Gate + Sync, S: Sink>(
     run(rt, alloc, input, trial.items, &options, gate, sink)
 }
 
-/// Runs a trial with this gate into memory, which has room for 100,000 bytes: what is reported.
+/// Runs a trial with this gate into memory with room for 100,000 bytes, and returns its report.
 fn report_of<R: Threads + Wait + Sync + Abort, G: Gate + Sync>(
     rt: &R,
     alloc: Global,
@@ -114,7 +114,7 @@ fn report_of<R: Threads + Wait + Sync + Abort, G: Gate + Sync>(
     done(rt, run_into(rt, alloc, trial, gate, &mut sink))
 }
 
-/// So many pages of so many lines of nine bytes.
+/// This many pages of this many lines, each of nine bytes.
 fn large_pages<R: Abort>(rt: &R, alloc: Global, pages: u32, lines: usize) -> String {
     let lines = done(rt, "% a line\n".repeat(alloc, lines));
     let mut text = done(rt, String::from_str(alloc, "%!PS-Adobe-3.0\n"));

@@ -24,7 +24,7 @@ pub struct Folder<'a> {
 }
 
 impl<'a> Folder<'a> {
-    /// A world of these files, whose output takes this much. It was asked for nothing yet.
+    /// A world of these files, whose output takes this much. It got no request yet.
     pub fn new(alloc: Global, files: &'a [GivenFile<'a>], takes: Takes) -> Folder<'a>
         ensures gives { ⟦<Folder<'a> as World>⟧.gives result ≡ (λ name. Some (read_by files.now name)) }
         ensures asked { (⟦<Folder<'a> as World>⟧.seen result).asked ≡ Some [] }
@@ -39,14 +39,14 @@ impl<'a> Folder<'a> {
         }
     }
 
-    /// The requests that it got, if it remembers all of them.
+    /// The requests that it got, if all of them are remembered.
     pub fn trace(&self) -> &Trace
         ensures { accesses_in result.now ≡ (⟦<Folder<'a> as World>⟧.seen self.now).asked }
     {
         &self.trace
     }
 
-    /// How often it refused something, or an input of it had failed.
+    /// The number of its failures: its refusals, and inputs that failed.
     pub fn failures(&self) -> u64
         ensures { result ≡ (⟦<Folder<'a> as World>⟧.seen self.now).failures }
     {

@@ -1,4 +1,4 @@
-//! Outputs that lie in memory.
+//! Outputs in memory.
 ghost use Rattle.std.specs.Prelude.{◌≡◌, IfOk, [], option_map, string_bytes, true};
 ghost use Rattle.world.specs.Outputs.{told_if};
 
@@ -7,23 +7,23 @@ use std::alloc::Global;
 use std::io;
 use std::io::{ErrorKind, Write};
 
-/// The bytes that an output takes.
+/// The behaviour of an output.
 #[derive(Clone, Copy)]
 pub enum Takes {
-    /// This number of bytes; a write of more fails.
+    /// It takes this number of bytes; a longer write fails.
     Bytes(usize),
-    /// Every byte, but only this number in a call.
+    /// It takes every byte, but only this number in a call.
     Pieces(usize),
-    /// Each byte, but flushing fails.
+    /// It takes each byte, but can't be flushed.
     NoFlush,
-    /// Nothing: it can't be created.
+    /// It can't be created.
     Nothing,
 }
 
-/// The bytes for which an output has room from the start, so that writing these needs no memory.
+/// The room that an output has from the start, in bytes, so that a short one needs no memory.
 const ROOM: usize = 4_096;
 
-/// An output: the name that it was created under, and what was written to it.
+/// An output: the name under which it was created, and the bytes written to it.
 #[derive(Drop)]
 pub struct Written {
     pub name: Option<String>,
@@ -32,7 +32,7 @@ pub struct Written {
 }
 
 impl Written {
-    /// An output of that name, with nothing in it; or why none can be created.
+    /// An empty output with this name; or why it can't be created.
     pub fn new(alloc: Global, name: Option<&str>, takes: Takes) -> io::Result<Written>
         ensures empty { IfOk result (λ output. output.bytes.items ≡ []) }
         ensures named { IfOk result (λ output.

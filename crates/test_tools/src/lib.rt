@@ -1,5 +1,5 @@
-//! What tests of several crates write: documents of small pages and their sheets, specifications, and memory growth
-//! that is refused in turn.
+//! Texts for the tests of several crates: documents of small pages and their sheets, and specifications; and growth of memory that is refused in
+//! turn.
 #![tactic(auto)]
 
 mod documents;

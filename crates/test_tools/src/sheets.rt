@@ -1,4 +1,4 @@
-//! What a run writes of pages and sheets.
+//! The output of runs: placed pages and sheets.
 use super::documents::document_with;
 use std::alloc::{AllocError, Global};
 
@@ -37,7 +37,7 @@ pub fn two_up_output(alloc: Global, sheets: u32) -> Result<String, AllocError> {
     document_with(alloc, sheets, &two_up_sheets(alloc, sheets)?)
 }
 
-/// This page and the next one, placed.
+/// This page and the next one, placed by `TWO_UP`.
 fn two_up(alloc: Global, page: u32) -> Result<String, AllocError> {
     let next = page.saturating_add(1);
     let mut pair = placed(alloc, "0 0.7 -0.7 0 595.27559 0", page)?;

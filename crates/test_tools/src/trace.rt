@@ -1,25 +1,25 @@
-//! What a world was asked for.
+//! The requests that a world got.
 ghost use Rattle.std.specs.Prelude.{◌≡◌, ◌++◌, ◌∷◌, [], List, Some, IfOk, IfSome, map, option_map, string_bytes};
 ghost use Rattle.world.specs.Worlds.{Access};
 ghost use Rattle.test_tools.specs.Traces.{access_of, accesses_in};
 
 use std::alloc::{AllocError, Global};
 
-/// An input was to be opened by this name, or an output to be created.
+/// A request to open an input, or to create an output, with its name.
 #[derive(Drop)]
 pub struct Asked {
     pub creates: bool,
     pub name: Option<String>,
 }
 
-/// The requests that a world got, in order. It remembers none once there was no room for one.
+/// The requests that a world got, in order; none if there was no room for one of them.
 #[derive(Drop)]
 pub struct Trace {
     pub all: Option<Vec<Asked>>,
 }
 
 impl Trace {
-    /// Nothing yet.
+    /// No requests.
     pub fn new(alloc: Global) -> Trace
         ensures { accesses_in result ≡ Some [] }
     {
@@ -28,7 +28,7 @@ impl Trace {
         }
     }
 
-    /// This too.
+    /// Adds a request.
     pub fn add(&mut self, alloc: Global, creates: bool, name: Option<&str>)
         ensures { IfSome (accesses_in self.new) (λ all. (before : List Access) × (accesses_in self.old ≡ Some before)
             × (all ≡ before ++ record { creates = creates; name = option_map (λ n. n.now) name.entry } ∷ [])) }
@@ -40,7 +40,7 @@ impl Trace {
     }
 }
 
-/// These and one more.
+/// These requests with one more.
 fn with(
     alloc: Global,
     mut all: Vec<Asked>,
@@ -55,7 +55,7 @@ fn with(
     Ok(all)
 }
 
-/// A name of its own.
+/// A copy of a name.
 pub(crate) fn owned(alloc: Global, name: Option<&str>) -> Result<Option<String>, AllocError>
     ensures { IfOk result (λ own. option_map string_bytes own ≡ option_map (λ n. n.now) name.entry) }
 {

@@ -1,4 +1,4 @@
-//! An output with a buffer before it.
+//! An output behind a buffer.
 ghost use Rattle.std.specs.Prelude.{◌≡◌, ◌+◌, ◌-◌, ◌<◌, ◌≤◌, [], ◌++◌, IfErr, IfOk, OnErr, OnOk, drop, false, length, take, true, vec_capacity, vec_len};
 ghost use Rattle.std.specs.Io.KnownBytes.{Appends, Keeps, append_known};
 ghost use Rattle.world.specs.Outputs.{IsFrontOf, IsSteady};
@@ -6,7 +6,7 @@ ghost use Rattle.world.specs.Outputs.{IsFrontOf, IsSteady};
 use crate::output::Output;
 use sheet_writer::{Sink, SinkFault};
 
-/// A write failed after so many of the bytes.
+/// A write failed after this number of bytes.
 #[derive(Clone, Copy, Debug, PartialEq, Eq)]
 pub struct Broken {
     pub written: usize,
@@ -31,7 +31,7 @@ pub fn write_all<T: Output>(output: &mut T, bytes: &[u8]) -> Result<(), Broken>
     Ok(())
 }
 
-/// An output with a buffer before it, as a sink.
+/// An output behind a buffer, as a sink.
 #[derive(Drop)]
 pub struct Buffered<T> {
     output: T,
@@ -39,7 +39,7 @@ pub struct Buffered<T> {
 }
 
 impl<T: Output> Buffered<T> {
-    /// With the room of this buffer, which is emptied.
+    /// An output behind this buffer, which is emptied.
     pub fn new(buffer: Vec<u8>, output: T) -> Buffered<T>
         ensures told { (⟦<Buffered<T> as Sink>⟧.seen result).bytes ≡ (T.seen output).bytes }
         ensures failures { (⟦<Buffered<T> as Sink>⟧.seen result).failures ≡ (T.seen output).failures }
@@ -49,7 +49,7 @@ impl<T: Output> Buffered<T> {
         Buffered { output, buffer }
     }
 
-    /// Writes out what the buffer holds, and hands it on.
+    /// Writes the buffered bytes to the output, and flushes it.
     pub fn write_out(&mut self) -> Result<(), SinkFault>
         requires countable { (⟦<Buffered<T> as Sink>⟧.seen self.old).failures < u64.MAX }
         ensures kept { Keeps (⟦<Buffered<T> as Sink>⟧.seen self.old).bytes (⟦<Buffered<T> as Sink>⟧.seen self.new).bytes }
@@ -65,7 +65,7 @@ impl<T: Output> Buffered<T> {
         }
     }
 
-    /// Writes out what the buffer holds, and gives the output back: whether all was written.
+    /// Writes the buffered bytes and flushes. Returns whether all were written, and the output.
     pub fn finish(self) -> (bool, T)
         requires countable { (⟦<Buffered<T> as Sink>⟧.seen self).failures < u64.MAX }
         ensures whole { result.0 ≡ true → Keeps (⟦<Buffered<T> as Sink>⟧.seen self).bytes (T.seen result.1).bytes }
@@ -81,21 +81,21 @@ impl<T: Output> Buffered<T> {
         }
     }
 
-    /// How many bytes wait in the buffer.
+    /// The number of bytes in the buffer.
     pub fn waiting(&self) -> usize
         ensures { result ≡ length self.now.buffer.items }
     {
         self.buffer.len()
     }
 
-    /// The output, without what waits in the buffer.
+    /// The output, without the buffered bytes.
     pub fn into_output(self) -> T
         ensures { result ≡ self.output }
     {
         self.output
     }
 
-    /// Writes what the buffer holds.
+    /// Writes the buffered bytes to the output.
     fn write_buffer(&mut self) -> Result<(), SinkFault>
         requires countable { (T.seen self.old.output).failures < u64.MAX }
         ensures kept { Keeps (append_known (T.seen self.old.output).bytes self.old.buffer.items)
@@ -118,8 +118,8 @@ impl<T: Output> Buffered<T> {
         }
     }
 
-    /// Takes the first of the bytes for which the buffer has no room. The buffer is written out first, and they too if
-    /// there are as many as it may hold.
+    /// Takes the first of bytes for which the buffer has no room. The buffer is written first; these bytes are too, if they are at least as many as
+    /// the buffer holds.
     fn accept_many(&mut self, bytes: &[u8]) -> Result<usize, SinkFault>
         requires some { 0 < length bytes.now }
         requires countable { (T.seen self.old.output).failures < u64.MAX }
@@ -168,7 +168,7 @@ fn append(buffer: &mut Vec<u8>, bytes: &[u8])
     };
 }
 
-/// Takes so many bytes away at the front.
+/// Removes this many bytes at the front.
 fn remove_front(buffer: &mut Vec<u8>, count: usize)
     requires { count ≤ vec_len buffer.old }
     ensures items { buffer.new.items ≡ drop count buffer.old.items }

@@ -1,4 +1,4 @@
-//! How often a world failed, and why it failed last.
+//! The failures of a world.
 ghost use Rattle.std.specs.Prelude.{◌≡◌, ◌+◌, ◌<◌, ◌≤◌, None, Some, option_map};
 ghost use Rattle.std.specs.IoError.{error_kind};
 
@@ -6,7 +6,7 @@ use crate::source::ReadSource;
 use std::io;
 use std::io::{ErrorKind, Read};
 
-/// How often a world failed, and why it failed last.
+/// The number of a world's failures, and the cause of the last one.
 #[derive(Clone, Copy, Debug, PartialEq, Eq)]
 pub struct Failures {
     pub count: u64,
@@ -16,7 +16,7 @@ pub struct Failures {
 impl Failures {
     ghost use Rattle.world.specs.Worlds.{cause_of, failures_of};
 
-    /// None so far.
+    /// No failure so far.
     pub fn none() -> Failures
         ensures { result ≡ record { count = 0; last = None } }
     {
@@ -26,7 +26,7 @@ impl Failures {
         }
     }
 
-    /// One more, for this cause.
+    /// Counts one more failure, with this cause.
     pub fn add(&mut self, cause: &io::Error)
         requires { self.old.count < u64.MAX }
         ensures { self.new ≡ record { count = self.old.count + 1; last = Some (error_kind cause.now) } }
@@ -35,7 +35,7 @@ impl Failures {
         self.last = Some(cause.kind());
     }
 
-    /// Those of an input that is closed. Answers why it failed last, if it did.
+    /// Counts the failures of an input, which is closed. Returns the cause of its last one, if it failed.
     pub fn close<T: Read + Drop>(&mut self, source: ReadSource<T>) -> Option<io::Error>
         requires { self.old.count + failures_of source ≤ u64.MAX }
         ensures cause { result ≡ cause_of source }

@@ -1,11 +1,11 @@
-//! Reading what an input begins with.
+//! Reading the start of an input.
 ghost use Rattle.std.specs.Prelude.{◌<◌, ◌≤◌, IfOk, length, take};
 ghost use Rattle.world.specs.Input.{Counts, IsFirst};
 
 use crate::read::fill_behind;
 use crate::source::{Source, SourceFault};
 
-/// The first bytes of the source, read into the buffer: as many as it takes, or all if there are fewer. It needs no memory.
+/// Reads the first bytes of the source into the buffer: as many as it holds, or all if there are fewer. It takes no memory.
 pub fn read_front<S: Source>(buffer: &mut [u8], source: &mut S) -> Result<usize, SourceFault>
     requires countable { (S.seen source.old).failures < u64.MAX }
     ensures within { IfOk result (λ count. count ≤ length buffer.new) }

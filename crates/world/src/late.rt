@@ -11,8 +11,7 @@ use crate::world::{Refused, World};
 use std::io;
 use std::marker::{Brand, PhantomData};
 
-/// Ghost parameter, chosen in the proof of each call; no code: what is seen of a world before an output of this name is
-/// asked for.
+/// Ghost parameter, chosen in the proof of each call; no code: what was seen of a world before an output of this name is requested.
 pub trait Before {
     ghost seen: { WorldView };
 
@@ -25,14 +24,14 @@ impl Before for Brand {
     ghost name = { None };
 }
 
-/// The name of an output, and the world that is to create it.
+/// The name of an output, and the world that is asked to create it.
 #[derive(Drop)]
 pub struct Asked<'n, W: World> {
     pub name: Option<&'n str>,
     pub world: W,
 }
 
-/// A world that has refused an output, and how often that was met.
+/// A world that refused an output, and the number of writes that have failed because of this.
 #[derive(Drop)]
 pub struct Denied<W> {
     pub refused: Refused<W>,
@@ -55,12 +54,12 @@ pub struct Late<'n, W: World, B: Before> {
     ghost begun: { ForSome output (λ o. (W.Output.seen o).failures ≡ 0 → (W.Output.seen o).has_taken ≡ true) },
 }
 
-/// What became of an output that is created late.
+/// The fate of an output that is created late.
 #[derive(Drop)]
 pub enum Fate<W, O> {
     /// The world wasn't asked for it.
     Unasked(W),
-    /// The world was asked once, and refused it.
+    /// The world was asked once and refused.
     Refused(Refused<W>),
     /// It was created.
     Created(O),
@@ -70,7 +69,7 @@ impl<'n, W: World, B: Before> Late<'n, W, B> {
     ghost use Rattle.world.specs.Outputs.{fresh_output, told_if};
     ghost use Rattle.world.specs.Lates.{IsFate};
 
-    /// The output that is asked for, which isn't created yet.
+    /// An output that is requested but not created yet.
     pub fn new(asked: Asked<'n, W>) -> Late<'n, W, B>
         requires named { option_map (λ n. n.now) asked.name ≡ B.name }
         requires seen { W.seen asked.world ≡ B.seen }
@@ -88,7 +87,7 @@ impl<'n, W: World, B: Before> Late<'n, W, B> {
         }
     }
 
-    /// What became of it.
+    /// The fate of the output.
     pub fn fate(self) -> Fate<W, W::Output>
         ensures { IsFate W.tells W.seen W.Output.seen B.name B.seen (⟦<Late<'n, W, B> as Output>⟧.seen self.entry) result }
     {

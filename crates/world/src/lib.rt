@@ -1,4 +1,4 @@
-//! What a program sees of its surroundings: files and streams, and how input is read whole.
+//! The surroundings of a program: files, standard streams, and reading an input whole.
 #![tactic(auto)]
 
 mod buffered;

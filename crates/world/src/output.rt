@@ -1,18 +1,18 @@
-//! What bytes are written to.
+//! Outputs.
 ghost use Rattle.std.specs.Prelude.{◌≡◌, ◌<◌, ◌≤◌, IfOk, false, is_some, length, true};
 ghost use Rattle.std.specs.Io.KnownBytes.{Keeps, WriteAppends};
 
 use std::io;
 use std::io::{ErrorKind, Write};
 
-/// What bytes are written to. It counts its failures.
+/// A destination for bytes. It counts its failures.
 pub trait Output {
     ghost use Rattle.world.specs.Outputs.{CountsCall, CountsWrite, OutputView};
 
     // What it reports, whether it has taken a byte, and how often and why it failed.
     ghost seen: { Self → OutputView };
 
-    /// Writes the first of the bytes, one at least, and answers how many.
+    /// Writes the first of the bytes, at least one, and returns their number.
     fn write(&mut self, bytes: &[u8]) -> io::Result<usize>
         requires some { 0 < length bytes.now }
         requires countable { (seen self.old).failures < u64.MAX }
@@ -20,22 +20,22 @@ pub trait Output {
         ensures written { WriteAppends (seen self.old).bytes (seen self.new).bytes result bytes.now }
         ensures counted { CountsWrite (seen self.old) (seen self.new) result };
 
-    /// Hands on what was written, if it is still held back.
+    /// Passes on what was written, if it is still held back.
     fn flush(&mut self) -> io::Result<()>
         requires countable { (seen self.old).failures < u64.MAX }
         ensures kept { Keeps (seen self.old).bytes (seen self.new).bytes }
         ensures counted { CountsCall (seen self.old) (seen self.new) result };
 
-    /// How often it failed.
+    /// The number of its failures.
     fn failures(&self) -> u64
         ensures { result ≡ (seen self.now).failures };
 
-    /// Why it failed last, if it did.
+    /// The cause of its last failure, if it failed.
     fn cause(&self) -> Option<io::Error>
         ensures { result ≡ (seen self.now).cause };
 }
 
-/// A writer as an output. Each of its errors is a failure, and each write of bytes that takes none.
+/// A writer as an output. Each error of the writer is a failure, and so is each write that takes none of the bytes.
 #[derive(Drop)]
 pub struct WriteOutput<T> {
     pub writer: T,
@@ -47,7 +47,7 @@ pub struct WriteOutput<T> {
 impl<T: Write> WriteOutput<T> {
     ghost use Rattle.world.specs.Outputs.{fresh_output};
 
-    /// An output of what is written to the writer from now on.
+    /// An output for the bytes that are written to the writer from now on.
     pub fn new(writer: T) -> WriteOutput<T>
         ensures { ⟦<WriteOutput<T> as Output>⟧.seen result ≡ fresh_output (T.contents writer) }
     {

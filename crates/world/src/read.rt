@@ -11,16 +11,16 @@ use std::alloc::{AllocError, Global};
 /// The most bytes that are read: one more than an input may have, so that a longer input is seen to be too long.
 pub const MOST_BYTES: usize = 1_073_741_825;
 
-/// The room that the source is offered first. Most documents are small, and memory that is touched costs time.
+/// The room that the source is offered first. Most documents are small, and touching memory takes time.
 const FIRST_PIECE: usize = 16_384;
 
 /// The least room that the source is offered, after the first piece.
 const LEAST_ROOM: usize = 65_536;
 
-/// The number of bytes that are zeroed at once ahead of reading: few enough to be still in the cache when they are read.
+/// The number of bytes that are zeroed at once before reading, few enough to be still in the cache then.
 const PIECE: usize = 262_144;
 
-/// From this length on an input is large: room for the longest one is asked for at once, so that no byte is moved again.
+/// The length from which on an input is large: then room for the longest one is reserved at once, so no byte is moved again.
 const LARGE: usize = 1_048_576;
 
 /// Why an input couldn't be read.
@@ -48,11 +48,10 @@ impl From<SourceFault> for ReadFault {
     }
 }
 
-/// The bytes of the source to its end, or the first [`MOST_BYTES`] of them if it has more.
+/// The bytes of the source to its end, or the first [`MOST_BYTES`] of them if there are more.
 ///
-/// They are read straight into the vector, whose length grows by a piece at a time as it fills. From a megabyte on it has
-/// room for the longest input, if there is address space for it, until all is read. After a fault the bytes that were
-/// read are lost.
+/// They are read straight into the vector, which grows by a piece at a time. From a megabyte on, until all is read, it has room for the longest
+/// input, if there is address space. After a fault the bytes are lost.
 pub fn read_input<S: Source>(alloc: Global, source: &mut S) -> Result<Vec<u8>, ReadFault>
     requires countable { (S.seen source.old).failures < u64.MAX }
     ensures within { IfOk result (λ bytes. vec_len bytes ≤ most_bytes) }
@@ -67,7 +66,7 @@ pub fn read_input<S: Source>(alloc: Global, source: &mut S) -> Result<Vec<u8>, R
     read_input_behind(alloc, 0, source)
 }
 
-/// The same after `room` bytes, which are 0: room for what whoever reads may want to put before the input.
+/// The same after `room` zero bytes, for a caller that will put something before the input.
 pub fn read_input_behind<S: Source>(
     alloc: Global,
     room: u32,
@@ -101,7 +100,7 @@ pub fn read_input_behind<S: Source>(
     Ok(bytes)
 }
 
-/// One fill after the first `filled` bytes, of `most` bytes.
+/// Fills once after the first `filled` bytes, up to `most` bytes.
 fn fill_more<S: Source>(
     source: &mut S,
     bytes: &mut Vec<u8>,
@@ -128,7 +127,7 @@ fn fill_more<S: Source>(
     Ok(fill_behind(source, bytes.as_mut_slice(), filled)?)
 }
 
-/// Sees to room after the first `filled` bytes, of a piece more or of as much as may still be read.
+/// Makes room after the first `filled` bytes for a further piece, or for all that may still be read.
 fn make_room(bytes: &mut Vec<u8>, filled: usize, most: usize) -> Result<(), AllocError>
     requires filled { filled ≤ vec_len bytes.old }
     requires more { filled < most }
@@ -151,7 +150,7 @@ fn make_room(bytes: &mut Vec<u8>, filled: usize, most: usize) -> Result<(), Allo
     Ok(())
 }
 
-/// The room that is wanted in a buffer of this length. The first piece is filled to its end.
+/// The room to offer in a buffer of this length. The first piece is filled to its end.
 fn least_room(len: usize) -> usize
     ensures some { 0 < result }
     ensures few { result ≤ 65_536 }
@@ -159,7 +158,7 @@ fn least_room(len: usize) -> usize
     if len <= FIRST_PIECE { 1 } else { LEAST_ROOM }
 }
 
-/// How long the buffer is next.
+/// The next length of the buffer.
 fn next_len(len: usize, most: usize) -> usize
     requires more { len < most }
     requires enough { MOST_BYTES ≤ most }
@@ -174,8 +173,8 @@ fn next_len(len: usize, most: usize) -> usize
     }
 }
 
-/// Asks for room for as much as may be read, once. It is address space alone: memory that isn't filled isn't touched. If
-/// there is none, the vector grows as it fills.
+/// Reserves room, once, for all that may be read. It is only address space: memory that isn't filled isn't touched. If there is none, the vector
+/// grows as it fills.
 fn reserve_all(bytes: &mut Vec<u8>, most: usize)
     requires { vec_len bytes.old ≤ most }
     ensures same { bytes.new.items ≡ bytes.old.items }
@@ -184,7 +183,7 @@ fn reserve_all(bytes: &mut Vec<u8>, most: usize)
     let _ = bytes.reserve(most - bytes.len());
 }
 
-/// Gives back the room after a large input.
+/// Frees the room after a large input.
 fn give_back_room(bytes: &mut Vec<u8>)
     ensures same { bytes.new.items ≡ bytes.old.items }
     ensures len { vec_len bytes.new ≡ vec_len bytes.old }
@@ -194,7 +193,7 @@ fn give_back_room(bytes: &mut Vec<u8>)
     }
 }
 
-/// Fills what is after the first `filled` bytes.
+/// Fills the buffer after the first `filled` bytes.
 pub(crate) fn fill_behind<S: Source>(
     source: &mut S,
     buffer: &mut [u8],

@@ -1,10 +1,10 @@
-//! What is left of the world.
+//! The rest of a world.
 
-/// The rest of the world.
+/// The rest of a world: itself, or the output that it became.
 #[derive(Drop)]
 pub enum Rest<W, O> {
-    /// No output was created: the world is there again.
+    /// No output was created: the world is returned.
     World(W),
-    /// An output was created, which is there.
+    /// An output was created.
     Output(O),
 }

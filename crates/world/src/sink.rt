@@ -10,8 +10,8 @@ use std::alloc::Global;
 use std::io;
 use std::io::ErrorKind;
 
-/// Creates the output of this name, with a buffer of this number of bytes before it. If there is no memory for the buffer,
-/// the very world comes back, unasked. If the world refuses the output, it comes back with nothing created in it.
+/// Creates the output of this name, behind a buffer of this size. If there is no memory for the buffer, the world is returned unchanged. If the world
+/// refuses the output, it is returned without a new output.
 pub fn created<W: World>(
     alloc: Global,
     capacity: usize,

@@ -1,4 +1,4 @@
-//! What bytes are read from.
+//! Sources of bytes.
 ghost use Rattle.std.specs.Prelude.{◌≡◌, ◌<◌, ◌≤◌, IfOk, is_some, length, true};
 
 use std::io;
@@ -15,7 +15,7 @@ pub trait Source {
     // Which bytes are still to come, if it reports them, and how often it has failed.
     ghost seen: { Self → SourceView };
 
-    /// Moves some of the bytes still to come to the front of `buffer` and answers how many, 0 only at the end.
+    /// Moves some of the next bytes to the front of `buffer` and returns their number, 0 only at the end.
     fn fill(&mut self, buffer: &mut [u8]) -> Result<usize, SourceFault>
         requires room { 0 < length buffer.old }
         requires countable { (seen self.old).failures < u64.MAX }
@@ -24,7 +24,7 @@ pub trait Source {
         ensures counted { Counts (seen self.old).failures (seen self.new).failures result };
 }
 
-/// A reader as a source. An error of the reader, an interrupted read too, is a failure.
+/// A reader as a source. Each error of the reader, even an interrupted read, is a failure.
 #[derive(Drop)]
 pub struct ReadSource<T> {
     reader: T,
@@ -34,7 +34,7 @@ pub struct ReadSource<T> {
 }
 
 impl<T: Read> ReadSource<T> {
-    /// A source of what the reader still gives, without failures so far.
+    /// A source of the rest of what the reader gives, without failures so far.
     pub fn new(reader: T) -> ReadSource<T>
         ensures remaining { (⟦<ReadSource<T> as Source>⟧.seen result).bytes ≡ T.remaining reader }
         ensures fresh { (⟦<ReadSource<T> as Source>⟧.seen result).failures ≡ 0 }
@@ -46,7 +46,7 @@ impl<T: Read> ReadSource<T> {
         }
     }
 
-    /// How often it has failed.
+    /// The number of its failures.
     pub fn failures(&self) -> u64
         ensures { result ≡ self.now.failures }
     {
@@ -55,7 +55,7 @@ impl<T: Read> ReadSource<T> {
 }
 
 impl<T: Read + Drop> ReadSource<T> {
-    /// Why it failed last, if it did.
+    /// The cause of its last failure, if it failed.
     pub fn into_cause(self) -> Option<io::Error>
         ensures { result ≡ self.cause }
     {

@@ -1,10 +1,9 @@
-//! What a program reports to the person who runs it.
+//! Lines for the person who runs a program.
 ghost use Rattle.std.specs.Prelude.{◌≡◌};
 
 use std::io::Write;
 
-/// Writes a line to whom it concerns, and answers the program's status: the same whether the line is taken or not, for
-/// if it isn't, nobody hears of it.
+/// Writes a line, and returns the program's status, even if the line can't be written: then nobody would hear of it.
 pub fn tell<T: Write>(to: &mut T, line: &[u8], status: u8) -> u8
     ensures { result ≡ status }
 {

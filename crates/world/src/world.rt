@@ -10,13 +10,13 @@ use crate::source::ReadSource;
 use std::io;
 use std::io::Read;
 
-/// The files and standard streams around a program, and what it may do to them.
+/// The files and standard streams around a program, and what it may do with them.
 ///
-/// A name is that of a file, and none is the standard stream. Creating an output takes the world: so whoever
-/// still has it has created none, and nobody creates two.
+/// A name is that of a file; None is the standard stream. Creating an output uses the world up: a program that still has it has created no output,
+/// and none creates two.
 ///
-/// A world counts its failures: each file that it refuses to open or create, and those of an input that it closes. So a
-/// program that reports a failure can be held to the world's count.
+/// A world counts its failures: each file that it refuses to open or create, and those of an input that it closes. So a program's report of a failure
+/// can be compared with the world's count.
 pub trait World: Sized + Drop {
     type Input: Read + Drop;
 
@@ -45,7 +45,7 @@ pub trait World: Sized + Drop {
         ensures again { is_some name.entry ≡ true → gives self.new ≡ gives self.old }
         ensures tells { tells self.new ≡ tells self.old };
 
-    /// Closes an input, adds its failures to the world's, and answers why it failed last, if it did.
+    /// Closes an input, adds its failures to the world's, and returns the cause of the last one, if it failed.
     fn close(&mut self, source: ReadSource<Self::Input>) -> Option<io::Error>
         requires countable { (seen self.old).failures + failures_of source ≤ u64.MAX }
         ensures cause { result ≡ cause_of source }
@@ -55,11 +55,11 @@ pub trait World: Sized + Drop {
         ensures again { gives self.new ≡ gives self.old }
         ensures tells { tells self.new ≡ tells self.old };
 
-    /// Whether there is a regular file of this name. At anything else opening may wait, and reading may never end.
+    /// Whether there is a regular file of this name. Opening anything else may wait, and reading it may never end.
     fn is_file(&self, name: &str) -> bool
         ensures { IfSome (regular self.now name.now) (λ is. result ≡ is) };
 
-    /// Creates, or empties, the file of this name; or takes standard output. Nothing was written to it yet.
+    /// Creates or empties the file of this name, or takes standard output. Nothing has been written to it.
     fn create(self, name: Option<&str>) -> Result<Self::Output, Refused<Self>>
         requires countable { (seen self).failures < u64.MAX }
         ensures created { IfOk result (λ output. Self.Output.seen output ≡ fresh_output (told_if (tells self) (option_map (λ n. n.now) name.entry) [])) }
@@ -73,6 +73,6 @@ pub trait World: Sized + Drop {
 pub struct Refused<W> {
     /// The world, in which nothing was created.
     pub world: W,
-    /// Why.
+    /// The cause.
     pub cause: io::Error,
 }

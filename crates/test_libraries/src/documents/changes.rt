@@ -3,7 +3,7 @@ use crate::answer::Answer;
 use crate::documents::cuts::counted;
 use std::alloc::{AllocError, Global};
 
-/// The number of pages in the first bytes of a text, for each number of bytes.
+/// Prints the number of pages in the first bytes of a text, for each number of bytes.
 pub fn every_prefix(out: &mut Answer, text: &[u8]) {
     let mut ranges = Ranges::new(out.alloc);
     for len in 0..text.len() + 1 {
@@ -13,7 +13,7 @@ pub fn every_prefix(out: &mut Answer, text: &[u8]) {
     ranges.end(out);
 }
 
-/// The number of pages of a text in which one byte is replaced by this one, for each place.
+/// Prints the number of pages of a text in which one byte is replaced by this one, for each place.
 pub fn every_change(out: &mut Answer, text: &[u8], byte: &str) {
     let mut ranges = Ranges::new(out.alloc);
     for place in 0..text.len() {
@@ -26,7 +26,7 @@ pub fn every_change(out: &mut Answer, text: &[u8], byte: &str) {
     ranges.end(out);
 }
 
-/// A text in which the first byte of its second part is replaced.
+/// A text with the first byte of its second part replaced.
 fn changed(alloc: Global, front: &[u8], byte: &str, behind: &[u8]) -> Result<Vec<u8>, AllocError> {
     let mut changed = Vec::from_slice(alloc, front)?;
     changed.extend_from_slice(byte.as_bytes())?;
@@ -34,12 +34,12 @@ fn changed(alloc: Global, front: &[u8], byte: &str, behind: &[u8]) -> Result<Vec
     Ok(changed)
 }
 
-/// Answers by their places, from 0: one line for neighbours with the same answer.
+/// Answers by place, from 0. Neighbouring places with the same answer have one line.
 #[derive(Drop)]
 struct Ranges {
-    /// The first place with the last answer.
+    /// The first of the places with the current answer.
     first: usize,
-    /// The place after those that have an answer.
+    /// The next place, which has no answer yet.
     next: usize,
     answer: Vec<u8>,
 }
@@ -53,7 +53,7 @@ impl Ranges {
         }
     }
 
-    /// Counts the pages of the text of the next place.
+    /// Counts the pages of the text for the next place.
     fn count(&mut self, out: &mut Answer, text: &[u8]) {
         let mut answer = Answer::new(out.alloc);
         counted(&mut answer, text);
@@ -72,7 +72,7 @@ impl Ranges {
         self.next = self.next.saturating_add(1);
     }
 
-    /// The line of the last answer.
+    /// Prints the line of the last answer.
     fn end(&self, out: &mut Answer) {
         if let Some(last) = self.next.checked_sub(1) {
             out.show(format_args!("{}..{last} ", self.first));

@@ -3,8 +3,7 @@ use crate::answer::Answer;
 use dsc::{Body, Document, DscError, prepare};
 use std::alloc::{AllocError, Global};
 
-/// The filtered preamble for this many sheets, each page with its body, the filtered trailer; or why the text is
-/// refused.
+/// Prints the filtered preamble for this many sheets, each page with its body, and the filtered trailer; or why the text is refused.
 pub fn cut(out: &mut Answer, sheets: u32, text: &[u8]) {
     match Document::read(out.alloc, text) {
         Ok(document) => parts(out, sheets, &document, text),
@@ -31,7 +30,7 @@ fn filtered(out: &mut Answer, part: &str, text: Result<Vec<u8>, AllocError>) {
     }
 }
 
-/// A page with its body, and, if it differs, the result of preparing it alone.
+/// Prints a page with its body and, if it differs, the result of preparing the page alone.
 fn page_lines(out: &mut Answer, page: &[u8], body: Result<Body<'_>, AllocError>) {
     let body = body_line(out.alloc, body);
     let mut alone = Answer::new(out.alloc);
@@ -56,7 +55,7 @@ fn body_line(alloc: Global, body: Result<Body<'_>, AllocError>) -> Answer {
     line
 }
 
-/// The body of a page, or why it has none. If the two calls that prepare it differ, both.
+/// Prints the body of a page, or why it has none; if the two calls that prepare it differ, both results.
 pub fn bodies(out: &mut Answer, page: &[u8]) {
     let copied = copied_line(out.alloc, page);
     let held = held_line(out.alloc, page);
@@ -88,7 +87,7 @@ fn held_line(alloc: Global, page: &[u8]) -> Answer {
     line
 }
 
-/// The numbers of pages of a document and of pages after its trailer; or why the text is refused.
+/// Prints the numbers of a document's pages and of pages after its trailer; or why the text is refused.
 pub fn counted(out: &mut Answer, text: &[u8]) {
     match Document::read(out.alloc, text) {
         Ok(document) => numbers(out, &document),
@@ -104,7 +103,7 @@ fn numbers(out: &mut Answer, document: &Document<'_>) {
     }
 }
 
-/// The message of each refusal.
+/// Prints the message of each refusal.
 pub fn refusals(out: &mut Answer) {
     for refusal in [
         DscError::TooLong,

@@ -1,4 +1,4 @@
-//! Commands that cut documents, and put the guard into them.
+//! Commands that cut documents, and insert the guard into them.
 use crate::answer::Answer;
 use crate::documents::changes::{every_change, every_prefix};
 use crate::documents::cuts::{bodies, counted, cut, refusals};

@@ -14,14 +14,14 @@ const TOO_MANY: u32 = 1_000_001;
 /// The most entries that are written out.
 const FEW: usize = 20;
 
-/// The row that a text names.
+/// Prints the row that a text names.
 pub fn named(out: &mut Answer, words: &[String]) -> Option<()> {
     let (pages, text) = (count(words, 1)?, word(words, 2)?);
     told(out, read_row(out.alloc, pages, text.as_bytes()));
     Some(())
 }
 
-/// The row of a choice.
+/// Prints the row of a choice.
 pub fn chosen(out: &mut Answer, words: &[String]) -> Option<()> {
     let pages = count(words, 1)?;
     let choice = choice_of(words.get(2..)?);
@@ -33,7 +33,7 @@ pub fn chosen(out: &mut Answer, words: &[String]) -> Option<()> {
     Some(())
 }
 
-/// The row of a choice, in signatures if any are wanted.
+/// Prints the row of a choice, in signatures if any are named.
 pub fn imposed(out: &mut Answer, words: &[String]) -> Option<()> {
     let (pages, signing) = (count(words, 1)?, word(words, 2)?);
     let choice = choice_of(words.get(3..)?);
@@ -82,7 +82,7 @@ fn choice_of(words: &[String]) -> Choice<'_> {
     choice
 }
 
-/// The number of sides of signatures that are easy to fold.
+/// Prints the number of sides of signatures that are easy to fold.
 pub fn sides_for(out: &mut Answer, words: &[String]) -> Option<()> {
     let entries = count(words, 1)?;
     if 0 < entries && entries < TOO_MANY {
@@ -93,7 +93,7 @@ pub fn sides_for(out: &mut Answer, words: &[String]) -> Option<()> {
     Some(())
 }
 
-/// A row in signatures of this many sides.
+/// Prints a row in signatures of this many sides.
 pub fn sewn(out: &mut Answer, words: &[String]) -> Option<()> {
     let sides = count(words, 1)?;
     let row = entries(out.alloc, word(words, 2)?)?;
@@ -117,7 +117,7 @@ pub fn entries(alloc: Global, text: &str) -> Option<Vec<Option<u32>>> {
     Some(row)
 }
 
-/// An entry, and how many times it is there.
+/// An entry, and the number of times that it occurs.
 fn entry_of(word: &str) -> Option<(Option<u32>, u32)> {
     if word == "-" {
         return Some((None, 1));
@@ -127,7 +127,7 @@ fn entry_of(word: &str) -> Option<(Option<u32>, u32)> {
     Some((Some(page), times.parse::<u32>().ok()?))
 }
 
-/// A row, or why there is none.
+/// Prints a row, or why there is none.
 fn told<E: Display + Drop>(out: &mut Answer, answer: Result<Vec<Option<u32>>, E>) {
     match answer {
         Ok(row) => row_line(out, row.as_slice()),
@@ -135,7 +135,7 @@ fn told<E: Display + Drop>(out: &mut Answer, answer: Result<Vec<Option<u32>>, E>
     }
 }
 
-/// A row in the order of reading; for a long one three entries at each end, and the number of entries.
+/// Prints a row in reading order; of a long row three entries at each end, and the number of entries.
 fn row_line(out: &mut Answer, row: &[Option<u32>]) {
     if row.len() <= FEW {
         show_entries(out, row);

@@ -6,7 +6,7 @@ use lengths::{Paper, a4, paper_by_name};
 use papers::{Cut, cut_by, document_paper, first_instead_of, merge_near_sizes, page_papers};
 use std::alloc::Global;
 
-/// A paper: its name if it is one of a few, otherwise its width and height in points.
+/// Appends a paper: its name if it is one of a few, otherwise its width and height in points.
 pub fn show_paper(out: &mut Answer, paper: &Paper) {
     for name in ["a3", "a4", "a5", "letter"] {
         if paper_by_name(name) == Some(*paper) {
@@ -18,7 +18,7 @@ pub fn show_paper(out: &mut Answer, paper: &Paper) {
     out.points(paper.height());
 }
 
-/// The paper of a document where a4 is usual, and the comment that has it.
+/// Prints the paper of a document where a4 is usual, and the comment that names it.
 pub fn told(out: &mut Answer, text: &[u8]) {
     match document_paper(text, &a4()) {
         Some((paper, comment)) => {
@@ -29,7 +29,7 @@ pub fn told(out: &mut Answer, text: &[u8]) {
     }
 }
 
-/// The paper of each page, for a home of letter.
+/// Prints the paper of each page, where letter is usual.
 pub fn home_papers(out: &mut Answer, text: &[u8], asked: Option<Paper>) -> Option<()> {
     let home = paper_by_name("letter")?;
     match papers_at(out.alloc, text, asked, &home) {
@@ -39,7 +39,7 @@ pub fn home_papers(out: &mut Answer, text: &[u8], asked: Option<Paper>) -> Optio
     Some(())
 }
 
-/// The papers as which those of the pages count.
+/// Prints the papers as which those of the pages count.
 pub fn counted(out: &mut Answer, text: &[u8]) -> Option<()> {
     let home = paper_by_name("letter")?;
     match papers_at(out.alloc, text, None, &home) {
@@ -69,7 +69,7 @@ fn papers_at(
     }
 }
 
-/// A line for each page.
+/// Prints a line for each page.
 fn paper_lines(out: &mut Answer, papers: &[Paper]) {
     for (page, paper) in papers.iter().enumerate() {
         out.text("page ");
@@ -84,8 +84,7 @@ fn paper_line(out: &mut Answer, paper: &Paper) {
     out.text("\n");
 }
 
-/// The pages among these that a paper cuts: the first and the last of them, their number, and the least paper that
-/// covers theirs.
+/// Prints which of these pages a paper cuts: the first and the last, their number, and the smallest paper that covers theirs.
 pub fn cutting(out: &mut Answer, words: &[String]) -> Option<()> {
     let sheet = paper(words, 1)?;
     let own = papers_of(out.alloc, words.get(2..)?)?;
@@ -104,7 +103,7 @@ fn cut_line(out: &mut Answer, cut: Option<Cut>) {
     }
 }
 
-/// The first page's paper, if no page has this one.
+/// Prints the first page's paper, if no page has this one.
 pub fn instead_of(out: &mut Answer, words: &[String]) -> Option<()> {
     let sheet = paper(words, 1)?;
     let own = papers_of(out.alloc, words.get(2..)?)?;
@@ -115,12 +114,12 @@ pub fn instead_of(out: &mut Answer, words: &[String]) -> Option<()> {
     Some(())
 }
 
-/// The box in the trailer.
+/// Prints the box in the trailer.
 pub fn trailing_box(out: &mut Answer, text: &[u8]) {
     value(out, trailer_box(text));
 }
 
-/// The value of a line that is a title.
+/// Prints the value of a line that is a title.
 pub fn value_of_title(out: &mut Answer, words: &[String]) -> Option<()> {
     let line = word(words, 1)?.as_bytes();
     value(out, comment_value(line, b"%%Title", b"%%Title:"));

@@ -16,7 +16,7 @@ use std::fmt::Display;
 /// The most sheets that are written out.
 const FEW: u32 = 20;
 
-/// Each entry of a row on a sheet of its own.
+/// Prints the sheets of a row with each entry on its own.
 pub fn on_their_own(out: &mut Answer, words: &[String]) -> Option<()> {
     let (blank, row) = (paper(words, 1)?, word(words, 3)?);
     let (pages, names) = pages_and_names(word(words, 2)?)?;
@@ -35,7 +35,7 @@ fn pages_and_names(text: &str) -> Option<(u32, &str)> {
     Some((pages.parse::<u32>().ok()?, names))
 }
 
-/// The sheets of a specification on a row, of A3 for pages of A4; or why there are none.
+/// Prints the sheets of a specification on a row, of A3 for pages of A4; or why there are none.
 pub fn by_specification(out: &mut Answer, words: &[String]) -> Option<()> {
     let Some(spec) = specification(out, words, 1) else {
         return Some(());
@@ -51,7 +51,7 @@ pub fn by_specification(out: &mut Answer, words: &[String]) -> Option<()> {
     Some(())
 }
 
-/// The papers of this many pages: these in turn.
+/// The papers of this many pages: the named ones in turn.
 fn papers_in_turn(alloc: Global, pages: u32, names: &str) -> Option<Vec<Paper>> {
     let turns = names.split_whitespace().count().max(1);
     let mut papers = Vec::new(alloc);
@@ -73,7 +73,7 @@ fn row_of(alloc: Global, pages: u32, row: &str) -> Option<Vec<Option<u32>>> {
     }
 }
 
-/// Sheets, or why there are none.
+/// Prints sheets, or why there are none.
 fn told<E: Display + Drop>(out: &mut Answer, made: Result<MadeSheets, E>) {
     match made {
         Ok(made) => sheet_lines(out, &made),
@@ -81,7 +81,7 @@ fn told<E: Display + Drop>(out: &mut Answer, made: Result<MadeSheets, E>) {
     }
 }
 
-/// A line for each sheet; for many sheets two lines at each end, and the number of sheets.
+/// Prints a line for each sheet; of many sheets two lines at each end, and the number of sheets.
 fn sheet_lines(out: &mut Answer, made: &MadeSheets) {
     let Ok(sheets) = u32::try_from(made.len()) else {
         return out.text("too many\n");
@@ -98,7 +98,7 @@ fn sheet_lines(out: &mut Answer, made: &MadeSheets) {
     }
 }
 
-/// A sheet as `a3: 1 a4 left, -`.
+/// Prints a sheet, such as `a3: 1 a4 left, -`.
 fn sheet_line(out: &mut Answer, made: &MadeSheets, sheet: u32)
     requires { sheet < length made.now }
 {
@@ -111,7 +111,7 @@ fn sheet_line(out: &mut Answer, made: &MadeSheets, sheet: u32)
     out.text("\n");
 }
 
-/// The content of a slot, as `1 a4 left`: the page's number from 1, its paper, and its turn.
+/// Appends the content of a slot, such as `1 a4 left`: the page's number from 1, its paper, and its turn.
 fn show_slot(out: &mut Answer, slot: Option<PlacedSlot<'_>>) {
     match slot {
         Some(placed) => {

@@ -1,10 +1,10 @@
-//! What impose reports of a fault.
+//! The reports of impose on faults.
 use crate::answer::Answer;
 use crate::programs::made_faults::fault_named;
 use crate::words::word;
 use impose_cli::{fault_status, read_command, text_of_fault};
 
-/// The status after the fault that the first word names, and the report of it. All the words are those of the command.
+/// Prints the status and the report for the fault that the first word names, in a command with all the words.
 pub fn reported(out: &mut Answer, words: &[String]) -> Option<()> {
     let name = word(words, 0)?;
     let fault = fault_named(name)?;

@@ -1,4 +1,4 @@
-//! Runs over files in memory, of which clauses know the bytes.
+//! Runs over files in memory, whose bytes clauses know.
 ghost use Rattle.std.specs.Prelude.{◌≡◌, ◌<◌, map, string_bytes};
 ghost use Rattle.test_libraries.specs.InMemory.{HasWritten};
 
@@ -9,8 +9,7 @@ use std::sync::Wait;
 use std::thread::Threads;
 use test_tools::{Folder, GivenFile, Takes};
 
-/// Status 0 comes only if one file was written, of the name that the words give, with exactly the bytes that are defined for those
-/// of the file that they name.
+/// Status 0 comes only if one file was written, with the name that the words give, and with exactly the bytes that are defined for the input file.
 pub fn pstops_in_folder<'a, R: Threads + Wait + Sync>(
     rt: &R,
     alloc: Global,
@@ -23,7 +22,7 @@ pub fn pstops_in_folder<'a, R: Threads + Wait + Sync>(
     pstops(rt, alloc, words, Folder::new(alloc, files, takes))
 }
 
-/// What a folder was asked for, in order, and how often it failed.
+/// Prints the requests that a folder got, in order, and the number of its failures.
 pub fn asked_for(out: &mut Answer, folder: &Folder<'_>) {
     let Some(all) = &folder.trace().all else {
         return out.note(false);

@@ -14,7 +14,7 @@ const PAGE: GivenFile<'static> = GivenFile {
     is_regular: true,
 };
 
-/// What is reported by this value of `PAPERSIZE` and this text of `/etc/papersize`.
+/// Prints the report for this value of `PAPERSIZE` and this text of `/etc/papersize`.
 pub fn at_home<R: Threads + Wait + Sync>(
     rt: &R,
     out: &mut Answer,
@@ -30,22 +30,22 @@ pub fn at_home<R: Threads + Wait + Sync>(
     report(rt, out, paper_size, &[PAGE, home], Takes::Bytes(10_000));
 }
 
-/// What is reported of an output that takes each byte, but can't be flushed.
+/// Prints the report for an output that takes each byte, but can't be flushed.
 pub fn unflushed<R: Threads + Wait + Sync>(rt: &R, out: &mut Answer) {
     report(rt, out, "", &[PAGE], Takes::NoFlush);
 }
 
-/// What is reported of an output that can't be created.
+/// Prints the report for an output that can't be created.
 pub fn uncreated<R: Threads + Wait + Sync>(rt: &R, out: &mut Answer) {
     report(rt, out, "", &[PAGE], Takes::Nothing);
 }
 
-/// What is reported if there is no input.
+/// Prints the report for a missing input.
 pub fn unread<R: Threads + Wait + Sync>(rt: &R, out: &mut Answer) {
     report(rt, out, "", &[], Takes::Bytes(10_000));
 }
 
-/// What is reported of the page on a sheet of its own, and if no output was created, what the folder was asked for.
+/// Prints the report for a page on a sheet of its own and, if no output was created, the requests that the folder got.
 fn report<R: Threads + Wait + Sync>(
     rt: &R,
     out: &mut Answer,

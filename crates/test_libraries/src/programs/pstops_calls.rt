@@ -15,7 +15,7 @@ use std::sync::Wait;
 use std::thread::Threads;
 use test_tools::{GivenFile, ONE_PAGE, Takes, document_of};
 
-/// The status after the fault that the first word names, and its line.
+/// Prints the status and the line for the fault that the first word names.
 pub fn reported(out: &mut Answer, words: &[String]) -> Option<()> {
     let fault = pstops_fault_named(word(words, 0)?)?;
     match fault_line(out.alloc, &fault) {
@@ -28,7 +28,7 @@ pub fn reported(out: &mut Answer, words: &[String]) -> Option<()> {
     Some(())
 }
 
-/// The fault of that name.
+/// The fault with this name.
 fn pstops_fault_named(name: &str) -> Option<Fault> {
     match name {
         "Command.NoMemory" => Some(Fault::Command(CommandFault::NoMemory)),
@@ -41,7 +41,7 @@ fn pstops_fault_named(name: &str) -> Option<Fault> {
     }
 }
 
-/// What is read of so many bytes: how many they are, and whether they are those.
+/// Prints the number of bytes that are read of an input with this length, and whether they are the right ones.
 pub fn long_input(out: &mut Answer, len: u32) {
     let Ok(long) = vec![in out.alloc; b'%'; len as usize] else {
         return out.note(false);
@@ -56,7 +56,7 @@ pub fn long_input(out: &mut Answer, len: u32) {
     }
 }
 
-/// A reader of one page that gives seven bytes a call, fails at its call with this number, and counts its calls.
+/// A reader of one page that gives seven bytes a call, fails at the call with this number, and counts its calls.
 #[derive(Drop)]
 struct Failing {
     rest: &'static [u8],
@@ -79,7 +79,7 @@ impl Read for Failing {
     }
 }
 
-/// What is read by a reader that fails at the call with this number, and how often it was called.
+/// Prints what is read by a reader that fails at the call with this number, and the number of its calls.
 pub fn failing_input(out: &mut Answer, fails_at: u32, is_interrupted: bool) {
     let cause = if is_interrupted {
         ErrorKind::Interrupted
@@ -102,8 +102,8 @@ pub fn failing_input(out: &mut Answer, fails_at: u32, is_interrupted: bool) {
     out.labelled("calls", reader.calls);
 }
 
-/// The run of these words over one page in the file `in.ps`: status, line, and the output, or what the folder was asked for. The
-/// first word says what the output takes: `all`, `unflushed`, `nothing`, or so many bytes in a call.
+/// Prints the run of these words over one page in the file `in.ps`: status, line, and the output, or the requests that the folder got. The first word
+/// is what the output takes: `all`, `unflushed`, `nothing`, or a number of bytes in a call.
 pub fn ran<R: Threads + Wait + Sync>(rt: &R, out: &mut Answer, words: &[String]) -> Option<()> {
     let (takes, words) = words.split_first()?;
     let takes = match takes.as_str() {
@@ -129,8 +129,8 @@ pub fn ran<R: Threads + Wait + Sync>(rt: &R, out: &mut Answer, words: &[String])
     Some(())
 }
 
-/// The request of these words, run over a document into memory: status, line, and what is written. The first words say how many
-/// pages there are, and for how many bytes there is room.
+/// Prints the run of these words over a document into memory: status, line, and the bytes written. The first words are the number of pages, and the
+/// number of bytes for which there is room.
 pub fn request_ran<R: Threads + Wait + Sync>(
     rt: &R,
     out: &mut Answer,

@@ -1,8 +1,8 @@
-//! What words ask of pstops, in lines.
+//! Requests of pstops, in lines.
 use crate::answer::Answer;
 use pstops_cli::{Request, read_command};
 
-/// The request that the words make, or why they make none.
+/// Prints the request that the words make, or why they make none.
 pub fn requested(out: &mut Answer, words: &[String]) {
     match read_command(out.alloc, words) {
         Ok(request) => show(out, &request),
@@ -10,7 +10,7 @@ pub fn requested(out: &mut Answer, words: &[String]) {
     }
 }
 
-/// The specification, the workers and the paper, and lines for everything else that is asked for.
+/// Prints the specification, the workers and the paper, and a line for each other option that is given.
 fn show(out: &mut Answer, request: &Request) {
     let options = &request.options;
     out.line(format_args!("spec '{}'", request.spec));

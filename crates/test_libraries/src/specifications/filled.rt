@@ -44,7 +44,7 @@ pub fn two_columns() -> Option<Setting>
     }
 }
 
-/// The pages of sheets that are filled from a row in this way, with these papers.
+/// Prints the pages of sheets that are filled from a row in this way, with these papers.
 fn filled(out: &mut Answer, words: &[String], papers: &[Paper]) -> Option<()> {
     let setting = two_columns()?;
     let (alloc, way) = (out.alloc, word(words, 1)?);
@@ -61,7 +61,7 @@ fn filled(out: &mut Answer, words: &[String], papers: &[Paper]) -> Option<()> {
     Some(())
 }
 
-/// The pages of each sheet, or why there are none.
+/// Prints the pages of each sheet, or why there are none.
 fn tell(out: &mut Answer, made: Result<MadeSheets, ArrangementError>) {
     match made {
         Ok(made) => tell_sheets(out, &made),
@@ -76,7 +76,7 @@ fn tell_sheets(out: &mut Answer, made: &MadeSheets) {
     }
 }
 
-/// How a page is scaled and moved in the second cell, in 10^-9.
+/// Prints the scale and the offset of a page in the second cell, in 10^-9.
 fn fitted(out: &mut Answer, words: &[String]) -> Option<()> {
     match two_columns()?.item(&paper(words, 1)?, 1) {
         Ok(item) => {
@@ -97,7 +97,7 @@ fn scale(out: &mut Answer, words: &[String]) -> Option<()> {
     Some(())
 }
 
-/// Two columns and one row of A4 sheets, with 10 points free along each edge, that overlap by 20 points.
+/// Two columns and one row of A4 sheets, with margins of 10 points and an overlap of 20.
 fn two_tiles() -> Poster
     ensures { result.rows * result.columns ≤ 1_024 }
 {
@@ -110,7 +110,7 @@ fn two_tiles() -> Poster
     }
 }
 
-/// Such a poster; or one with the columns, the edge and the overlap that follow the page's paper.
+/// That poster; or one with the columns, the edge and the overlap that follow the page's paper.
 fn told(words: &[String]) -> Option<Poster> {
     let mut poster = two_tiles();
     if word(words, 2).is_some() {
@@ -137,7 +137,7 @@ fn checked(out: &mut Answer, words: &[String]) -> Option<()> {
     Some(())
 }
 
-/// The pages of a row, each on two such tiles; the second page has a paper of its own.
+/// Prints the pages of a row, each on two such tiles; the second page has a paper of its own.
 fn posters(out: &mut Answer, words: &[String]) -> Option<()> {
     let papers = [a4(), paper(words, 1)?];
     let row = row(out.alloc, words.get(2..)?)?;
@@ -148,7 +148,7 @@ fn posters(out: &mut Answer, words: &[String]) -> Option<()> {
     Some(())
 }
 
-/// The offset of the first page of each sheet, in 10^-9 of a point.
+/// Prints the offset of the first page of each sheet, in 10^-9 of a point.
 fn offsets(out: &mut Answer, made: &MadeSheets) {
     let Ok(sheets) = u32::try_from(made.len()) else {
         return out.text("too many\n");

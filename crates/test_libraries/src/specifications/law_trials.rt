@@ -1,4 +1,4 @@
-//! The laws of layouts on printed matrices, by arithmetic of the tests' own: all numbers of pages on many papers.
+//! The laws of layouts, tried on printed matrices by separate arithmetic: all numbers of pages on many papers.
 use crate::answer::Answer;
 use crate::specifications::placed::{
     Kept, Placed, are_apart, are_in_order, are_inside, are_like, columns_of, largest, pages_of,
@@ -65,14 +65,14 @@ fn up_to_64(alloc: Global) -> Option<Vec<u32>> {
 /// A paper by its name, and its sides in points.
 type Named = (&'static str, i64, i64);
 
-/// What is laid out on sheets: these numbers of pages, or booklets.
+/// Layouts to try: these numbers of pages, or booklets.
 #[derive(Clone, Copy)]
 enum Trial<'n> {
     Pages(&'n [u32], Kept),
     Booklets,
 }
 
-/// Prints how many layouts have no fault, or the first that has one.
+/// Prints the number of layouts without a fault, or the first layout with one.
 fn tried(out: &mut Answer, trial: &Trial<'_>, on_own_paper: bool) {
     let mut count = 0u32;
     for page in &PAPERS {
@@ -88,7 +88,7 @@ fn tried(out: &mut Answer, trial: &Trial<'_>, on_own_paper: bool) {
     out.line(format_args!("{count} layouts, no fault"));
 }
 
-/// How many layouts on this paper have no fault; None if one has one, which is printed.
+/// The number of layouts without a fault on this paper; None if one has a fault, which is printed.
 fn tried_on(out: &mut Answer, trial: &Trial<'_>, page: &Named, sheet: &Named) -> Option<u32> {
     match trial {
         Trial::Pages(numbers, kept) => pages_tried(out, numbers, *kept, page, sheet),
@@ -153,7 +153,7 @@ fn papers_named(page: &str, sheet: &str) -> Option<Papers> {
     })
 }
 
-/// What is wrong with n pages of one paper on a sheet of the other.
+/// The fault of n pages of one paper on a sheet of the other.
 fn fault_of(alloc: Global, n: u32, page: &Named, sheet: &Named, kept: Kept) -> &'static str {
     let Some(papers) = papers_named(page.0, sheet.0) else {
         return "no paper";
@@ -171,7 +171,7 @@ fn fault_of(alloc: Global, n: u32, page: &Named, sheet: &Named, kept: Kept) -> &
     }
 }
 
-/// What is wrong with n pages with these sides on a sheet with these sides.
+/// The fault of n pages with these sides on a sheet with these sides.
 fn fault_among(
     pages: &[Placed],
     n: u32,
@@ -208,7 +208,7 @@ fn fault_line(out: &mut Answer, page: &Named, sheet: &Named, fault: &str) {
     out.line(format_args!("{} on {}: {fault}", page.0, sheet.0));
 }
 
-/// What is wrong with a booklet.
+/// The fault of a booklet.
 fn booklet_fault(alloc: Global, page: &Named, sheet: &Named, long_edge: bool) -> &'static str {
     let Some(papers) = papers_named(page.0, sheet.0) else {
         return "no paper";
@@ -229,7 +229,7 @@ fn booklet_fault(alloc: Global, page: &Named, sheet: &Named, long_edge: bool) ->
     fault_of_leaf(front.as_slice(), back.as_slice(), (sheet.1, sheet.2))
 }
 
-/// What is wrong with the sides of a leaf.
+/// The fault of the sides of a leaf.
 fn fault_of_leaf(front: &[Placed], back: &[Placed], sheet: (i64, i64)) -> &'static str {
     let Some(first) = front.first() else {
         return "no page";

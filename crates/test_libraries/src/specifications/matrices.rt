@@ -1,4 +1,4 @@
-//! Matrices, and what comes before and after a page.
+//! Matrices, and the texts before and after a page.
 use crate::answer::Answer;
 use crate::words::{item, number, paper, word};
 use lengths::{Grains, Paper};
@@ -47,7 +47,7 @@ fn matrix(out: &mut Answer, item: &Item, paper: &Paper) {
     out.text("\n");
 }
 
-/// The numbers of a matrix, in 10^-9, and its lengths, in grains.
+/// Prints the numbers of a matrix, in 10^-9, and its lengths, in grains.
 fn parts(out: &mut Answer, item: &Item, paper: &Paper) {
     let Matrix { a, b, c, d, tx, ty } = matrix_of(item, paper);
     for number in [a, b, c, d] {
@@ -62,7 +62,7 @@ fn applied(out: &mut Answer, item: &Item, paper: &Paper, point: (i32, i32)) {
     out.pair(x, y);
 }
 
-/// What comes before a page, appended to a text, and what comes after the page.
+/// Prints the text before a page, appended to another text, and the text after it.
 fn page_texts(out: &mut Answer, item: &Item, paper: &Paper, border: Option<Grains>) {
     out.text("% page\n");
     let before = out.bytes.len();

@@ -1,4 +1,4 @@
-//! Layouts: specifications that are made for people.
+//! Layouts: specifications that are made by a program.
 use crate::answer::Answer;
 use crate::specifications::specifications::written;
 use crate::words::{billionths, count, count_in, length, paper, word};
@@ -58,7 +58,7 @@ fn papers(words: &[String]) -> Option<Papers> {
     })
 }
 
-/// A specification, or why there is none.
+/// Prints a specification, or why there is none.
 fn tell<E: Debug + Display + Drop>(out: &mut Answer, made: Result<Spec, E>) -> Option<()> {
     match made {
         Ok(spec) => written(out, &spec),
@@ -116,7 +116,7 @@ fn put_in_order(order: &mut Order, text: &str) -> Option<()> {
     Some(())
 }
 
-/// Keeps a length free, in 10^-5 of a point, at one edge or at all, in one direction or in both.
+/// Sets a margin or gap, in 10^-5 of a point: one edge or all, one direction or both.
 fn keep(free: &mut Free, name: &str, value: &str) -> Option<()> {
     let length = length(value, 1_270_000)?;
     match name {

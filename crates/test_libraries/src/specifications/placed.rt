@@ -14,7 +14,7 @@ struct Area {
 }
 
 impl Area {
-    /// Whether a strip along a side, as wide as the gap, separates them.
+    /// Whether a strip along a side, as wide as the gap, separates the two areas.
     fn is_apart_from(self, other: Area, gap: i64) -> bool {
         self.right.saturating_add(gap) <= other.left
             || other.right.saturating_add(gap) <= self.left
@@ -23,8 +23,8 @@ impl Area {
     }
 }
 
-/// A placed page, by its printed matrix: its place on the sheet, its place on the sheet as it is held for reading,
-/// its scale in 10^-9, and its turn in quarters.
+/// A placed page by its printed matrix: its place on the sheet, its place with the sheet held for reading, its scale in 10^-9, and its turn in
+/// quarters.
 #[derive(Clone, Copy)]
 pub struct Placed {
     on_sheet: Area,
@@ -80,7 +80,7 @@ fn between(one: (i64, i64), other: (i64, i64)) -> Area {
     }
 }
 
-/// Where a matrix with these numbers sends a point of the page, in points.
+/// The point to which a matrix with these numbers sends a point of the page, in points.
 fn sent(numbers: &[i64], x: i64, y: i64) -> Option<(i64, i64)> {
     match numbers {
         [a, b, c, d, tx, ty] => Some((
@@ -93,7 +93,7 @@ fn sent(numbers: &[i64], x: i64, y: i64) -> Option<(i64, i64)> {
     }
 }
 
-/// A point of the sheet as it is held for reading, if pages are turned by this many quarters to the left.
+/// A point of the sheet held for reading, if pages are turned by this many quarters to the left.
 fn as_held(quarters: u32, point: (i64, i64)) -> (i64, i64) {
     let (x, y) = point;
     match quarters {
@@ -143,7 +143,7 @@ pub fn pages_of(
     Ok(pages)
 }
 
-/// Where a matrix with these numbers places a page with these sides, in points.
+/// The area in which a matrix with these numbers places a page with these sides, in points.
 fn placed_by(numbers: &[i64], sides: (i64, i64)) -> Option<Placed> {
     let one = sent(numbers, 0, 0)?;
     let other = sent(numbers, sides.0, sides.1)?;
@@ -156,7 +156,7 @@ fn placed_by(numbers: &[i64], sides: (i64, i64)) -> Option<Placed> {
     })
 }
 
-/// Whether all pages are on a sheet with these sides, in points, and keep the margin, in 10^-9 of a point.
+/// Whether all pages are on a sheet with these sides, in points, within the margin, in 10^-9 of a point.
 pub fn are_inside(pages: &[Placed], sides: (i64, i64), margin: i64) -> bool {
     for page in pages {
         let area = page.on_sheet;
@@ -183,7 +183,7 @@ pub fn are_apart(pages: &[Placed], gap: i64) -> bool {
     true
 }
 
-/// The number of pages in the first row: those that end as high as the first one.
+/// The number of pages in the first row: those whose upper edges are as high as the first one's.
 pub fn columns_of(pages: &[Placed]) -> usize {
     let mut columns = 0usize;
     for page in pages {
@@ -196,8 +196,7 @@ pub fn columns_of(pages: &[Placed]) -> usize {
     columns
 }
 
-/// Whether the pages are in rows of this many columns, row by row and each row from the left, on the sheet as it is
-/// held for reading.
+/// Whether the pages are in rows of this many columns, row by row and each from the left, with the sheet held for reading.
 pub fn are_in_order(pages: &[Placed], columns: usize) -> bool {
     if columns == 0 {
         return false;
@@ -225,15 +224,14 @@ pub fn are_like(pages: &[Placed], quarters: u32, scale: i64) -> bool {
     true
 }
 
-/// What is kept free along the edges and between cells, in 10^-5 of a point.
+/// The margin and the gap, in 10^-5 of a point.
 #[derive(Clone, Copy)]
 pub struct Kept {
     pub margin: i64,
     pub gap: i64,
 }
 
-/// The largest scale, in 10^-9, with which pages fit the exact cells of a grid of this many or more, upright or
-/// turned.
+/// The largest scale, in 10^-9, at which pages fit the exact cells of a grid of this many or more, upright or turned.
 pub fn largest(n: i64, page: (i64, i64), sheet: (i64, i64), kept: Kept) -> i64 {
     let mut best = 0i64;
     for rows in 1..n.saturating_add(1) {
@@ -252,7 +250,7 @@ pub fn largest(n: i64, page: (i64, i64), sheet: (i64, i64), kept: Kept) -> i64 {
     best
 }
 
-/// The largest scale, in 10^-9, with which this many sides fit a side of which something is kept free.
+/// The largest scale, in 10^-9, at which this many sides of pages fit a side with this margin and gap.
 fn room(whole: i64, parts: i64, side: i64, kept: Kept) -> i64 {
     let margins = kept.margin.saturating_mul(2);
     let gaps = kept.gap.saturating_mul(parts.saturating_sub(1));

@@ -1,4 +1,4 @@
-//! Plans: which page is in which slot of which sheet.
+//! Plans: the page in each slot of each sheet.
 ghost use Rattle.std.specs.Prelude.{◌<◌, length};
 
 use crate::answer::Answer;
@@ -23,7 +23,7 @@ pub fn run(out: &mut Answer, words: &[String]) -> Option<()> {
     Some(())
 }
 
-/// The plan of this many pages, in signatures of this many sides if they are given.
+/// Prints the plan of this many pages, in signatures of this many sides if they are named.
 fn planned(out: &mut Answer, spec: &Spec, pages: u32, sides: Option<u32>) -> Option<()> {
     let plan = match sides {
         None => Plan::new(out.alloc, spec, pages),
@@ -55,12 +55,12 @@ fn all_lines(out: &mut Answer, plan: &Plan<'_>) {
     blank_sheets(out, plan);
 }
 
-/// The pages of each sheet.
+/// Prints the pages of each sheet.
 pub fn page_lists(out: &mut Answer, plan: &Plan<'_>) {
     sheet_lists(out, plan, What::Pages);
 }
 
-/// What is listed of each sheet.
+/// The content of a list of sheets.
 #[derive(Clone, Copy)]
 enum What {
     Slots,
@@ -69,7 +69,7 @@ enum What {
     Missing,
 }
 
-/// Begins an entry of a list. Returns whether it is shown: the first ones are, and the last.
+/// Begins an entry of a list. Returns whether it is shown; the first ones and the last are.
 fn begin(out: &mut Answer, at: u32, count: u32, between: &str) -> bool {
     let is_last = count.saturating_sub(1) <= at;
     if SHOWN < at && !is_last {
@@ -130,13 +130,13 @@ fn slot_items(out: &mut Answer, plan: &Plan<'_>, sheet: u32)
     }
 }
 
-/// The page that an item names.
+/// Prints the page that an item names.
 fn named_page(out: &mut Answer, item: &Item) {
     out.text(if item.from_end { "-" } else { "" });
     out.show(item.page);
 }
 
-/// The slots without a page, for each group of slots.
+/// Prints the slots without a page, for each group of slots.
 fn missing(out: &mut Answer, plan: &Plan<'_>, sheet: u32)
     requires { sheet < length plan.now.sheets }
 {

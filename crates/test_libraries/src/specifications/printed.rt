@@ -1,4 +1,4 @@
-//! Sheets as they are listed and drawn before they are imposed.
+//! Lists and drawings of sheets, made before sheets are imposed.
 use crate::answer::Answer;
 use crate::specifications::filled::two_columns;
 use crate::words::{count, length, paper, row, word};
@@ -19,7 +19,7 @@ pub fn run(out: &mut Answer, words: &[String]) -> Option<()> {
     }
 }
 
-/// The plan of a booklet of a row.
+/// Prints the list of a booklet of a row.
 fn booklet_plan(out: &mut Answer, words: &[String]) -> Option<()> {
     let (setting, most) = (two_columns()?, count(words, 1)?);
     let row = row(out.alloc, words.get(2..)?)?;
@@ -29,7 +29,7 @@ fn booklet_plan(out: &mut Answer, words: &[String]) -> Option<()> {
     Some(())
 }
 
-/// The plan of a row in cells; the second page has a paper of its own.
+/// Prints the list of a row in cells; the second page has a paper of its own.
 fn grid_plan(out: &mut Answer, words: &[String]) -> Option<()> {
     let (setting, most) = (two_columns()?, count(words, 1)?);
     let papers = [a4(), paper(words, 2)?, a4()];
@@ -47,7 +47,7 @@ fn reading(sides: Sides, setting: &Setting) -> Reading {
     Reading { sides, places }
 }
 
-/// The plan of sheets, this many of which are listed.
+/// Prints the list of sheets, up to this many of them.
 fn tell(
     out: &mut Answer,
     made: Result<MadeSheets, ArrangementError>,
@@ -67,7 +67,7 @@ fn add(out: &mut Answer, text: Result<Vec<u8>, AllocError>) {
     }
 }
 
-/// The picture of a sheet of this paper with a page and a blank, folded half way up.
+/// Prints the drawing of a sheet of this paper with a page and a blank, folded half way up.
 fn folded_sheet(out: &mut Answer, paper: &Paper) -> Option<()> {
     let (alloc, fold) = (out.alloc, fold()?);
     match one_sheet(alloc, 2, paper) {

@@ -1,4 +1,4 @@
-//! Specifications: what is read, refused and written.
+//! Specifications: readings, refusals, canonical texts.
 use crate::answer::Answer;
 use crate::words::{specification, word};
 use pagespec::{Item, Measure, NoMemory, Spec, SpecError, read_spec, write_spec};
@@ -23,7 +23,7 @@ pub fn run(out: &mut Answer, words: &[String]) -> Option<()> {
     Some(())
 }
 
-/// The modulo, and the items of each group.
+/// Prints the modulo, and the items of each group.
 fn items(out: &mut Answer, spec: &Spec) {
     out.labelled("modulo", spec.modulo());
     for (number, group) in spec.groups().iter().enumerate() {
@@ -49,7 +49,7 @@ fn measure(out: &mut Answer, measure: Measure) {
     out.show(format_args!(" {number} {:?}", measure.unit));
 }
 
-/// The canonical text.
+/// Prints the canonical text.
 pub fn written(out: &mut Answer, spec: &Spec) {
     match write_spec(out.alloc, spec) {
         Ok(text) => out.line(text.as_str()),
@@ -57,7 +57,7 @@ pub fn written(out: &mut Answer, spec: &Spec) {
     }
 }
 
-/// Where a text is refused, by the refusal and by a slow search.
+/// Prints the place at which a text is refused, by the refusal and by a slow search.
 fn syntax(out: &mut Answer, text: &str) {
     match read_spec(out.alloc, text) {
         Err(SpecError::Syntax(place)) => out.show(place),
@@ -70,8 +70,7 @@ fn syntax(out: &mut Answer, text: &str) {
     }
 }
 
-/// The longest prefix that can be continued to a text of the grammar, by trying every prefix with each end that one
-/// may need.
+/// The longest prefix that begins some text of the grammar, found by trying each ending that a prefix may need.
 fn longest_prefix(alloc: Global, text: &str) -> Result<usize, NoMemory> {
     let mut longest = 0;
     for k in 0..text.len() + 1 {
@@ -84,7 +83,7 @@ fn longest_prefix(alloc: Global, text: &str) -> Result<usize, NoMemory> {
     Ok(longest)
 }
 
-/// Whether some end completes it to a text of the grammar.
+/// Whether some ending completes it to a text of the grammar.
 fn goes_on(alloc: Global, prefix: &str) -> Result<bool, NoMemory> {
     for end in [
         "", "0", "0,0)", ",0)", "t,0)", "m,0)", "n,0)", "0)", ")", "t)", "m)", "n)",
@@ -96,7 +95,7 @@ fn goes_on(alloc: Global, prefix: &str) -> Result<bool, NoMemory> {
     Ok(false)
 }
 
-/// Whether a text is none of the grammar with this end.
+/// Whether a text with this ending is none of the grammar.
 fn is_stuck(alloc: Global, prefix: &str, end: &str) -> Result<bool, NoMemory> {
     let whole = [prefix, end].concat(alloc)?;
     match read_spec(alloc, whole.as_str()) {

@@ -1,5 +1,5 @@
-//! The public calls of tables, shelves, queues and runs, as a stranger makes them: each is named from the crate that offers
-//! it. The cases of `test_libraries` do so for the crates below, and `pstops` for the command.
+//! The public calls of tables, shelves, queues and runs, as another crate makes them: each is named from the crate that offers it. The cases of
+//! `test_libraries` do the same for the crates below, and `pstops` for the command.
 pub(crate) mod gatherer;
 mod gatherers;
 mod runs;

@@ -1,9 +1,9 @@
-//! What tests assert. A failed one names the line of the test that calls it.
+//! The assertions of tests. A failed one names the line of the test that calls it.
 ghost use Rattle.std.specs.Prelude.{◌≡◌, Ok};
 
 use std::process::Abort;
 
-/// What a call gave that doesn't fail: with ample memory no call here does, but those that are to.
+/// The value of a call that has to succeed. With ample memory all calls here do, apart from those that test a failure.
 pub(super) fn done<R: Abort, T: Drop, E: Drop>(rt: &R, answer: Result<T, E>) -> T
     ensures { answer ≡ Ok result }
 {
@@ -13,17 +13,17 @@ pub(super) fn done<R: Abort, T: Drop, E: Drop>(rt: &R, answer: Result<T, E>) -> 
     }
 }
 
-/// This is so.
+/// Asserts that this holds.
 pub(super) fn assert_that<R: Abort>(rt: &R, is_so: bool) {
     assert!(rt; is_so);
 }
 
-/// The bytes are these.
+/// Asserts that the bytes are these.
 pub(super) fn assert_bytes<R: Abort>(rt: &R, found: &[u8], wanted: &[u8]) {
     assert_eq!(rt; found, wanted);
 }
 
-/// The line of a story is answered as it says.
+/// Asserts that the answer to the line of a story is the expected one.
 pub(super) fn assert_told<R: Abort>(rt: &R, line: &str, is_told: bool) {
     assert!(rt; is_told, "{line}");
 }

@@ -1,5 +1,4 @@
-//! Workers that find no memory: whoever waits for the collector is told to stop, all threads end, and nothing is
-//! returned.
+//! Workers that find no memory: workers that wait for the collector are told to stop, all threads end, and nothing is returned.
 ghost use Rattle.std.specs.Prelude.{◌≡◌, ⊤};
 
 use super::checks::assert_that;
@@ -15,13 +14,13 @@ use std::thread::Threads;
 /// The number of workers of each kind.
 const WORKERS: u32 = 3;
 
-/// What a worker holds: shares, and nothing else.
+/// The shares of a worker; it holds nothing else.
 #[derive(Drop)]
 struct Held {
     shares: u64,
 }
 
-/// The ticket with which an imposer would send.
+/// The ticket of an imposer; it sends nothing.
 #[derive(Drop)]
 struct Ticket {}
 
@@ -31,21 +30,21 @@ struct Collected {
     times: u32,
 }
 
-/// What the threads share. Bit k of `preparers` says that preparer k finds no memory, and bit k of `imposers` that
-/// the imposer that begins as the kth finds none. Every other imposer waits until it is told to stop.
+/// The objects that the threads share. Bit k of `preparers` means that preparer k finds no memory, and bit k of `imposers` that the kth imposer to
+/// begin finds none. Every other imposer waits until it is told to stop.
 #[derive(Drop)]
 struct Fates<'a, R> {
     rt: &'a R,
     preparers: usize,
     imposers: usize,
-    /// How many preparers, and how many imposers, have begun.
+    /// The number of preparers that have begun; the imposers have their own.
     begun_preparers: AtomicUsize,
     begun_imposers: AtomicUsize,
-    /// How often the imposers were told to stop.
+    /// The number of times that the imposers were told to stop.
     stopped: AtomicUsize,
-    /// How many waits ran out.
+    /// The number of waits that ran out.
     run_out: AtomicUsize,
-    /// How many collections began after the imposers had been told to stop.
+    /// The number of collections that began after the imposers had been told to stop.
     late: AtomicUsize,
 }
 
@@ -149,7 +148,7 @@ impl<'a, R> Collector<Collected> for Fates<'a, R> {
 
     ghost reference = { λ _ _. 0 };
 
-    /// Waits until all workers have begun, as a collector waits for what they send.
+    /// Waits until all workers have begun, as a collector waits for sheets.
     fn collect<W: Wait>(&self, _rt: &W, state: &mut Collected) {
         if self.stopped.load(SeqCst) > 0 {
             self.late.fetch_add(1, SeqCst);
@@ -160,8 +159,8 @@ impl<'a, R> Collector<Collected> for Fates<'a, R> {
     }
 }
 
-/// Runs three workers of each kind with these fates: the shares that are returned, if all workers began, no wait ran out, and
-/// the collector collected once, before the imposers were told to stop, once.
+/// Runs three workers of each kind with these fates. Returns the shares that came back, if all workers began, no wait ran out, the collector
+/// collected once before the imposers were told to stop, and they were told once.
 fn gather<R: Threads + Wait + Abort + Sync>(
     rt: &R,
     alloc: Global,

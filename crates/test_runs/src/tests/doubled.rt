@@ -1,5 +1,4 @@
-//! Each page of a document is delivered more than once, by one caller and by several at once: each sheet is completed
-//! once.
+//! Each page of a document is delivered more than once, by one caller and by several at once. Each sheet is completed once.
 ghost use Rattle.std.specs.Prelude.{◌<◌};
 
 use super::callers::gatherer::{Gatherer, Outcome, gatherer_of, outcome_of};
@@ -22,7 +21,7 @@ use std::sync::atomic::Ordering::SeqCst;
 use std::thread::{Threads, for_each_mut};
 use test_tools::document_of;
 
-/// So many sheets of so many slots, with each page in so many of them.
+/// The numbers of sheets, of slots on a sheet, and of slots with the same page.
 #[derive(Clone, Copy)]
 struct Sizes {
     sheets: u32,
@@ -39,7 +38,7 @@ impl Sizes {
         self.all_slots().checked_div(self.places).unwrap_or(0)
     }
 
-    /// How many groups the sheets have, if they are wide.
+    /// The number of groups of the sheets, if they are wide.
     fn groups(self) -> u32 {
         if self.slots > 64 {
             self.sheets.saturating_mul(2)
@@ -49,8 +48,8 @@ impl Sizes {
     }
 }
 
-/// From which numbers on deeds are counted: of pages that are stored, of slots that are marked and groups that are filled,
-/// numbered over all sheets, of sheets that are completed and imposed, and what goes wrong.
+/// The first number of each kind of deed that is counted: pages stored, slots marked, groups filled, sheets completed, sheets imposed, faults. Slots
+/// and groups are numbered over all sheets.
 const STORED: usize = 0;
 
 const MARKED: usize = 1_000;
@@ -63,7 +62,7 @@ const IMPOSED: usize = 4_000;
 
 const WRONG: usize = 5_000;
 
-/// What is done by all callers, and how often.
+/// The deeds of all callers, and the number of each.
 #[derive(Drop)]
 struct Done {
     sizes: Sizes,
@@ -72,7 +71,7 @@ struct Done {
 }
 
 impl Done {
-    /// Nothing is done yet.
+    /// No deed.
     fn nothing<R: Abort>(rt: &R, alloc: Global, sizes: Sizes) -> Done {
         Done {
             sizes,
@@ -85,7 +84,7 @@ impl Done {
         self.deeds.add(deed.saturating_add(number as usize));
     }
 
-    /// Adds what a mark of this slot, on this sheet, was answered.
+    /// Adds the reply to a mark of this slot, on this sheet.
     fn add_reply(&self, slot: u32, sheet: u32, reply: Reply) {
         match reply {
             Reply::Repeated => return,
@@ -99,7 +98,7 @@ impl Done {
         self.add(MARKED, slot);
     }
 
-    /// Adds what a delivery of this page was answered.
+    /// Adds the answer to a delivery of this page.
     fn add_delivery(&self, page: u32, delivered: &Delivered<'_>) {
         if delivered.published == Published::Stored {
             self.add(STORED, page);
@@ -118,8 +117,7 @@ impl Done {
         }
     }
 
-    /// Delivers a page. It is wrong if that is refused, if a sheet is handed back, and if another index of the page is named
-    /// than the table has.
+    /// Delivers a page. It is a fault if that is refused, if a sheet is handed back, or if the answer has another index of the page than the table.
     fn deliver<R: Wait>(
         &self,
         rt: &R,
@@ -140,7 +138,7 @@ impl Done {
         self.add_delivery(page, &delivered);
     }
 
-    /// Delivers all pages. Each other caller does so from the last one on.
+    /// Delivers all pages. Every other caller begins with the last one.
     fn deliver_all<R: Wait>(
         &self,
         rt: &R,
@@ -159,8 +157,7 @@ impl Done {
         }
     }
 
-    /// Takes a sheet for each that there is from the queue, and adds those that have their text. Whether the queue gives no
-    /// more.
+    /// Takes the sheets of the job from the queue, and adds those with the right text. Returns whether the queue is then empty.
     fn take_all<R: Wait>(
         &self,
         rt: &R,
@@ -177,8 +174,8 @@ impl Done {
         gatherer.take(rt).is_none()
     }
 
-    /// Whether each page is stored once, each slot marked, each group filled, each sheet completed and imposed, as many groups
-    /// are closed as there are, and nothing goes wrong.
+    /// Whether each page is stored once, each slot marked once, each group filled once, each sheet completed and imposed once, all groups are closed,
+    /// and there is no fault.
     fn is_each_once(&self) -> bool {
         let sizes = self.sizes;
         let mut all = 0usize;
@@ -198,7 +195,7 @@ impl Done {
     }
 }
 
-/// So many others that gather the same.
+/// This many further gatherers of the same job.
 fn others_of<'s, 'j, 't, 'd, R: Abort>(
     rt: &R,
     alloc: Global,
@@ -213,7 +210,7 @@ fn others_of<'s, 'j, 't, 'd, R: Abort>(
     others
 }
 
-/// Each page is delivered by each of so many callers, in so many threads.
+/// Each page is delivered by each of this many callers, in this many threads.
 #[derive(Clone, Copy)]
 struct Repeats {
     sizes: Sizes,
@@ -241,7 +238,7 @@ impl Repeats {
         );
     }
 
-    /// What is done is right, and the queue gives each sheet once.
+    /// Asserts that the deeds are right, and that the queue gives each sheet once.
     fn look<R: Threads + Wait + Sync + Abort>(
         &self,
         rt: &R,
@@ -254,7 +251,7 @@ impl Repeats {
         assert_that(rt, noted.is_each_once());
     }
 
-    /// The same of a job, with room in the queue for each sheet once.
+    /// The same for a job, with room in the queue for each sheet once.
     fn look_at_job<R: Threads + Wait + Sync + Abort>(
         &self,
         rt: &R,
@@ -268,7 +265,7 @@ impl Repeats {
         self.look(rt, alloc, &mut gatherer);
     }
 
-    /// The same of a document.
+    /// The same for a document.
     fn look_at_document<R: Threads + Wait + Sync + Abort>(
         &self,
         rt: &R,
@@ -283,14 +280,14 @@ impl Repeats {
     }
 }
 
-/// 65 pages a sheet.
+/// A specification with 65 pages on a sheet.
 const SIXTY_FIVE_PAGES: &str = "\
     65:0+1+2+3+4+5+6+7+8+9+10+11+12+13+14+15+16+17+18+19+20+21+22+23+24+25+26+27+28+29+30+31+32+33+34+35\
     +36+37+38+39+40+41+42+43+44+45+46+47+48+49+50+51+52+53+54+55+56+57+58+59+60+61+62+63+64\
 ";
 
-/// Of one page, of two on a sheet, of two and ten such sheets whose slots are in one word, of two sheets of 65 pages, and of
-/// the same page 65 times: each is delivered by so many callers in so many threads.
+/// Delivers each page by this many callers in this many threads: of one page, of two on a sheet, of two and ten such sheets whose slots share one
+/// word, of two sheets of 65 pages, and of one page 65 times.
 fn deliver_each<R: Threads + Wait + Sync + Abort>(
     rt: &R,
     alloc: Global,

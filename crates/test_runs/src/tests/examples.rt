@@ -1,3 +1,3 @@
-//! Worked examples of runs: sheets that were made, and threads that meet.
+//! Worked examples of runs: made sheets, and threads that meet.
 mod made_plans;
 mod two_threads;

@@ -1,5 +1,5 @@
-//! Gates at which as many threads wait for each other as a run was asked to start: one with fewer never comes past them,
-//! and one that makes the sheets on its caller's thread doesn't come to them.
+//! Gates at which as many threads wait for each other as a run was asked to start. A run with fewer threads never passes them, and one that makes the
+//! sheets on its caller's thread never reaches them.
 ghost use Rattle.std.specs.Prelude.{None};
 
 use super::{Trial, report_of, run_into, wait_for};
@@ -14,10 +14,10 @@ use std::thread;
 use std::thread::Threads;
 use test_tools::{ONE_PAGE, document_of};
 
-/// More pages than any document here has, and more sheets.
+/// More pages, and more sheets, than any document here has.
 const MOST_PAGES: u32 = 16;
 
-/// Which steps meet.
+/// The steps that meet.
 #[derive(Clone, Copy)]
 enum Steps {
     Pages,
@@ -35,7 +35,7 @@ impl Steps {
     }
 }
 
-/// Each of the steps waits until so many were entered. A bit for each page or sheet shows which were.
+/// A gate at which each of these steps waits until this many have entered. A bit for each page or sheet shows which have.
 #[derive(Drop)]
 struct Barrier {
     steps: Steps,
@@ -45,7 +45,7 @@ struct Barrier {
     run_out: AtomicUsize,
 }
 
-/// The bit of a page or a sheet, of which there are few.
+/// The bit of a page or a sheet; there are few of them.
 fn bit_of(step: Step) -> usize {
     match step {
         Step::Deliver(number) | Step::Impose(number) if number < MOST_PAGES => 1 << number,
@@ -65,8 +65,8 @@ impl Gate for Barrier {
     fn after(&self, _step: Step) {}
 }
 
-/// So many pages, each on a sheet, by so many workers, if so many meet at these steps: a step of each page or sheet is
-/// entered, once, no wait runs out, and no sheet is made at the end.
+/// Runs this many pages, each on a sheet, by this many workers that have to meet at these steps. Asserts that a step of each page or sheet is entered
+/// once, no wait runs out, and no sheet is made at the end.
 fn assert_met<R: Threads + Wait + Sync + Abort>(
     rt: &R,
     alloc: Global,
@@ -115,7 +115,7 @@ fn as_many_threads_run_as_were_asked_for(rt: HostRuntime) {
     }
 }
 
-/// How many sheets of a run on one page were made at the end.
+/// The number of sheets made at the end of a run on one page.
 fn swept_of_one<R: Threads + Wait + Sync + Abort>(rt: &R, alloc: Global, count: u32) -> u32 {
     let trial = Trial {
         document: ONE_PAGE,
@@ -132,28 +132,28 @@ fn short_runs_leave_no_sheet_to_the_end(rt: HostRuntime) {
     }
 }
 
-/// Where the first look waits.
+/// The side of the first look on which it waits.
 #[derive(Clone, Copy, PartialEq, Eq)]
 enum Side {
     Before,
     After,
 }
 
-/// What is looked for is held back until the first look waits on this side of it, and the look waits until it has come.
-/// So a look that waits before it is made finds it, and one that waits after it has found nothing.
+/// A gate that holds the searched page or sheet back until the first look waits on this side of it; the look waits until it has come. So a look that
+/// waits before it is made finds it, and one that waits afterwards has found nothing.
 #[derive(Drop)]
 struct Late {
     look: Look,
     side: Side,
-    /// How many looks began and ended.
+    /// The number of looks that began; the next word counts those that ended.
     begun: AtomicUsize,
     ended: AtomicUsize,
-    /// How many looks waited.
+    /// The number of looks that waited.
     waited: AtomicUsize,
-    /// How many pages or sheets were worked on, and how many of them came.
+    /// The number of pages or sheets that were begun; the next word counts those that came.
     worked: AtomicUsize,
     came: AtomicUsize,
-    /// How many looks had begun as it was found.
+    /// The number of looks that had begun when it was found.
     found_by: AtomicUsize,
     run_out: AtomicUsize,
 }
@@ -173,7 +173,7 @@ impl Late {
         }
     }
 
-    /// Whether the step brings what is looked for.
+    /// Whether the step brings the searched page or sheet.
     fn is_brought_by(&self, step: Step) -> bool {
         match self.look {
             Look::Queue => matches!(step, Step::Deliver(_)),
@@ -181,7 +181,7 @@ impl Late {
         }
     }
 
-    /// The first look waits on this side of it until what it looks for has come, and who brought it ends.
+    /// Lets the first look wait on this side of it until the searched page or sheet has come and the step that brought it has ended.
     fn wait_at(&self, side: Side) {
         if side != self.side {
             return;
@@ -234,7 +234,7 @@ impl Gate for Late {
     }
 }
 
-/// Takes all bytes. The second call has the only sheet.
+/// A sink that takes all bytes. The second call has the only sheet.
 #[derive(Drop)]
 struct OneSheet<'w> {
     late: &'w Late,
@@ -253,8 +253,8 @@ impl<'w> Sink for OneSheet<'w> {
     }
 }
 
-/// One page on one sheet: how many sheets were made at the end, how many looks had begun as the page's sheet was found,
-/// and how many waits ran out.
+/// Runs one page on one sheet. Returns the number of sheets made at the end, the number of looks that had begun when the page's sheet was found, and
+/// the number of waits that ran out.
 fn run_late<R: Threads + Wait + Sync + Abort>(
     rt: &R,
     alloc: Global,

@@ -1,4 +1,4 @@
-//! Gatherings, into sinks that fail too: what is written and reported, and that seat and pass come back whole.
+//! Gatherings, also into sinks that fail: the output, the report, and seat and pass, which come back whole.
 ghost use Rattle.std.specs.Prelude.{◌≤◌, length};
 ghost use Rattle.imposer.specs.Gathering.{IsFreshPass};
 
@@ -17,8 +17,8 @@ use std::sync::Wait;
 use std::thread::Threads;
 use test_tools::{MOST_GROWTHS, TWO_UP, document_of, refuse, two_up_output};
 
-/// How a job is gathered: by so many workers, into a sink with so much room, with so many puts by right, if they are made so,
-/// and with the growth of this number refused.
+/// How a job is gathered: the numbers of workers, the room of the sink, the number of puts by right if puts are by right, and the number of the
+/// growth that is refused.
 #[derive(Clone, Copy)]
 pub(super) struct Way {
     pub(super) workers: Workers,
@@ -27,8 +27,8 @@ pub(super) struct Way {
     pub(super) refused: u32,
 }
 
-/// What comes of it: the answer, whether the token of a page was left without a receipt, the shares of the seat and of the
-/// pass that came back, if they did, and what was written.
+/// The outcome of a gathering: the answer, whether a page was left without a receipt, the shares of the seat and of the pass if they came back, and
+/// the output.
 #[derive(Drop)]
 pub(super) struct Gathering {
     pub(super) outcome: Result<Report, RunError>,
@@ -37,7 +37,7 @@ pub(super) struct Gathering {
     pub(super) sink: MemorySink,
 }
 
-/// A queue for the sheets of a job, in which so many puts are made by right, if they are made so.
+/// A queue for the sheets of a job, with room by right for this many puts, if puts are by right.
 fn queue_for<R: Abort>(rt: &R, alloc: Global, job: &Job<'_, '_>, puts: Option<u32>) -> (Ready, Pass)
     ensures pass { IsFreshPass result.0 result.1 }
     ensures room { length job.now.plan.sheets ≤ result.0.capacity }
@@ -49,7 +49,7 @@ fn queue_for<R: Abort>(rt: &R, alloc: Global, job: &Job<'_, '_>, puts: Option<u3
     done(rt, made)
 }
 
-/// Gathers a job in this way, at this gate.
+/// Gathers a job in this way, with this gate.
 fn gather_at<R: Threads + Wait + Sync + Abort, G: Gate + Sync>(
     rt: &R,
     alloc: Global,
@@ -97,7 +97,7 @@ fn shares_of(tokens: Option<(Seat, Pass)>) -> Option<(u64, u64)> {
     }
 }
 
-/// Gathers the pages of a document, two a sheet.
+/// Gathers the pages of a document, two on a sheet.
 pub(super) fn gather_pairs<R: Threads + Wait + Sync + Abort, G: Gate + Sync>(
     rt: &R,
     alloc: Global,
@@ -112,7 +112,7 @@ pub(super) fn gather_pairs<R: Threads + Wait + Sync + Abort, G: Gate + Sync>(
     gather_at(rt, alloc, &job, way, gate)
 }
 
-/// What is reported of so many pages, two a sheet, of which so many bytes were written, and so many not.
+/// The report on this many pages, two on a sheet, of which these bytes were written, and this many not.
 fn outcome_of(pages: u32, written: &[u8], rest: &[u8]) -> Result<Report, RunError> {
     let bytes = written.len() as u64;
     if !rest.is_empty() {
@@ -127,7 +127,7 @@ fn outcome_of(pages: u32, written: &[u8], rest: &[u8]) -> Result<Report, RunErro
     })
 }
 
-/// So many pages, two a sheet, are gathered by so many workers, into a sink with this room.
+/// Asserts the outcome of gathering this many pages, two on a sheet, by this many workers, into a sink with this room.
 fn assert_gathered<R: Threads + Wait + Abort + Sync>(
     rt: &R,
     alloc: Global,

@@ -1,4 +1,4 @@
-//! Sheets that came together: how they are written, and when their memory is given back.
+//! Groups of sheets that come together: how they are written, and when their memory is given back.
 ghost use Rattle.std.specs.Prelude.{◌≡◌, ◌<◌, length};
 ghost use Rattle.sheet_text.specs.Jobs.{text_of};
 ghost use Rattle.sheet_writer.specs.Writing.{AreEarly, HaveTexts};
@@ -13,7 +13,7 @@ use std::alloc::{AllocError, Global};
 use std::io::{self, ErrorKind, Write};
 use std::process::Abort;
 
-/// The bodies of the four pages. This one, of the third, isn't copied to its sheet.
+/// The bodies of the four pages. This body, of the third page, isn't copied to its sheet.
 const fn bodies(long: &str) -> [&str; 4] {
     [
         "(0) pop\nshowpage\n",
@@ -53,7 +53,7 @@ fn put_together<'r, R: Abort>(
     text
 }
 
-/// The same, which is what the sheet's text is otherwise.
+/// The same text; the sheet's text has to be equal to it.
 fn text_with<'r, R: Abort>(
     rt: &R,
     alloc: Global,
@@ -90,7 +90,7 @@ fn finish<'r, R: Abort>(
     done(rt, finished.push(sheet, &mut text));
 }
 
-/// These sheets come together.
+/// Puts these sheets as one group.
 fn put_sheets<'r, R: Abort>(
     rt: &R,
     alloc: Global,
@@ -113,7 +113,7 @@ fn put_sheets<'r, R: Abort>(
     early.put(finished);
 }
 
-/// Of the four sheets these have come, together.
+/// A buffer into which these of the four sheets have come as one group.
 fn early_with<'r, R: Abort>(
     rt: &R,
     alloc: Global,
@@ -128,7 +128,7 @@ fn early_with<'r, R: Abort>(
     early
 }
 
-/// Nothing was written.
+/// Progress before the first byte.
 const START: Progress = Progress {
     next: 0,
     written: 0,
@@ -136,7 +136,7 @@ const START: Progress = Progress {
     halted: None,
 };
 
-/// Takes all bytes, and notes how many each call had.
+/// A sink that takes all bytes, and notes the length of each call.
 #[derive(Drop)]
 struct Calls {
     lengths: Vec<usize>,
@@ -155,7 +155,7 @@ impl Write for Calls {
     }
 }
 
-/// Notes which sheets are given back, with `END` after those that are together, and counts the bytes of all their texts.
+/// Notes which sheets are given back, with `END` after each group, and counts the bytes of their texts.
 #[derive(Drop)]
 struct GivenBack {
     sheets: Vec<u32>,
@@ -177,7 +177,7 @@ impl<'r> Spent<'r> for GivenBack {
     }
 }
 
-/// How long the calls are by which the sheets are written, if all of them come together.
+/// The lengths of the calls that write the sheets, if all of them come together.
 fn calls_of_all<R: Abort>(
     rt: &R,
     alloc: Global,
@@ -199,8 +199,8 @@ fn calls_of_all<R: Abort>(
     calls.lengths
 }
 
-/// Of two groups, one of each other sheet, the first is given back when its last sheet is written, and not before: which
-/// sheet is the next one and how much was noted, after each group.
+/// Writes two groups, each with every other sheet. Returns the next sheet and the length of the notes after each group: the first group is given back
+/// when its last sheet is written, and not before.
 fn write_two_groups<R: Abort>(
     rt: &R,
     alloc: Global,
@@ -223,7 +223,7 @@ fn write_two_groups<R: Abort>(
     [first, (progress.next, given_back.sheets.len())]
 }
 
-/// The groups are given back one after the other, with all bytes that were written.
+/// Asserts that the groups are given back one after the other, with all bytes that were written.
 fn two_groups<R: Abort>(
     rt: &R,
     alloc: Global,
@@ -245,7 +245,7 @@ fn two_groups<R: Abort>(
     sink
 }
 
-/// Of the four sheets these came, together: the others are made and counted, and these sheets are written, and the trailer.
+/// Asserts that if these of the four sheets came as one group, the others are made and counted, and all sheets and the trailer are written.
 fn assert_rest<R: Abort>(
     rt: &R,
     alloc: Global,
@@ -266,8 +266,7 @@ fn assert_rest<R: Abort>(
     );
 }
 
-/// The first two sheets together, the third one's text before its page, the page and what comes after it, and the last
-/// sheet: how many bytes each has.
+/// The lengths of the first two sheets together, of the third one's text before its page, of the page, of the text after it, and of the last sheet.
 const LENGTHS: [usize; 5] = [434, 172, 4_809, 28, 217];
 
 /// Four pages, each on a sheet.

@@ -1,4 +1,4 @@
-//! A job, as many tests need one.
+//! A job for tests.
 use crate::tests::checks::done;
 use dsc::Document;
 use lengths::a4;
@@ -8,7 +8,7 @@ use sheet_text::Job;
 use std::alloc::Global;
 use std::process::Abort;
 
-/// What a test does with a job, and what it comes to.
+/// A task that a test does with a job, and its result.
 pub(super) trait Task<R, A> {
     fn go(&self, rt: &R, alloc: Global, job: &Job<'_, '_>) -> A;
 }

@@ -1,5 +1,5 @@
-//! Threads that publish pages and mark their slots at the same time. What is answered of a sheet depends on who brings its
-//! pages, and on nothing that is brought to another sheet.
+//! Threads that publish pages and mark their slots at the same time. The replies for a sheet depend on the threads that bring its pages, and on no
+//! other sheet.
 ghost use Rattle.std.specs.Prelude.{◌≡◌};
 ghost use Rattle.rules.specs.Sheets.{layout};
 ghost use Rattle.gather_table.specs.Shared.{IsSeatOf};
@@ -16,13 +16,13 @@ use std::sync::atomic::AtomicUsize;
 use std::sync::atomic::Ordering::SeqCst;
 use std::thread::{Threads, for_each_mut};
 
-/// How often the threads begin anew.
+/// The number of times that the threads begin anew.
 const ROUNDS: u32 = 1_000;
 
 /// Two slots, each with its sheet and its place there.
 type Slots = [(u32, u16); 2];
 
-/// What marks of two slots are answered.
+/// The replies to marks of two slots.
 type Replies = [Option<Reply>; 2];
 
 const FRESH: Replies = [Some(Reply::Fresh), Some(Reply::Repeated)];
@@ -33,7 +33,7 @@ const FRESH_AND_COMPLETING: Replies = [Some(Reply::Fresh), Some(Reply::Completin
 
 const REPEATED: Replies = [Some(Reply::Repeated), Some(Reply::Repeated)];
 
-/// Who brings pages to two slots, in a thread of its own.
+/// A thread that brings pages to two slots.
 #[derive(Drop)]
 struct Bringer<'s, 't, 'p> {
     table: &'s GatherTable<'t>,
@@ -68,7 +68,7 @@ impl<'s, 't, 'p> Bringer<'s, 't, 'p> {
     }
 }
 
-/// Two bring the pages of these slots, in a thread each: what their marks are answered.
+/// Brings the pages of these slots by two threads, and returns the replies to their marks.
 fn bring_beside<R: Threads + Sync + Abort>(
     rt: &R,
     alloc: Global,
@@ -103,7 +103,7 @@ fn bring_beside<R: Threads + Sync + Abort>(
     [bringers[0].replies, bringers[1].replies]
 }
 
-/// Of so many pages, two bring those of their slots, many times over. They are answered so, or the other way round.
+/// Brings the pages of two pairs of slots many times over, and asserts that the replies are these or the exchanged ones.
 fn assert_answered<R: Threads + Sync + Abort>(
     rt: &R,
     alloc: Global,

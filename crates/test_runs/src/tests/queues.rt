@@ -1,4 +1,4 @@
-//! The queue: passes with a part of the shares, and threads beside each other.
+//! The queue: passes with a part of the shares, and threads side by side.
 ghost use Rattle.handover.specs.Passes.{IsPassOf};
 
 use super::WHOLE;
@@ -11,7 +11,7 @@ use std::sync::Wait;
 use std::thread;
 use std::thread::{Threads, for_each_mut};
 
-/// A put of this sheet is answered so.
+/// Asserts the answer to a put of this sheet.
 fn assert_put<R: Wait + Abort>(
     rt: &R,
     ready: &Ready,
@@ -25,7 +25,7 @@ fn assert_put<R: Wait + Abort>(
     assert_that(rt, ready.put(rt, pass, sheet) == answer);
 }
 
-/// A take gives this sheet, or none.
+/// Asserts that a take gives this sheet, or none.
 fn assert_taken<R: Wait + Abort>(rt: &R, ready: &Ready, pass: &mut Pass, sheet: Option<u32>)
     requires { IsPassOf ready.now pass.old }
     ensures { IsPassOf ready.now pass.new }

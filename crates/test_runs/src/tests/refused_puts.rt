@@ -1,5 +1,5 @@
-//! A pass with room for half of the puts: the queue hands the first sheet back to a preparer, so its turn never comes, and
-//! the others are imposed without waiting for it.
+//! A pass with room for half of the puts: the queue hands the first sheet back to a preparer, so its turn never comes, and the others are imposed
+//! without waiting for it.
 use super::gatherings::{Gathering, Way, gather_pairs};
 use super::wait_for;
 use super::windows::six_pages;
@@ -13,18 +13,18 @@ use std::sync::atomic::Ordering::SeqCst;
 use std::thread::Threads;
 use test_tools::MOST_GROWTHS;
 
-/// How many sheets there are, of two pages each.
+/// The number of sheets, of two pages each.
 const SHEETS: u32 = 3;
 
-/// One preparer has the even pages, the other the odd ones. The page of the first sheet that is delivered last is odd, and
-/// that of each other sheet even.
+/// A gate for two preparers, one with the even pages, the other with the odd ones. The page of the first sheet that is delivered last is odd, that of
+/// each other sheet even.
 #[derive(Drop)]
 struct FirstSheetByTheSecond {
-    /// How many even pages were delivered.
+    /// The number of even pages that were delivered.
     even: AtomicUsize,
-    /// How many odd pages were.
+    /// The number of odd pages that were delivered.
     odd: AtomicUsize,
-    /// How many waits ran out.
+    /// The number of waits that ran out.
     run_out: AtomicUsize,
 }
 
@@ -47,7 +47,7 @@ impl Gate for FirstSheetByTheSecond {
     }
 }
 
-/// Gathers the pages of a document by two workers of each kind at this gate, with room for so many puts. No wait runs out.
+/// Gathers the pages of a document by two workers of each kind with this gate and room for this many puts. No wait runs out.
 fn gather_with_room<R: Threads + Wait + Abort + Sync>(
     rt: &R,
     alloc: Global,
@@ -73,7 +73,7 @@ fn gather_with_room<R: Threads + Wait + Abort + Sync>(
     gathering
 }
 
-/// How many sheets were made at the end, if all were made.
+/// The number of sheets made at the end, if all sheets were written.
 fn swept_in(gathering: &Gathering) -> Option<u32> {
     match &gathering.outcome {
         Ok(report) if report.sheets == SHEETS => Some(report.swept),

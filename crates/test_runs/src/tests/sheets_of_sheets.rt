@@ -17,10 +17,10 @@ const EIGHT_PAGES: &str = "%!PS-Adobe-3.0\r\n%%Pages: 8\r\n%%EndComments\r\n\
     %%Page: 4 4\n%%BeginBinary: 12\n%%Page: 1 1\n\
     %%Page: 5 5\n(e)\n%%Page: 6 6\n(f)\n%%Page: 7 7\n(g)\n%%Page: 8 8\n(h)";
 
-/// Its only page leaves an embedded document open.
+/// A document whose only page leaves an embedded document open.
 const OPEN_PAGE: &str = "%!\n%%Page: 1 1\n%%BeginDocument: a\n";
 
-/// What a run writes, which found so many pages, made so many sheets, and wrote so many pages.
+/// The output of a run. The run has to report the first two counts, of pages and sheets, and its output has the third number of pages.
 fn imposed<R: Threads + Wait + Sync + Abort>(
     rt: &R,
     alloc: Global,

@@ -14,10 +14,10 @@ use test_tools::{ONE_PAGE, TWO_PAGES, TWO_UP, one_up_output, two_up_output};
 /// The numbers of preparers and of imposers.
 const COUNTS: [(u32, u32); 2] = [(1, 1), (2, 3)];
 
-/// How many bytes are taken a call.
+/// The number of bytes that are taken in a call.
 const PER_CALL: usize = 7;
 
-/// Two pages on a sheet, by so many workers.
+/// Two pages on a sheet, by these numbers of workers.
 fn pair_by(counts: (u32, u32)) -> Trial<'static> {
     Trial {
         document: TWO_PAGES,
@@ -45,8 +45,8 @@ impl Sink for Refusing {
     }
 }
 
-/// How many bytes a run writes to a sink. They are the first ones of its output, and the run reports as many. If it fails, the
-/// sink has refused a call and isn't called again.
+/// The number of bytes that a run writes to a sink. They are the first ones of its output, and the run reports their number. If it fails, the sink
+/// has refused one call and gets no other.
 fn written_to<R: Threads + Wait + Sync + Abort>(
     rt: &R,
     alloc: Global,
@@ -118,7 +118,7 @@ fn nothing_is_written_after_a_failure(rt: HostRuntime) {
     }
 }
 
-/// A writer that takes seven bytes a call, fails at its call with this number alone, and counts its calls.
+/// A writer that takes seven bytes a call, fails only at the call with this number, and counts its calls.
 #[derive(Drop)]
 struct Torn {
     cause: ErrorKind,
@@ -140,7 +140,7 @@ impl Write for Torn {
     }
 }
 
-/// Writes a pair to a writer that fails at this call for this cause: how often it was asked, if the run failed.
+/// Writes a pair to a writer that fails at this call for this cause. Returns the number of calls, if the run failed.
 fn calls_of_torn<R: Threads + Wait + Sync>(
     rt: &R,
     alloc: Global,

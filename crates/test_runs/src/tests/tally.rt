@@ -1,11 +1,11 @@
-//! How often numbers come, counted by any number of threads.
+//! Counters of numbers, shared by any number of threads.
 use crate::tests::checks::done;
 use std::alloc::Global;
 use std::process::Abort;
 use std::sync::atomic::AtomicUsize;
 use std::sync::atomic::Ordering::SeqCst;
 
-/// How often each number below an end came, and how many came in all.
+/// The number of times that each number below an end came, and the number of all.
 #[derive(Drop)]
 pub(super) struct Tally {
     counts: Vec<AtomicUsize>,
@@ -13,7 +13,7 @@ pub(super) struct Tally {
 }
 
 impl Tally {
-    /// No number came yet.
+    /// No number has come.
     pub(super) fn new<R: Abort>(rt: &R, alloc: Global, end: usize) -> Tally {
         let mut counts = Vec::new(alloc);
         for _ in 0..end {
@@ -25,7 +25,7 @@ impl Tally {
         }
     }
 
-    /// A number came.
+    /// Counts a number.
     pub(super) fn add(&self, number: usize) {
         if let Some(count) = self.counts.as_slice().get(number) {
             count.fetch_add(1, SeqCst);
@@ -33,12 +33,12 @@ impl Tally {
         self.all.fetch_add(1, SeqCst);
     }
 
-    /// How many numbers came.
+    /// The count of all numbers.
     pub(super) fn all(&self) -> usize {
         self.all.load(SeqCst)
     }
 
-    /// Whether of so many numbers from this one on each came once.
+    /// Whether each of this many numbers, from this one on, came once.
     pub(super) fn are_once(&self, first: usize, count: usize) -> bool {
         for place in 0..count {
             match self.counts.as_slice().get(first.saturating_add(place)) {

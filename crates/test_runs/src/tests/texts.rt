@@ -1,4 +1,4 @@
-//! How much memory a text asks for.
+//! The memory that a text asks for.
 use super::jobs::{Task, with_job};
 use crate::tests::checks::{assert_that, done};
 use sheet_text::{Job, Rope, begin_sheet, sheet_rope};
@@ -6,12 +6,10 @@ use std::alloc::Global;
 use std::process::Abort;
 use test_tools::ONE_PAGE;
 
-/// The room that the sheet's text is likely to take: 64 bytes, those of the document, of which the page is a part, and 256
-/// round it.
+/// The room that the sheet's text is likely to need: 64 bytes, those of the document with the page, and 256 around it.
 const LIKELY_ROOM: usize = 64 + ONE_PAGE.len() + 256;
 
-/// Whether the sheet's text asks for no more, and, begun in the memory of a text that was given so much, keeps that room, or
-/// has what it is likely to take.
+/// Whether the sheet's text asks for no more than that. A text begun in another's memory keeps that room, or has what it is likely to need.
 #[derive(Drop)]
 struct KeepsRoom {
     before: usize,

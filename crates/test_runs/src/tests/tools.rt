@@ -1,4 +1,4 @@
-//! What tests of several crates write: each text once, written out.
+//! Texts for the tests of several crates, each written out once.
 use crate::tests::checks::{assert_bytes, assert_that, done};
 use std::alloc::AllocError;
 use std::process::Abort;
@@ -22,7 +22,7 @@ const PAIR: &str = "%%Page: 1 1\n\
     ImposeSave restore\n\
     showpage\n";
 
-/// The text that was made is this one.
+/// Asserts that the text that was made is this one.
 fn assert_text<R: Abort>(rt: &R, made: Result<String, AllocError>, wanted: &str) {
     let text = done(rt, made);
     assert_bytes(rt, text.as_bytes(), wanted.as_bytes());

@@ -1,5 +1,5 @@
-//! Pages so large that only a few sheets lie in the window of those that may be imposed: the others wait until their
-//! turn is near, unless the sheet that is written next may never come.
+//! Pages so large that only a few sheets lie in the window of those that may be imposed. The others wait until their turn is near, unless the next
+//! sheet to be written may never come.
 ghost use Rattle.std.specs.Prelude.{◌≡◌, None};
 
 use super::{Trial, large_pages, run_into, wait_for};
@@ -12,10 +12,10 @@ use std::sync::atomic::AtomicUsize;
 use std::sync::atomic::Ordering::SeqCst;
 use std::thread::Threads;
 
-/// How many pages the documents here have.
+/// The number of pages of the documents here.
 const PAGES: usize = 6;
 
-/// How many bytes a page has, so that two of them are more than the texts of a window.
+/// The length of a page in bytes: two pages are longer than the texts of a window.
 const PAGE_LEN: usize = 400_000;
 
 /// The pages in their order, each on a sheet of its own.
@@ -35,20 +35,20 @@ pub(super) fn six_pages<R: Abort>(rt: &R, alloc: Global) -> String {
     large_pages(rt, alloc, PAGES as u32, PAGE_LEN / 9 + 1)
 }
 
-/// What a run's threads show each other here.
+/// Words that a run's threads show each other.
 #[derive(Drop)]
 pub(super) struct Words {
-    /// How many bytes the sink took.
+    /// The number of bytes that the sink took.
     pub(super) accepted: AtomicUsize,
-    /// How many calls the sink refused.
+    /// The number of calls that the sink refused.
     refused: AtomicUsize,
-    /// How many pages were delivered.
+    /// The number of pages that were delivered.
     delivered: AtomicUsize,
-    /// How many sheets are being imposed or were.
+    /// The number of sheets that are or were being imposed.
     imposed: AtomicUsize,
-    /// How many waits ran out.
+    /// The number of waits that ran out.
     pub(super) run_out: AtomicUsize,
-    /// How many sheets were imposed too far before their turn.
+    /// The number of sheets that were imposed too early.
     too_early: AtomicUsize,
 }
 
@@ -64,13 +64,13 @@ impl Words {
         }
     }
 
-    /// Waits until the word is so high, or any wait ran out.
+    /// Waits until the word has reached this number, or some wait has run out.
     pub(super) fn wait_for(&self, word: &AtomicUsize, height: usize) {
         wait_for(word, height, &self.run_out);
     }
 }
 
-/// Takes so many bytes and then fails. Others can read how many it took.
+/// A sink that takes this many bytes and then fails. Others can read the number of bytes that it took.
 #[derive(Drop)]
 pub(super) struct LimitedSink<'w> {
     words: &'w Words,
@@ -106,9 +106,8 @@ impl<'w> Sink for LimitedSink<'w> {
     }
 }
 
-/// The page of the first sheet is delivered last: when all others were delivered, and as many sheets are imposed as lie
-/// in the window after the first. A sheet is imposed too early if as many sheets as lie in a window, and this one,
-/// come after what was written.
+/// A gate that delivers the page of the first sheet last: after all others were delivered, and as many sheets were imposed as lie in the window after
+/// the first. A sheet is imposed too early if it is a window or more ahead of what was written.
 #[derive(Drop)]
 struct FirstSheetLast<'w> {
     words: &'w Words,
@@ -143,7 +142,7 @@ impl<'w> Gate for FirstSheetLast<'w> {
     }
 }
 
-/// Runs with the first sheet last, whose page is this one: each of so many sheets is imposed by a worker, and none too early.
+/// Runs with the first sheet last, whose page is this one. Asserts that a worker imposes each of this many sheets, and none too early.
 fn assert_in_turn<R: Threads + Wait + Sync + Abort>(
     rt: &R,
     alloc: Global,
@@ -193,7 +192,7 @@ fn no_sheet_is_imposed_far_before_its_turn(rt: HostRuntime) {
     }
 }
 
-/// Whether a run into a sink with so much room ends with a failed write after so many bytes, and no wait ran out.
+/// Whether a run into a sink with this room ends with a failed write after this many bytes, and no wait runs out.
 fn is_stopped<R: Threads + Wait + Sync, G: Gate + Sync>(
     rt: &R,
     alloc: Global,
@@ -211,7 +210,7 @@ fn is_stopped<R: Threads + Wait + Sync, G: Gate + Sync>(
         && told == (1, 0)
 }
 
-/// Runs with more and more room in their sinks end so.
+/// Asserts this for runs with more and more room in their sinks.
 fn assert_stopped<R: Threads + Wait + Sync + Abort>(rt: &R, alloc: Global, trial: &Trial<'_>) {
     for room in [0usize, 500_000, 1_500_000] {
         let words = Words::new();
@@ -234,14 +233,14 @@ fn no_turn_is_waited_for_after_a_failed_write(rt: HostRuntime) {
     }
 }
 
-/// Where an imposer waits until the sink has failed.
+/// The place at which an imposer waits until the sink has failed.
 #[derive(Clone, Copy)]
 enum Waits {
     BeforeSheet,
     AfterSheet,
 }
 
-/// Only the first sheet comes to the collector before the sink has failed: the others wait here for that.
+/// A gate that lets only the first sheet reach the collector before the sink has failed. The others wait here for that.
 #[derive(Drop)]
 struct FailureFirst<'w> {
     words: &'w Words,

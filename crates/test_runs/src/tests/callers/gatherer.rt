@@ -1,4 +1,4 @@
-//! Who gathers the pages of a job: a caller of a table, a shelf and a queue, with a seat and a pass of its own.
+//! A gatherer of a job's pages: a caller of a table, a shelf and a queue, with a seat and a pass of its own.
 ghost use Rattle.std.specs.Prelude.{◌≡◌};
 ghost use Rattle.rules.specs.Sheets.{layout};
 ghost use Rattle.gather_table.specs.Shared.{IsSeatOf};
@@ -12,7 +12,7 @@ use run_steps::{Answers, Delivery, is_complete};
 use std::alloc::{AllocError, Global};
 use std::sync::Wait;
 
-/// Gathers the pages of a job. The table is one of the job's plan.
+/// A gatherer of a job's pages. The table is one of the job's plan.
 #[derive(Drop)]
 pub(crate) struct Gatherer<'s, 'j, 't, 'd> {
     pub(crate) job: &'s Job<'j, 'd>,
@@ -26,7 +26,7 @@ pub(crate) struct Gatherer<'s, 'j, 't, 'd> {
     ghost passed: { IsPassOf ready.now pass },
 }
 
-/// One with this seat and this pass.
+/// A gatherer with this seat and this pass.
 pub(crate) fn gatherer_of<'s, 'j, 't, 'd>(
     job: &'s Job<'j, 'd>,
     table: &'s GatherTable<'t>,
@@ -50,8 +50,7 @@ pub(crate) fn gatherer_of<'s, 'j, 't, 'd>(
 }
 
 impl<'s, 'j, 't, 'd> Gatherer<'s, 'j, 't, 'd> {
-    /// Delivers a page, with memory for its answers that an earlier delivery leaves, if there is some. Refused also for a page
-    /// that the job doesn't have.
+    /// Delivers a page, in the memory of an earlier delivery's answers if there is one. Refused also for a page that the job lacks.
     pub(crate) fn deliver<R: Wait>(
         &mut self,
         rt: &R,
@@ -86,7 +85,7 @@ impl<'s, 'j, 't, 'd> Gatherer<'s, 'j, 't, 'd> {
         delivery.deliver(rt, &mut self.seat, &mut self.pass, prepared, answers)
     }
 
-    /// Prepares a page of the document. None if that is refused, or the page isn't there.
+    /// Prepares a page of the document. None if that is refused, or if there is no such page.
     pub(crate) fn prepare(&self, alloc: Global, page: u32) -> Option<Prepared<'d>> {
         let document = self.job.document();
         if page >= document.pages() {
@@ -95,7 +94,7 @@ impl<'s, 'j, 't, 'd> Gatherer<'s, 'j, 't, 'd> {
         Prepared::new(alloc, page, document.page(page)).ok()
     }
 
-    /// Prepares a page of the document and delivers it. None if that is refused, or the page isn't there.
+    /// Prepares a page of the document and delivers it. None if that is refused, or if there is no such page.
     pub(crate) fn deliver_page<R: Wait>(
         &mut self,
         rt: &R,
@@ -106,7 +105,7 @@ impl<'s, 'j, 't, 'd> Gatherer<'s, 'j, 't, 'd> {
         self.deliver(rt, alloc, prepared, None).ok()
     }
 
-    /// What is missing of a sheet. None for one that the job doesn't have.
+    /// The missing slots of a sheet. None if the job has no such sheet.
     pub(crate) fn look(&mut self, sheet: u32) -> Option<u64> {
         if sheet >= self.job.sheets() {
             return None;
@@ -114,7 +113,7 @@ impl<'s, 'j, 't, 'd> Gatherer<'s, 'j, 't, 'd> {
         Some(self.table.look(&mut self.seat, sheet))
     }
 
-    /// The index of a page. None also for one that the job doesn't have.
+    /// The index of a page. None also if the job has no such page.
     pub(crate) fn page_at(&mut self, page: u32) -> Option<u32> {
         if page >= self.job.plan().pages() {
             return None;
@@ -122,7 +121,7 @@ impl<'s, 'j, 't, 'd> Gatherer<'s, 'j, 't, 'd> {
         self.table.page_at(&mut self.seat, page)
     }
 
-    /// Publishes a page at this index. None for one that the job doesn't have.
+    /// Publishes a page at this index. None if the job has no such page.
     pub(crate) fn publish(&mut self, page: u32, index: u32) -> Option<Published> {
         if page >= self.job.plan().pages() {
             return None;
@@ -130,7 +129,7 @@ impl<'s, 'j, 't, 'd> Gatherer<'s, 'j, 't, 'd> {
         Some(self.table.publish(&mut self.seat, page, index))
     }
 
-    /// Marks a slot. None for one that is blank or isn't there, or whose page has no index.
+    /// Marks a slot. None if it is blank or isn't there, or if its page has no index.
     pub(crate) fn mark(&mut self, sheet: u32, slot: u16) -> Option<Reply> {
         mark_checked(self.table, self.job.plan(), &mut self.seat, sheet, slot)
     }
@@ -140,12 +139,12 @@ impl<'s, 'j, 't, 'd> Gatherer<'s, 'j, 't, 'd> {
         self.ready.put(rt, &mut self.pass, sheet)
     }
 
-    /// The oldest sheet of the queue.
+    /// Takes the oldest sheet of the queue.
     pub(crate) fn take<R: Wait>(&mut self, rt: &R) -> Option<u32> {
         self.ready.take(rt, &mut self.pass)
     }
 
-    /// Another one of the same, with a share of one. None if this one has no more than that.
+    /// A second gatherer of the same job, with one share. None if this one has no more than one.
     pub(crate) fn another(&mut self) -> Option<Gatherer<'s, 'j, 't, 'd>> {
         if self.seat.share() < 2 || self.pass.share() < 2 {
             return None;
@@ -162,7 +161,7 @@ impl<'s, 'j, 't, 'd> Gatherer<'s, 'j, 't, 'd> {
         })
     }
 
-    /// Imposes a sheet. None for one that isn't complete or that the job doesn't have.
+    /// Imposes a sheet. None if it isn't complete, or if the job has no such sheet.
     pub(crate) fn impose(self, alloc: Global, sheet: u32) -> Option<Result<Imposed, ImposeError>> {
         let Gatherer {
             job,
@@ -179,7 +178,7 @@ impl<'s, 'j, 't, 'd> Gatherer<'s, 'j, 't, 'd> {
     }
 }
 
-/// What comes of a sheet.
+/// The outcome of imposing a sheet.
 #[derive(Clone, Copy, Debug, PartialEq, Eq)]
 pub(crate) enum Outcome {
     /// It has its text.
@@ -187,11 +186,11 @@ pub(crate) enum Outcome {
     OtherText,
     NotShown,
     NoMemory,
-    /// It isn't complete, or the job doesn't have it.
+    /// It isn't complete, or the job has no such sheet.
     NotComplete,
 }
 
-/// What comes of a sheet of this job that was imposed.
+/// The outcome for a sheet of this job that was imposed.
 fn outcome_of_text(
     alloc: Global,
     job: &Job<'_, '_>,
@@ -209,7 +208,7 @@ fn outcome_of_text(
     }
 }
 
-/// Imposes a sheet.
+/// Imposes a sheet, and returns the outcome.
 pub(crate) fn outcome_of(
     alloc: Global,
     gatherer: &mut Gatherer<'_, '_, '_, '_>,

@@ -16,7 +16,7 @@ use std::process::Abort;
 use std::sync::Wait;
 use test_tools::{Refused, document_of, has_refused, refuse_each};
 
-/// What a delivery is answered.
+/// Appends the answer to a delivery.
 fn show_delivered(delivered: &Delivered<'_>, answer: &mut Vec<u8>) -> Result<(), AllocError> {
     let published = delivered.published;
     let replies = delivered.replies.as_slice();
@@ -28,7 +28,7 @@ fn show_delivered(delivered: &Delivered<'_>, answer: &mut Vec<u8>) -> Result<(),
     )
 }
 
-/// What comes of a delivery.
+/// Appends the outcome of a delivery.
 fn show_delivery(
     delivery: Result<Delivered<'_>, DeliverError<'_>>,
     answer: &mut Vec<u8>,
@@ -40,12 +40,12 @@ fn show_delivery(
     }
 }
 
-/// A page that comes back for want of memory.
+/// Appends a page that is returned for lack of memory.
 fn show_unshelved(prepared: &Prepared<'_>, answer: &mut Vec<u8>) -> Result<(), AllocError> {
     say(format_args!("NoMemory {}", prepared.page()), answer)
 }
 
-/// Delivers a page; again in the memory of the answers of a first delivery, if so it is asked.
+/// Delivers a page; on request once more, in the memory of the first delivery's answers.
 fn deliver<R: Wait>(
     rt: &R,
     alloc: Global,
@@ -63,7 +63,7 @@ fn deliver<R: Wait>(
     show_delivery(gatherer.deliver(rt, alloc, prepared, answers), answer)
 }
 
-/// A page of which the number, the bytes and the body are known.
+/// A page with known number, bytes and body.
 #[derive(Clone, Copy)]
 struct Known<'d> {
     page: u32,
@@ -71,12 +71,12 @@ struct Known<'d> {
     body: &'d [u8],
 }
 
-/// Whether this is the page.
+/// Whether a page is the known one.
 fn is_known(found: &Prepared<'_>, known: Known<'_>) -> bool {
     found.page() == known.page && found.raw() == known.raw && found.body() == known.body
 }
 
-/// The index of this page, if it is read by its receipt, and found at its index with a receipt that reads it.
+/// The index of a page that is read by its receipt, and found at its index with a receipt that reads it.
 fn index_on<'d>(shelf: &Shelf<'d>, receipt: &Receipt<'d>, known: Known<'_>) -> Option<u32>
     requires { IsOn shelf.now receipt.now }
 {
@@ -90,7 +90,7 @@ fn index_on<'d>(shelf: &Shelf<'d>, receipt: &Receipt<'d>, known: Known<'_>) -> O
     if is_found { Some(index) } else { None }
 }
 
-/// Puts a page of the document on the shelf: its index.
+/// Puts a page of the document on the shelf, and returns its index.
 fn put<'d, R: Wait>(
     rt: &R,
     alloc: Global,
@@ -116,7 +116,7 @@ fn put<'d, R: Wait>(
     put_known(rt, shelf, prepared, known, answer)
 }
 
-/// Puts a page that is known on the shelf: its index.
+/// Puts a known page on the shelf, and returns its index.
 fn put_known<'d, R: Wait>(
     rt: &R,
     shelf: &Shelf<'d>,
@@ -131,7 +131,7 @@ fn put_known<'d, R: Wait>(
     }
 }
 
-/// Puts a page on the shelf, which asks for more room than that: the page is put also if this growth is refused.
+/// Puts a page on a shelf that also asks for room ahead. The page is put even if that growth is refused.
 fn put_ahead<'d, R: Wait>(
     rt: &R,
     alloc: Global,
@@ -147,7 +147,7 @@ fn put_ahead<'d, R: Wait>(
     is_put
 }
 
-/// Imposes a sheet: what comes of it.
+/// Imposes a sheet and appends the outcome.
 fn show_outcome(
     alloc: Global,
     gatherer: &mut Gatherer<'_, '_, '_, '_>,
@@ -191,8 +191,7 @@ impl<'s, 'j, 't, 'd, R: Wait> Called<R> for Gatherer<'s, 'j, 't, 'd> {
     }
 }
 
-/// A story of who gathers a job, with room for so many sheets in the queue, with the growth of this number refused in each
-/// call.
+/// A story of a gatherer, with this room in the queue, in which the growth with this number is refused in each call.
 #[derive(Drop)]
 struct Gathering<'s> {
     room: u32,
@@ -209,7 +208,7 @@ impl<'s, R: Wait + Abort> Task<R, bool> for Gathering<'s> {
     }
 }
 
-/// A story, after a line with the specification, how many pages there are, and for how many sheets the queue has room.
+/// A story, after a line with the specification, the number of pages, and the number of sheets for which the queue has room.
 #[derive(Drop)]
 struct Story<'s> {
     story: &'s str,
@@ -243,7 +242,7 @@ const TWICE: &str = "\
     page 0 = Some(0)\n\
 ";
 
-/// The same in the memory of another delivery.
+/// The same, in the memory of another delivery.
 const AGAIN: &str = "\
     0+0 1 1\n\
     again 0 = Held(0) [Repeated, Repeated] [] []\n\
@@ -267,7 +266,7 @@ const BLANK: &str = "\
     impose 0 = Imposed\n\
 ";
 
-/// Another page is at the index of the sheet's own.
+/// A shelf with another page at the index of the sheet's own page.
 const ANOTHER_PAGE: &str = "\
     0 2 1\n\
     shown 0 = None\n\
@@ -281,7 +280,7 @@ const ANOTHER_PAGE: &str = "\
     impose 0 = NotShown\n\
 ";
 
-/// The sheet's own page does.
+/// A shelf with the sheet's own page there.
 const OWN_PAGE: &str = "\
     0 2 1\n\
     put 0 = Some(0)\n\
@@ -292,8 +291,8 @@ const OWN_PAGE: &str = "\
     shown 4294967295 = None\n\
 ";
 
-/// A shelf asks for more room with its 29th page. If that is refused it asks again with the page that needs the room, and this
-/// one comes back. The shelf shows the others.
+/// A shelf asks for more room with its 29th page. If that is refused, it asks again with the page that needs the room, and this page is returned. The
+/// shelf still shows the others.
 const FILLED: &str = "\
     0 33 1\n\
     put 0 = Some(0)\n\
@@ -336,7 +335,7 @@ const FILLED: &str = "\
     shown 32 = Some(32)\n\
 ";
 
-/// A queue with room for two. The page comes last, so that a call asks for memory.
+/// A queue with room for two sheets. The page comes last, so that a call asks for memory.
 const IN_ORDER: &str = "\
     0 1 2\n\
     hand_on 7 = Ok(())\n\

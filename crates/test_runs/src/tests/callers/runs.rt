@@ -1,4 +1,4 @@
-//! Runs: what is reported of each, and why one is refused before it writes anything.
+//! Runs: the report of each, and the refusals before anything is written.
 use super::stories::{first_word, number, parts_of};
 use crate::tests::checks::{assert_bytes, assert_that, assert_told, done};
 use crate::tests::workers;
@@ -14,7 +14,7 @@ use std::sync::Wait;
 use std::thread::Threads;
 use test_tools::{TWO_UP, document_of, one_up_output, two_up_output};
 
-/// A document of so many pages. Other words are texts that are none, and a dash the empty one.
+/// A document with this number of pages. Other words are texts that aren't documents, and a dash is the empty text.
 fn input_of(alloc: Global, word: &str) -> Result<String, NoMemory> {
     match word.parse::<u32>() {
         Ok(pages) => document_of(alloc, pages),
@@ -23,7 +23,7 @@ fn input_of(alloc: Global, word: &str) -> Result<String, NoMemory> {
     }
 }
 
-/// The output of one page as it is, or of two pages a sheet, is as wanted. Others are compared elsewhere.
+/// Asserts that the output of one page as it is, or of two pages on a sheet, is as expected. Other outputs are compared elsewhere.
 fn assert_wanted<R: Abort>(rt: &R, alloc: Global, items: &str, report: &Report, written: &[u8]) {
     if items == TWO_UP {
         let wanted = done(rt, two_up_output(alloc, report.sheets));
@@ -34,7 +34,7 @@ fn assert_wanted<R: Abort>(rt: &R, alloc: Global, items: &str, report: &Report, 
     }
 }
 
-/// What is reported of a run.
+/// The report of a run, as text.
 fn shown(alloc: Global, report: &Report) -> Result<String, NoMemory> {
     let Report {
         pages,
@@ -46,7 +46,7 @@ fn shown(alloc: Global, report: &Report) -> Result<String, NoMemory> {
     format!(in alloc; "{pages} {sheets} {born} {swept} {bytes}")
 }
 
-/// How many preparers and imposers, the sides of a signature, and the width of a border in grains. A dash means none.
+/// The options in a line: the numbers of preparers and imposers, the sides of a signature, and the width of a border in grains. A dash means none.
 fn options_of(settings: &str) -> Options {
     let mut words = settings.split(' ');
     let preparers = number(words.next());
@@ -58,7 +58,7 @@ fn options_of(settings: &str) -> Options {
     options
 }
 
-/// Runs over this input by this specification: what is reported, and how many bytes are written.
+/// Runs over this input by this specification. Returns the report and the number of bytes written.
 fn run_input<R: Threads + Wait + Sync + Abort>(
     rt: &R,
     alloc: Global,
@@ -78,8 +78,8 @@ fn run_input<R: Threads + Wait + Sync + Abort>(
     (done(rt, told), sink.bytes().len() as u64)
 }
 
-/// The run of a line, which has the input, the options, and the specification, is answered as it says: what is reported,
-/// and how many bytes are written.
+/// Asserts that the run of a line, which has the input, the options and the specification, has the outcome in the line: the report and the number of
+/// bytes written.
 fn assert_run<R: Threads + Wait + Sync + Abort>(rt: &R, alloc: Global, line: &str) {
     let (words, answer) = parts_of(line);
     let (wanted, count) = answer.split_once(", ").unwrap_or((answer, ""));
@@ -95,7 +95,7 @@ fn assert_run<R: Threads + Wait + Sync + Abort>(rt: &R, alloc: Global, line: &st
     );
 }
 
-/// Pages, sheets, sheets without pages, sheets that were made at the end, and bytes.
+/// Numbers of pages, of sheets, of sheets without pages, of sheets made at the end, and of bytes.
 const REPORTS: &str = "\
     1 1 1 - - 0 = 1 1 0 0 273, 273\n\
     2 1 1 - - 2:0L@.7(21cm,0)+1L@.7(21cm,14.85cm) = 2 1 0 0 503, 503\n\
@@ -114,7 +114,7 @@ const REPORTS: &str = "\
     0+0+0+0+0+0+0+0+0+0+0+0+0+0+0 = 1 1 0 0 12817, 12817\n\
 ";
 
-/// Options are looked at before the specification, and this is read before the input.
+/// Options are checked before the specification, and this is read before the input.
 const REFUSALS: &str = "\
     1 1 1 - 0 0 = Options, 0\n\
     1 1 1 - -1 0 = Options, 0\n\
@@ -145,7 +145,7 @@ fn reports(rt: HostRuntime) {
     }
 }
 
-/// The refusal has this message.
+/// Asserts that the refusal has this message.
 fn assert_message<R: Abort, E: Display + Drop>(rt: &R, alloc: Global, error: E, message: &str) {
     let told = done(rt, format!(in alloc; "{error}"));
     assert_that(rt, told.as_str() == message);

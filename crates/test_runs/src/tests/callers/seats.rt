@@ -1,4 +1,4 @@
-//! Seats of the shared table: two parts of one meet and are joined.
+//! Seats of the shared table: two parts of a seat meet and are joined.
 use crate::tests::WHOLE;
 use crate::tests::checks::{assert_that, done};
 use gather_table::GatherTable;
@@ -7,8 +7,8 @@ use sheet_plan::Plan;
 use std::alloc::Global;
 use std::process::Abort;
 
-/// A page is published through one seat, if the plan has one: what the other one finds when they have met. Their shares are
-/// those of the whole seat.
+/// Publishes a page through one seat, if the plan has a page, and returns what the other seat finds after they have met. Their shares are those of
+/// the whole seat.
 fn found_by_the_other<R: Abort>(rt: &R, alloc: Global, plan: &Plan) -> Option<u32> {
     let (table, mut one) = done(rt, GatherTable::new(alloc, plan));
     let two = table.split(&mut one, 1);

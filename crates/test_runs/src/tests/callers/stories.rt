@@ -1,4 +1,4 @@
-//! Stories: in each line a call, and what it is answered.
+//! Stories: each line has a call and its answer.
 use crate::tests::checks::{assert_told, done};
 use std::alloc::{AllocError, Global};
 use std::fmt::{Debug, Display};
@@ -6,9 +6,9 @@ use std::io::Write;
 use std::process::Abort;
 use test_tools::{has_refused, refuse};
 
-/// What the lines of a story call.
+/// The calls of a story's lines.
 pub(crate) trait Called<R> {
-    /// Makes the call with these words, and appends what it is answered.
+    /// Makes the call with these words, and appends its answer.
     fn call(
         &mut self,
         rt: &R,
@@ -18,11 +18,11 @@ pub(crate) trait Called<R> {
     ) -> Result<(), AllocError>;
 }
 
-/// More bytes than an answer has here. They are reserved before a call, so only growths of the call are refused.
+/// Room for an answer, in bytes; no answer here is longer. It is reserved before a call, so only growths of the call are refused.
 const ROOM: usize = 4_000;
 
-/// Makes the calls of a story, one a line, with the growth of this number refused in each: whether one was. Each call is
-/// answered as its line says.
+/// Makes the calls of a story, one a line, with the growth of this number refused in each. Returns whether one was refused. Each answer has to be
+/// that of its line.
 pub(crate) fn tell<R: Abort, C: Called<R>>(
     rt: &R,
     alloc: Global,
@@ -42,8 +42,8 @@ pub(crate) fn tell<R: Abort, C: Called<R>>(
     is_refused
 }
 
-/// Makes a call with the growth of this number refused: whether it was. Then the call reports that memory is out, leaves all
-/// as it was, and is made again with memory.
+/// Makes a call with the growth of this number refused. Returns whether one was. Then the call has to report a lack of memory and leave everything
+/// unchanged, and is made again with memory.
 fn call_again<R: Abort, C: Called<R>>(
     rt: &R,
     alloc: Global,
@@ -68,12 +68,12 @@ fn call_again<R: Abort, C: Called<R>>(
     true
 }
 
-/// The words of a line, and what it says that they are answered.
+/// The words of a line, and their answer.
 pub(crate) fn parts_of(line: &str) -> (&str, &str) {
     line.split_once(" = ").unwrap_or((line, ""))
 }
 
-/// The first word, and what comes after it.
+/// The first word, and the text after it.
 pub(crate) fn first_word(words: &str) -> (&str, &str) {
     words.split_once(' ').unwrap_or((words, ""))
 }
@@ -86,12 +86,12 @@ pub(crate) fn call_of(words: &str) -> (&str, u32, u32) {
     (name, first, number(words.next()))
 }
 
-/// The number that a word is, 0 if it is none.
+/// The number in a word; 0 if it isn't a number.
 pub(crate) fn number(word: Option<&str>) -> u32 {
     word.unwrap_or("").parse::<u32>().unwrap_or(0)
 }
 
-/// Appends a value as it is written in a program.
+/// Appends a value in the form that programs have.
 pub(crate) fn show<T: Debug + Drop>(value: T, answer: &mut Vec<u8>) -> Result<(), AllocError> {
     say(format_args!("{value:?}"), answer)
 }

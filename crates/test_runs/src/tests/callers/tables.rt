@@ -1,4 +1,4 @@
-//! Both tables: which pages have come, and which slots miss theirs.
+//! Both tables: the pages that have come, and the missing slots.
 ghost use Rattle.std.specs.Prelude.{◌≡◌, ◌<◌, IfSome, Some, length, slice_get, true};
 ghost use Rattle.rules.specs.Sheets.{layout};
 ghost use Rattle.gather_table.specs.Shared.{IsSeatOf};

@@ -1,4 +1,4 @@
-//! Gates at which threads wait for each other: a run on one thread would never come past them.
+//! Gates at which threads wait for each other. A run on one thread would never pass them.
 use crate::tests::checks::{assert_that, done};
 use crate::tests::windows::{LimitedSink, Words};
 use crate::tests::{Trial, report_of, run_into};
@@ -11,13 +11,13 @@ use std::sync::atomic::Ordering::SeqCst;
 use std::thread::Threads;
 use test_tools::TWO_PAGES;
 
-/// The second page waits until all before it is written.
+/// A gate at which the second page waits until all before it is written.
 #[derive(Drop)]
 struct Written<'w> {
     words: &'w Words,
 }
 
-/// The bytes of the preamble and the first of two sheets.
+/// The number of bytes of the preamble and the first of two sheets.
 const FIRST_SHEET_END: usize = 257;
 
 impl<'w> Gate for Written<'w> {
@@ -30,8 +30,8 @@ impl<'w> Gate for Written<'w> {
     fn after(&self, _step: Step) {}
 }
 
-/// Two pages on two sheets, the second page after the first sheet: how many waits ran out, and how many sheets were made
-/// at the end.
+/// Runs two pages on two sheets, the second page after the first sheet. Returns the number of waits that ran out, and the number of sheets made at
+/// the end.
 fn run_written<R: Threads + Wait + Sync + Abort>(rt: &R, alloc: Global) -> (usize, u32) {
     let words = Words::new();
     let gate = Written { words: &words };
@@ -50,7 +50,7 @@ fn a_sheet_is_written_before_the_next_page_is_delivered(rt: HostRuntime) {
     assert_that(&rt, run_written(&rt, rt.alloc()) == (0, 0));
 }
 
-/// Counts how often it is called before each step and each look, and how often after it.
+/// A gate that counts its calls before each step and each look, and those after them.
 #[derive(Drop)]
 struct Counted {
     steps: [AtomicUsize; 2],
@@ -58,8 +58,8 @@ struct Counted {
     looks_at_channel: [AtomicUsize; 2],
 }
 
-/// What a step adds: one to its own eight bits of the word. All steps that two pages on two sheets don't have share the
-/// rest.
+/// The number that a step adds: one, in eight bits of the word that are its own. All steps that two pages on two sheets lack share the remaining
+/// bits.
 fn one_more(step: Step) -> usize {
     match step {
         Step::Deliver(0) => 1,
@@ -97,7 +97,7 @@ impl Gate for Counted {
     }
 }
 
-/// How often something was counted before and after.
+/// The counts before and after.
 fn counts_of(words: &[AtomicUsize; 2]) -> (usize, usize) {
     (words[0].load(SeqCst), words[1].load(SeqCst))
 }

@@ -1,5 +1,4 @@
-//! Texts of several sheets in the same memory, and sheets that come together before their turn, with each growth of each
-//! call refused in turn.
+//! Texts of several sheets in the same memory, and sheets that come before their turn, with each growth of each call refused in turn.
 use crate::tests::callers::stories::{Called, first_word, number, show, tell};
 use crate::tests::checks::{assert_that, done};
 use sheet_text::{Pieces, Rope, Texts};
@@ -9,8 +8,8 @@ use std::mem;
 use std::process::Abort;
 use test_tools::{Refused, has_refused, refuse, refuse_each};
 
-/// What a story calls: texts of finished sheets, and sheets that came. A text is made in the same memory again and again,
-/// and then added to them. Two slices aren't copied.
+/// The objects of a story: texts of finished sheets, and sheets that came. A text is made in the same memory again and again, and then added to the
+/// others. Two slices aren't copied.
 #[derive(Drop)]
 struct InTexts<'r> {
     long: &'r [u8],
@@ -20,11 +19,11 @@ struct InTexts<'r> {
     early: ReorderBuffer<'r>,
 }
 
-/// How many pieces are shown of a text.
+/// The most pieces of a text that are shown.
 const MOST_PIECES: u32 = 20;
 
 impl<'r> InTexts<'r> {
-    /// Makes the text again of parts with a bar between them: bytes of its own, and slices by their names.
+    /// Makes the text again of parts with a bar between them: bytes of its own, and slices by name.
     fn write(&mut self, parts: &str) -> Result<(), AllocError> {
         let (long, longer) = (self.long, self.longer);
         self.text.clear();
@@ -40,14 +39,14 @@ impl<'r> InTexts<'r> {
         Ok(())
     }
 
-    /// How many texts there are, and the room and the length of the next one.
+    /// The number of texts, the room of the next one, and its length.
     fn sizes(&self) -> (usize, usize, Option<usize>) {
         let text = &self.text;
         (self.texts.len(), text.capacity(), text.pieces().len())
     }
 
-    /// Adds a sheet with such a text, which leaves its memory: how many they are then. If memory is refused, they are as many
-    /// as before, and the text is as long.
+    /// Adds a sheet with such a text, which leaves its memory, and appends the number of sheets. If memory is refused, the number and the text are
+    /// unchanged.
     fn finish(&mut self, sheet: u32, parts: &str, answer: &mut Vec<u8>) -> Result<(), AllocError> {
         self.write(parts)?;
         let before = self.sizes();
@@ -62,7 +61,7 @@ impl<'r> InTexts<'r> {
         }
     }
 
-    /// Adds a sheet in memory that others had: whether it is added, and whether that asks for memory.
+    /// Adds a sheet in reused memory. Returns whether it was added, and whether that asked for memory.
     fn add_anew(
         &mut self,
         alloc: Global,
@@ -77,7 +76,7 @@ impl<'r> InTexts<'r> {
         show((is_added, has_refused(alloc)), answer)
     }
 
-    /// The finished sheets come: how many they are.
+    /// Puts the finished sheets as one group, and returns their number.
     fn come(&mut self, alloc: Global) -> usize {
         let finished = mem::replace(&mut self.texts, Texts::new(alloc));
         let count = finished.len();
@@ -85,7 +84,7 @@ impl<'r> InTexts<'r> {
         count
     }
 
-    /// Takes the sheets that came with this one: how many they are.
+    /// Takes the sheets that came with this one, and returns their number.
     fn take(&mut self, sheet: u32) -> usize {
         match self.early.take_written(sheet) {
             Some(written) => written.len(),
@@ -93,7 +92,7 @@ impl<'r> InTexts<'r> {
         }
     }
 
-    /// From a sheet on, which has the index of its number, how many are joined, of so many at most, and their pieces.
+    /// Joins up to `most` sheets from this one on, which has the index of its number. Appends the number of joined sheets, and their pieces.
     fn join(&self, sheet: u32, most: u32, answer: &mut Vec<u8>) -> Result<(), AllocError> {
         if most == 0 {
             return show("no such text", answer);
@@ -105,7 +104,7 @@ impl<'r> InTexts<'r> {
         self.show_pieces(text, answer)
     }
 
-    /// The text of a sheet that came.
+    /// Appends the text of a sheet that came.
     fn text_of(&self, sheet: u32, answer: &mut Vec<u8>) -> Result<(), AllocError> {
         match self.early.joined(sheet, 1) {
             Some((_, text)) => self.show_pieces(text, answer),
@@ -125,7 +124,7 @@ impl<'r> InTexts<'r> {
         Ok(())
     }
 
-    /// A piece, and of the slices their names.
+    /// A piece as it is shown; a slice by its name.
     fn shown<'p>(&self, piece: &'p [u8]) -> &'p [u8] {
         if piece == self.long {
             b"long".as_slice()
@@ -136,7 +135,7 @@ impl<'r> InTexts<'r> {
         }
     }
 
-    /// Which of the first sheets are found.
+    /// Appends which of the first sheets are found.
     fn found(&self, answer: &mut Vec<u8>) -> Result<(), AllocError> {
         for sheet in 0..8u8 {
             if self.early.joined(u32::from(sheet), 1).is_some() {
@@ -175,7 +174,7 @@ impl<'r, R> Called<R> for InTexts<'r> {
     }
 }
 
-/// A story with places for so many sheets that come early.
+/// A story with this many places for early sheets.
 #[derive(Drop)]
 struct Story<'s> {
     places: u32,
@@ -185,7 +184,7 @@ struct Story<'s> {
 }
 
 impl<'s> Story<'s> {
-    /// No sheet is finished, and the text has some room.
+    /// The objects at the start: no sheet is finished, and the text has some room.
     fn called<R: Abort>(&self, rt: &R, alloc: Global) -> InTexts<'s> {
         let early = done(rt, ReorderBuffer::new(alloc, self.places));
         let mut text = Rope::new(alloc);
@@ -207,7 +206,7 @@ impl<'s, R: Abort> Refused<R> for Story<'s> {
     }
 }
 
-/// Long texts and short ones come out as their own, and short slices are copied.
+/// Long and short texts come out whole, and short slices are copied.
 const TEXTS: &str = "\
     finish 0 ab|cd|ef = 1\n\
     finish 1 |long|g = 2\n\
@@ -250,8 +249,7 @@ const NEIGHBOURS: &str = "\
     joined 0 9 = 1 text\n\
 ";
 
-/// A sheet that comes is at its place. Another sheet has the same place: it is dropped, and who asks for it leaves the
-/// first one there.
+/// A sheet that comes is at its place. Another sheet with the same place is dropped, and a request for it leaves the first one there.
 const ONE_PLACE: &str = "\
     places = (2, 2)\n\
     finish 1 a = 1\n\
@@ -267,8 +265,8 @@ const ONE_PLACE: &str = "\
     found = \n\
 ";
 
-/// Sheets that come together lie at the place of the last of them, and are dropped together if it is taken. One whose own
-/// place belongs to another sheet is as if it had not come.
+/// Sheets of a group lie at the place of the last one, and are dropped together if it is taken. A sheet whose own place belongs to another sheet
+/// counts as one that never came.
 const TOGETHER: &str = "\
     finish 1 = 1\n\
     finish 3 = 2\n\

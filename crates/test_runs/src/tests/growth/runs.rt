@@ -11,10 +11,10 @@ use std::thread;
 use std::thread::Threads;
 use test_tools::{BOOKLET, MOST_GROWTHS, TWO_UP, document_of, has_refused, refuse, two_up_output};
 
-/// More bytes than a run here writes.
+/// Room for an output, in bytes; no run here writes more.
 const ROOM: usize = 2_000_000;
 
-/// The first page is delivered so many yields late. If there are some, sheets of other pages are there and wait for their turn.
+/// A gate that delays the delivery of the first page by this many yields. With a delay, sheets of other pages come earlier and wait for their turn.
 #[derive(Clone, Copy)]
 struct Late {
     yields: u32,
@@ -36,15 +36,14 @@ const ON_TIME: Late = Late { yields: 0 };
 
 const LATE: Late = Late { yields: 1_000 };
 
-/// What came of a run or a gathering: how many bytes it says that were written, None if it finished, and whether a growth
-/// was refused.
+/// The end of a run or a gathering: the number of bytes that it reports as written, None if it finished; and whether a growth was refused.
 #[derive(Clone, Copy)]
 struct Ended {
     written: Option<u64>,
     is_refused: bool,
 }
 
-/// How many bytes this answer says that were written, None if it tells of a run that finished.
+/// The number of bytes that this answer reports as written; None for a run that finished.
 fn written_by<R: Abort>(rt: &R, answer: &Result<Report, RunError>) -> Option<u64> {
     match answer {
         Ok(_) => None,
@@ -53,7 +52,7 @@ fn written_by<R: Abort>(rt: &R, answer: &Result<Report, RunError>) -> Option<u64
     }
 }
 
-/// Runs with the growth of this number refused: what the sink has, and what came of it.
+/// Runs with the growth of this number refused. Returns the content of the sink, and the end of the run.
 fn run_refused<R: Threads + Wait + Abort + Sync>(
     rt: &R,
     alloc: Global,
@@ -72,14 +71,14 @@ fn run_refused<R: Threads + Wait + Abort + Sync>(
     (sink, ended)
 }
 
-/// Whether a sink has all of the output, after a run that finished, else as many of its first bytes as were reported.
+/// Whether a sink has all of the output after a run that finished, or else as many of its first bytes as were reported.
 fn is_written(output: &[u8], sink: &MemorySink, written: Option<u64>) -> bool {
     let wanted = written.unwrap_or(output.len() as u64);
     sink.bytes().len() as u64 == wanted && output.starts_with(sink.bytes())
 }
 
-/// Whether a run in which a growth was refused, or none was, may end so. A run finishes if it was refused the room for
-/// the number of a sheet that it would hold.
+/// Whether a run may end in this way, given whether a growth was refused. A run also finishes if it was refused the room for the number of a sheet
+/// that it holds.
 fn is_right(holds: bool, ended: Ended) -> bool {
     match ended.written {
         Some(_) => ended.is_refused,
@@ -87,7 +86,7 @@ fn is_right(holds: bool, ended: Ended) -> bool {
     }
 }
 
-/// Runs with the growth of this number refused: whether one was.
+/// Runs with the growth of this number refused. Returns whether one was.
 fn refuse_one<R: Threads + Wait + Abort + Sync>(
     rt: &R,
     alloc: Global,
@@ -102,8 +101,7 @@ fn refuse_one<R: Threads + Wait + Abort + Sync>(
     ended.is_refused
 }
 
-/// Each growth of the run is refused in turn. Threads grow what they grow in any order, so the end is where none of
-/// some numbers after one another was refused.
+/// Refuses each growth of the run in turn. Threads grow in any order, so the end is reached when none of several successive numbers was refused.
 fn refuse_each<R: Threads + Wait + Abort + Sync>(
     rt: &R,
     alloc: Global,
@@ -178,8 +176,8 @@ fn runs_whose_first_sheet_comes_last(rt: HostRuntime) {
     }
 }
 
-/// Gathers the pages of a document with the growth of this number refused: whether one was. What the sink has are the
-/// first bytes of this output, and the tokens come back if all went well.
+/// Gathers the pages of a document with the growth of this number refused. Returns whether one was. The sink has to have the first bytes of this
+/// output, and the tokens come back if all went well.
 fn gather_refused<R: Threads + Wait + Abort + Sync>(
     rt: &R,
     alloc: Global,
