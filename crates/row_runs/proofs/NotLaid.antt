@@ -1,5 +1,5 @@
 -- Why a row isn't laid, as it is reported.
-use Rattle.std.proofs.Common.{◌≡◌, ◌⊎◌, ◌∙◌, inl, inr, ℕ, ◌≤◌, List, Ok, Option, Some, None, ap, refl, subst, sym}
+use Rattle.std.proofs.Common.{◌≡◌, ◌∙◌, inl, inr, ℕ, ◌≤◌, List, Ok, Option, Some, None, ap, refl, subst, sym}
 use Rattle.std.specs.Prelude.{IsOk, option_map}
 use Rattle.std.specs.Option.{option_or}
 use Rattle.rules.specs.Papers.{Paper}
@@ -8,6 +8,7 @@ use Rattle.rules.specs.Choice.{signed_if}
 use Rattle.rules.specs.Rows.{Row}
 use Rattle.layouts.specs.declared.error.ArrangementError.{ArrangementError}
 use Rattle.layouts.specs.declared.error.ArrangementError.TheVariants as why
+use Rattle.layouts.specs.Refusals.{IsArrangementFault}
 use Rattle.row_sheets.specs.Shapes.{filling}
 use Rattle.row_sheets.specs.Posters.{IsNoPoster}
 use Rattle.row_sheets.specs.declared.poster.PosterError.{PosterError}
@@ -36,16 +37,16 @@ poster_as P other none h = h
 -- ---- laid so
 
 pub cells_told : (l : Laying) (leaves : ℕ) (papers : List Paper) (row : Row) (first : Option ArrangementError) (e : ArrangementError) (told : SheetError) → why_not_laid l leaves papers row ≡ option_map error.Arrangement first → told ≡ of_arrangement e
-    → (e ≡ why.NoMemory) ⊎ (first ≡ Some e) → RefusesLaying l leaves papers row told
+    → IsArrangementFault first e → RefusesLaying l leaves papers row told
 cells_told l leaves papers row first e told laid is (inl none) =
-    subst (RefusesLaying l leaves papers row) (sym (is ∙ ap of_arrangement none)) tt
+    subst (RefusesLaying l leaves papers row) (sym (is ∙ ap of_arrangement none.0)) tt
 cells_told l leaves papers row first e told laid is (inr h) =
     subst (RefusesLaying l leaves papers row) (sym is) (arrangement_as (RefusesLaying l leaves papers row) e tt (laid ∙ ap (option_map error.Arrangement) h))
 
 pub posters_told : (l : Laying) (leaves : ℕ) (papers : List Paper) (row : Row) (first : Option PosterError) (e : PosterError) (told : SheetError) → why_not_laid l leaves papers row ≡ option_map error.Poster first → told ≡ of_poster e → IsNoPoster first e
     → RefusesLaying l leaves papers row told
 posters_told l leaves papers row first e told laid is (inl none) =
-    subst (RefusesLaying l leaves papers row) (sym (is ∙ ap of_poster none)) tt
+    subst (RefusesLaying l leaves papers row) (sym (is ∙ ap of_poster none.0)) tt
 posters_told l leaves papers row first e told laid is (inr h) =
     subst (RefusesLaying l leaves papers row) (sym is) (poster_as (RefusesLaying l leaves papers row) e tt (laid ∙ ap (option_map error.Poster) h))
 

@@ -1,5 +1,5 @@
 -- The sheets that are asked for.
-use Rattle.std.specs.Prelude.{◌≡◌, ◌⊎◌, ⊤, ℕ, ◌*◌, ◌/◌, ◌<◌, ◌≤◌, List, length, IsOk, IfSome, Option, Some, None, Ok, Result, option_map}
+use Rattle.std.specs.Prelude.{◌≡◌, ⊤, ℕ, ◌*◌, ◌/◌, ◌<◌, ◌≤◌, List, length, IsOk, IfSome, Option, Some, None, Ok, Result, option_map}
 use Rattle.std.specs.Option.{option_or}
 use Rattle.rules.specs.Papers.{Paper}
 use Rattle.rules.specs.Run.{most_pages}
@@ -8,7 +8,6 @@ use Rattle.rules.specs.Rows.{Row}
 use Rattle.rules.specs.Choice.{RowFault, Signing, chosen, sides_for, signed_if}
 use Rattle.layouts.specs.Cells.{size}
 use Rattle.layouts.specs.declared.error.ArrangementError.{ArrangementError}
-use Rattle.layouts.specs.declared.error.ArrangementError.TheVariants as why
 use Rattle.rows.specs.Choices.{choice_of}
 use Rattle.rows.specs.Sewing.{MayBeSewn, signing_of}
 use Rattle.rows.specs.Refusals.{RefusesRow}
@@ -74,10 +73,6 @@ sheets_laid (laying.Poster poster) leaves papers row = row_tiles poster papers r
 abbrev pub why_not_in : Scheme → Filling → (leaves : ℕ) → Row → Option ArrangementError
 why_not_in (scheme.Booklet turned_backs creep) f leaves row = first_over_fold f creep leaves row
 why_not_in other f leaves row = first_refused f row
-
--- they aren't filled for that reason, or out of memory
-abbrev pub IsNotIn : Scheme → Filling → (leaves : ℕ) → Row → ArrangementError → Type 0
-IsNotIn how f leaves row e = (e ≡ why.NoMemory) ⊎ (why_not_in how f leaves row ≡ Some e)
 
 -- why it can't be laid so: a page that doesn't fit its cell, or the first one that can't be a poster
 abbrev pub why_not_laid : Laying → (leaves : ℕ) → List Paper → Row → Option SheetError

@@ -2,11 +2,12 @@
 ghost use Rattle.std.specs.Prelude.{◌≡◌, ◌<◌, ◌≤◌, IfErr, IfOk, IfSome, OnOk, Ok, None, Some, length, option_map, ℕ};
 ghost use Rattle.rules.specs.Choice.{most_entries};
 ghost use Rattle.rows.specs.Sewing.{MayBeSewn, signing_of};
+ghost use Rattle.layouts.specs.Refusals.{IsArrangementFault};
 ghost use Rattle.row_sheets.specs.Shapes.{filling};
 ghost use Rattle.row_runs.specs.Errors.{of_arrangement, of_poster, of_row};
 ghost use Rattle.row_runs.specs.Limits.{AreFewAsLaid, limit_in as limit_of_laying};
-ghost use Rattle.row_runs.specs.Sheets.{AreAsked, FitAsLaid, IsNotIn, MayBeAsked, MayBeLaid, RefusesAsked, RefusesLaying};
-ghost use Rattle.row_runs.specs.Sheets.{leaves_in as leaves_of_signature, sheets_by_scheme, sheets_laid};
+ghost use Rattle.row_runs.specs.Sheets.{AreAsked, FitAsLaid, MayBeAsked, MayBeLaid, RefusesAsked, RefusesLaying};
+ghost use Rattle.row_runs.specs.Sheets.{leaves_in as leaves_of_signature, sheets_by_scheme, sheets_laid, why_not_in};
 ghost use Rattle.row_runs.specs.Standing.{StandAsLaid};
 
 use crate::error::SheetError;
@@ -213,7 +214,7 @@ fn lay_in_cells(
     ensures made { IfOk result (λ made. made ≡ sheets_by_scheme scheme.now (filling setting.now papers.now) leaves row.now) }
     ensures stands { IfOk result (StandAsLaid (Laying.InCells setting.now scheme.now)) }
     ensures fits { OnOk result (FitAsLaid (Laying.InCells setting.now scheme.now) leaves papers.now row.now) }
-    ensures refused { IfErr result (IsNotIn scheme.now (filling setting.now papers.now) leaves row.now) }
+    ensures refused { IfErr result (IsArrangementFault (why_not_in scheme.now (filling setting.now papers.now) leaves row.now)) }
 {
     match scheme {
         Scheme::Grid { cells } => grid_sheets(alloc, setting, papers, *cells, row),

@@ -1,9 +1,8 @@
 -- Which page of a row is refused first.
-use Rattle.std.proofs.Common.{arith, ◌≡◌, ◌⊎◌, inl, inr, ℕ, suc, zero, ◌+◌, ◌*◌, ◌/◌, ◌%◌, ◌<◌, length, List, Option, Some, None, ap, ap₂, refl, subst, sym, ◌∙◌}
+use Rattle.std.proofs.Common.{arith, ◌≡◌, ◌⊎◌, inl, inr, ℕ, suc, zero, ◌*◌, ◌/◌, ◌%◌, ◌<◌, length, List, Option, Some, None, ap, ap₂, refl, subst, sym, ◌∙◌}
 use Rattle.std.specs.Option.{option_or}
 use Rattle.std.proofs.Math.Nat.{eq-or-lt_of_le}
 use Rattle.std.proofs.lemmas.Bool.{cases_lt}
-use Rattle.std.proofs.lemmas.Nat.{div-mul-add}
 use Rattle.std.proofs.lemmas.Option.{none-some}
 use Rattle.rules.specs.Papers.{Paper}
 use Rattle.rules.specs.Signatures.{entry_of}
@@ -12,12 +11,11 @@ use Rattle.layouts.specs.declared.error.ArrangementError.{ArrangementError}
 use Rattle.row_sheets.specs.Filled.{Filling, grid_entry}
 use Rattle.row_sheets.specs.FirstFault.{first_fault}
 use Rattle.row_sheets.specs.Shapes.{first_refused, why_no_place}
-use Rattle.row_sheets.specs.Creep.{IsRefusedCreeping, creep_on, first_over_fold, why_no_half}
-use Rattle.row_sheets.specs.Posters.{AllMayBePosters, EntryMayBePoster, IsNoPoster, IsNoPosterFor, first_no_poster, why_no_tiles}
+use Rattle.row_sheets.specs.Creep.{creep_on, first_over_fold, why_no_half}
+use Rattle.row_sheets.specs.Posters.{AllMayBePosters, EntryMayBePoster, first_no_poster, why_no_tiles}
 use Rattle.row_sheets.specs.Standing.{AllEntriesFit, AllFitOnLeaves, EntryCreeps, EntryFits}
 use Rattle.row_sheets.specs.declared.poster.Poster.{Poster}
 use Rattle.row_sheets.specs.declared.poster.PosterError.{PosterError}
-use Rattle.row_sheets.proofs.Filling.{one_more}
 use Rattle.row_sheets.proofs.Places.{in_blocks, past_end}
 
 -- ---- the first of many
@@ -78,24 +76,6 @@ pub on_leaves_none : (f : Filling) (creep leaves : ℕ) (row : Row) → AllFitOn
 on_leaves_none f creep leaves row fits =
     no_fault (λ j. in_its_half f creep leaves j (entry_of row j)) (length row) (λ j less. sides_none f creep leaves (length row) row (λ n k in_n in_k. fits n k in_k) j (omega (arith, less)))
 
--- an entry that is found step by step
-there : (f : Filling) (row : Row) (creep leaves s k by place : ℕ) (entry : Option ℕ) (found : Option ArrangementError) → k < 2 → by ≡ creep_on creep leaves s → entry ≡ entry_of row place → place ≡ s * 2 + k → why_no_half f by entry ≡ found
-    → in_its_half f creep leaves (s * 2 + k) (entry_of row (s * 2 + k)) ≡ found
-there f row creep leaves s k by place entry found less b is at h =
-    ap (λ n. why_no_half f (creep_on creep leaves n) (entry_of row (s * 2 + k))) (div-mul-add s 2 k less)
-    ∙ (ap (λ n. why_no_half f n (entry_of row (s * 2 + k))) (sym b) ∙ (ap (λ n. why_no_half f by (entry_of row n)) (sym at) ∙ (ap (why_no_half f by) (sym is) ∙ h)))
-
-pub first_half : (f : Filling) (row : Row) (creep leaves s by place : ℕ) (entry : Option ℕ) (e : ArrangementError) → ((j : ℕ) → j < s * 2 → in_its_half f creep leaves j (entry_of row j) ≡ None) → by ≡ creep_on creep leaves s
-    → entry ≡ entry_of row place → place ≡ s * 2 + 0 → why_no_half f by entry ≡ Some e → IsRefusedCreeping f creep leaves row e
-first_half f row creep leaves s by place entry e none b is at h =
-    inr (first_entry (in_its_half f creep leaves) row (s * 2 + 0) e (λ j. refl) (λ j less. none j (omega (arith, less))) (there f row creep leaves s 0 by place entry (Some e) (omega arith) b is at h))
-
-pub second_half : (f : Filling) (row : Row) (creep leaves s by place place' : ℕ) (entry next : Option ℕ) (e : ArrangementError) → ((j : ℕ) → j < s * 2 → in_its_half f creep leaves j (entry_of row j) ≡ None) → by ≡ creep_on creep leaves s
-    → entry ≡ entry_of row place → place ≡ s * 2 + 0 → EntryCreeps f by entry → next ≡ entry_of row place' → place' ≡ s * 2 + 1 → why_no_half f by next ≡ Some e → IsRefusedCreeping f creep leaves row e
-second_half f row creep leaves s by place place' entry next e none b is at has is' at' h =
-    let before = one_more (λ j. in_its_half f creep leaves j (entry_of row j) ≡ None) (s * 2 + 0) (λ j less. none j (omega (arith, less))) (there f row creep leaves s 0 by place entry None (omega arith) b is at (creeps_none f by entry has)) in
-    inr (first_entry (in_its_half f creep leaves) row (s * 2 + 1) e (λ j. refl) (λ j less. before j (omega (arith, less))) (there f row creep leaves s 1 by place' next (Some e) (omega arith) b is' at' h))
-
 -- ---- as posters
 
 pub poster_none : (p : Poster) (papers : List Paper) (entry : Option ℕ) → EntryMayBePoster p papers entry → why_no_tiles p papers entry ≡ None
@@ -108,7 +88,3 @@ posters_none p papers row fits = no_fault (λ i. why_no_tiles p papers (entry_of
 pub first_poster : (p : Poster) (papers : List Paper) (row : Row) (i : ℕ) (e : PosterError) → ((j : ℕ) → j < i → EntryMayBePoster p papers (entry_of row j)) → why_no_tiles p papers (entry_of row i) ≡ Some e → first_no_poster p papers row ≡ Some e
 first_poster p papers row i e fits here =
     first_entry (λ j. why_no_tiles p papers) row i e (λ j. refl) (λ j less. poster_none p papers (entry_of row j) (fits j less)) here
-
-pub row_of_posters : (p : Poster) (papers : List Paper) (row : Row) (i : ℕ) (e : PosterError) → ((j : ℕ) → j < i → EntryMayBePoster p papers (entry_of row j)) → IsNoPoster (why_no_tiles p papers (entry_of row i)) e → IsNoPosterFor p papers row e
-row_of_posters p papers row i e fits (inl none) = inl none
-row_of_posters p papers row i e fits (inr here) = inr (first_poster p papers row i e fits here)

@@ -1,6 +1,6 @@
 -- Leaves that creep: in a folded signature the inner leaves stick out, so what is on them is moved towards the fold.
 -- All here is this project's own rules.
-use Rattle.std.specs.Prelude.{◌≡◌, ◌⊎◌, ℕ, ◌+◌, ◌-◌, ◌*◌, ◌/◌, ◌%◌, ◌<◌, ◌≤◌, ℤ, pos, ◌+ℤ◌, ◌-ℤ◌, ◌*ℤ◌, neg_ℤ, ◌≤ℤ◌}
+use Rattle.std.specs.Prelude.{◌≡◌, ℕ, ◌+◌, ◌-◌, ◌*◌, ◌/◌, ◌%◌, ◌<◌, ◌≤◌, ℤ, pos, ◌+ℤ◌, ◌-ℤ◌, ◌*ℤ◌, neg_ℤ, ◌≤ℤ◌}
 use Rattle.std.specs.Prelude.{Bool, true, false, ◌==◌, if◌then◌else◌, nat_le, nat_abs, List, map, length, Option, Some, None}
 use Rattle.std.specs.List.{range_with_len}
 use Rattle.std.specs.Option.{option_or}
@@ -18,7 +18,7 @@ use Rattle.layouts.specs.Placed.{IsEven, Room, fine, stands, IsOfPage}
 use Rattle.layouts.specs.Cells.{item_in_cell, slack_x, whole_parts}
 use Rattle.layouts.specs.Grids.{beside, leaf_order}
 use Rattle.layouts.specs.Laws.{IsPaper, HasPlace}
-use Rattle.layouts.specs.Refusals.{error_unless}
+use Rattle.layouts.specs.Refusals.{IsArrangementFault, error_unless}
 use Rattle.layouts.specs.Fitted.{fitted, fitted_back, scale_on, why_not_fitted}
 use Rattle.row_sheets.specs.Filled.{Filling, booklet_sheets, is_turned, grid_entry}
 use Rattle.row_sheets.specs.FirstFault.{first_fault}
@@ -152,9 +152,9 @@ abbrev pub first_over_fold : Filling → (creep leaves : ℕ) → Row → Option
 first_over_fold f creep leaves row =
     first_fault (λ i. why_no_half f (creep_on creep leaves (i / 2)) (entry_of row i)) (length row)
 
--- a creeping booklet is refused for its first reason, or for memory
+-- a creeping booklet is refused for its first reason, and for memory only if there is none
 abbrev pub IsRefusedCreeping : Filling → (creep leaves : ℕ) → Row → ArrangementError → Type 0
-IsRefusedCreeping f creep leaves row e = (e ≡ why.NoMemory) ⊎ (first_over_fold f creep leaves row ≡ Some e)
+IsRefusedCreeping f creep leaves row e = IsArrangementFault (first_over_fold f creep leaves row) e
 
 -- leaves that don't creep are those of `booklet_sheets`, and the same page of theirs is refused: a law
 abbrev pub NoCreepIsPlain : Type 0

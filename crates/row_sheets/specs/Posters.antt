@@ -82,9 +82,9 @@ why_no_poster page p =
     else Some why.SideTooLong)
     else Some why.TilesOutOfRange
 
--- the error is that one, or out of memory
+-- the error is that one; want of memory only if there is none
 abbrev pub IsNoPoster : Option PosterError → PosterError → Type 0
-IsNoPoster found e = (e ≡ why.NoMemory) ⊎ (found ≡ Some e)
+IsNoPoster found e = ((e ≡ why.NoMemory) × (found ≡ None)) ⊎ (found ≡ Some e)
 
 -- ---- the pages of a row
 
@@ -114,7 +114,7 @@ why_no_tiles p papers (Some page) = why_no_poster (poster_paper p papers page) p
 abbrev pub first_no_poster : Poster → List Paper → Row → Option PosterError
 first_no_poster p papers row = first_fault (λ i. why_no_tiles p papers (entry_of row i)) (length row)
 
--- a poster of a row is refused for its first reason, or for memory
+-- a poster of a row is refused for its first reason, and for memory only if there is none
 abbrev pub IsNoPosterFor : Poster → List Paper → Row → PosterError → Type 0
 IsNoPosterFor p papers row e = IsNoPoster (first_no_poster p papers row) e
 

@@ -1,5 +1,5 @@
 -- How rows are put into cells, and why they can't be. All here is this project's own rules.
-use Rattle.std.specs.Prelude.{◌≡◌, ◌⊎◌, ℕ, ◌+◌, ◌*◌, ◌%◌, ◌==◌, Bool, true, false, if◌then◌else◌, List, length, map, slice_index_or, Option, Some, None}
+use Rattle.std.specs.Prelude.{ℕ, ◌+◌, ◌*◌, ◌%◌, ◌==◌, Bool, true, false, if◌then◌else◌, List, length, map, slice_index_or, Option, Some, None}
 use Rattle.std.specs.List.{range_with_len}
 use Rattle.rules.specs.Papers.{Paper}
 use Rattle.rules.specs.Sheets.{blocks}
@@ -7,9 +7,9 @@ use Rattle.rules.specs.Signatures.{entry_of}
 use Rattle.rules.specs.Made.{MadeSlot, MadeSheet}
 use Rattle.rules.specs.Rows.{Row}
 use Rattle.layouts.specs.declared.error.ArrangementError.{ArrangementError}
-use Rattle.layouts.specs.declared.error.ArrangementError.TheVariants as why
 use Rattle.layouts.specs.declared.setting.Setting.{Setting}
 use Rattle.layouts.specs.Fitted.{why_not_fitted}
+use Rattle.layouts.specs.Refusals.{IsArrangementFault}
 use Rattle.row_sheets.specs.declared.fill.CellKind.{CellKind}
 use Rattle.row_sheets.specs.declared.fill.CellKind.TheVariants as kind
 use Rattle.row_sheets.specs.declared.fill.Shape.{Shape}
@@ -82,6 +82,6 @@ why_no_place f (Some page) = why_not_fitted f.setting (f.paper_of page)
 abbrev pub first_refused : Filling → Row → Option ArrangementError
 first_refused f row = first_fault (λ i. why_no_place f (entry_of row i)) (length row)
 
--- a row is refused for its first reason, or for memory
+-- a row is refused for its first reason, and for memory only if there is none
 abbrev pub IsRefusedFor : Filling → Row → ArrangementError → Type 0
-IsRefusedFor f row e = (e ≡ why.NoMemory) ⊎ (first_refused f row ≡ Some e)
+IsRefusedFor f row e = IsArrangementFault (first_refused f row) e

@@ -1,15 +1,18 @@
 //! Tests whether the pages of a row can be laid, without making a sheet.
-ghost use Rattle.std.specs.Prelude.{◌≡◌, ◌<◌, IfErr, OnOk, Some, ℕ};
+ghost use Rattle.std.specs.Prelude.{◌≡◌, ◌<◌, IfErr, None, OnOk, Some, ℕ};
 ghost use Rattle.rules.specs.Signatures.{entry_of};
 ghost use Rattle.layouts.specs.Cells.{size};
 ghost use Rattle.row_sheets.specs.Shapes.{filling, first_refused, why_no_place};
 ghost use Rattle.row_sheets.specs.Standing.{EntryFits};
+ghost use Rattle.row_sheets.specs.Creep.{AreHalves, first_over_fold, why_no_half};
 ghost use Rattle.row_sheets.specs.Posters.{EntryMayBePoster, first_no_poster, why_no_tiles};
 
+use crate::creep::{Creep, creep_on, creeping_item};
 use crate::poster::{Poster, PosterError, check_poster};
 use crate::selecting::paper_or;
 use layouts::{ArrangementError, Setting};
 use lengths::Paper;
+use rows::entry_at;
 
 /// Tests that each page of the row has a place in a cell. A page whose paper isn't known has the sheet's. The first page without a place is reported.
 pub fn check_cells(
@@ -41,6 +44,52 @@ fn check_cell(
         None => return Ok(()),
     };
     setting.item(&paper_or(papers, page, &setting.room.paper), 0)?;
+    Ok(())
+}
+
+/// Tests that each page of the row has a place in a half of leaves that creep. A page whose paper isn't known has the sheet's. The first page without a
+/// place is reported.
+pub(crate) fn check_halves(
+    setting: &Setting,
+    papers: &[Paper],
+    creep: Creep,
+    row: &[Option<u32>],
+) -> Result<(), ArrangementError>
+    requires { AreHalves setting.now }
+    ensures fits { OnOk result
+        (first_over_fold (filling setting.now papers.now) creep.innermost creep.leaves row.now ≡ None) }
+    ensures refused { IfErr result (λ error.
+        first_over_fold (filling setting.now papers.now) creep.innermost creep.leaves row.now ≡ Some error) }
+{
+    for place in 0..row.len() {
+        let entry = entry_at(row, place as u128);
+        let by = creep_on(creep, place as u64 / 2);
+        check_half(setting, papers, by, entry)?;
+    }
+    Ok(())
+}
+
+fn check_half(
+    setting: &Setting,
+    papers: &[Paper],
+    by: u64,
+    entry: Option<u32>,
+) -> Result<(), ArrangementError>
+    requires { AreHalves setting.now }
+    ensures fits { OnOk result (why_no_half (filling setting.now papers.now) by entry ≡ None) }
+    ensures refused { IfErr result (λ error. why_no_half (filling setting.now papers.now) by entry ≡ Some error) }
+{
+    let page = match entry {
+        Some(page) => page,
+        None => return Ok(()),
+    };
+    creeping_item(
+        setting,
+        &paper_or(papers, page, &setting.room.paper),
+        false,
+        by,
+        0,
+    )?;
     Ok(())
 }
 

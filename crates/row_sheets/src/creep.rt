@@ -13,6 +13,7 @@ ghost use Rattle.row_sheets.specs.Creep.{in_half, creeping, creeping_slot as cre
 ghost use Rattle.row_sheets.specs.Creep.{AreHalves, may_creep, why_no_half, why_not_creeping, IsRefusedCreeping};
 ghost use Rattle.row_sheets.specs.Standing.{AllFitOnLeaves, EntryCreeps, FitsIn, FitsOnLeaf, IsOfHalf, LeavesStand};
 
+use super::checked::check_halves;
 use super::fill::{blocks_of, same_item};
 use super::selecting::paper_or;
 use layouts::{ArrangementError, Setting};
@@ -58,11 +59,50 @@ pub fn creeping_booklet_sheets(
     ensures refused { IfErr result
         (IsRefusedCreeping (filling setting.now papers.now) creep.innermost creep.leaves row.now) }
 {
+    match sides_of_leaves(alloc, setting, papers, turned_backs, creep, row) {
+        Ok(sides) => Ok(sides),
+        Err(_) => Err(first_refusal(setting, papers, creep, row)),
+    }
+}
+
+/// Why the leaves aren't laid. The first page of the row that has no place in its half is reported; want of memory only if
+/// all have theirs.
+fn first_refusal(
+    setting: &Setting,
+    papers: &[Paper],
+    creep: Creep,
+    row: &[Option<u32>],
+) -> ArrangementError
+    requires { AreHalves setting.now }
+    ensures { IsRefusedCreeping (filling setting.now papers.now) creep.innermost creep.leaves row.now result }
+{
+    match check_halves(setting, papers, creep, row) {
+        Ok(()) => ArrangementError::NoMemory,
+        Err(error) => error,
+    }
+}
+
+/// The sides of the leaves.
+fn sides_of_leaves(
+    alloc: Global,
+    setting: &Setting,
+    papers: &[Paper],
+    turned_backs: bool,
+    creep: Creep,
+    row: &[Option<u32>],
+) -> Result<MadeSheets, ArrangementError>
+    requires { AreHalves setting.now }
+    ensures made { IfOk result (λ made. made
+        ≡ creeping_of (filling setting.now papers.now) turned_backs creep.innermost creep.leaves row.now) }
+    ensures stands { IfOk result (LeavesStand setting.now turned_backs creep.innermost) }
+    ensures fits { OnOk result
+        (AllFitOnLeaves (filling setting.now papers.now) creep.innermost creep.leaves row.now) }
+{
     let sheets = blocks_of(row, 2)?;
     let mut made = MadeSheets::new(alloc);
     for s in 0..sheets {
         let by_half = is_half_turned(turned_backs, s);
-        let by = creep_on(creep, s);
+        let by = creep_on(creep, u64::from(s));
         let side = LeafSide { by_half, creep: by };
         let place = 2 * u128::from(s);
         let entry = entry_at(row, place);
@@ -87,13 +127,13 @@ fn is_half_turned(turned_backs: bool, s: u32) -> bool
 }
 
 /// The distance by which the pages of a side are moved.
-fn creep_on(creep: Creep, s: u32) -> u64
+pub(crate) fn creep_on(creep: Creep, s: u64) -> u64
     ensures { result ≡ creep_on_side creep.innermost creep.leaves s }
 {
     if creep.leaves <= 1 || creep.innermost == 0 {
         return 0;
     }
-    let leaf = s / 2 % creep.leaves;
+    let leaf = s / 2 % u64::from(creep.leaves);
     (u128::from(leaf) * u128::from(creep.innermost) / u128::from(creep.leaves - 1)) as u64
 }
 
@@ -104,7 +144,7 @@ fn half_before(made: &MadeSheets, creep: Creep, s: u32, cell: u32) -> Option<Pla
     ensures { IfSome result (λ placed. (2 ≤ s) × (slice_get (slots_at made.now (s - 2)) cell ≡ Some (placed_of result))
         × (creep_on_side creep.innermost creep.leaves (s - 2) ≡ creep_on_side creep.innermost creep.leaves s)) }
 {
-    if s < 2 || creep_on(creep, s - 2) != creep_on(creep, s) {
+    if s < 2 || creep_on(creep, u64::from(s - 2)) != creep_on(creep, u64::from(s)) {
         return None;
     }
     made.placed(s - 2, cell)
@@ -140,7 +180,7 @@ fn creeping_slot(
 }
 
 /// A page of this paper in a half of a side.
-fn creeping_item(
+pub(crate) fn creeping_item(
     setting: &Setting,
     paper: &Paper,
     by_half: bool,

@@ -110,7 +110,7 @@ pub fn leaf_sheets(
 {
     match u32::try_from(setting.grid.size()) {
         Ok(cells) => fill_cells(alloc, setting, papers, row, CellKind::Leaves, cells),
-        Err(_) => Err(ArrangementError::NoMemory),
+        Err(_) => Err(first_refusal(setting, papers, row)),
     }
 }
 
@@ -148,7 +148,10 @@ fn fill_cells(
     ensures fits { OnOk result (AllEntriesFit (filling setting.now papers.now) row.now) }
     ensures refused { IfErr result (IsRefusedFor (filling setting.now papers.now) row.now) }
 {
-    let sheets = sheets_for(kind, cells, row)?;
+    let sheets = match sheets_for(kind, cells, row) {
+        Ok(sheets) => sheets,
+        Err(_) => return Err(first_refusal(setting, papers, row)),
+    };
     let shape = Shape {
         kind,
         sheets,
@@ -160,7 +163,7 @@ fn fill_cells(
     }
 }
 
-/// Why the cells aren't filled: for the first page of the row that doesn't fit, on whatever sheet it would be.
+/// Why the cells aren't filled: for the first page of the row that doesn't fit, on whatever sheet it would be, or, if all fit, for want of memory.
 fn first_refusal(setting: &Setting, papers: &[Paper], row: &[Option<u32>]) -> ArrangementError
     requires { 0 < size setting.now.grid }
     ensures { IsRefusedFor (filling setting.now papers.now) row.now result }

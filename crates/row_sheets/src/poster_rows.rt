@@ -1,9 +1,9 @@
 //! Posters of the pages of a row.
 ghost use Rattle.std.specs.Prelude.{◌≡◌, ◌++◌, ◌*◌, ◌≤◌, IfErr, IfOk, OnOk};
 ghost use Rattle.row_sheets.specs.Posters.{most_tiles, blank_tiles, entry_tiles, row_tiles};
-ghost use Rattle.row_sheets.specs.Posters.{AllMayBePosters, EntryMayBePoster, IsNoPoster, IsNoPosterFor, why_no_tiles};
-ghost use Rattle.row_sheets.specs.declared.poster.PosterError.TheVariants as why;
+ghost use Rattle.row_sheets.specs.Posters.{AllMayBePosters, EntryMayBePoster, IsNoPosterFor};
 
+use crate::checked::check_posters;
 use crate::poster::{Poster, PosterError, push_poster};
 use crate::selecting::paper_or;
 use lengths::Paper;
@@ -23,6 +23,33 @@ pub fn poster_row_sheets(
     ensures fits { OnOk result (AllMayBePosters poster.now papers.now row.now) }
     ensures refused { IfErr result (IsNoPosterFor poster.now papers.now row.now) }
 {
+    match tiles_of_row(alloc, poster, papers, row) {
+        Ok(tiles) => Ok(tiles),
+        Err(_) => Err(first_refusal(poster, papers, row)),
+    }
+}
+
+/// Why the row isn't laid. The first page that can't be a poster is reported; want of memory only if all can.
+fn first_refusal(poster: &Poster, papers: &[Paper], row: &[Option<u32>]) -> PosterError
+    ensures { IsNoPosterFor poster.now papers.now row.now result }
+{
+    match check_posters(poster, papers, row) {
+        Ok(()) => PosterError::NoMemory,
+        Err(error) => error,
+    }
+}
+
+/// The tiles of all entries.
+fn tiles_of_row(
+    alloc: Global,
+    poster: &Poster,
+    papers: &[Paper],
+    row: &[Option<u32>],
+) -> Result<MadeSheets, PosterError>
+    requires { poster.now.rows * poster.now.columns ≤ most_tiles }
+    ensures made { IfOk result (λ made. made ≡ row_tiles poster.now papers.now row.now) }
+    ensures fits { OnOk result (AllMayBePosters poster.now papers.now row.now) }
+{
     let mut made = MadeSheets::new(alloc);
     for entry in row {
         push_entry(poster, papers, *entry, &mut made)?;
@@ -40,7 +67,6 @@ fn push_entry(
     requires { poster.now.rows * poster.now.columns ≤ most_tiles }
     ensures pushed { OnOk result (made.new ≡ made.old ++ entry_tiles poster.now papers.now entry) }
     ensures fits { OnOk result (EntryMayBePoster poster.now papers.now entry) }
-    ensures refused { IfErr result (IsNoPoster (why_no_tiles poster.now papers.now entry)) }
 {
     match entry {
         Some(page) => push_poster(poster, &paper_or(papers, page, &poster.sheet), page, made),
@@ -52,7 +78,6 @@ fn push_entry(
 fn push_blanks(poster: &Poster, made: &mut MadeSheets) -> Result<(), PosterError>
     requires { poster.now.rows * poster.now.columns ≤ most_tiles }
     ensures pushed { OnOk result (made.new ≡ made.old ++ blank_tiles poster.now) }
-    ensures refused { IfErr result (λ e. e ≡ why.NoMemory) }
 {
     for n in 0..poster.rows * poster.columns {
         let slots = [MadeSlot::Blank];

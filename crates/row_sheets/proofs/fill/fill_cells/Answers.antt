@@ -4,15 +4,15 @@ use Rattle.row_sheets.specs.Shapes.{filled_by, filling, place_by, sheet_count}
 use Rattle.row_sheets.proofs.Places.{cells_fit}
 use Rattle.row_sheets.proofs.fill.fill_cells.Goals as goal
 
-pub returns-in-Ok-clause-made : goal.returns-in-Ok-clause-made
-returns-in-Ok-clause-made c =
+pub returns-in-Ok-filled-clause-made : goal.returns-in-Ok-filled-clause-made
+returns-in-Ok-filled-clause-made c =
     let t = c.args.setting.now in
     let row = c.args.row.now in
-    let many : c.in_ok-sheets.sheets ≡ sheet_count c.args.kind c.args.cells (length row) = search rules in
-    c.in-Ok.ensures.made
+    let many : c.in-Ok.sheets ≡ sheet_count c.args.kind c.args.cells (length row) = search rules in
+    c.in-Ok-filled.ensures.made
     ∙ ap (λ n. filled_by c.args.kind (filling t c.args.papers.now) n c.args.cells (λ s k. entry_of row (place_by c.args.kind t n c.args.cells s k))) many
 
-pub returns-in-Ok-clause-fits : goal.returns-in-Ok-clause-fits
-returns-in-Ok-clause-fits c =
-    let many : c.in_ok-sheets.sheets ≡ sheet_count c.args.kind c.args.cells (length c.args.row.now) = search rules in
-    cells_fit c.args.kind (filling c.args.setting.now c.args.papers.now) c.args.cells c.in_ok-sheets.sheets c.args.row.now c.requires.some many c.requires.all (λ e. (c.requires.folded e).1) c.in-Ok.ensures.fits
+pub returns-in-Ok-filled-clause-fits : goal.returns-in-Ok-filled-clause-fits
+returns-in-Ok-filled-clause-fits c =
+    let many : c.in-Ok.sheets ≡ sheet_count c.args.kind c.args.cells (length c.args.row.now) = search rules in
+    cells_fit c.args.kind (filling c.args.setting.now c.args.papers.now) c.args.cells c.in-Ok.sheets c.args.row.now c.requires.some many c.requires.all (λ e. (c.requires.folded e).1) c.in-Ok-filled.ensures.fits

@@ -12,9 +12,7 @@ use Rattle.row_sheets.proofs.Filling.{sheet, sheet_more, one_more}
 use Rattle.row_sheets.proofs.OnLeaves.{leaves_stand}
 use Rattle.row_sheets.proofs.Places.{creeping_fit}
 use Rattle.row_sheets.proofs.Creeping.{both_slots, both_creep, entry_creeps, entry_is}
-use Rattle.layouts.proofs.Fitting.{handed_on}
-use Rattle.row_sheets.proofs.Refused.{first_half, second_half, sides_none}
-use Rattle.row_sheets.proofs.creep.creeping_booklet_sheets.Goals as goal
+use Rattle.row_sheets.proofs.creep.sides_of_leaves.Goals as goal
 
 pub half_before-before-requires-clause-sheet : goal.half_before-before-requires-clause-sheet
 half_before-before-requires-clause-sheet c =
@@ -30,8 +28,9 @@ half_before-before-requires-clause-cell c =
 pub creeping_slot-requires-clause-before : goal.creeping_slot-requires-clause-before
 creeping_slot-requires-clause-before c =
     let f = filling c.args.setting.now c.args.papers.now in
+    let by_is : c.creep_on-by.result ≡ creep_on c.args.creep.innermost c.args.creep.leaves c.loop-s.s = search rules in
     half_before f c.args.turned_backs c.args.creep.innermost c.args.creep.leaves c.args.row.now c.loop-s.made c.loop-s.s _ c.is_half_turned-by_half.result c.creep_on-by.result c.half_before-before.result c.loop-s.invariant.made
-    c.loop-s.invariant.fits (omega arith) c.is_half_turned-by_half.ensures c.creep_on-by.ensures c.half_before-before.ensures
+    c.loop-s.invariant.fits (omega arith) c.is_half_turned-by_half.ensures by_is c.half_before-before.ensures
 
 pub half_before-before_next-requires-clause-sheet : goal.half_before-before_next-requires-clause-sheet
 half_before-before_next-requires-clause-sheet c =
@@ -47,27 +46,9 @@ half_before-before_next-requires-clause-cell c =
 pub creeping_slot-requires-in-loop-s-clause-before : goal.creeping_slot-requires-in-loop-s-clause-before
 creeping_slot-requires-in-loop-s-clause-before c =
     let f = filling c.args.setting.now c.args.papers.now in
+    let by_is : c.creep_on-by.result ≡ creep_on c.args.creep.innermost c.args.creep.leaves c.loop-s.s = search rules in
     half_before f c.args.turned_backs c.args.creep.innermost c.args.creep.leaves c.args.row.now c.loop-s.made c.loop-s.s _ c.is_half_turned-by_half.result c.creep_on-by.result c.half_before-before_next.result c.loop-s.invariant.made
-    c.loop-s.invariant.fits (omega arith) c.is_half_turned-by_half.ensures c.creep_on-by.ensures c.half_before-before_next.ensures
-
-pub returns-in_err-first-clause-refused : goal.returns-in_err-first-clause-refused
-returns-in_err-first-clause-refused c =
-    let f = filling c.args.setting.now c.args.papers.now in
-    let row = c.args.row.now in
-    let leaves = c.args.creep.leaves in
-    let s = c.loop-s.s in
-    let none = sides_none f c.args.creep.innermost leaves s row c.loop-s.invariant.fits in
-    handed_on _ _ _ c.from_residual-in_err-first.ensures.1 (first_half f row c.args.creep.innermost leaves s c.creep_on-by.result _ c.entry_at-entry.result c.in_err-first.field-0.0 none c.creep_on-by.ensures c.entry_at-entry.ensures (omega arith) c.in_err-first.ensures.refused)
-
-pub returns-in_err-second-clause-refused : goal.returns-in_err-second-clause-refused
-returns-in_err-second-clause-refused c =
-    let f = filling c.args.setting.now c.args.papers.now in
-    let row = c.args.row.now in
-    let leaves = c.args.creep.leaves in
-    let s = c.loop-s.s in
-    let none = sides_none f c.args.creep.innermost leaves s row c.loop-s.invariant.fits in
-    handed_on _ _ _ c.from_residual-in_err-second.ensures.1 (second_half f row c.args.creep.innermost leaves s c.creep_on-by.result _ _ c.entry_at-entry.result c.entry_at-next.result c.in_err-second.field-0.0 none c.creep_on-by.ensures
-    c.entry_at-entry.ensures (omega arith) c.in_ok-first.ensures.fits c.entry_at-next.ensures (omega arith) c.in_err-second.ensures.refused)
+    c.loop-s.invariant.fits (omega arith) c.is_half_turned-by_half.ensures by_is c.half_before-before_next.ensures
 
 pub loop-s-preserved : goal.loop-s-preserved
 loop-s-preserved c =
@@ -75,15 +56,16 @@ loop-s-preserved c =
     let f = filling t c.args.papers.now in
     let row = c.args.row.now in
     let s = c.loop-s.s in
+    let by_is : c.creep_on-by.result ≡ creep_on c.args.creep.innermost c.args.creep.leaves c.loop-s.s = search rules in
     let half = is_turned c.args.turned_backs s in
     let by = creep_on c.args.creep.innermost c.args.creep.leaves s in
     let one = slot_of c.in_ok-first.first in
     let other = slot_of c.in_ok-second.second in
-    let first = entry_is f row c.is_half_turned-by_half.result half 0 c.creep_on-by.result by _ (s * 2 + 0) c.entry_at-entry.result one c.in_ok-first.ensures.made c.is_half_turned-by_half.ensures c.creep_on-by.ensures c.entry_at-entry.ensures (omega arith) in
-    let second = entry_is f row c.is_half_turned-by_half.result half 1 c.creep_on-by.result by _ (s * 2 + 1) c.entry_at-next.result other c.in_ok-second.ensures.made c.is_half_turned-by_half.ensures c.creep_on-by.ensures c.entry_at-next.ensures (omega arith) in
+    let first = entry_is f row c.is_half_turned-by_half.result half 0 c.creep_on-by.result by _ (s * 2 + 0) c.entry_at-entry.result one c.in_ok-first.ensures.made c.is_half_turned-by_half.ensures by_is c.entry_at-entry.ensures (omega arith) in
+    let second = entry_is f row c.is_half_turned-by_half.result half 1 c.creep_on-by.result by _ (s * 2 + 1) c.entry_at-next.result other c.in_ok-second.ensures.made c.is_half_turned-by_half.ensures by_is c.entry_at-next.ensures (omega arith) in
     let e : c.push.new.self ≡ c.loop-s.made ++ sheet t.room.paper (one ∷ other ∷ []) ∷ [] = search rules in
-    let fits_one = entry_creeps f row c.creep_on-by.result by _ (s * 2 + 0) c.entry_at-entry.result c.in_ok-first.ensures.fits c.creep_on-by.ensures c.entry_at-entry.ensures (omega arith) in
-    let fits_other = entry_creeps f row c.creep_on-by.result by _ (s * 2 + 1) c.entry_at-next.result c.in_ok-second.ensures.fits c.creep_on-by.ensures c.entry_at-next.ensures (omega arith) in
+    let fits_one = entry_creeps f row c.creep_on-by.result by _ (s * 2 + 0) c.entry_at-entry.result c.in_ok-first.ensures.fits by_is c.entry_at-entry.ensures (omega arith) in
+    let fits_other = entry_creeps f row c.creep_on-by.result by _ (s * 2 + 1) c.entry_at-next.result c.in_ok-second.ensures.fits by_is c.entry_at-next.ensures (omega arith) in
     record {
       made = sheet_more t.room.paper (λ n. map (λ k. creeping_slot f (is_turned c.args.turned_backs n) k (creep_on c.args.creep.innermost c.args.creep.leaves n) (grid_entry 2 row n k)) (range_with_len 0 2))
           c.loop-s.made c.push.new.self (one ∷ other ∷ []) s c.loop-s.invariant.made (both_slots (λ k. creeping_slot f half k by (grid_entry 2 row s k)) one other first second) e;

@@ -2,7 +2,7 @@ use Rattle.std.proofs.Common.{◌≡◌, ◌<◌, ℕ, take}
 use Rattle.std.specs.Prelude.{flat_map}
 use Rattle.rules.specs.Signatures.{entry_of}
 use Rattle.row_sheets.specs.Posters.{EntryMayBePoster, entry_tiles}
-use Rattle.row_sheets.proofs.poster_rows.poster_row_sheets.Given as goal
+use Rattle.row_sheets.proofs.poster_rows.tiles_of_row.Given as goal
 
 abbrev pub invariant-loop-entry : goal.invariant-loop-entry
 invariant-loop-entry l = record {

@@ -3,7 +3,7 @@ use Rattle.row_sheets.specs.Filled.{grid_entry}
 use Rattle.row_sheets.specs.Shapes.{filling}
 use Rattle.row_sheets.specs.Creep.{creep_on, creeping_sides}
 use Rattle.row_sheets.specs.Standing.{EntryCreeps}
-use Rattle.row_sheets.proofs.creep.creeping_booklet_sheets.Given as goal
+use Rattle.row_sheets.proofs.creep.sides_of_leaves.Given as goal
 
 abbrev pub invariant-loop-s : goal.invariant-loop-s
 invariant-loop-s l = record {
