@@ -146,11 +146,12 @@ def half_turned(marks, sheet):
 
 
 def expected(words, pages, paper):
-    """The expected sheets, if the grid is chosen for this paper, which is also the sheets' if none is named."""
+    """The expected sheets, if the grid is chosen for this paper, which is also the sheets' if none is named; a booklet has it upright."""
     row, room = chosen(words, pages), Room(words)
     if words.startswith("select"):
         return [page if page else (None, []) for page in row]
-    sheet = tuple(round(side) for side in A3) if "--sheet a3" in words else paper
+    own_sheet = tuple(sorted(paper)) if words.startswith("booklet") else paper
+    sheet = tuple(round(side) for side in A3) if "--sheet a3" in words else own_sheet
     count = int(found[1]) if (found := re.match(r"\w+ (\d+)", words)) else 2
     grid = halves(sheet, room) if words.startswith("booklet") else grid_for(paper, sheet, count, room)
     cells = [(k // grid.columns, k % grid.columns) for k in range(grid.rows * grid.columns)]
@@ -323,12 +324,6 @@ def papers_in(pages):
         if not any(near(paper, one) for one in found):
             found.append(paper)
     return found
-
-
-def is_refusal(fault, words, own):
-    """Whether a booklet is refused as it has to be: on a sheet that is wider than high, like one of the pages."""
-    is_wide = any(paper[0] > paper[1] for paper, _ in own)
-    return is_wide and "it would fold along its longer edge" in fault and any(word.startswith("booklet") for word in words)
 
 
 def judge(run_of, text, own, words):

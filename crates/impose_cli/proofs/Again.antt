@@ -17,7 +17,8 @@ use Rattle.dressing.specs.Numbered.{drawn_on, nothing_drawn}
 use Rattle.dressing.proofs.Tame.{drawn_is_tame}
 use Rattle.row_runs.specs.BySpec.{border_by_spec, output_by_spec}
 use Rattle.row_runs.specs.Runs.{border_on, drawn_of, output_on}
-use Rattle.impose_cli.specs.Tasks.{FinishesSpec, frame_used, sheet_paper_found, taken_text}
+use Rattle.impose_cli.specs.Tasks.{FinishesSpec, frame_used, taken_text}
+use Rattle.impose_words.specs.SheetPapers.{sheet_paper_for}
 use Rattle.impose_cli.specs.RowTasks.{FinishesRow, text_for}
 use Rattle.impose_cli.specs.SpecRows.{FinishesSpecRow}
 use Rattle.impose_cli.specs.Laws.{IsDocumentAgain, IsMadeDocument, WroteDocument, sheets_named}
@@ -34,7 +35,7 @@ spec_again : (r : ImposeRequest) (input old text : List ℕ) (done : Finished) (
     → length (output (frame_used r done) None h.spec h.units) ≤ most_input_bytes
     → IsDocumentAgain (frame_used r done) (sheets_named h) h.units (output (frame_used r done) None h.spec h.units)
 spec_again r input old text done h l =
-    let taken = taken_text r.is_guarded (sheet_paper_found r.sheet_paper done.page_paper) input in
+    let taken = taken_text r.is_guarded (sheet_paper_for r.layout r.sheet_paper done.page_paper) input in
     let i = imposed_again most_slots (frame_used r done) None h.spec taken h.units (sheets_named h) h.taken tt (record { text = h.text; taken = h.takes }) h.plan l in
     record {
       accepted = i.0;

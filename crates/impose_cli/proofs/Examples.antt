@@ -8,7 +8,7 @@ use Rattle.rules.specs.Choice.{InOne as in_one, Auto as by_itself, sides_for}
 use Rattle.papers.specs.declared.media.Comment.TheVariants.{DocumentMedia}
 use Rattle.impose_messages.specs.declared.finished.PaperOrigin.TheVariants.{Named, ByComment, ByDefault}
 use Rattle.impose_cli.specs.RowTasks.{guarded_in}
-use Rattle.impose_cli.specs.Tasks.{own_or_home, page_paper_found, sheet_paper_found, taken_text}
+use Rattle.impose_cli.specs.Tasks.{own_or_home, page_paper_found, taken_text}
 
 -- The sides of a booklet in one signature: a multiple of four stays as it is.
 booklets_of_one : map (sides_for in_one) (1 ∷ 3 ∷ 4 ∷ 5 ∷ 8 ∷ []) ≡ 4 ∷ 4 ∷ 4 ∷ 8 ∷ 8 ∷ []
@@ -28,12 +28,6 @@ own = refl
 
 at_home : own_or_home (points 612 792) None ≡ (points 612 792, ByDefault)
 at_home = refl
-
-sheet_named : sheet_paper_found (Some (points 1 2)) (points 3 4) ≡ points 1 2
-sheet_named = refl
-
-sheet_of_the_pages : sheet_paper_found None (points 3 4) ≡ points 3 4
-sheet_of_the_pages = refl
 
 unguarded : taken_text false (points 1 2) (codes "%!") ≡ codes "%!"
 unguarded = refl

@@ -13,7 +13,8 @@ use Rattle.impose_messages.specs.declared.fault.ImposeFault.{ImposeFault}
 use Rattle.impose_messages.specs.declared.fault.ImposeFault.TheVariants as fault
 use Rattle.impose_messages.specs.declared.finished.PaperOrigin.{PaperOrigin}
 use Rattle.impose_words.specs.declared.request.ImposeRequest.{ImposeRequest}
-use Rattle.impose_cli.specs.Tasks.{HasPageCount, is_said, page_paper_found, sheet_paper_found}
+use Rattle.impose_cli.specs.Tasks.{HasPageCount, is_said, page_paper_found}
+use Rattle.impose_words.specs.SheetPapers.{sheet_paper_for}
 use Rattle.impose_cli.specs.RowTasks.{ArePapersOf, IsRowPaper, TellsOnePaper, has_specification, is_of_one_paper, papers_in, row_paper}
 use Rattle.impose_cli.specs.Refusals.{HasNoFault, HasOnePaper, HasOtherPapers, RefusesDocument, RefusesFor, RefusesTask, are_alike, fault_unless, why_no_task, why_not_specified}
 
@@ -50,7 +51,7 @@ abbrev pub paper_in : ImposeRequest → (input : List ℕ) → Paper
 paper_in r input = (page_paper_found r.page_paper r.default_paper input).0
 
 abbrev pub placed_in : ImposeRequest → (input : List ℕ) → Option ImposeFault
-placed_in r input = why_not_specified r.layout r.spacing (paper_in r input) (sheet_paper_found r.sheet_paper (paper_in r input))
+placed_in r input = why_not_specified r.layout r.spacing (paper_in r input) (sheet_paper_for r.layout r.sheet_paper (paper_in r input))
 
 abbrev pub of_papers : ImposeRequest → (input : List ℕ) → List NestedUnit → Option ImposeFault
 of_papers r input us = fault_unless (are_alike r input us (paper_in r input)) fault.SeveralPapers (placed_in r input)
@@ -101,10 +102,10 @@ found_last r input us found read said one is =
     (passes (are_alike r input us (paper_in r input)) fault.SeveralPapers (placed_in r input) found (alike r input us (paper_in r input) read one) is)
 
 pub refused_placing : (r : ImposeRequest) (input : List ℕ) (n : ℕ) (f : ImposeFault) → HasPageCount input n → is_said r ≡ true → HasOnePaper r input (paper_in r input)
-    → RefusesFor (why_not_specified r.layout r.spacing (paper_in r input) (sheet_paper_found r.sheet_paper (paper_in r input))) f → RefusesTask r input f
+    → RefusesFor (why_not_specified r.layout r.spacing (paper_in r input) (sheet_paper_for r.layout r.sheet_paper (paper_in r input))) f → RefusesTask r input f
 refused_placing r input n f has said one (inl spent) = refused_late r input n f has spent
 refused_placing r input n f has said one (inr why) = inr (has.0, has.1, inr (found_last r input has.0 (Some f) has.1 said one why))
 
 pub no_fault : (r : ImposeRequest) (input : List ℕ) (n : ℕ) → HasPageCount input n → is_said r ≡ true → HasOnePaper r input (paper_in r input)
-    → why_not_specified r.layout r.spacing (paper_in r input) (sheet_paper_found r.sheet_paper (paper_in r input)) ≡ None → HasNoFault r input
+    → why_not_specified r.layout r.spacing (paper_in r input) (sheet_paper_for r.layout r.sheet_paper (paper_in r input)) ≡ None → HasNoFault r input
 no_fault r input n has said one none = (has.0, has.1, found_last r input has.0 None has.1 said one none)

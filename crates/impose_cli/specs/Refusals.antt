@@ -11,7 +11,8 @@ use Rattle.imposer.specs.Outcomes.{of_document as of_read}
 use Rattle.impose_messages.specs.Faults.{without_memory}
 use Rattle.impose_messages.specs.Inputs.{refused_document}
 use Rattle.impose_cli.specs.RowTasks.{HasOptions, IsRowPaper, TellsOnePaper, has_specification, is_of_one_paper, why_no_row, why_no_layout}
-use Rattle.impose_cli.specs.Tasks.{is_said, page_paper_found, sheet_paper_found}
+use Rattle.impose_cli.specs.Tasks.{is_said, page_paper_found}
+use Rattle.impose_words.specs.SheetPapers.{sheet_paper_for}
 use Rattle.impose_words.specs.declared.request.Spacing.{Spacing}
 use Rattle.impose_words.specs.declared.request.Layout.{Layout}
 use Rattle.impose_words.specs.declared.request.Layout.TheVariants as layout
@@ -75,7 +76,7 @@ abbrev pub why_no_task : ImposeRequest → (input : List ℕ) → List NestedUni
 why_no_task r input us = let page_paper = (page_paper_found r.page_paper r.default_paper input).0 in
     fault_unless (is_said r) fault.NoSpecification
     (fault_unless (are_alike r input us page_paper) fault.SeveralPapers
-    (why_not_specified r.layout r.spacing page_paper (sheet_paper_found r.sheet_paper page_paper)))
+    (why_not_specified r.layout r.spacing page_paper (sheet_paper_for r.layout r.sheet_paper page_paper)))
 
 -- the document is accepted, and there is no such reason
 abbrev pub HasNoFault : ImposeRequest → (input : List ℕ) → Type 0

@@ -41,7 +41,8 @@ use Rattle.impose_cli.specs.Reaches.{reach_in, takes}
 use Rattle.pagespec.specs.Items.{turn_of}
 use Rattle.row_runs.specs.Turning.{turned_paper}
 use Rattle.papers.specs.declared.reach.Reach.{Reach}
-use Rattle.impose_cli.specs.Tasks.{HasBehind, page_paper_found, sheet_paper_found, taken_text}
+use Rattle.impose_cli.specs.Tasks.{HasBehind, page_paper_found, taken_text}
+use Rattle.impose_words.specs.SheetPapers.{sheet_paper_for}
 use Rattle.impose_messages.specs.declared.fault.ImposeFault.{ImposeFault}
 use Rattle.impose_messages.specs.declared.fault.ImposeFault.TheVariants as fault
 use Rattle.impose_words.specs.declared.request.Layout.{Layout}
@@ -65,7 +66,7 @@ HasOptions r = IfSome (signing_in r.layout) MayBeSewn × (is_border r.border ≡
 -- the paper of the sheets of a layout, for pages of this paper: a selection keeps pages on their own (RULES, 12.5)
 abbrev pub sheet_paper_in : Layout → (named : Option Paper) → (page_paper : Paper) → Paper
 sheet_paper_in layout.Selection named page_paper = page_paper
-sheet_paper_in other named page_paper = sheet_paper_found named page_paper
+sheet_paper_in other named page_paper = sheet_paper_for other named page_paper
 
 -- the cells that a layout asks for, or else those of a zine
 abbrev pub cells_of_layout : Layout → Spacing → Arrangement

@@ -16,7 +16,8 @@ use Rattle.impose_messages.specs.Faults.{without_memory}
 use Rattle.impose_cli.specs.Faults.{of_asked}
 use Rattle.impose_cli.specs.Refusals.{RefusesDocument, RefusesOptions, RefusesText}
 use Rattle.impose_cli.specs.RowTasks.{HasOptions, signing_in}
-use Rattle.impose_cli.specs.Tasks.{HasBehind, HasPageCount, page_paper_found, sheet_paper_found, taken_text}
+use Rattle.impose_cli.specs.Tasks.{HasBehind, HasPageCount, page_paper_found, taken_text}
+use Rattle.impose_words.specs.SheetPapers.{sheet_paper_for}
 use Rattle.impose_cli.specs.Claims.{IsToldBy}
 use Rattle.impose_cli.specs.Reaches.{HasReachOver}
 use Rattle.impose_cli.specs.Precheck.{RefusesSpecification}
@@ -55,7 +56,7 @@ pub record IsSpecRowTask (r : ImposeRequest) (input : List ℕ) (t : SpecRowTask
   pub spec : TakesNamed r.layout t.spec
   pub signing : t.signing ≡ signing_in r.layout
   pub page_paper : (t.page_paper, t.origin) ≡ page_paper_found r.page_paper r.default_paper input
-  pub sheet_paper : t.sheet_paper ≡ sheet_paper_found r.sheet_paper t.page_paper
+  pub sheet_paper : t.sheet_paper ≡ sheet_paper_for r.layout r.sheet_paper t.page_paper
   pub text : t.text.items ≡ taken_text r.is_guarded t.sheet_paper input
   pub may_be_sewn : IfSome t.signing MayBeSewn
   pub border : is_border r.border ≡ true
@@ -85,7 +86,7 @@ pub record FinishesSpecRow (r : ImposeRequest) (input : List ℕ) (old new : Opt
   pub options : HasOptions r
   pub document : document_of (taken_text r.is_guarded job.sheet input) ≡ Ok job.document.now
   pub choice : choice_of job.choice ≡ choice_in r.choice
-  pub of_sheets : job.sheet ≡ sheet_paper_found r.sheet_paper done.page_paper
+  pub of_sheets : job.sheet ≡ sheet_paper_for r.layout r.sheet_paper done.page_paper
   pub of_pages : job.page ≡ done.page_paper
   pub border : job.border ≡ r.border
   pub cut : done.cut ≡ None

@@ -1,5 +1,5 @@
 -- What is imposed, and how: a request for a document.
-use Rattle.std.specs.Prelude.{◌≡◌, ℕ, pos, Bool, true, false, ◌&&◌, ◌||◌, not, if◌then◌else◌, unwrap_or, List, length, Option, is_some}
+use Rattle.std.specs.Prelude.{◌≡◌, ℕ, pos, Bool, true, false, ◌&&◌, ◌||◌, not, if◌then◌else◌, List, length, Option, is_some}
 use Rattle.std.specs.Prelude.{Some, None, Ok, option_map, string_bytes}
 use Rattle.rules.specs.Papers.{Paper}
 use Rattle.rules.specs.Specification.{Spec, canonical}
@@ -29,6 +29,7 @@ use Rattle.pagespec.specs.declared.item.Turn.{Turn}
 use Rattle.pagespec.specs.declared.item.Turn.TheVariants as turned
 use Rattle.sheet_text.specs.Jobs.{is_border}
 use Rattle.impose_words.specs.Spacings.{arrangement_in, binding_in, swaps_margins}
+use Rattle.impose_words.specs.SheetPapers.{sheet_paper_for}
 use Rattle.impose_words.specs.declared.request.Spacing.{Spacing}
 use Rattle.impose_words.specs.declared.request.Layout.{Layout}
 use Rattle.impose_words.specs.declared.request.Layout.TheVariants as layout
@@ -45,10 +46,6 @@ own_or_home home (Some own) = (own.0, ByComment own.1)
 abbrev pub page_paper_found : (named : Option Paper) → (home : Paper) → (input : List ℕ) → Paper × PaperOrigin
 page_paper_found (Some page_paper) home input = (page_paper, Named)
 page_paper_found None home input = own_or_home home (document_paper home input)
-
--- the paper of the sheets: the one that is named, else that of the pages (RULES, 12.5)
-abbrev pub sheet_paper_found : (named : Option Paper) → (page_paper : Paper) → Paper
-sheet_paper_found named page_paper = unwrap_or named page_paper
 
 -- the document, with the guard in it if it is asked for (RULES, 15)
 abbrev pub taken_text : (is_guarded : Bool) → (sheet_paper : Paper) → List ℕ → List ℕ
@@ -105,10 +102,10 @@ pub record IsTask (request : ImposeRequest) (input : List ℕ) (task : Task) : T
   pub reach : HasReachOver request input task.options.paper task.counted.reach
   pub said : is_said request ≡ true
   pub page_paper : (task.options.paper, task.origin) ≡ page_paper_found request.page_paper request.default_paper input
-  pub placed : ComesToSpec request.layout request.spacing task.options.paper (sheet_paper_found request.sheet_paper task.options.paper)
+  pub placed : ComesToSpec request.layout request.spacing task.options.paper (sheet_paper_for request.layout request.sheet_paper task.options.paper)
       page_count (string_bytes task.spec) task.options.sides
   pub text : task.text.items
-      ≡ taken_text request.is_guarded (sheet_paper_found request.sheet_paper task.options.paper) input
+      ≡ taken_text request.is_guarded (sheet_paper_for request.layout request.sheet_paper task.options.paper) input
   pub border : task.options.border ≡ request.border
   pub workers : task.options.workers ≡ record { preparers = 2; imposers = 2 }
 
@@ -140,7 +137,7 @@ pub record FinishesSpec (r : ImposeRequest) (input : List ℕ) (old new : Option
   pub spec : Spec
   pub takes : Takes most_slots text spec
   pub units : List NestedUnit
-  pub taken : document_of (taken_text r.is_guarded (sheet_paper_found r.sheet_paper done.page_paper) input) ≡ Ok units
+  pub taken : document_of (taken_text r.is_guarded (sheet_paper_for r.layout r.sheet_paper done.page_paper) input) ≡ Ok units
   pub cut : done.cut ≡ None
   pub reach : HasReachOver r input done.page_paper done.reach
   pub behind : HasBehind input done.behind

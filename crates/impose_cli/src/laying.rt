@@ -33,10 +33,9 @@ pub(crate) fn papers_for(request: &ImposeRequest, page_paper: &Paper) -> Papers
         (cells_paper request.now page_paper.now) }
 {
     let page = turned_paper(request.turn, page_paper);
-    let sheet = match (&request.layout, request.sheet_paper) {
-        (Layout::Selection, _) => page,
-        (_, Some(sheet)) => sheet,
-        (_, None) => page,
+    let sheet = match &request.layout {
+        Layout::Selection => page,
+        _ => request.sheet_paper_for(&page),
     };
     Papers { page, sheet }
 }

@@ -10,7 +10,7 @@ ghost use Rattle.impose_cli.specs.SpecRows.{RefusesNamed, RefusesSpecRowTask, Re
 use crate::attempt::{Attempt, refused_before};
 use crate::laying::signing_for;
 use crate::runs::impose_spec_job;
-use crate::task::{CountedPages, pages_of, paper_of_pages, paper_of_sheets, text_to_impose};
+use crate::task::{CountedPages, pages_of, paper_of_pages, text_to_impose};
 use command_words::name_of;
 use dsc::{Document, Parts};
 use guard::RoomyText;
@@ -56,7 +56,7 @@ pub(crate) fn spec_row_task(
     let (counted, parts) = pages_of(alloc, request, input.as_slice(), &page_paper)?;
     let spec = named_spec(alloc, &request.layout)?;
     let signing = signing_for(request)?;
-    let sheet_paper = *paper_of_sheets(&request.sheet_paper, &page_paper);
+    let sheet_paper = request.sheet_paper_for(&page_paper);
     let text = text_to_impose(request.is_guarded, &sheet_paper, input)?;
     let task = SpecRowTask {
         text,

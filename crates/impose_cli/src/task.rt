@@ -1,5 +1,5 @@
 //! The task of imposing a document by one specification.
-ghost use Rattle.std.specs.Prelude.{◌≡◌, ◌⊎◌, ℕ, List, ◌<◌, ◌≤◌, IfErr, IfOk, None, OnOk, Some, not, option_map, pos, string_bytes, unwrap_or};
+ghost use Rattle.std.specs.Prelude.{◌≡◌, ◌⊎◌, ℕ, List, ◌<◌, ◌≤◌, IfErr, IfOk, None, OnOk, Some, not, option_map, pos, string_bytes};
 ghost use Rattle.std.specs.Ordering.{int_eq};
 ghost use Rattle.rules.specs.Run.{most_pages};
 ghost use Rattle.dsc.specs.Serving.{ArePartsOf, Serve};
@@ -13,7 +13,7 @@ ghost use Rattle.layouts.specs.declared.error.ArrangementError.{ArrangementError
 ghost use Rattle.impose_messages.specs.Faults.{without_memory};
 ghost use Rattle.impose_cli.specs.RowTasks.{has_specification as is_made_for};
 ghost use Rattle.impose_cli.specs.Tasks.{HasBehind, HasPageCount, ComesToSpec, IsTask, IsWritten, page_paper_found};
-ghost use Rattle.impose_cli.specs.Tasks.{is_said as says, sheet_paper_found, taken_text};
+ghost use Rattle.impose_cli.specs.Tasks.{is_said as says, taken_text};
 ghost use Rattle.impose_cli.specs.Reaches.{HasReachOver};
 ghost use Rattle.impose_cli.specs.Refusals.{HasNoFault, HasOnePaper, HasOtherPapers, RefusesDocument, RefusesFor, RefusesTask, why_not_specified};
 ghost use Rattle.impose_cli.specs.Precheck.{IsPossible, IsSpecification, RefusesSpecification, RefusesUnread, named_cells_paper};
@@ -128,7 +128,7 @@ pub fn task_for(
     if !is_said(request) {
         return Err(ImposeFault::NoSpecification);
     }
-    let sheet_paper = *paper_of_sheets(&request.sheet_paper, &page_paper);
+    let sheet_paper = request.sheet_paper_for(&page_paper);
     check_one_paper(alloc, request, input.as_slice(), &page_paper)?;
     let papers = Papers {
         page: page_paper,
@@ -213,16 +213,6 @@ pub(crate) fn paper_of_pages(request: &ImposeRequest, input: &[u8]) -> (Paper, P
             Some((page_paper, comment)) => (page_paper, PaperOrigin::ByComment(comment)),
             None => (request.default_paper, PaperOrigin::ByDefault),
         },
-    }
-}
-
-/// The paper of the sheets: the one named, or that of the pages.
-pub(crate) fn paper_of_sheets<'p>(named: &'p Option<Paper>, page_paper: &'p Paper) -> &'p Paper
-    ensures { result.now ≡ unwrap_or named.now page_paper.now }
-{
-    match named {
-        Some(sheet_paper) => sheet_paper,
-        None => page_paper,
     }
 }
 

@@ -10,7 +10,7 @@ use Rattle.impose_messages.specs.declared.fault.Compression.TheVariants.{Gzip}
 use Rattle.impose_messages.specs.declared.fault.IdleOption.TheVariants.{CutMarks}
 use Rattle.impose_words.specs.declared.fault.RequestFault.TheVariants as command
 use Rattle.impose_messages.specs.Statuses.{fault_status, words_status}
-use Rattle.impose_messages.specs.Said.{behind_text, blanks_text, cut_pages_text, edges_text, is_pdf_name, leaf_count_text, shown_name, paper_size_text, told_text, unknown_text}
+use Rattle.impose_messages.specs.Said.{behind_text, blanks_text, cut_pages_text, edges_text, is_pdf_name, leaf_count_text, sheets_text, shown_name, paper_size_text, told_text, unknown_text}
 use Rattle.rules.specs.Papers.{points}
 
 -- Exit statuses.
@@ -60,6 +60,13 @@ some_cut = refl
 size_of_a_paper : paper_size_text (points 595 842) ≡ codes "595 x 842"
 unfolding digits
 size_of_a_paper = refl
+
+sheets_of_the_pages : sheets_text (points 595 842) (points 595 842) ≡ []
+sheets_of_the_pages = refl
+
+sheets_of_slides : sheets_text (points 595 842) (points 842 595) ≡ codes "; sheets of 595 x 842 pt"
+unfolding digits
+sheets_of_slides = refl
 
 before_the_corner : edges_text (record { left = neg_ℤ (pos 635_000_000_000); bottom = pos 0; right = pos 12_700_000_000_000; top = pos 25_400_000_000_000 }) ≡ codes "from -5 x 0 to 100 x 200"
 unfolding digits

@@ -29,6 +29,7 @@ use Rattle.impose_messages.specs.declared.finished.Done.TheVariants as done
 use Rattle.impose_words.specs.Choices.{is_all_pages}
 use Rattle.impose_words.specs.declared.request.ImposeRequest.{ImposeRequest}
 use Rattle.impose_words.specs.Spacings.{swaps_margins}
+use Rattle.impose_words.specs.SheetPapers.{sheet_paper_for}
 use Rattle.impose_words.specs.declared.request.Spacing.{Spacing}
 use Rattle.impose_words.specs.declared.request.Layout.{Layout}
 use Rattle.impose_words.specs.declared.request.Layout.TheVariants as layout
@@ -93,15 +94,14 @@ counts_text report r = codes "pages " ++ (decimal report.pages ++ (blanks_text (
 abbrev pub sheet_text : (sheet : Paper) → List ℕ
 sheet_text sheet = codes "; sheets of " ++ (paper_size_text sheet ++ codes " pt")
 
--- the size of the sheets, if another paper is named for them than the pages have
-abbrev pub sheets_text : (named : Option Paper) → (page_paper : Paper) → List ℕ
-sheets_text None page_paper = []
-sheets_text (Some sheet) page_paper = if is_same sheet page_paper then [] else sheet_text sheet
+-- the size of the sheets, if they have another paper than the pages
+abbrev pub sheets_text : (sheet page_paper : Paper) → List ℕ
+sheets_text sheet page_paper = if is_same sheet page_paper then [] else sheet_text sheet
 
 -- the report: the counts, the size of the pages' paper with where it was found, and that of the sheets (RULES, 17)
 abbrev pub report_text : Finished → ImposeRequest → List ℕ
 report_text finished r = counts_text finished.report r ++ (codes "; pages of " ++ (paper_size_text finished.page_paper
-    ++ (codes " pt, " ++ (origin_text finished.origin ++ sheets_text r.sheet_paper finished.page_paper))))
+    ++ (codes " pt, " ++ (origin_text finished.origin ++ sheets_text (sheet_paper_for r.layout r.sheet_paper finished.page_paper) finished.page_paper))))
 
 -- a byte of a name as it is shown: what isn't a printable one of ASCII is a question mark
 abbrev pub shown_byte : ℕ → ℕ

@@ -14,7 +14,7 @@ pub(crate) struct Context<'r> {
     pub(crate) is_selection: bool,
     /// Whether a scale is requested.
     pub(crate) is_scaled: bool,
-    /// The paper of the sheets, if the words name it; without it that of the pages, if the words name that.
+    /// The paper of the sheets, if the words name it.
     pub(crate) sheet: Option<Paper>,
 }
 
@@ -45,7 +45,7 @@ impl<'r> Context<'r> {
             },
             is_selection: matches!(&request.layout, Layout::Selection),
             is_scaled: request.spacing.scale.is_some(),
-            sheet: request.sheet_paper.or(request.page_paper),
+            sheet: request.sheet_paper,
         }
     }
 }

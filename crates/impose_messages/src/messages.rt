@@ -308,13 +308,11 @@ fn layout_text(
     String::from_str(alloc, message)
 }
 
-/// Why a booklet's sheet would fold along its longer edge. If the words name no paper, the sheet isn't known here, and both reasons are given.
+/// Why a booklet's sheet would fold along its longer edge. Only one that is named is wider than high.
 fn fold_text(alloc: Global, context: &Context<'_>) -> Result<String, AllocError> {
     let reason = match context.sheet {
-        None =>
-            "the sheet is wider than high, or upright pages side by side would be larger on it, and it",
         Some(sheet) if sheet.width() > sheet.height() => "the sheet is wider than high, and",
-        Some(_) => "upright pages side by side would be larger on this sheet, and it",
+        _ => "upright pages side by side would be larger on this sheet, and it",
     };
     joined_texts(alloc, &[reason, FOLD])
 }

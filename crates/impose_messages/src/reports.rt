@@ -26,18 +26,21 @@ pub(crate) fn push_report(said: &mut ReportText, done: &Finished, request: &Impo
     push_size(said, &done.page_paper);
     said.push(b" pt, ");
     said.push(origin_text(done.origin));
-    push_sheets(said, &request.sheet_paper, &done.page_paper);
+    push_sheets(
+        said,
+        &request.sheet_paper_for(&done.page_paper),
+        &done.page_paper,
+    );
 }
 
-/// Appends the size of the sheets, if they have another paper than the pages.
-fn push_sheets(said: &mut ReportText, named: &Option<Paper>, page_paper: &Paper)
+/// The size of the sheets, if they have another paper than the pages.
+fn push_sheets(said: &mut ReportText, sheet: &Paper, page_paper: &Paper)
     requires room { length said.old + 118 ≤ most_said }
-    ensures text { said.new ≡ said.old ++ sheets_text named.now page_paper.now }
+    ensures text { said.new ≡ said.old ++ sheets_text sheet.now page_paper.now }
     ensures short { length said.new ≤ length said.old + 118 }
 {
-    match named {
-        Some(sheet) if !is_of_size(sheet, page_paper) => push_sheet(said, sheet),
-        _ => {}
+    if !is_of_size(sheet, page_paper) {
+        push_sheet(said, sheet);
     }
 }
 

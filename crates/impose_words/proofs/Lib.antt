@@ -5,3 +5,4 @@ mod Listed
 pub mod Examples
 pub mod CommandLines
 pub mod SpacingExamples
+mod SheetPaperExamples

@@ -316,7 +316,7 @@ pub struct ImposeRequest {
     pub page_paper: Option<Paper>,
     /// The paper of the pages if neither the words nor the document name one: the usual one of the machine.
     pub default_paper: Paper,
-    /// The paper of the sheets, if the words name it; otherwise it is that of the pages.
+    /// The paper of the sheets, if it is named.
     pub sheet_paper: Option<Paper>,
     /// The width of a border round each placed page, if one is requested.
     pub border: Option<Grains>,

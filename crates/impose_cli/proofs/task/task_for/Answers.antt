@@ -3,7 +3,8 @@ use Rattle.rules.specs.Papers.{Paper}
 use Rattle.std.specs.Prelude.{◌⊎◌}
 use Rattle.impose_messages.specs.Faults.{without_memory}
 use Rattle.impose_messages.specs.declared.fault.ImposeFault.TheVariants as fault
-use Rattle.impose_cli.specs.Tasks.{is_said, page_paper_found, sheet_paper_found}
+use Rattle.impose_cli.specs.Tasks.{is_said, page_paper_found}
+use Rattle.impose_words.specs.SheetPapers.{sheet_paper_for}
 use Rattle.impose_cli.specs.Refusals.{HasOnePaper, HasOtherPapers, RefusesDocument, RefusesFor, why_not_specified}
 use Rattle.layouts.proofs.Fitting.{handed_on}
 use Rattle.impose_cli.proofs.OnePaper.{no_fault, refused_check, refused_count, refused_late, refused_part, refused_placing}
@@ -18,8 +19,8 @@ returns-clause-is_task c = record {
   behind = rw c.as_slice-2.ensures.value at c.in_ok-counted.ensures.behind;
   reach = rw c.as_slice-2.ensures.value at c.in_ok-counted.ensures.reach;
   page_paper = rw c.as_slice.ensures.value at c.paper_of_pages-page_paper.ensures;
-  placed = rw c.paper_of_sheets.ensures at c.in_ok-spec.ensures.placed;
-  text = rw c.paper_of_sheets.ensures at c.in_ok-text.ensures.taken;
+  placed = rw c.sheet_paper_for-sheet_paper.ensures at c.in_ok-spec.ensures.placed;
+  text = rw c.sheet_paper_for-sheet_paper.ensures at c.in_ok-text.ensures.taken;
   border = refl;
   workers = refl;
 }
@@ -35,8 +36,8 @@ returns-in_err-spec-clause-refused c =
     let found : c.paper_of_pages-page_paper.result ≡ page_paper_found request.page_paper request.default_paper c.args.input.items = rw c.as_slice.ensures.value at c.paper_of_pages-page_paper.ensures in
     let said : is_said request ≡ true = search rules in
     let one = subst (λ (p : Paper × PaperOrigin). HasOnePaper request c.args.input.items p.0) found (rw c.as_slice-3.ensures.value at c.in_ok-check_one_paper.ensures.one) in
-    let refused = rw c.paper_of_sheets.ensures at c.in_err-spec.ensures.refused in
-    let there = subst (λ (p : Paper × PaperOrigin). RefusesFor (why_not_specified request.layout request.spacing p.0 (sheet_paper_found request.sheet_paper p.0)) c.in_err-spec.field-0.0) found refused in
+    let refused = rw c.sheet_paper_for-sheet_paper.ensures at c.in_err-spec.ensures.refused in
+    let there = subst (λ (p : Paper × PaperOrigin). RefusesFor (why_not_specified request.layout request.spacing p.0 (sheet_paper_for request.layout request.sheet_paper p.0)) c.in_err-spec.field-0.0) found refused in
     handed_on c.from_residual-in_err-spec.result _ _ c.from_residual-in_err-spec.ensures.1
     (refused_placing request c.args.input.items c.in_ok-counted.counted.pages c.in_err-spec.field-0.0 (rw c.as_slice-2.ensures.value at c.in_ok-counted.ensures.counted) said one there)
 
@@ -56,8 +57,8 @@ returns-clause-accepted c =
     let found : c.paper_of_pages-page_paper.result ≡ page_paper_found request.page_paper request.default_paper c.args.input.items = rw c.as_slice.ensures.value at c.paper_of_pages-page_paper.ensures in
     let said : is_said request ≡ true = search rules in
     let one = subst (λ (p : Paper × PaperOrigin). HasOnePaper request c.args.input.items p.0) found (rw c.as_slice-3.ensures.value at c.in_ok-check_one_paper.ensures.one) in
-    let possible = rw c.paper_of_sheets.ensures at c.in_ok-spec.ensures.possible in
-    let there = subst (λ (p : Paper × PaperOrigin). why_not_specified request.layout request.spacing p.0 (sheet_paper_found request.sheet_paper p.0) ≡ None) found possible in
+    let possible = rw c.sheet_paper_for-sheet_paper.ensures at c.in_ok-spec.ensures.possible in
+    let there = subst (λ (p : Paper × PaperOrigin). why_not_specified request.layout request.spacing p.0 (sheet_paper_for request.layout request.sheet_paper p.0) ≡ None) found possible in
     no_fault request c.args.input.items c.in_ok-counted.counted.pages (rw c.as_slice-2.ensures.value at c.in_ok-counted.ensures.counted) said one there
 
 pub returns-in_err-check_one_paper-clause-refused : goal.returns-in_err-check_one_paper-clause-refused
