@@ -119,10 +119,14 @@ def impose(request: Request, program: str) -> None:
         making.make(sheets, turn_to_read(request, sheets), imposer.flip())
         outfile.write(making.pdf)
     say("".join(source.warning() for source in opened.values()))
-    say(reported(report, len(set(sizes)) == 1))
+    all_pages = sum(len(source.pages) for source in opened.values())
+    say(reported(report, len(set(sizes)) == 1, len(set(row)), all_pages))
 
 
-def reported(report: str, is_one_size: bool) -> str:
-    """impose's report, without what is of the stub alone."""
+def reported(report: str, is_one_size: bool, taken: int, pages: int) -> str:
+    """impose's report, without what is of the stub alone, whose pages are those that RANGES take."""
     report = re.sub(r", bytes \d+", "", report)
+    if taken < pages:
+        report = re.sub(r"^impose: pages \d+(?=,)", f"impose: pages {taken}", report)
+        report = re.sub(r"^(impose: pages \d+)( of \d+)?", rf"\1 of {pages}", report)
     return report.replace(", by its %%DocumentMedia", "" if is_one_size else ", as most are")

@@ -51,7 +51,7 @@ placed_as_named other s named page_paper sheet_paper pages text sides is h = abs
 
 pub finishes : (r : ImposeRequest) (input : List ℕ) (task : Task) (told : Claims) (old new : Option (List ℕ)) (report : Report) → ((text : List ℕ) × IsSpecLayout r.layout text) → IsTask r input task → IsToldBy r input told
     → Accepted (run_asked task) (λ spec us. Appends old new (output (frame_of task.options) task.options.sides spec us) × Reports (frame_of task.options) task.options.sides spec us report)
-    → FinishesSpec r input old new (record { report = report; page_paper = task.options.paper; origin = task.origin; cut = None; reach = task.counted.reach; behind = task.counted.behind; told = told })
+    → FinishesSpec r input old new (record { report = report; page_paper = task.options.paper; origin = task.origin; cut = None; reach = task.counted.reach; behind = task.counted.behind; taken = task.counted.taken; told = told })
 finishes r input task told old new report named is tells h =
     let spec = h.0 in
     let units = h.1 in
@@ -73,6 +73,7 @@ finishes r input task told old new report named is tells h =
       cut = refl;
       reach = is.reach;
       behind = is.behind;
+      pages_taken = is.taken;
       told = tells;
       plan = subst (λ s. plan_in s spec n ≡ Ok (sheets_in s spec n)) p.1 accepted.plan;
       written = subst (λ s. Appends old new (output (framed task.options.paper r.border) s spec units)) p.1
@@ -95,7 +96,7 @@ spec_stops r input tells f outcome world rest written named is none why =
     comes_refused (RefusesImposing r.layout r input) (IsImposed r input) _ tells f outcome world rest written is none (by_spec r.layout named.0 r input f named.1 (inl why))
 
 abbrev pub about_spec : Task → (told : Claims) → About
-about_spec t told = record { page_paper = t.options.paper; origin = t.origin; cut = None; reach = t.counted.reach; behind = t.counted.behind; told = told }
+about_spec t told = record { page_paper = t.options.paper; origin = t.origin; cut = None; reach = t.counted.reach; behind = t.counted.behind; taken = t.counted.taken; told = told }
 
 -- what comes of its run comes of the request
 pub spec_runs : {V O : Type 0} (r : ImposeRequest) (input : List ℕ) (t : Task) (told : Claims) (tells : Edge V O) (outcome : Result Done ImposeFault) (left : Result Report ImposeFault) (world : V) (rest : Rest V O) (name written : Option (List ℕ))

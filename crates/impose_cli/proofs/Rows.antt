@@ -32,7 +32,8 @@ use Rattle.impose_cli.specs.Tasks.{HasBehind, HasPageCount}
 use Rattle.impose_cli.specs.Refusals.{RefusesDocument, RefusesFor, RefusesOptions, RefusesRowTask}
 use Rattle.impose_cli.specs.Reaches.{HasReachOver, reach_in, reach_over}
 use Rattle.papers.specs.declared.reach.Reach.{Reach}
-use Rattle.impose_cli.specs.RowTasks.{ArePapersOf, cut_in, papers_in, papers_to_place, row_paper, text_for, why_no_row, FinishesRow, ImposesTask, IsJobOf, IsRowJob, IsRowPaper, IsRowTask, LaysRows, HasReach, cells_paper, counted_in, own_in, row_in, row_papers}
+use Rattle.impose_cli.specs.RowTasks.{ArePapersOf, cut_in, papers_in, papers_to_place, row_paper, text_for, why_no_row, FinishesRow, ImposesTask, IsJobOf, IsRowJob, IsRowPaper, IsRowTask, LaysRows, HasReach, cells_paper, counted_in, own_in, row_papers}
+use Rattle.impose_cli.specs.Taken.{HasTaken, row_in, taken_below, taken_in}
 use Rattle.world.specs.declared.rest.Rest.{Rest}
 use Rattle.world.specs.declared.rest.Rest.TheVariants.{World}
 use Rattle.impose_messages.specs.declared.fault.ImposeFault.{ImposeFault}
@@ -97,6 +98,13 @@ serve_itself text p are = record { of = text; are = are; longer = omega arith; a
 pub has_behind : (input : List ℕ) (us : List NestedUnit) (n : ℕ) → document_of input ≡ Ok us → n ≡ pages_behind us → HasBehind input n
 has_behind input us n read e = (us, read, e)
 
+pub has_taken : (r : ImposeRequest) (input : List ℕ) (us : List NestedUnit) (n : ℕ) → document_of input ≡ Ok us → n ≡ taken_in r us → HasTaken r input n
+has_taken r input us n read e = (us, read, e)
+
+-- what is counted of the row of a choice is counted of the request's
+pub counts_taken : (r : ImposeRequest) (us : List NestedUnit) (row : Row) (m n : ℕ) → m ≡ length (pages us) → row ≡ row_in r us → n ≡ taken_below row m → n ≡ taken_in r us
+counts_taken r us row m n count is e = e ∙ ap (taken_below row) count ∙ ap (λ taken. taken_below taken (length (pages us))) is
+
 pub accepted_has_pages : (input : List ℕ) (us : List NestedUnit) → document_of input ≡ Ok us → (n : ℕ) × HasPageCount input n
 accepted_has_pages input us read = (length (pages us), (us, read, refl))
 
@@ -132,10 +140,11 @@ refused_found r input f h = elim h [
 ]
 
 pub finishes_row : (r : ImposeRequest) (input : List ℕ) (t : RowTask) (told : Claims) (old new : Option (List ℕ)) (report : Report) → IsRowTask r input t → IsToldBy r input told → ImposesTask r t old new report
-    → FinishesRow r input old new (record { report = report; page_paper = t.page_paper; origin = t.origin; cut = t.cut; reach = t.reach; behind = t.behind; told = told })
+    → FinishesRow r input old new (record { report = report; page_paper = t.page_paper; origin = t.origin; cut = t.cut; reach = t.reach; behind = t.behind; taken = t.taken; told = told })
 finishes_row r input t told old new report is tells h = record {
   page_paper = is.page_paper;
   behind = is.behind;
+  taken = is.taken;
   told = tells;
   job = h.0;
   papers = subst (λ ps. ArePapersOf r input ps t.cut) (sym h.1.papers) is.papers;
@@ -158,7 +167,7 @@ row_stops r input tells f outcome world rest written rows is none why =
 
 -- what is reported of a task with a row
 abbrev pub about_row : RowTask → (told : Claims) → About
-about_row t told = record { page_paper = t.page_paper; origin = t.origin; cut = t.cut; reach = t.reach; behind = t.behind; told = told }
+about_row t told = record { page_paper = t.page_paper; origin = t.origin; cut = t.cut; reach = t.reach; behind = t.behind; taken = t.taken; told = told }
 
 -- what comes of its run comes of the request
 pub row_runs : {V O : Type 0} (r : ImposeRequest) (input : List ℕ) (t : RowTask) (told : Claims) (tells : Edge V O) (outcome : Result Done ImposeFault) (left : Result Report ImposeFault) (world : V) (rest : Rest V O) (written : Option (List ℕ))

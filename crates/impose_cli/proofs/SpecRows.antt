@@ -24,12 +24,13 @@ use Rattle.impose_messages.specs.declared.finished.Done.{Done}
 use Rattle.impose_cli.proofs.Coming.{comes_as, comes_refused, comes_reported}
 
 pub finishes_spec_row : (r : ImposeRequest) (input : List ℕ) (t : SpecRowTask) (told : Claims) (old new : Option (List ℕ)) (report : Report) → IsSpecRowTask r input t → IsToldBy r input told → ImposesSpecTask r t old new report
-    → FinishesSpecRow r input old new (record { report = report; page_paper = t.page_paper; origin = t.origin; cut = None; reach = t.counted.reach; behind = t.counted.behind; told = told })
+    → FinishesSpecRow r input old new (record { report = report; page_paper = t.page_paper; origin = t.origin; cut = None; reach = t.counted.reach; behind = t.counted.behind; taken = t.counted.taken; told = told })
 finishes_spec_row r input t told old new report is tells h =
     let of = h.1 in
     record {
       page_paper = is.page_paper;
       behind = is.behind;
+      taken = is.taken;
       told = tells;
       job = h.0;
       spec = subst (TakesNamed r.layout) (sym of.spec) is.spec;
@@ -58,7 +59,7 @@ spec_row_stops r input tells f outcome world rest written rows is none why =
 
 -- what is reported of a task
 abbrev pub about_spec_row : SpecRowTask → (told : Claims) → About
-about_spec_row t told = record { page_paper = t.page_paper; origin = t.origin; cut = None; reach = t.counted.reach; behind = t.counted.behind; told = told }
+about_spec_row t told = record { page_paper = t.page_paper; origin = t.origin; cut = None; reach = t.counted.reach; behind = t.counted.behind; taken = t.counted.taken; told = told }
 
 -- what comes of its run comes of the request
 pub spec_row_runs : {V O : Type 0} (r : ImposeRequest) (input : List ℕ) (t : SpecRowTask) (told : Claims) (tells : Edge V O) (outcome : Result Done ImposeFault) (left : Result Report ImposeFault) (world : V) (rest : Rest V O) (written : Option (List ℕ))

@@ -1,11 +1,12 @@
 -- Pages that a row takes, an entry or a page at a time.
-use Rattle.std.proofs.Common.{Bool, true, false, ◌≡◌, ◌∙◌, ℕ, zero, suc, ◌+◌, ◌<◌, List, [], ◌∷◌, ◌++◌, length, take, refl, ap, arith, sym}
+use Rattle.std.proofs.Common.{Bool, true, false, ◌≡◌, ◌∙◌, ℕ, zero, suc, ◌+◌, ◌<◌, ◌≤◌, List, [], ◌∷◌, ◌++◌, length, take, refl, ap, arith, sym}
 use Rattle.std.specs.Prelude.{Option, None, Some, option_and_then, slice_get, get_or, ◌||◌, if◌then◌else◌}
 use Rattle.std.proofs.lemmas.List.{take_more, length-take-le}
 use Rattle.rules.specs.Papers.{Paper}
 use Rattle.rules.specs.Rows.{Row}
 use Rattle.impose_cli.specs.Reaches.{is_entry_of, takes}
 use Rattle.impose_cli.specs.RowTasks.{or_without, row_papers, taken_from}
+use Rattle.impose_cli.specs.Taken.{taken_below}
 
 swapped : (a b c : Bool) → (a || (b || c)) ≡ (b || (a || c))
 swapped true true c = refl
@@ -70,3 +71,14 @@ page_taken row other own i p made is old new l at taken e before pushed =
     ∙ ap (λ q. taken_from row other 0 (take i own) ++ q ∷ []) (e ∙ ap (λ b. if b then p else other) taken ∙ ap (λ q. if takes row i then q else other) at)
     ∙ sym (one_more row other 0 i (take i own) (get_or own i other) (let n = length-take-le i own (omega (arith, l)) in omega (arith, n)))
     ∙ ap (taken_from row other 0) (sym (take_more own i other l))
+
+-- a page more is counted if it is taken
+pub count_more : (is : Bool) (count page new : ℕ) → new ≡ count + (if is then 1 else 0) → count ≤ page → new ≤ page + 1
+count_more true count page new e few = omega (arith, e, few)
+count_more false count page new e few = omega (arith, e, few)
+
+pub page_counted : (row : Row) (i : ℕ) (is : Bool) (old new : ℕ) → is ≡ takes row i → old ≡ taken_below row i → new ≡ old + (if is then 1 else 0)
+    → new ≡ taken_below row (i + 1)
+page_counted row i is old new taken before e =
+    let next : suc i ≡ i + 1 = omega arith in
+    e ∙ ap (λ n. n + (if is then 1 else 0)) before ∙ ap (λ b. taken_below row i + (if b then 1 else 0)) taken ∙ ap (taken_below row) next

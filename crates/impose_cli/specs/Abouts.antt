@@ -16,6 +16,7 @@ finished_by about report = record {
   cut = about.cut;
   reach = about.reach;
   behind = about.behind;
+  taken = about.taken;
   told = about.told;
 }
 

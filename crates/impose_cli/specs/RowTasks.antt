@@ -38,6 +38,7 @@ use Rattle.impose_words.specs.Spacings.{arrangement_in, binding_in, swaps_margin
 use Rattle.impose_words.specs.declared.request.Spacing.{Spacing}
 use Rattle.impose_cli.specs.Claims.{IsToldBy}
 use Rattle.impose_cli.specs.Reaches.{reach_in, takes}
+use Rattle.impose_cli.specs.Taken.{HasTaken, row_in}
 use Rattle.pagespec.specs.Items.{turn_of}
 use Rattle.row_runs.specs.Turning.{turned_paper}
 use Rattle.papers.specs.declared.reach.Reach.{Reach}
@@ -176,14 +177,6 @@ text_for r papers page_paper input = taken_text r.is_guarded (guarded_paper r pa
 abbrev pub own_in : ImposeRequest → (input : List ℕ) → List NestedUnit → List Paper
 own_in r input us = papers_of_each_page r.page_paper paper_named r.default_paper input us
 
--- the row that is imposed, before it is sewn; an empty one if there is no such row, which the run says
-abbrev pub row_or_none : Result Row RowFault → Row
-row_or_none (Ok row) = row
-row_or_none (Err fault) = []
-
-abbrev pub row_in : ImposeRequest → List NestedUnit → Row
-row_in r us = row_or_none (imposed_row (length (pages us)) (choice_in r.choice) None)
-
 abbrev pub or_without : Option Paper → List Paper → List Paper
 or_without None papers = papers
 or_without (Some paper) papers = paper ∷ papers
@@ -287,6 +280,7 @@ pub record IsRowTask (r : ImposeRequest) (input : List ℕ) (t : RowTask) : Type
   pub reach : HasReach r input t.reach
   pub page_paper : IsRowPaper r input (t.page_paper, t.origin)
   pub behind : HasBehind input t.behind
+  pub taken : HasTaken r input t.taken
   pub text : t.text.items ≡ text_for r t.papers.items t.page_paper input
   pub laying : laying_by r t.page_paper ≡ Some t.laying
   pub possible : why_no_row r t.page_paper ≡ None
@@ -333,6 +327,7 @@ pub record IsRowJob (r : ImposeRequest) (input : List ℕ) (page_paper : Paper) 
 pub record FinishesRow (r : ImposeRequest) (input : List ℕ) (old new : Option (List ℕ)) (done : Finished) : Type 0 where
   pub page_paper : IsRowPaper r input (done.page_paper, done.origin)
   pub behind : HasBehind input done.behind
+  pub taken : HasTaken r input done.taken
   pub told : IsToldBy r input done.told
   pub job : RowJob
   pub papers : ArePapersOf r input job.papers.now done.cut

@@ -20,6 +20,7 @@ use Rattle.impose_cli.specs.Tasks.{HasBehind, HasPageCount, page_paper_found, ta
 use Rattle.impose_words.specs.SheetPapers.{sheet_paper_for}
 use Rattle.impose_cli.specs.Claims.{IsToldBy}
 use Rattle.impose_cli.specs.Reaches.{HasReachOver}
+use Rattle.impose_cli.specs.Taken.{HasTaken}
 use Rattle.impose_cli.specs.Precheck.{RefusesSpecification}
 use Rattle.impose_messages.specs.declared.fault.ImposeFault.{ImposeFault}
 use Rattle.impose_words.specs.declared.request.Layout.{Layout}
@@ -52,6 +53,7 @@ pub record IsSpecRowTask (r : ImposeRequest) (input : List ℕ) (t : SpecRowTask
   pub page_count : ℕ
   pub document : HasPageCount input page_count
   pub behind : HasBehind input t.counted.behind
+  pub taken : HasTaken r input t.counted.taken
   pub reach : HasReachOver r input t.page_paper t.counted.reach
   pub spec : TakesNamed r.layout t.spec
   pub signing : t.signing ≡ signing_in r.layout
@@ -79,6 +81,7 @@ ImposesSpecTask r t old new report = (job : SpecJob) × IsSpecJobOf r t job × I
 pub record FinishesSpecRow (r : ImposeRequest) (input : List ℕ) (old new : Option (List ℕ)) (done : Finished) : Type 0 where
   pub page_paper : (done.page_paper, done.origin) ≡ page_paper_found r.page_paper r.default_paper input
   pub behind : HasBehind input done.behind
+  pub taken : HasTaken r input done.taken
   pub told : IsToldBy r input done.told
   pub job : SpecJob
   pub spec : TakesNamed r.layout job.spec.now

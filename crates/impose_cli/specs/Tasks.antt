@@ -10,6 +10,7 @@ use Rattle.rules.specs.Sheets.{sheets}
 use Rattle.dsc.specs.PagesBehind.{pages_behind}
 use Rattle.impose_cli.specs.Claims.{IsToldBy}
 use Rattle.impose_cli.specs.Reaches.{HasReachOver}
+use Rattle.impose_cli.specs.Taken.{HasTaken}
 use Rattle.rules.specs.Choice.{sides_for}
 use Rattle.rows.specs.Sewing.{signing_of}
 use Rattle.guard.specs.Guard.{guarded}
@@ -99,6 +100,7 @@ pub record IsTask (request : ImposeRequest) (input : List ℕ) (task : Task) : T
   pub page_count : ℕ
   pub document : HasPageCount input page_count
   pub behind : HasBehind input task.counted.behind
+  pub taken : HasTaken request input task.counted.taken
   pub reach : HasReachOver request input task.options.paper task.counted.reach
   pub said : is_said request ≡ true
   pub page_paper : (task.options.paper, task.origin) ≡ page_paper_found request.page_paper request.default_paper input
@@ -141,6 +143,7 @@ pub record FinishesSpec (r : ImposeRequest) (input : List ℕ) (old new : Option
   pub cut : done.cut ≡ None
   pub reach : HasReachOver r input done.page_paper done.reach
   pub behind : HasBehind input done.behind
+  pub pages_taken : HasTaken r input done.taken
   pub told : IsToldBy r input done.told
   pub plan : plan_in None spec (length (pages units)) ≡ Ok (sheets spec (length (pages units)))
   pub written : Appends old new (output (frame_used r done) None spec units)

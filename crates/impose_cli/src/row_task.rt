@@ -18,6 +18,7 @@ ghost use Rattle.impose_cli.specs.RowTasks.{TellsOnePaper};
 ghost use Rattle.layouts.specs.Grids.{is_same as are_same};
 ghost use Rattle.impose_cli.specs.RowTasks.{counted_among, cut_by_named, cut_in, paper_for, papers_in as papers_found, papers_to_place, row_paper};
 ghost use Rattle.impose_cli.specs.Reaches.{reach_in};
+ghost use Rattle.impose_cli.specs.Taken.{HasTaken, taken_in};
 ghost use Rattle.impose_cli.specs.Refusals.{RefusesDocument, RefusesRowTask};
 ghost use Rattle.impose_cli.specs.Tasks.{HasBehind, HasPageCount, page_paper_found};
 ghost use Rattle.dsc.specs.PagesBehind.{pages_behind};
@@ -27,7 +28,7 @@ use crate::attempt::{Attempt, refused_before};
 use crate::laying::{laying_for, papers_for, signing_for};
 use crate::reach::reach_of_row;
 use crate::runs::impose_job;
-use crate::taken::{papers_on_row, papers_taken, row_of_choice};
+use crate::taken::{papers_on_row, papers_taken, row_of_choice, taken_count};
 use crate::task::{paper_of_pages, text_to_impose};
 use command_words::name_of;
 use dsc::{Document, Parts};
@@ -60,6 +61,8 @@ pub(crate) struct RowTask {
     pub(crate) reach: Option<Reach>,
     /// The number of pages after the document's trailer.
     pub(crate) behind: usize,
+    /// The number of its pages that are taken, each counted once.
+    pub(crate) taken: u32,
     pub(crate) laying: Laying,
     pub(crate) signing: Option<Signing>,
 }
@@ -92,6 +95,7 @@ pub(crate) fn row_task(
         cut: found.cut,
         reach: found.reach,
         behind: found.behind,
+        taken: found.taken,
         laying,
         signing,
     };
@@ -115,6 +119,8 @@ struct FoundPapers {
     reach: Option<Reach>,
     /// The number of pages after the trailer.
     behind: usize,
+    /// The number of pages that are taken, each counted once.
+    taken: u32,
 }
 
 /// The papers of this document's pages, and its parts; or why it is refused.
@@ -127,6 +133,7 @@ fn papers_of(
     ensures paper { IfOk result (λ found. IsRowPaper request.now input.now (found.0.page_paper, found.0.origin)) }
     ensures reach { IfOk result (λ found. HasReach request.now input.now found.0.reach) }
     ensures behind { IfOk result (λ found. HasBehind input.now found.0.behind) }
+    ensures taken { IfOk result (λ found. HasTaken request.now input.now found.0.taken) }
     ensures count { IfOk result (λ found. found.0.pages ≡ length found.0.papers.items) }
     ensures few { IfOk result (λ found. found.0.pages ≤ most_pages) }
     ensures parts { IfOk result (λ found. ArePartsOf input.now found.1) }
@@ -188,6 +195,7 @@ fn papers_in(
         found.reach ≡ reach_in true request.now (counted_in request.now (bytes_of document.now) document.now)
         (bytes_of document.now) document.now) }
     ensures behind { IfOk result (λ found. found.behind ≡ pages_behind document.now) }
+    ensures taken { IfOk result (λ found. found.taken ≡ taken_in request.now document.now) }
     ensures count { IfOk result (λ found. found.pages ≡ length found.papers.items) }
     ensures few { IfOk result (λ found. found.pages ≤ most_pages) }
 {
@@ -200,6 +208,7 @@ fn papers_in(
     let cut = cut_pages(alloc, request, document, row.as_slice())?;
     let reach = reach_of_row(alloc, request, document, counted.as_slice(), own.as_slice())?;
     let papers = turned_papers(alloc, request.turn, counted)?;
+    let count = taken_count(alloc, row.as_slice(), document.pages())?;
     Ok(FoundPapers {
         pages: document.pages(),
         page_paper,
@@ -208,6 +217,7 @@ fn papers_in(
         cut,
         reach,
         behind: document.pages_behind_trailer(),
+        taken: count,
     })
 }
 

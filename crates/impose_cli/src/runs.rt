@@ -94,6 +94,7 @@ fn run_row<R: Threads + Wait + Sync, W: World>(
         cut: task.cut,
         reach: task.reach,
         behind: task.behind,
+        taken: task.taken,
         told,
     };
     Attempt {
@@ -156,6 +157,7 @@ fn run_spec_row<R: Threads + Wait + Sync, W: World>(
         cut: None,
         reach: task.counted.reach,
         behind: task.counted.behind,
+        taken: task.counted.taken,
         told,
     };
     Attempt {
@@ -219,6 +221,7 @@ fn run_spec<R: Threads + Wait + Sync, W: World>(
         cut: None,
         reach: task.counted.reach,
         behind: task.counted.behind,
+        taken: task.counted.taken,
         told,
     };
     Attempt {
@@ -286,6 +289,7 @@ struct About {
     cut: Option<Cut>,
     reach: Option<Reach>,
     behind: usize,
+    taken: u32,
     told: Claims,
 }
 
@@ -301,6 +305,7 @@ fn reported(outcome: Result<Report, ImposeFault>, about: About) -> Result<Done, 
             cut: about.cut,
             reach: about.reach,
             behind: about.behind,
+            taken: about.taken,
             told: about.told,
         })),
         Err(fault) => Err(fault),

@@ -1,10 +1,19 @@
+<<<<<<< ours
 //! The pages that a request takes.
 ghost use Rattle.std.specs.Prelude.{◌≡◌, ℕ, ◌<◌, ◌≤◌, ◌==◌, ◌||◌, if◌then◌else◌, IfOk, OnOk, None, length, get_or, false};
+||||||| base
+//! The row of pages that is taken.
+ghost use Rattle.std.specs.Prelude.{◌≡◌, ℕ, ◌<◌, ◌≤◌, ◌==◌, ◌||◌, if◌then◌else◌, IfOk, OnOk, None, length, get_or, false};
+=======
+//! The row of pages that is taken.
+ghost use Rattle.std.specs.Prelude.{◌≡◌, ℕ, ◌+◌, ◌<◌, ◌≤◌, ◌==◌, ◌||◌, if◌then◌else◌, IfOk, OnOk, None, length, get_or, false};
+>>>>>>> theirs
 ghost use Rattle.std.specs.Prelude.{[], ◌++◌, option_and_then, slice_get};
 ghost use Rattle.rules.specs.Choice.{imposed_row as row_of, most_entries};
 ghost use Rattle.impose_words.specs.Choices.{choice_in};
 ghost use Rattle.impose_cli.specs.Reaches.{is_entry_of, takes};
-ghost use Rattle.impose_cli.specs.RowTasks.{or_without, row_or_none, row_papers, taken_from};
+ghost use Rattle.impose_cli.specs.RowTasks.{or_without, row_papers, taken_from};
+ghost use Rattle.impose_cli.specs.Taken.{row_or_none, taken_below};
 
 use impose_words::PageChoice;
 use lengths::Paper;
@@ -25,6 +34,40 @@ pub(crate) fn row_of_choice(
         Err(RowError::NoMemory) => Err(AllocError),
         Err(_) => Ok(Vec::new(alloc)),
     }
+}
+
+/// The number of pages that such a row takes, each counted once.
+pub(crate) fn pages_of_choice(
+    alloc: Global,
+    pages: u32,
+    choice: &PageChoice,
+) -> Result<u32, AllocError>
+    requires { pages ≤ most_entries }
+    ensures { IfOk result (λ count.
+        count ≡ taken_below (row_or_none (row_of pages (choice_in choice.now) None)) pages) }
+{
+    let row = row_of_choice(alloc, pages, choice)?;
+    taken_count(alloc, row.as_slice(), pages)
+}
+
+/// The number of pages that the row takes, each counted once, of a document with this number of pages.
+pub(crate) fn taken_count(alloc: Global, row: &[Option<u32>], pages: u32) -> Result<u32, AllocError>
+    ensures { IfOk result (λ count. count ≡ taken_below row.now pages) }
+{
+    let taken = pages_taken(alloc, row, pages as usize)?;
+    let mut count = 0;
+    for page in 0..pages {
+        count = counted(count, taken[page as usize]);
+    }
+    Ok(count)
+}
+
+/// One more, if a page is taken.
+fn counted(count: u32, is_taken: bool) -> u32
+    requires { count < u32.MAX }
+    ensures { result ≡ count + (if is_taken then 1 else 0) }
+{
+    if is_taken { count + 1 } else { count }
 }
 
 /// The papers of a row's pages, in order.

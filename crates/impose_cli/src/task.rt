@@ -15,6 +15,7 @@ ghost use Rattle.impose_cli.specs.RowTasks.{has_specification as is_made_for};
 ghost use Rattle.impose_cli.specs.Tasks.{HasBehind, HasPageCount, ComesToSpec, IsTask, IsWritten, page_paper_found};
 ghost use Rattle.impose_cli.specs.Tasks.{is_said as says, taken_text};
 ghost use Rattle.impose_cli.specs.Reaches.{HasReachOver};
+ghost use Rattle.impose_cli.specs.Taken.{HasTaken};
 ghost use Rattle.impose_cli.specs.Refusals.{HasNoFault, HasOnePaper, HasOtherPapers, RefusesDocument, RefusesFor, RefusesTask, why_not_specified};
 ghost use Rattle.impose_cli.specs.Precheck.{IsPossible, IsSpecification, RefusesSpecification, RefusesUnread, named_cells_paper};
 ghost use Rattle.impose_words.specs.declared.request.Layout.TheVariants as layout;
@@ -23,6 +24,7 @@ ghost use Rattle.impose_messages.specs.declared.fault.ImposeFault.TheVariants as
 use crate::laying::{check_sheets, laying_for, papers_for};
 use crate::reach::reach_over;
 use crate::row_task::has_one_paper;
+use crate::taken::pages_of_choice;
 use dsc::{Document, Parts};
 use guard::RoomyText;
 use impose_messages::{ImposeFault, PaperOrigin, refused_document};
@@ -56,6 +58,8 @@ pub struct CountedPages {
     pub pages: u32,
     /// The number of pages after the trailer.
     pub behind: usize,
+    /// The number of those that are taken, each counted once.
+    pub taken: u32,
     /// The pages that reach beyond the paper.
     pub reach: Option<Reach>,
 }
@@ -225,6 +229,7 @@ pub(crate) fn pages_of(
 ) -> Result<(CountedPages, Parts), ImposeFault>
     ensures counted { IfOk result (λ found. HasPageCount input.now found.0.pages) }
     ensures behind { IfOk result (λ found. HasBehind input.now found.0.behind) }
+    ensures taken { IfOk result (λ found. HasTaken request.now input.now found.0.taken) }
     ensures reach { IfOk result (λ found. HasReachOver request.now input.now paper.now found.0.reach) }
     ensures some { IfOk result (λ found. 0 < found.0.pages) }
     ensures within { IfOk result (λ found. found.0.pages ≤ most_pages) }
@@ -237,9 +242,11 @@ pub(crate) fn pages_of(
         Err(error) => return Err(refused_document(error, input)),
     };
     let reach = reach_over(alloc, request, &document, paper)?;
+    let taken = pages_of_choice(alloc, document.pages(), &request.choice)?;
     let counted = CountedPages {
         pages: document.pages(),
         behind: document.pages_behind_trailer(),
+        taken,
         reach,
     };
     Ok((counted, document.into_parts()))

@@ -10,7 +10,7 @@ use Rattle.impose_messages.specs.declared.fault.Compression.TheVariants.{Gzip}
 use Rattle.impose_messages.specs.declared.fault.IdleOption.TheVariants.{CutMarks}
 use Rattle.impose_words.specs.declared.fault.RequestFault.TheVariants as command
 use Rattle.impose_messages.specs.Statuses.{fault_status, words_status}
-use Rattle.impose_messages.specs.Said.{behind_text, blanks_text, cut_pages_text, edges_text, is_pdf_name, leaf_count_text, sheets_text, shown_name, paper_size_text, told_text, unknown_text}
+use Rattle.impose_messages.specs.Said.{behind_text, blanks_text, cut_pages_text, edges_text, is_pdf_name, leaf_count_text, page_count_text, sheets_text, shown_name, paper_size_text, told_text, unknown_text}
 use Rattle.rules.specs.Papers.{points}
 
 -- Exit statuses.
@@ -36,6 +36,14 @@ some_blanks = refl
 
 no_blanks : blanks_text 0 ≡ []
 no_blanks = refl
+
+all_taken : page_count_text 8 8 ≡ codes "8"
+unfolding digits
+all_taken = refl
+
+some_taken : page_count_text 2 8 ≡ codes "2 of 8"
+unfolding digits
+some_taken = refl
 
 one_leaf : leaf_count_text 1 ≡ codes " (1 leaf)"
 one_leaf = refl

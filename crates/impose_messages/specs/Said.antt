@@ -84,9 +84,13 @@ count_text count one before behind = if count == 1 then one else before ++ (deci
 abbrev pub leaf_count_text : (leaves : ℕ) → List ℕ
 leaf_count_text leaves = count_text leaves (codes " (1 leaf)") (codes " (") (codes " leaves)")
 
+-- how many pages there are, with how many of them are taken before it if not all are
+abbrev pub page_count_text : (taken pages : ℕ) → List ℕ
+page_count_text taken pages = if taken == pages then decimal pages else decimal taken ++ (codes " of " ++ decimal pages)
+
 -- how many pages, sheets and bytes there are; after the pages the blanks, and after the sheets the leaves
-abbrev pub counts_text : Report → ImposeRequest → List ℕ
-counts_text report r = codes "pages " ++ (decimal report.pages ++ (blanks_text (blank_count r report)
+abbrev pub counts_text : (taken : ℕ) → Report → ImposeRequest → List ℕ
+counts_text taken report r = codes "pages " ++ (page_count_text taken report.pages ++ (blanks_text (blank_count r report)
     ++ (codes ", sheets " ++ (decimal report.sheets ++ ((if prints_leaves r.layout r.spacing then leaf_count_text ((report.sheets + 1) / 2) else [])
     ++ (codes ", bytes " ++ decimal report.bytes))))))
 
@@ -100,7 +104,7 @@ sheets_text sheet page_paper = if is_same sheet page_paper then [] else sheet_te
 
 -- the report: the counts, the size of the pages' paper with where it was found, and that of the sheets (RULES, 17)
 abbrev pub report_text : Finished → ImposeRequest → List ℕ
-report_text finished r = counts_text finished.report r ++ (codes "; pages of " ++ (paper_size_text finished.page_paper
+report_text finished r = counts_text finished.taken finished.report r ++ (codes "; pages of " ++ (paper_size_text finished.page_paper
     ++ (codes " pt, " ++ (origin_text finished.origin ++ sheets_text (sheet_paper_for r.layout r.sheet_paper finished.page_paper) finished.page_paper))))
 
 -- a byte of a name as it is shown: what isn't a printable one of ASCII is a question mark

@@ -40,6 +40,8 @@ pub struct Finished {
     pub reach: Option<Reach>,
     /// The number of pages after the document's trailer, which aren't imposed.
     pub behind: usize,
+    /// The number of the document's pages that are taken, each counted once.
+    pub taken: u32,
     /// The document's claims about itself.
     pub told: Claims,
 }

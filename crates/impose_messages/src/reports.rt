@@ -4,7 +4,7 @@ ghost use Rattle.impose_messages.specs.Rooms.{most_said};
 ghost use Rattle.impose_messages.specs.Said.{prints_leaves as are_sides_of, behind_message, blank_count as blanks_in, blanks_text, count_text, counts_text};
 ghost use Rattle.impose_messages.specs.Said.{corners_text, cut_message, cut_pages_text, cut_size_text, edges_text, leaf_count_text, note_text};
 ghost use Rattle.impose_messages.specs.Said.{origin_text as text_of_origin, others_text, places_per_sheet as places_in, reach_message, report_text};
-ghost use Rattle.impose_messages.specs.Said.{sheet_text, sheets_text, sides_text, paper_size_text, some_pages_text, told_message, unknown_message};
+ghost use Rattle.impose_messages.specs.Said.{sheet_text, sheets_text, sides_text, page_count_text, paper_size_text, some_pages_text, told_message, unknown_message};
 
 use crate::finished::{Finished, PaperOrigin};
 use crate::report_text::ReportText;
@@ -17,11 +17,11 @@ use papers::{Comment, Cut, Edges, Reach};
 
 /// Appends the report.
 pub(crate) fn push_report(said: &mut ReportText, done: &Finished, request: &ImposeRequest)
-    requires room { length said.old + 649 ≤ most_said }
+    requires room { length said.old + 693 ≤ most_said }
     ensures text { said.new ≡ said.old ++ report_text done.now request.now }
-    ensures short { length said.new ≤ length said.old + 649 }
+    ensures short { length said.new ≤ length said.old + 693 }
 {
-    push_counts(said, &done.report, request);
+    push_counts(said, done.taken, &done.report, request);
     said.push(b"; pages of ");
     push_size(said, &done.page_paper);
     said.push(b" pt, ");
@@ -56,19 +56,32 @@ fn push_sheet(said: &mut ReportText, sheet: &Paper)
 }
 
 /// Appends the numbers of pages, blanks, sheets, leaves and bytes.
-fn push_counts(said: &mut ReportText, report: &Report, request: &ImposeRequest)
-    requires room { length said.old + 352 ≤ most_said }
-    ensures text { said.new ≡ said.old ++ counts_text report.now request.now }
-    ensures short { length said.new ≤ length said.old + 352 }
+fn push_counts(said: &mut ReportText, taken: u32, report: &Report, request: &ImposeRequest)
+    requires room { length said.old + 396 ≤ most_said }
+    ensures text { said.new ≡ said.old ++ counts_text taken report.now request.now }
+    ensures short { length said.new ≤ length said.old + 396 }
 {
     said.push(b"pages ");
-    said.push_number(u128::from(report.pages));
+    push_page_count(said, taken, report.pages);
     push_blanks(said, blanks_of(request, report));
     said.push(b", sheets ");
     said.push_number(u128::from(report.sheets));
     push_leaves(said, request, report.sheets);
     said.push(b", bytes ");
     said.push_number(u128::from(report.bytes));
+}
+
+/// The number of pages, after the number of those that are taken if not all are.
+fn push_page_count(said: &mut ReportText, taken: u32, pages: u32)
+    requires room { length said.old + 84 ≤ most_said }
+    ensures text { said.new ≡ said.old ++ page_count_text taken pages }
+    ensures short { length said.new ≤ length said.old + 84 }
+{
+    if taken != pages {
+        said.push_number(u128::from(taken));
+        said.push(b" of ");
+    }
+    said.push_number(u128::from(pages));
 }
 
 /// The number of places without a page, if all sheets have equally many places and each page is in one.

@@ -16,9 +16,9 @@ use papers::{Cut, Reach};
 
 /// Appends the lines of a finished run, except the one about its output's name.
 pub(crate) fn push_lines(said: &mut ReportText, done: &Finished, request: &ImposeRequest)
-    requires room { length said.old + 2_264 ≤ most_said }
+    requires room { length said.old + 2_308 ≤ most_said }
     ensures text { said.new ≡ said.old ++ run_lines done.now request.now }
-    ensures short { length said.new ≤ length said.old + 2_264 }
+    ensures short { length said.new ≤ length said.old + 2_308 }
 {
     push_report_line(said, done, request);
     push_unknown_line(said, &done.told.unknown);
@@ -29,9 +29,9 @@ pub(crate) fn push_lines(said: &mut ReportText, done: &Finished, request: &Impos
 }
 
 fn push_report_line(said: &mut ReportText, done: &Finished, request: &ImposeRequest)
-    requires room { length said.old + 658 ≤ most_said }
+    requires room { length said.old + 702 ≤ most_said }
     ensures text { said.new ≡ said.old ++ line_of (Some (report_text done.now request.now)) }
-    ensures short { length said.new ≤ length said.old + 658 }
+    ensures short { length said.new ≤ length said.old + 702 }
 {
     said.push(b"impose: ");
     push_report(said, done, request);

@@ -2,8 +2,8 @@ use Rattle.std.proofs.Common.{◌∙◌, ap}
 use Rattle.std.specs.Prelude.{None}
 use Rattle.rules.specs.Choice.{imposed_row}
 use Rattle.impose_words.specs.Choices.{choice_in}
-use Rattle.impose_cli.specs.RowTasks.{row_or_none}
-use Rattle.impose_cli.proofs.Rows.{are_placed, as_many}
+use Rattle.impose_cli.specs.Taken.{row_or_none}
+use Rattle.impose_cli.proofs.Rows.{are_placed, as_many, counts_taken}
 use Rattle.impose_cli.proofs.row_task.papers_in.Goals as goal
 
 pub returns-clause-papers : goal.returns-clause-papers
@@ -17,4 +17,10 @@ returns-clause-papers c =
 pub returns-clause-count : goal.returns-clause-count
 returns-clause-count c =
     as_many c.args.request.now c.args.document.now _ c.in_ok-own.own.items c.in_ok-counted.counted.items c.in_ok-papers.papers.items _
-    c.pages-2.ensures.count c.in_ok-own.ensures (rw c.as_slice-6.ensures.value at c.in_ok-counted.ensures) c.in_ok-papers.ensures
+    c.pages-3.ensures.count c.in_ok-own.ensures (rw c.as_slice-6.ensures.value at c.in_ok-counted.ensures) c.in_ok-papers.ensures
+
+pub returns-clause-taken : goal.returns-clause-taken
+returns-clause-taken c =
+    counts_taken c.args.request.now c.args.document.now c.in_ok-row.row.items _ c.in_ok-count.count c.pages-2.ensures.count
+    (c.in_ok-row.ensures ∙ ap (λ n. row_or_none (imposed_row n (choice_in c.args.request.now.choice) None)) c.pages.ensures.count)
+    (rw c.as_slice-10.ensures.value at c.in_ok-count.ensures)

@@ -1,7 +1,7 @@
 use Rattle.std.proofs.Common.{inl, inr, refl}
 use Rattle.impose_messages.specs.Faults.{without_memory}
 use Rattle.layouts.proofs.Fitting.{handed_on}
-use Rattle.impose_cli.proofs.Rows.{accepted_has_pages, are_papers, are_parts, has_behind, has_reach, is_row_paper}
+use Rattle.impose_cli.proofs.Rows.{accepted_has_pages, are_papers, are_parts, has_behind, has_reach, has_taken, is_row_paper}
 use Rattle.impose_cli.proofs.row_task.papers_of.Goals as goal
 
 pub returns-in-Err-clause-refused : goal.returns-in-Err-clause-refused
@@ -18,6 +18,9 @@ returns-clause-reach c = has_reach c.args.request.now c.args.input.now _ _ c.in-
 
 pub returns-clause-behind : goal.returns-clause-behind
 returns-clause-behind c = has_behind c.args.input.now _ _ c.in-Ok.ensures.answer c.in_ok-found.ensures.behind
+
+pub returns-clause-taken : goal.returns-clause-taken
+returns-clause-taken c = has_taken c.args.request.now c.args.input.now _ _ c.in-Ok.ensures.answer c.in_ok-found.ensures.taken
 
 pub returns-clause-parts : goal.returns-clause-parts
 returns-clause-parts c = are_parts c.args.input.now _ _ c.in-Ok.ensures.answer c.into_parts.ensures.parts

@@ -32,6 +32,7 @@ returns-clause-is_task c = record {
   reach = rw c.as_slice.ensures.value at c.in_ok-found.ensures.reach;
   page_paper = rw c.as_slice.ensures.value at c.in_ok-found.ensures.paper;
   behind = rw c.as_slice.ensures.value at c.in_ok-found.ensures.behind;
+  taken = rw c.as_slice.ensures.value at c.in_ok-found.ensures.taken;
   text = c.in_ok-text.ensures.taken ∙ ap (λ p. taken_text c.args.request.now.is_guarded p c.args.input.items)
       (c.in_ok-sheet.ensures.value
       ∙ ap (λ s. guarded_in c.args.request.now.layout (first_paper (imposed_row (length c.in_ok-found.found.papers.items) (choice_in c.args.request.now.choice) None) c.in_ok-found.found.papers.items s) s)

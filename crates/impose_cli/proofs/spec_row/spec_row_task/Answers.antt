@@ -20,6 +20,7 @@ returns-clause-is_task c = record {
   page_count = c.in_ok-counted.counted.pages;
   document = rw c.as_slice-2.ensures.value at c.in_ok-counted.ensures.counted;
   behind = rw c.as_slice-2.ensures.value at c.in_ok-counted.ensures.behind;
+  taken = rw c.as_slice-2.ensures.value at c.in_ok-counted.ensures.taken;
   reach = rw c.as_slice-2.ensures.value at c.in_ok-counted.ensures.reach;
   spec = c.in_ok-spec.ensures.named;
   signing = c.in_ok-signing.ensures.signing;

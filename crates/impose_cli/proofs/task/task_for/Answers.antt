@@ -17,6 +17,7 @@ returns-clause-is_task c = record {
   document = rw c.as_slice-2.ensures.value at c.in_ok-counted.ensures.counted;
   said = search rules;
   behind = rw c.as_slice-2.ensures.value at c.in_ok-counted.ensures.behind;
+  taken = rw c.as_slice-2.ensures.value at c.in_ok-counted.ensures.taken;
   reach = rw c.as_slice-2.ensures.value at c.in_ok-counted.ensures.reach;
   page_paper = rw c.as_slice.ensures.value at c.paper_of_pages-page_paper.ensures;
   placed = rw c.sheet_paper_for-sheet_paper.ensures at c.in_ok-spec.ensures.placed;
