@@ -1,7 +1,9 @@
 -- Borders of given widths, and words for a shell, worked out.
-use Rattle.std.proofs.Common.{◌≡◌, ◌++◌, ◌∷◌, refl, Some, None}
+use Rattle.std.proofs.Common.{◌≡◌, ◌++◌, ◌∷◌, [], refl, Some, None}
 use Rattle.std.specs.Prelude.{codes, pos}
 use Rattle.std.specs.Fmt.{digits}
+use Rattle.std.specs.Str.{chars}
+use Rattle.std.specs.Char.{encode_utf8}
 use Rattle.lengths.specs.Reading.{number_at}
 use Rattle.rules.specs.Papers.{points}
 use Rattle.command_words.specs.Borders.{border_named, border_of}
@@ -31,7 +33,15 @@ unfolding digits
 length_in_millimetres = refl
 
 file_with_a_quote : file_text (codes "it's") ≡ codes " 'it" ++ 39 ∷ 92 ∷ 39 ∷ 39 ∷ codes "s'"
+unfolding chars encode_utf8
 file_with_a_quote = refl
 
 file_with_a_minus : file_text (codes "-a") ≡ codes " './-a'"
+unfolding chars encode_utf8
 file_with_a_minus = refl
+
+-- a control character, a letter of two bytes, and one that turns the direction of text
+file_with_hidden_characters : file_text (27 ∷ 195 ∷ 188 ∷ 226 ∷ 128 ∷ 174 ∷ [])
+    ≡ codes " ''$'\\033''" ++ 195 ∷ 188 ∷ codes "'$'\\342\\200\\256'''"
+unfolding chars encode_utf8
+file_with_hidden_characters = refl

@@ -1,4 +1,5 @@
 //! A text with a caret below the place of a fault.
+use crate::shell::is_hidden;
 use std::alloc::{AllocError, Global};
 
 /// The number of bytes of a long text that are shown before and after the place.
@@ -6,8 +7,8 @@ const SHOWN_BEFORE: usize = 50;
 
 const SHOWN_BEHIND: usize = 20;
 
-/// Two lines after a line end: the text round the place, and a caret below it. Two dots stand for each end that is cut off, and a question mark for
-/// each control character. Nothing is appended if the text ends before the place.
+/// Two lines after a line end: the text round the place, and a caret below it. Two dots are in place of what is cut off, and
+/// a question mark for a hidden character. Nothing if the text ends before the place.
 pub fn caret_below(alloc: Global, text: &str, place: usize) -> Result<String, AllocError> {
     if place > text.len() {
         return Ok(String::new(alloc));
@@ -22,7 +23,7 @@ pub fn caret_below(alloc: Global, text: &str, place: usize) -> Result<String, Al
     }
     for (at, letter) in text.char_indices() {
         if start <= at && at < end {
-            above.push(if letter.is_control() { '?' } else { letter })?;
+            above.push(if is_hidden(letter) { '?' } else { letter })?;
             if at < place {
                 below.push(' ')?;
             }

@@ -13,4 +13,5 @@ pub use files::name_of;
 pub use matches::{is_set, number_of, owned, text_of};
 pub use shell::{
     append_border_option, append_files, append_if, append_length, append_sides, begins_with_minus,
+    is_hidden,
 };

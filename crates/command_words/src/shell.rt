@@ -1,5 +1,6 @@
 //! Words of a command line of pstops as they are written for a shell.
 ghost use Rattle.std.specs.Prelude.{◌≡◌, ◌++◌, ◌<◌, OnOk, flat_map, option_map};
+ghost use Rattle.std.specs.Str.{chars};
 ghost use Rattle.rules.specs.Numbers.{number_text};
 ghost use Rattle.command_words.specs.Shell as meaning;
 
@@ -127,26 +128,58 @@ fn append_file(name: &str, out: &mut Vec<u8>) -> Result<(), AllocError>
 {
     out.extend_from_slice(b" '")?;
     append_if(begins_with_minus(name), b"./", out)?;
-    append_quoted(name.as_bytes(), out)?;
+    append_quoted(name, out)?;
     out.extend_from_slice(b"'")
 }
 
-fn append_quoted(bytes: &[u8], out: &mut Vec<u8>) -> Result<(), AllocError>
-    ensures { OnOk result (out.new.items ≡ out.old.items ++ flat_map meaning.quoted_byte bytes.now) }
+fn append_quoted(name: &str, out: &mut Vec<u8>) -> Result<(), AllocError>
+    ensures { OnOk result (out.new.items ≡ out.old.items ++ flat_map meaning.quoted_char (chars name.now)) }
 {
-    for byte in bytes {
-        append_byte(*byte, out)?;
+    for letter in name.chars() {
+        append_char(letter, out)?;
     }
     Ok(())
 }
 
-/// Appends a byte of a quoted text. A quote in it closes the quotes, is written by itself, and opens them again.
-fn append_byte(byte: u8, out: &mut Vec<u8>) -> Result<(), AllocError>
-    ensures { OnOk result (out.new.items ≡ out.old.items ++ meaning.quoted_byte byte) }
+/// A quote ends what is quoted, is written by itself, and begins it again. So does a hidden character, which is written by its
+/// bytes in quotes after a dollar sign: `$'\033'`.
+fn append_char(letter: char, out: &mut Vec<u8>) -> Result<(), AllocError>
+    ensures { OnOk result (out.new.items ≡ out.old.items ++ meaning.quoted_char letter) }
 {
-    if byte == b'\'' {
+    if letter == '\'' {
         return out.extend_from_slice(b"'\\''");
     }
-    out.push(byte)?;
+    let mut room = [0; 4];
+    let bytes = letter.encode_utf8(&mut room).as_bytes();
+    if !is_hidden(letter) {
+        return out.extend_from_slice(bytes);
+    }
+    out.extend_from_slice(b"'$'")?;
+    append_octal(bytes, out)?;
+    out.extend_from_slice(b"''")
+}
+
+/// Bytes by their octal digits, each after a backslash.
+fn append_octal(bytes: &[u8], out: &mut Vec<u8>) -> Result<(), AllocError>
+    ensures { OnOk result (out.new.items ≡ out.old.items ++ flat_map meaning.octal_byte bytes.now) }
+{
+    for byte in bytes {
+        let digits = [
+            b'\\',
+            b'0' + *byte / 64,
+            b'0' + *byte / 8 % 8,
+            b'0' + *byte % 8,
+        ];
+        out.extend_from_slice(&digits)?;
+    }
     Ok(())
+}
+
+/// Whether a character isn't seen itself, and may change how others are: a control character, or one that says in which
+/// direction text goes.
+pub fn is_hidden(letter: char) -> bool
+    ensures { result ≡ meaning.is_hidden letter }
+{
+    matches!(letter, '\0'..='\u{1f}' | '\u{7f}'..='\u{9f}' | '\u{61c}' | '\u{200e}'..='\u{200f}')
+        || matches!(letter, '\u{202a}'..='\u{202e}' | '\u{2066}'..='\u{2069}')
 }
