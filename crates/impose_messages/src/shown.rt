@@ -3,13 +3,15 @@ ghost use Rattle.std.specs.Prelude.{◌≡◌, ◌≤◌, ◌++◌, length, map}
 ghost use Rattle.impose_messages.specs.Said.{shown_byte as byte_shown, shown_name};
 
 use arrayvec::{ArrayString, ArrayVec};
+use command_words::is_hidden;
 use std::alloc::{AllocError, Global};
 use std::marker::Model;
 
 /// The most characters of a word, or bytes of a document's name, that are shown.
 const MOST_SHOWN: usize = 100;
 
-/// A word or name as it is shown. Control characters are written in the form `\u{1b}`. After a hundred characters the rest is replaced by two dots.
+/// A word or a name without hidden characters, which are written as `\u{1b}`, and cut after its first hundred characters;
+/// two dots are in place of what is cut off.
 pub(crate) fn shown_word(alloc: Global, word: &str) -> Result<String, AllocError> {
     String::from_str(alloc, shown_in_place(word).as_str())
 }
@@ -27,10 +29,10 @@ pub(crate) fn shown_in_place(word: &str) -> ArrayString<1_002> {
     shown
 }
 
-/// A character as it is shown; a control character in the form that programs have.
+/// A character as it is shown; a hidden one as it is written in a program.
 fn shown_letter(letter: char) -> ArrayString<10> {
     let mut shown = ArrayString::new();
-    if letter.is_control() {
+    if is_hidden(letter) {
         for part in letter.escape_unicode() {
             let _ = shown.try_push(part);
         }
@@ -104,7 +106,7 @@ fn shown_byte(b: u8) -> u8
 
 /// Whether a word is shown unchanged.
 pub(crate) fn is_shown_whole(word: &str) -> bool {
-    word.len() <= MOST_SHOWN && !word.chars().any(char::is_control)
+    word.len() <= MOST_SHOWN && !word.chars().any(|letter| is_hidden(letter))
 }
 
 /// These texts, one after another.
