@@ -114,7 +114,7 @@ one_found : told_text (Some 4) 1 ≡ Some (codes "the document says 4 pages, 1 w
 unfolding digits
 one_found = refl
 
-one_told : told_text (Some 1) 2 ≡ Some (codes "the document says 1 page, 2 were found: is it complete?")
+one_told : told_text (Some 1) 2 ≡ Some (codes "the document says 1 page, 2 were found: all are counted")
 unfolding digits
 one_told = refl
 

@@ -184,11 +184,15 @@ behind_message pages = count_text pages (codes "1 page follows %%Trailer or %%EO
 abbrev pub behind_text : (pages : ℕ) → Option (List ℕ)
 behind_text pages = if pages == 0 then None else Some (behind_message pages)
 
+-- pages are missing, or there are more than the document says
+abbrev pub told_advice : (told found : ℕ) → List ℕ
+told_advice told found = if nat_lt found told then codes ": is it complete?" else codes ": all are counted"
+
 -- of a document that says another number of its pages than were found: both
 abbrev pub told_message : (told found : ℕ) → List ℕ
 told_message told found = codes "the document says "
     ++ (count_text told (codes "1 page") (codes "") (codes " pages") ++ (codes ", "
-    ++ (count_text found (codes "1 was found") (codes "") (codes " were found") ++ codes ": is it complete?")))
+    ++ (count_text found (codes "1 was found") (codes "") (codes " were found") ++ told_advice told found)))
 
 -- if it says one
 abbrev pub told_text : (told : Option ℕ) → (found : ℕ) → Option (List ℕ)

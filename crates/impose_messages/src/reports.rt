@@ -4,7 +4,7 @@ ghost use Rattle.impose_messages.specs.Rooms.{most_said};
 ghost use Rattle.impose_messages.specs.Said.{prints_leaves as are_sides_of, behind_message, blank_count as blanks_in, blanks_text, count_text, counts_text};
 ghost use Rattle.impose_messages.specs.Said.{corners_text, cut_message, cut_pages_text, cut_size_text, edges_text, leaf_count_text, note_text};
 ghost use Rattle.impose_messages.specs.Said.{origin_text as text_of_origin, others_text, places_per_sheet as places_in, reach_message, report_text};
-ghost use Rattle.impose_messages.specs.Said.{sheet_text, sheets_text, sides_text, page_count_text, paper_size_text, some_pages_text, told_message, unknown_message};
+ghost use Rattle.impose_messages.specs.Said.{sheet_text, sheets_text, sides_text, page_count_text, paper_size_text, some_pages_text, told_advice as advice_told, told_message, unknown_message};
 
 use crate::finished::{Finished, PaperOrigin};
 use crate::report_text::ReportText;
@@ -345,7 +345,19 @@ pub(crate) fn push_told(said: &mut ReportText, told: usize, found: usize)
     push_counted(said, told as u128, b"1 page", b"", b" pages");
     said.push(b", ");
     push_counted(said, found as u128, b"1 was found", b"", b" were found");
-    said.push(b": is it complete?");
+    said.push(told_advice(told, found));
+}
+
+/// That pages are missing, or that there are more than the document says.
+fn told_advice(told: usize, found: usize) -> &'static [u8]
+    ensures value { result.now ≡ advice_told told found }
+    ensures short { length result.now ≤ 17 }
+{
+    if found < told {
+        b": is it complete?"
+    } else {
+        b": all are counted"
+    }
 }
 
 /// Appends that a file of this name isn't a PDF.
