@@ -203,19 +203,26 @@ told_text (Some told) found = if told == found then None else Some (told_message
 abbrev pub is_pdf_name : (name : List ℕ) → Bool
 is_pdf_name name = ends_with nat_eq name (codes ".pdf") || ends_with nat_eq name (codes ".PDF")
 
--- that a file named as a PDF isn't one, with what makes one of this name as it is shown
-abbrev pub note_text : (shown : List ℕ) → List ℕ
-note_text shown = shown
-    ++ (codes " holds PostScript, not a PDF; for a PDF use: impose .. | ps2pdf -dAutoRotatePages=/None - " ++ shown)
+-- of a file that is named as something else than PostScript: that it is PostScript, and how to make that, but for the name
+abbrev pub advice_on : (name : List ℕ) → Option (List ℕ)
+advice_on name =
+    if is_pdf_name name then Some (codes " holds PostScript, not a PDF; for a PDF use: impose .. | ps2pdf -dAutoRotatePages=/None - ")
+    else (if ends_with nat_eq name (codes ".gz") then Some (codes " holds PostScript that isn't compressed; for that use: impose .. | gzip >")
+    else (if ends_with nat_eq name (codes ".svg") then Some (codes " holds PostScript, not an SVG; for a picture of the sheets use: impose .. --preview ")
+    else (if ends_with nat_eq name (codes ".eps") then Some (codes " holds whole sheets, not an EPS; for an EPS use: impose .. | eps2eps - ") else None)))
 
-abbrev pub IsNoteIf : (noted : Bool) → (message : Option (List ℕ)) → Type 0
-IsNoteIf false message = message ≡ None
-IsNoteIf true message = (shown : List ℕ) × (message ≡ Some (note_text shown))
+-- this of a file, by its name as it is shown
+abbrev pub note_text : (advice shown : List ℕ) → List ℕ
+note_text advice shown = shown ++ (advice ++ shown)
 
--- that the output isn't a PDF, if it is named as one
+abbrev pub IsNoteIf : (advice : Option (List ℕ)) → (message : Option (List ℕ)) → Type 0
+IsNoteIf None message = message ≡ None
+IsNoteIf (Some advice) message = (shown : List ℕ) × (message ≡ Some (note_text advice shown))
+
+-- that the output is PostScript, if it is named as something else
 abbrev pub IsNote : (outfile : Option (List ℕ)) → (message : Option (List ℕ)) → Type 0
 IsNote None message = message ≡ None
-IsNote (Some name) message = IsNoteIf (is_pdf_name name) message
+IsNote (Some name) message = IsNoteIf (advice_on name) message
 
 -- ---- the message of sheets without room for pages
 
@@ -280,7 +287,7 @@ run_lines finished r =
     ++ line_of (cut_text finished.cut finished.page_paper) ++ line_of (reach_text finished.reach) ++ line_of (behind_text finished.behind)
     ++ line_of (told_text finished.told.pages finished.report.pages)
 
--- a line that the output is no PDF comes after what was said before, if the output is named as one
+-- a line that the output is PostScript comes after what was said before, if it is named as something else
 abbrev pub AddsNote : (outfile : Option (List ℕ)) → (before after : List ℕ) → Type 0
 AddsNote outfile before after = (note : Option (List ℕ)) × IsNote outfile note × (after ≡ before ++ line_of note)
 

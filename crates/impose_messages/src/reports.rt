@@ -360,17 +360,16 @@ fn told_advice(told: usize, found: usize) -> &'static [u8]
     }
 }
 
-/// Appends that a file of this name isn't a PDF.
-pub(crate) fn push_note(said: &mut ReportText, name: &str)
+/// This of a file, by its name as it is shown.
+pub(crate) fn push_note(said: &mut ReportText, advice: &[u8], name: &str)
+    requires short { length advice.now ≤ 100 }
     requires few { length name.now ≤ 1_002 }
     requires room { length said.old + 2_191 ≤ most_said }
-    ensures text { said.new ≡ said.old ++ note_text name.now }
+    ensures text { said.new ≡ said.old ++ note_text advice.now name.now }
     ensures short { length said.new ≤ length said.old + 2_191 }
 {
     said.push(name.as_bytes());
-    said.push(
-        b" holds PostScript, not a PDF; for a PDF use: impose .. | ps2pdf -dAutoRotatePages=/None - ",
-    );
+    said.push(advice);
     said.push(name.as_bytes());
 }
 

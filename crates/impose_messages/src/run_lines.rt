@@ -1,7 +1,7 @@
 //! The lines of a finished run.
-ghost use Rattle.std.specs.Prelude.{◌≡◌, ◌+◌, ◌≤◌, ◌++◌, Some, length, option_map, string_bytes};
+ghost use Rattle.std.specs.Prelude.{◌≡◌, ◌+◌, ◌≤◌, ◌++◌, IfSome, Some, length, option_map, string_bytes};
 ghost use Rattle.impose_messages.specs.Rooms.{most_said};
-ghost use Rattle.impose_messages.specs.Said.{AddsNote, behind_text, cut_text, is_pdf_name as names_pdf, line_of, note_text as text_of_note};
+ghost use Rattle.impose_messages.specs.Said.{AddsNote, advice_on as advice_by_name, behind_text, cut_text, line_of, note_text as text_of_note};
 ghost use Rattle.impose_messages.specs.Said.{reach_text, report_text, run_lines, told_text, unknown_text};
 
 use crate::finished::Finished;
@@ -107,33 +107,51 @@ fn push_told_line(said: &mut ReportText, told: Option<usize>, found: u32)
     said.push(b"\n");
 }
 
-/// Appends that the output isn't a PDF, if its name ends like one.
+/// The line that the output is PostScript, if it is named as something else.
 pub(crate) fn push_note_line(said: &mut ReportText, request: &ImposeRequest)
     requires room { length said.old + 2_200 ≤ most_said }
     ensures { AddsNote (option_map string_bytes request.now.outfile) said.old said.new }
 {
-    match &request.outfile {
-        Some(name) if is_pdf_name(name.as_str()) => {
-            push_note_on(said, shown_in_place(name.as_str()).as_str());
-        }
-        _ => {}
+    let Some(name) = &request.outfile else {
+        return;
+    };
+    let name = name.as_str();
+    if let Some(advice) = advice_on(name) {
+        push_note_on(said, advice, shown_in_place(name).as_str());
     }
 }
 
-/// Appends the line that a file of this name isn't a PDF.
-fn push_note_on(said: &mut ReportText, name: &str)
+/// The line about a file of this name, as it is shown.
+fn push_note_on(said: &mut ReportText, advice: &[u8], name: &str)
+    requires short { length advice.now ≤ 100 }
     requires few { length name.now ≤ 1_002 }
     requires room { length said.old + 2_200 ≤ most_said }
-    ensures { said.new ≡ said.old ++ line_of (Some (text_of_note name.now)) }
+    ensures { said.new ≡ said.old ++ line_of (Some (text_of_note advice.now name.now)) }
 {
     said.push(b"impose: ");
-    push_note(said, name);
+    push_note(said, advice, name);
     said.push(b"\n");
 }
 
-fn is_pdf_name(name: &str) -> bool
-    ensures { result ≡ names_pdf name.now }
+/// Of a file that is named as something else than PostScript: that it is PostScript, and how to make that, but for the name.
+fn advice_on(name: &str) -> Option<&'static [u8]>
+    ensures value { option_map (λ advice. advice.now) result ≡ advice_by_name name.now }
+    ensures short { IfSome result (λ advice. length advice.now ≤ 100) }
 {
     let name = name.as_bytes();
-    name.ends_with(b".pdf") || name.ends_with(b".PDF")
+    if name.ends_with(b".pdf") || name.ends_with(b".PDF") {
+        Some(
+            b" holds PostScript, not a PDF; for a PDF use: impose .. | ps2pdf -dAutoRotatePages=/None - ",
+        )
+    } else if name.ends_with(b".gz") {
+        Some(b" holds PostScript that isn't compressed; for that use: impose .. | gzip >")
+    } else if name.ends_with(b".svg") {
+        Some(
+            b" holds PostScript, not an SVG; for a picture of the sheets use: impose .. --preview ",
+        )
+    } else if name.ends_with(b".eps") {
+        Some(b" holds whole sheets, not an EPS; for an EPS use: impose .. | eps2eps - ")
+    } else {
+        None
+    }
 }
