@@ -13,14 +13,12 @@ use Rattle.imposed_again.proofs.MadeAgain.{made_is_document}
 use Rattle.papers.specs.Told.{telling}
 use Rattle.papers.proofs.Tame.{telling_is_tame}
 use Rattle.rules.specs.Dress.{Dress}
-use Rattle.dressing.specs.Numbered.{drawn_on, nothing_drawn}
+use Rattle.dressing.specs.Numbered.{drawn_on}
 use Rattle.dressing.proofs.Tame.{drawn_is_tame}
-use Rattle.row_runs.specs.BySpec.{border_by_spec, output_by_spec}
 use Rattle.row_runs.specs.Runs.{border_on, drawn_of, output_on}
 use Rattle.impose_cli.specs.Tasks.{FinishesSpec, frame_used, taken_text}
 use Rattle.impose_words.specs.SheetPapers.{sheet_paper_for}
 use Rattle.impose_cli.specs.RowTasks.{FinishesRow, text_for}
-use Rattle.impose_cli.specs.SpecRows.{FinishesSpecRow}
 use Rattle.impose_cli.specs.Laws.{IsDocumentAgain, IsMadeDocument, WroteDocument, sheets_named}
 use Rattle.impose_words.specs.declared.request.ImposeRequest.{ImposeRequest}
 use Rattle.impose_messages.specs.declared.finished.Finished.{Finished}
@@ -74,36 +72,12 @@ row_again r input old text done h l some =
       with_trailer = λ some. i.2 (trailer_shuts taken us h.is_job.document some);
     }
 
--- ---- by a specification on a row
-
-abbrev bare_dress_on : {r : ImposeRequest} {input : List ℕ} {old new : Option (List ℕ)} {done : Finished} → FinishesSpecRow r input old new done → Dress
-bare_dress_on h = drawn_on nothing_drawn (telling h.imposes.made)
-
-spec_row_again : (r : ImposeRequest) (input old text : List ℕ) (done : Finished) (h : FinishesSpecRow r input (Some old) (Some (old ++ text)) done)
-    → length (output_by_spec h.job h.imposes.made) ≤ most_input_bytes → 0 < length h.imposes.made
-    → IsMadeDocument (border_by_spec h.job) (bare_dress_on h) h.imposes.made h.job.document.now (output_by_spec h.job h.imposes.made)
-spec_row_again r input old text done h l some =
-    let taken = taken_text r.is_guarded h.job.sheet input in
-    let made = h.imposes.made in
-    let us = h.job.document.now in
-    let i = made_is_document (border_by_spec h.job) (bare_dress_on h) made taken us (drawn_is_tame nothing_drawn (telling made) (telling_is_tame made)) h.document some (few_sheets _ made h.imposes.planned.planned) l in
-    record {
-      accepted = i.0;
-      again = i.1;
-      shut = i.2;
-      with_trailer = λ some. i.2 (trailer_shuts taken us h.document some);
-    }
-
 pub wrote_document : WroteDocument
 wrote_document r input old text done (inl h) l =
     let e = sym (behind old text _ h.written) in
     subst (IsDocumentAgain (frame_used r done) (sheets_named h) h.units) e
     (spec_again r input old text done h (subst (λ t. length t ≤ most_input_bytes) (sym e) l))
-wrote_document r input old text done (inr (inl h)) l =
+wrote_document r input old text done (inr h) l =
     λ some. let e = sym (behind old text _ h.imposes.written) in
     subst (IsMadeDocument (border_on h.job) (dress_on h) h.imposes.made h.job.document.now) e
     (row_again r input old text done h (subst (λ t. length t ≤ most_input_bytes) (sym e) l) some)
-wrote_document r input old text done (inr (inr h)) l =
-    λ some. let e = sym (behind old text _ h.imposes.written) in
-    subst (IsMadeDocument (border_by_spec h.job) (bare_dress_on h) h.imposes.made h.job.document.now) e
-    (spec_row_again r input old text done h (subst (λ t. length t ≤ most_input_bytes) (sym e) l) some)

@@ -6,13 +6,14 @@ use Rattle.rules.specs.Papers.{Paper}
 use Rattle.rules.specs.Choice.{RowFault}
 use Rattle.rules.specs.Made.{MadeSheet}
 use Rattle.rules.specs.Rows.{Row}
+use Rattle.rules.specs.Specification.{Spec}
 use Rattle.row_runs.specs.declared.sheet_request.Laying.{Laying}
 use Rattle.row_runs.specs.declared.sheet_request.Laying.TheVariants as laying
 use Rattle.impose_words.specs.declared.request.Layout.{Layout}
 use Rattle.impose_words.specs.declared.request.Layout.TheVariants as layout
 use Rattle.impose_words.specs.declared.request.Spacing.{Spacing}
 use Rattle.impose_cli.specs.Laws.{GuardIsOfFirst, IsOfFirst}
-use Rattle.impose_cli.specs.RowTasks.{cells_paper, first_paper, guarded_in, laying_in, sheet_paper_in}
+use Rattle.impose_cli.specs.RowTasks.{TakesNamed, cells_paper, first_paper, guarded_in, laying_in, sheet_paper_in}
 
 of_first : (sheet other : MadeSheet) (more all : List MadeSheet) → sheet ∷ more ≡ other ∷ all → other.paper ≡ sheet.paper
 of_first sheet other more all e = ap paper_of (sym e)
@@ -46,6 +47,16 @@ by_layout layout.Zine s page sheet found papers row l is chosen = is_laid papers
 by_layout (layout.Spec specs) s page sheet found papers row l is chosen = absurd (none-some l is)
 by_layout (layout.SpecRow specs signing) s page sheet found papers row l is chosen = absurd (none-some l is)
 
+-- a specification's sheets have one paper
+by_name : (how : Layout) (spec : Spec) (first sheet given : Paper) → TakesNamed how spec → given ≡ sheet → given ≡ guarded_in how first sheet
+by_name (layout.SpecRow specs signing) spec first sheet given named is = is
+by_name other spec first sheet given named is = absurd named
+
 pub guard_is_of_first : GuardIsOfFirst
-guard_is_of_first r papers page_paper row l is chosen =
-    by_layout r.layout r.spacing (cells_paper r page_paper) (sheet_paper_in r.layout r.sheet_paper (cells_paper r page_paper)) _ papers row l is chosen
+guard_is_of_first r papers page_paper row (laying.BySpec spec sheet page) is chosen = by_name r.layout spec.now _ _ sheet is.0 is.1
+guard_is_of_first r papers page_paper row (laying.AsTheyAre blank) is chosen =
+    by_layout r.layout r.spacing (cells_paper r page_paper) (sheet_paper_in r.layout r.sheet_paper (cells_paper r page_paper)) _ papers row (laying.AsTheyAre blank) is chosen
+guard_is_of_first r papers page_paper row (laying.InCells t way) is chosen =
+    by_layout r.layout r.spacing (cells_paper r page_paper) (sheet_paper_in r.layout r.sheet_paper (cells_paper r page_paper)) _ papers row (laying.InCells t way) is chosen
+guard_is_of_first r papers page_paper row (laying.Poster p) is chosen =
+    by_layout r.layout r.spacing (cells_paper r page_paper) (sheet_paper_in r.layout r.sheet_paper (cells_paper r page_paper)) _ papers row (laying.Poster p) is chosen

@@ -7,7 +7,6 @@ pub mod Counted
 pub mod Coming
 pub mod Ending
 pub mod Rows
-pub mod SpecRows
 pub mod Looking
 pub mod Again
 pub mod Examples

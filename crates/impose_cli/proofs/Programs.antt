@@ -112,7 +112,6 @@ shown_whole l name r input tells text (Err f) world rest written told h = inr (t
 
 lays : (l : Layout) → lays_rows l ≡ true → LaysRows l
 lays (layout.Spec specs) e = cc
-lays (layout.SpecRow specs signing) e = cc
 lays other e = tt
 
 -- only a layout that lays rows is asked for a plan or a picture

@@ -1,8 +1,9 @@
 -- What comes of a task with a row, and of a request.
-use Rattle.std.proofs.Common.{◌≡◌, ◌⊎◌, ◌∙◌, ap, sym, subst, refl, arith, inl, inr, true, List, ℕ, Option, Some, None, Result, Ok, Err}
+use Rattle.std.proofs.Common.{◌≡◌, ◌⊎◌, ◌∙◌, ap, ap₂, sym, subst, refl, arith, inl, inr, Bool, Bor, true, false, true≢false, List, ℕ, Option, Some, None, Result, Ok, Err}
 use Rattle.std.specs.Prelude.{IfSome, length, map, option_map, string_bytes}
 use Rattle.rules.specs.Rows.{Row}
 use Rattle.rules.specs.Papers.{Paper}
+use Rattle.rules.specs.Specification.{Spec}
 use Rattle.std.proofs.lemmas.List.{length-map}
 use Rattle.papers.specs.Media.{header, trailer_lines, usual_in}
 use Rattle.papers.specs.Own.{own_paper, papers_of_each_page}
@@ -28,12 +29,17 @@ use Rattle.dsc.specs.declared.parts.Parts.{Parts}
 use Rattle.impose_messages.specs.declared.finished.PaperOrigin.{PaperOrigin}
 use Rattle.impose_cli.specs.Claims.{IsToldBy}
 use Rattle.impose_messages.specs.declared.finished.Claims.{Claims}
-use Rattle.impose_cli.specs.Tasks.{HasBehind, HasPageCount}
-use Rattle.impose_cli.specs.Refusals.{RefusesDocument, RefusesFor, RefusesOptions, RefusesRowTask}
+use Rattle.impose_cli.specs.Tasks.{HasBehind, HasPageCount, page_paper_found}
+use Rattle.impose_cli.specs.Refusals.{HasGoodName, RefusesDocument, RefusesFor, RefusesNamed, RefusesOptions, RefusesRowLayout, RefusesRowTask}
 use Rattle.impose_cli.specs.Reaches.{HasReachOver, reach_in, reach_over}
 use Rattle.papers.specs.declared.reach.Reach.{Reach}
-use Rattle.impose_cli.specs.RowTasks.{ArePapersOf, cut_in, papers_in, papers_to_place, row_paper, text_for, why_no_row, FinishesRow, ImposesTask, IsJobOf, IsRowJob, IsRowPaper, IsRowTask, LaysRows, HasReach, cells_paper, counted_in, own_in, row_papers}
+use Rattle.impose_cli.specs.RowTasks.{ArePapersOf, cut_in, papers_in, papers_to_place, row_paper, text_for, why_no_row, FinishesRow, ImposesTask, IsJobOf, IsRowJob, IsRowPaper, IsRowTask, LaysRows, HasReach, IsLaidBy, IsLaidSo, IsLayingOf, LaysSo, TakesNamed, cells_paper, counted_among, counted_in, has_cuts_apart, laying_in, own_in, paper_for, row_papers, sheet_paper_in}
 use Rattle.impose_cli.specs.Taken.{HasTaken, row_in, taken_below, taken_in}
+use Rattle.row_runs.specs.declared.sheet_request.Laying.{Laying}
+use Rattle.row_runs.specs.declared.sheet_request.Laying.TheVariants as laying
+use Rattle.impose_words.specs.declared.request.Spacing.{Spacing}
+use Rattle.impose_cli.specs.declared.laying.RowLaying.{RowLaying}
+use Rattle.impose_cli.specs.declared.laying.RowLaying.TheVariants as row
 use Rattle.world.specs.declared.rest.Rest.{Rest}
 use Rattle.world.specs.declared.rest.Rest.TheVariants.{World}
 use Rattle.impose_messages.specs.declared.fault.ImposeFault.{ImposeFault}
@@ -43,13 +49,41 @@ use Rattle.impose_words.specs.declared.request.ImposeRequest.{ImposeRequest}
 use Rattle.impose_cli.specs.declared.row_task.RowTask.{RowTask}
 use Rattle.impose_messages.specs.declared.finished.Done.{Done}
 
+-- no layout lays a row by a specification in its own way
+abbrev is_by_spec : Option Laying → Bool
+is_by_spec (Some (laying.BySpec spec sheet page)) = true
+is_by_spec other = false
+
+never_by_spec : (l : Layout) (s : Spacing) (page sheet : Paper) → is_by_spec (laying_in l s page sheet) ≡ false
+never_by_spec (layout.Booklet signing long_edge) s page sheet = refl
+never_by_spec (layout.Poster columns rows) s page sheet = refl
+never_by_spec layout.Selection s page sheet = refl
+never_by_spec (layout.Spec specs) s page sheet = refl
+never_by_spec (layout.SpecRow specs signing) s page sheet = refl
+never_by_spec other s page sheet = refl
+
+plainly : (l : Layout) (s : Spacing) (page sheet : Paper) (plain : Laying) (spec : Bor Spec) (of paper : Paper) → laying_in l s page sheet ≡ Some plain → plain ≡ laying.BySpec spec of paper → ⊥
+plainly l s page sheet plain spec of paper is so = true≢false (sym (ap is_by_spec (is ∙ ap Some so)) ∙ never_by_spec l s page sheet)
+
+-- the laying of a task's is what the request asks for
+lays_by : (l : Layout) (s : Spacing) (page sheet : Paper) (own : RowLaying) (how : Laying) → IsLaidSo l s page sheet own → IsLayingOf own how → LaysSo l s page sheet how
+lays_by l s page sheet (row.Named spec of pages) (laying.BySpec named sheets paper) is so =
+    (subst (TakesNamed l) (sym so.0) is.0, so.1 ∙ is.1, so.2 ∙ is.2)
+lays_by l s page sheet (row.Named spec of pages) (laying.AsTheyAre blank) is so = absurd so
+lays_by l s page sheet (row.Named spec of pages) (laying.InCells t way) is so = absurd so
+lays_by l s page sheet (row.Named spec of pages) (laying.Poster p) is so = absurd so
+lays_by l s page sheet (row.Plain plain) (laying.BySpec named sheets paper) is so = absurd (plainly l s page sheet plain named sheets paper is (sym so))
+lays_by l s page sheet (row.Plain plain) (laying.AsTheyAre blank) is so = is ∙ ap Some (sym so)
+lays_by l s page sheet (row.Plain plain) (laying.InCells t way) is so = is ∙ ap Some (sym so)
+lays_by l s page sheet (row.Plain plain) (laying.Poster p) is so = is ∙ ap Some (sym so)
+
 pub is_row_job : (r : ImposeRequest) (input : List ℕ) (t : RowTask) (job : RowJob) → IsRowTask r input t → IsJobOf r t job → IsRowJob r input t.page_paper job
 is_row_job r input t job is of = record {
   document = ap (λ ps. document_of (text_for r ps t.page_paper input)) of.papers ∙ ap document_of (sym is.text) ∙ of.document;
   turn = of.turn;
   choice = of.choice;
   signing = of.signing ∙ is.signing;
-  laying = is.laying ∙ ap Some (sym of.laying);
+  laying = lays_by r.layout r.spacing _ _ t.laying job.asked.laying is.laying of.laying;
   possible = is.possible;
   options = (subst (λ s. IfSome s MayBeSewn) is.signing is.may_be_sewn, is.border);
   same_scale = of.same_scale;
@@ -69,20 +103,29 @@ are_papers r input us papers cut read own cuts = let same = whole input us read 
     record { units = us; document = read; own = own ∙ ap (λ t. papers_in r t us) same; cut_pages = cuts ∙ ap (λ t. cut_in r t us) same }
 
 -- papers are found one after another: the pages' own, those of the row, those that count, and those of turned pages
-pub are_placed : (r : ImposeRequest) (us : List NestedUnit) (row : Row) (own taken counted papers : List Paper) → own ≡ own_in r (bytes_of us) us
-    → row ≡ row_in r us → taken ≡ row_papers row own → counted ≡ papers_to_place r.layout taken own → papers ≡ map (cells_paper r) counted
+pub are_placed : (r : ImposeRequest) (us : List NestedUnit) (row : Row) (own taken counted papers : List Paper) (one : Paper) → own ≡ own_in r (bytes_of us) us
+    → row ≡ row_in r us → taken ≡ row_papers row own → one ≡ (row_paper r (bytes_of us) us).0 → counted ≡ papers_to_place r.layout one taken own → papers ≡ map (cells_paper r) counted
     → papers ≡ papers_in r (bytes_of us) us
-are_placed r us row own taken counted papers own_is row_is taken_is counted_is are =
-    are ∙ ap (map (cells_paper r)) (counted_is ∙ ap (λ t. papers_to_place r.layout t own) (taken_is ∙ ap (λ w. row_papers w own) row_is)
-    ∙ ap (λ o. papers_to_place r.layout (row_papers (row_in r us) o) o) own_is)
+are_placed r us row own taken counted papers one own_is row_is taken_is one_is counted_is are =
+    are ∙ ap (map (cells_paper r)) (counted_is ∙ ap (λ p. papers_to_place r.layout p taken own) one_is
+    ∙ ap (λ t. papers_to_place r.layout (row_paper r (bytes_of us) us).0 t own) (taken_is ∙ ap (λ w. row_papers w own) row_is)
+    ∙ ap (λ o. papers_to_place r.layout (row_paper r (bytes_of us) us).0 (row_papers (row_in r us) o) o) own_is)
+
+-- the paper for which sheets and cells are made
+pub is_counted : (r : ImposeRequest) (us : List NestedUnit) (row : Row) (own taken : List Paper) (found : Paper × PaperOrigin) (one : Paper) → own ≡ own_in r (bytes_of us) us → row ≡ row_in r us → taken ≡ row_papers row own
+    → found ≡ paper_for r.layout (page_paper_found r.page_paper r.default_paper (bytes_of us)) taken → one ≡ counted_among r.layout taken found.0 → one ≡ (row_paper r (bytes_of us) us).0
+is_counted r us row own taken found one own_is row_is taken_is found_is one_is =
+    let papers : taken ≡ row_papers (row_in r us) (own_in r (bytes_of us) us) = taken_is ∙ ap₂ row_papers row_is own_is in
+    let first = found_is ∙ ap (paper_for r.layout (page_paper_found r.page_paper r.default_paper (bytes_of us))) papers in
+    one_is ∙ ap₂ (λ (t : List Paper) (f : Paper × PaperOrigin). counted_among r.layout t f.0) papers first
 
 pub is_row_paper : (r : ImposeRequest) (input : List ℕ) (us : List NestedUnit) (found : Paper × PaperOrigin) → document_of input ≡ Ok us
     → found ≡ row_paper r (bytes_of us) us → IsRowPaper r input found
 is_row_paper r input us found read e = (us, read, e ∙ ap (λ t. row_paper r t us) (whole input us read))
 
 pub has_reach : (r : ImposeRequest) (input : List ℕ) (us : List NestedUnit) (reach : Option Reach) → document_of input ≡ Ok us
-    → reach ≡ reach_in true r (counted_in r (bytes_of us) us) (bytes_of us) us → HasReach r input reach
-has_reach r input us reach read e = (us, read, e ∙ ap (λ t. reach_in true r (counted_in r t us) t us) (whole input us read))
+    → reach ≡ reach_in (has_cuts_apart r.layout) r (counted_in r (bytes_of us) us) (bytes_of us) us → HasReach r input reach
+has_reach r input us reach read e = (us, read, e ∙ ap (λ t. reach_in (has_cuts_apart r.layout) r (counted_in r t us) t us) (whole input us read))
 
 pub has_reach_over : (r : ImposeRequest) (input : List ℕ) (us : List NestedUnit) (paper : Paper) (reach : Option Reach) → document_of input ≡ Ok us
     → reach ≡ reach_over r paper (bytes_of us) us → HasReachOver r input paper reach
@@ -114,24 +157,43 @@ pub papers_len : (named : Option Paper) (names : List ℕ → Option Paper) (hom
 papers_len (Some paper) names home text us = length-map (pages us) (λ page. paper)
 papers_len None names home text us = length-map (pages us) (own_paper names (usual_in home text) (header text) (trailer_lines us))
 
-placed_len : (l : Layout) (taken own : List Paper) → length (papers_to_place l taken own) ≡ length own
-placed_len layout.Selection taken own = length-map own (kind_paper (kinds most_kinds taken))
-placed_len other taken own = refl
+placed_len : (l : Layout) (one : Paper) (taken own : List Paper) → length (papers_to_place l one taken own) ≡ length own
+placed_len layout.Selection one taken own = length-map own (kind_paper (kinds most_kinds taken))
+placed_len (layout.SpecRow specs signing) one taken own = length-map own (λ paper. one)
+placed_len other one taken own = refl
 
-pub as_many : (r : ImposeRequest) (us : List NestedUnit) (taken own counted papers : List Paper) (n : ℕ) → n ≡ length (pages us)
-    → own ≡ papers_of_each_page r.page_paper paper_named r.default_paper (bytes_of us) us → counted ≡ papers_to_place r.layout taken own → papers ≡ map (cells_paper r) counted
+pub as_many : (r : ImposeRequest) (us : List NestedUnit) (one : Paper) (taken own counted papers : List Paper) (n : ℕ) → n ≡ length (pages us)
+    → own ≡ papers_of_each_page r.page_paper paper_named r.default_paper (bytes_of us) us → counted ≡ papers_to_place r.layout one taken own → papers ≡ map (cells_paper r) counted
     → n ≡ length papers
-as_many r us taken own counted papers n count is placed turned = count
-    ∙ sym (ap length turned ∙ length-map counted (cells_paper r) ∙ ap length placed ∙ placed_len r.layout taken own ∙ ap length is ∙ papers_len r.page_paper paper_named r.default_paper (bytes_of us) us)
+as_many r us one taken own counted papers n count is placed turned = count
+    ∙ sym (ap length turned ∙ length-map counted (cells_paper r) ∙ ap length placed ∙ placed_len r.layout one taken own ∙ ap length is ∙ papers_len r.page_paper paper_named r.default_paper (bytes_of us) us)
 
 -- why there is no task for a document that is accepted, with sheets and cells for this paper
 abbrev pub RefusesAccepted : ImposeRequest → (page_paper : Paper) → ImposeFault → Type 0
 RefusesAccepted r page_paper f =
-    RefusesFor (why_no_row r page_paper) f ⊎ ((why_no_row r page_paper ≡ None) × RefusesOptions r f)
+    RefusesFor (why_no_row r page_paper) f ⊎ (RefusesNamed r.layout f ⊎ ((why_no_row r page_paper ≡ None) × HasGoodName r.layout × RefusesOptions r f))
 
 pub refused_after : (r : ImposeRequest) (input : List ℕ) (found : Paper × PaperOrigin) (f : ImposeFault) → IsRowPaper r input found → RefusesAccepted r found.0 f
     → RefusesRowTask r input f
 refused_after r input found f is why = inr (found, is, why)
+
+refused_so : (r : ImposeRequest) (page_paper : Paper) (f : ImposeFault) → RefusesRowLayout r.layout r.spacing (cells_paper r page_paper) (sheet_paper_in r.layout r.sheet_paper (cells_paper r page_paper)) f → RefusesAccepted r page_paper f
+refused_so r page_paper f (inl why) = inl (inr why)
+refused_so r page_paper f (inr named) = inr (inl named)
+
+-- what is said of these papers of pages and sheets is said of the request's
+as_asked : (P : (page sheet : Paper) → Type 0) (r : ImposeRequest) (page_paper page sheet : Paper) → page ≡ cells_paper r page_paper → sheet ≡ sheet_paper_in r.layout r.sheet_paper (cells_paper r page_paper)
+    → P page sheet → P (cells_paper r page_paper) (sheet_paper_in r.layout r.sheet_paper (cells_paper r page_paper))
+as_asked P r page_paper page sheet page_is sheet_is h = subst (λ p. P p (sheet_paper_in r.layout r.sheet_paper (cells_paper r page_paper))) page_is (subst (P page) sheet_is h)
+
+pub layout_refused : (r : ImposeRequest) (input : List ℕ) (found : Paper × PaperOrigin) (f : ImposeFault) (page sheet : Paper) → IsRowPaper r input found → page ≡ cells_paper r found.0
+    → sheet ≡ sheet_paper_in r.layout r.sheet_paper (cells_paper r found.0) → RefusesRowLayout r.layout r.spacing page sheet f → RefusesRowTask r input f
+layout_refused r input found f page sheet is page_is sheet_is why =
+    refused_after r input found f is (refused_so r found.0 f (as_asked (λ p s. RefusesRowLayout r.layout r.spacing p s f) r found.0 page sheet page_is sheet_is why))
+
+pub laid_as_asked : (r : ImposeRequest) (page_paper page sheet : Paper) (l : RowLaying) → page ≡ cells_paper r page_paper → sheet ≡ sheet_paper_in r.layout r.sheet_paper (cells_paper r page_paper)
+    → IsLaidSo r.layout r.spacing page sheet l → IsLaidBy r page_paper l
+laid_as_asked r page_paper page sheet l page_is sheet_is h = as_asked (λ p s. IsLaidSo r.layout r.spacing p s l) r page_paper page sheet page_is sheet_is h
 
 pub refused_found : (r : ImposeRequest) (input : List ℕ) (f : ImposeFault) → RefusesDocument input f ⊎ ((n : ℕ) × HasPageCount input n × (f ≡ without_memory)) → RefusesRowTask r input f
 refused_found r input f h = elim h [
@@ -156,7 +218,6 @@ finishes_row r input t told old new report is tells h = record {
 -- a request whose layout lays rows is refused as one on its row
 on_row : (l : Layout) (r : ImposeRequest) (input : List ℕ) (f : ImposeFault) → LaysRows l → RefusesRowRun r input f → RefusesImposing l r input f
 on_row (layout.Spec specs) r input f rows h = absurd rows
-on_row (layout.SpecRow specs signing) r input f rows h = absurd rows
 on_row other r input f rows h = h
 
 -- there is no task
@@ -177,7 +238,7 @@ row_runs r input t told tells outcome left world rest written rows is tells_it r
     subst (λ o. RunsRequest r input tells o world rest written) (sym reports)
     (comes_reported (RefusesRowTaskRun r t) (RefusesImposing r.layout r input) (ImposesTask r t) (IsImposed r input) (about_row t told) (option_map string_bytes r.outfile) tells left world rest written
     (λ f why. on_row r.layout r input f rows (inr (record { task = t; is_task = is; refused = why })))
-    (λ old new report done. inr (inl (finishes_row r input t told old new report is tells_it done))) h)
+    (λ old new report done. inr (finishes_row r input t told old new report is tells_it done)) h)
 
 -- what comes of its job comes of a task
 pub task_comes : {V O : Type 0} (r : ImposeRequest) (t : RowTask) (job : RowJob) (name other : Option (List ℕ)) (tells : Edge V O) (outcome : Result Report ImposeFault) (world : V) (rest : Rest V O) (written : Option (List ℕ))

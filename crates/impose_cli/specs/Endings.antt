@@ -24,7 +24,6 @@ use Rattle.impose_messages.specs.Faults.{without_memory}
 use Rattle.impose_cli.specs.Faults.{of_asked}
 use Rattle.impose_cli.specs.Tasks.{FinishesSpec, IsTask, run_asked}
 use Rattle.impose_cli.specs.RowTasks.{FinishesRow, IsJobOf, IsRowTask}
-use Rattle.impose_cli.specs.SpecRows.{FinishesSpecRow, RefusesSpecRowRun}
 use Rattle.impose_cli.specs.Refusals.{RefusesRowTask, RefusesTask, RefusesText}
 use Rattle.world.specs.declared.rest.Rest.{Rest}
 use Rattle.world.specs.declared.rest.Rest.TheVariants.{Output, World}
@@ -172,19 +171,18 @@ RefusesRowRun r input f = RefusesRowTask r input f ⊎ RefusesInRow r input f
 
 -- ---- all of them
 
--- the request was carried out, by its specification, on its row, or by its specification on its row
+-- the request was carried out, by its specification or on its row
 abbrev pub Finishes : ImposeRequest → (input : List ℕ) → (old new : Option (List ℕ)) → Finished → Type 0
 Finishes r input old new done =
-    FinishesSpec r input old new done ⊎ (FinishesRow r input old new done ⊎ FinishesSpecRow r input old new done)
+    FinishesSpec r input old new done ⊎ FinishesRow r input old new done
 
 abbrev pub IsImposed : ImposeRequest → (input : List ℕ) → (old new : Option (List ℕ)) → Done → Type 0
 IsImposed r input old new (done.Imposed finished) = Finishes r input old new finished
 IsImposed r input old new other = ⊥
 
--- its first fault: by its specification, by that on its row, or on the row of another layout
+-- its first fault: by its specification, or on the row of another layout
 abbrev pub RefusesImposing : Layout → ImposeRequest → (input : List ℕ) → ImposeFault → Type 0
 RefusesImposing (layout.Spec specs) r input f = RefusesSpecRun r input f
-RefusesImposing (layout.SpecRow specs signing) r input f = RefusesSpecRowRun r input f
 RefusesImposing other r input f = RefusesRowRun r input f
 
 -- what comes of a request to impose this input

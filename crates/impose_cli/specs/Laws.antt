@@ -15,12 +15,11 @@ use Rattle.rules.specs.Dress.{Dress}
 use Rattle.imposed_again.specs.Again.{IsAgain, depth_behind, sheet_texts}
 use Rattle.imposed_again.specs.MadeAgain.{IsMadeAgain, made_texts}
 use Rattle.papers.specs.Told.{telling}
-use Rattle.dressing.specs.Numbered.{drawn_on, nothing_drawn}
+use Rattle.dressing.specs.Numbered.{drawn_on}
 use Rattle.row_runs.specs.Runs.{border_on, drawn_of}
-use Rattle.row_runs.specs.BySpec.{border_by_spec}
 use Rattle.row_runs.specs.declared.sheet_request.Laying.{Laying}
 use Rattle.row_runs.specs.declared.sheet_request.Laying.TheVariants as laying
-use Rattle.impose_cli.specs.RowTasks.{guarded_paper, laying_by}
+use Rattle.impose_cli.specs.RowTasks.{LaysBy, guarded_paper}
 use Rattle.impose_cli.specs.Tasks.{FinishesSpec, frame_used}
 use Rattle.impose_words.specs.Choices.{choice_in}
 use Rattle.impose_cli.specs.Endings.{Finishes}
@@ -55,12 +54,9 @@ abbrev pub IsAgainFor : {r : ImposeRequest} {input : List ℕ} {old new : Option
     → Finishes r input old new done → (text : List ℕ) → Type 0
 IsAgainFor {r} {input} {old} {new} {done} (inl h) text =
     IsDocumentAgain (frame_used r done) (sheets_named h) h.units text
-IsAgainFor (inr (inl h)) text =
+IsAgainFor (inr h) text =
     0 < length h.imposes.made
     → IsMadeDocument (border_on h.job) (drawn_on (drawn_of h.job) (telling h.imposes.made)) h.imposes.made h.job.document.now text
-IsAgainFor (inr (inr h)) text =
-    0 < length h.imposes.made
-    → IsMadeDocument (border_by_spec h.job) (drawn_on nothing_drawn (telling h.imposes.made)) h.imposes.made h.job.document.now text
 
 -- what was appended for a request that was carried out is a document again, if it has no more than 2^30 bytes
 abbrev pub WroteDocument : Type 0
@@ -69,14 +65,15 @@ WroteDocument =
     → (h : Finishes r input (Some old) (Some (old ++ text)) done) → length text ≤ most_input_bytes
     → IsAgainFor h text
 
--- the first sheet of a laying has this paper: in cells and on posters they all have one
+-- the first sheet of a laying has this paper: in cells, on posters and by a specification they all have one
 abbrev pub IsOfFirst : Laying → List Paper → Row → Paper → Type 0
 IsOfFirst (laying.AsTheyAre blank) papers row paper =
     (sheet : MadeSheet) (more : List MadeSheet) → selected papers blank row ≡ sheet ∷ more → sheet.paper ≡ paper
 IsOfFirst (laying.InCells t how) papers row paper = t.room.paper ≡ paper
 IsOfFirst (laying.Poster p) papers row paper = p.sheet ≡ paper
+IsOfFirst (laying.BySpec spec sheet page) papers row paper = sheet ≡ paper
 
 -- the guard sets the page size of the first sheet that is made, as by `impose select 1-`: a law
 abbrev pub GuardIsOfFirst : Type 0
-GuardIsOfFirst = (r : ImposeRequest) (papers : List Paper) (page_paper : Paper) (row : Row) (l : Laying) → laying_by r page_paper ≡ Some l
+GuardIsOfFirst = (r : ImposeRequest) (papers : List Paper) (page_paper : Paper) (row : Row) (l : Laying) → LaysBy r page_paper l
     → imposed_row (length papers) (choice_in r.choice) None ≡ Ok row → IsOfFirst l papers row (guarded_paper r papers page_paper)

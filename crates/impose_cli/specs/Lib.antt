@@ -9,7 +9,6 @@ pub mod Tasks
 pub mod RowRuns
 pub mod RowTasks
 pub mod Refusals
-pub mod SpecRows
 pub mod Endings
 pub mod Abouts
 pub mod Looks

@@ -3,15 +3,10 @@ use Rattle.std.specs.Prelude.{◌≡◌, ◌≢◌, ◌⊎◌, ℕ, ◌==◌, �
 use Rattle.std.specs.Ordering.{int_eq}
 use Rattle.std.specs.Str.{bytes_eq}
 use Rattle.rules.specs.Papers.{Paper}
-use Rattle.rules.specs.Specification.{Spec}
-use Rattle.rules.specs.Admissible.{Takes, most_slots}
 use Rattle.rules.specs.Choice.{NotARange, row_of_text}
 use Rattle.rows.specs.declared.error.RowError.TheVariants as row
-use Rattle.pagespec.specs.Refusals.{IsSyntaxPlace, IsRefusal}
-use Rattle.pagespec.specs.declared.error.SpecError.{SpecError}
-use Rattle.imposer.specs.Outcomes.{of_spec}
 use Rattle.impose_cli.specs.RowTasks.{cells_of_layout, cells_paper, sheet_paper_in, why_no_layout}
-use Rattle.impose_cli.specs.Refusals.{RefusesLayout}
+use Rattle.impose_cli.specs.Refusals.{IsSpecification, RefusesLayout, RefusesSpecification}
 use Rattle.impose_words.specs.declared.request.Spacing.{Spacing}
 use Rattle.impose_words.specs.declared.request.Layout.{Layout}
 use Rattle.impose_words.specs.declared.request.Layout.TheVariants as layout
@@ -27,14 +22,6 @@ use Rattle.impose_messages.specs.declared.fault.IdleOption.{IdleOption}
 use Rattle.impose_messages.specs.declared.fault.IdleOption.TheVariants.{Sheet, CutMarks, Inner, InnerMarks, Left}
 use Rattle.impose_messages.specs.declared.fault.ImposeFault.{ImposeFault}
 use Rattle.impose_messages.specs.declared.fault.ImposeFault.TheVariants as fault
-
--- the text is that of a specification
-abbrev pub IsSpecification : (text : List ℕ) → Type 0
-IsSpecification text = (spec : Spec) × Takes most_slots text spec
-
--- the fault is the text's first, or out of memory; that of its grammar has a place in it
-abbrev pub RefusesSpecification : (text : List ℕ) → ImposeFault → Type 0
-RefusesSpecification text f = (e : SpecError) × (f ≡ fault.Run (of_spec e)) × IsRefusal text e × IsSyntaxPlace text e
 
 -- what is kept free on the sheets of a layout that has cells
 abbrev pub kept_free : Layout → Spacing → Option Free

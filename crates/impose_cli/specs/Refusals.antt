@@ -1,13 +1,17 @@
 -- What a refused request says.
-use Rattle.std.specs.Prelude.{◌≡◌, ◌⊎◌, ◌||◌, not, if◌then◌else◌, ℕ, pos, IfSome, List, Option, None, Some, Ok, Err, Bool, true, false}
+use Rattle.std.specs.Prelude.{◌≡◌, ◌⊎◌, ⊤, string_bytes, ◌||◌, not, if◌then◌else◌, ℕ, pos, IfSome, List, Option, None, Some, Ok, Err, Bool, true, false}
 use Rattle.std.specs.Ordering.{int_eq}
+use Rattle.rules.specs.Admissible.{Takes, most_slots}
 use Rattle.rules.specs.Papers.{Paper}
+use Rattle.rules.specs.Specification.{Spec}
+use Rattle.pagespec.specs.Refusals.{IsSyntaxPlace, IsRefusal}
+use Rattle.pagespec.specs.declared.error.SpecError.{SpecError}
 use Rattle.rules.specs.Parts.{NestedUnit}
 use Rattle.rules.specs.Run.{document_of}
 use Rattle.imposer.specs.declared.outcome.RunError.TheVariants as run
 use Rattle.dsc.specs.declared.errors.DscError.{DscError}
 use Rattle.dsc.specs.Faults as dsc
-use Rattle.imposer.specs.Outcomes.{of_document as of_read}
+use Rattle.imposer.specs.Outcomes.{of_document as of_read, of_spec}
 use Rattle.impose_messages.specs.Faults.{without_memory}
 use Rattle.impose_messages.specs.Inputs.{refused_document}
 use Rattle.impose_cli.specs.RowTasks.{HasOptions, IsRowPaper, TellsOnePaper, has_specification, is_of_one_paper, why_no_row, why_no_layout}
@@ -46,6 +50,24 @@ RefusesLayout l s page_paper sheet_paper f = why_no_layout l s page_paper sheet_
 -- out of memory, or this fault, if there is one
 abbrev pub RefusesFor : Option ImposeFault → ImposeFault → Type 0
 RefusesFor found f = (f ≡ without_memory) ⊎ (found ≡ Some f)
+
+-- the text is that of a specification
+abbrev pub IsSpecification : (text : List ℕ) → Type 0
+IsSpecification text = (spec : Spec) × Takes most_slots text spec
+
+-- the fault is the text's first, or out of memory; that of its grammar has a place in it
+abbrev pub RefusesSpecification : (text : List ℕ) → ImposeFault → Type 0
+RefusesSpecification text f = (e : SpecError) × (f ≡ fault.Run (of_spec e)) × IsRefusal text e × IsSyntaxPlace text e
+
+-- the text that the layout names for a row is that of a specification, if it names one
+abbrev pub HasGoodName : Layout → Type 0
+HasGoodName (layout.SpecRow specs signing) = IsSpecification (string_bytes specs)
+HasGoodName other = ⊤
+
+-- or it is refused as none
+abbrev pub RefusesNamed : Layout → ImposeFault → Type 0
+RefusesNamed (layout.SpecRow specs signing) f = RefusesSpecification (string_bytes specs) f
+RefusesNamed other f = ⊥
 
 -- ---- a task by a specification
 
@@ -103,10 +125,15 @@ HasOnePaper r input paper = (has_specification r.layout ≡ false) ⊎ TellsOneP
 abbrev pub RefusesOptions : ImposeRequest → ImposeFault → Type 0
 RefusesOptions r f = (f ≡ fault.Run run.Options) × (HasOptions r → ⊥)
 
--- why there is no task with a row: the document is refused; or it isn't, and the layout is; or it isn't, and the options are.
--- Out of memory may come in place of what follows the document (RULES, 16, steps 7, 9, 10)
+-- why a row isn't laid: the layout can't lay it, or names no specification for it
+abbrev pub RefusesRowLayout : Layout → Spacing → (page_paper sheet_paper : Paper) → ImposeFault → Type 0
+RefusesRowLayout l s page_paper sheet_paper f = RefusesLayout l s page_paper sheet_paper f ⊎ RefusesNamed l f
+
+-- why there is no task with a row: the document is refused; or it isn't, and the layout is, or the specification that it names;
+-- or they aren't, and the options are. Out of memory may come in place of what follows the document (RULES, 16, steps 7, 9, 10)
 abbrev pub RefusesRowTask : ImposeRequest → (input : List ℕ) → ImposeFault → Type 0
 RefusesRowTask r input f =
     RefusesDocument input f
     ⊎ ((found : Paper × PaperOrigin) × IsRowPaper r input found
-    × (RefusesFor (why_no_row r found.0) f ⊎ ((why_no_row r found.0 ≡ None) × RefusesOptions r f)))
+    × (RefusesFor (why_no_row r found.0) f
+    ⊎ (RefusesNamed r.layout f ⊎ ((why_no_row r found.0 ≡ None) × HasGoodName r.layout × RefusesOptions r f))))

@@ -6,13 +6,11 @@ use Rattle.rules.specs.Output.{Border}
 use Rattle.rules.specs.Made.{MadeSheet}
 use Rattle.rules.specs.MadePlans.{made_layout}
 use Rattle.sheet_plan.specs.Places.{born_complete}
-use Rattle.dressing.specs.Numbered.{Drawn, nothing_drawn}
+use Rattle.dressing.specs.Numbered.{Drawn}
 use Rattle.imposer.specs.declared.outcome.Report.{Report}
 use Rattle.row_runs.specs.SheetsRuns.{told_output}
 use Rattle.row_runs.specs.Runs.{ArePlanned, border_on, drawn_of, output_on}
-use Rattle.row_runs.specs.BySpec.{AreSpecPlan, border_by_spec, output_by_spec}
 use Rattle.row_runs.specs.declared.run.RowJob.{RowJob}
-use Rattle.row_runs.specs.declared.by_spec.SpecJob.{SpecJob}
 
 -- the numbers of a report
 pub record ReportsOn (border : Option Border) (drawn : Drawn) (all : List MadeSheet) (us : List NestedUnit) (report : Report)
@@ -24,16 +22,9 @@ pub record ReportsOn (border : Option Border) (drawn : Drawn) (all : List MadeSh
   pub byte_count : report.bytes ≡ length (told_output border drawn all us)
 
 -- exactly the output of the sheets that are asked for was appended, and the report has its numbers: so these pages are
--- printed in this order, each at its place, and nothing else; but on posters they lie inside and apart
+-- printed in this order, each at its place, and nothing else; but on posters and by a specification they lie inside and apart
 pub record Imposes (j : RowJob) (old new : Option (List ℕ)) (done : Report) : Type 0 where
   pub made : List MadeSheet
   pub planned : ArePlanned j made
   pub written : Appends old new (output_on j made)
   pub report : ReportsOn (border_on j) (drawn_of j) made j.document.now done
-
--- exactly the output of these sheets was appended, with the lines that report their papers, and the report has its numbers
-pub record ImposesBySpec (j : SpecJob) (old new : Option (List ℕ)) (done : Report) : Type 0 where
-  pub made : List MadeSheet
-  pub planned : AreSpecPlan j made
-  pub written : Appends old new (output_by_spec j made)
-  pub report : ReportsOn (border_by_spec j) nothing_drawn made j.document.now done

@@ -1,8 +1,10 @@
 -- What is imposed of a row of pages, and how: a request for a document, if its layout lays rows on sheets.
-use Rattle.std.specs.Prelude.{◌≡◌, ⊤, ℕ, ◌+◌, Bool, true, false, ◌&&◌, if◌then◌else◌, List, [], ◌∷◌, length, Option, Some, None, Result, Ok, Err, IfSome, option_map, option_and_then, map, slice_get, ◌||◌, not}
+use Rattle.std.specs.Prelude.{◌≡◌, ⊤, string_bytes, ℕ, ◌+◌, Bool, true, false, ◌&&◌, if◌then◌else◌, List, [], ◌∷◌, length, Option, Some, None, Result, Ok, Err, IfSome, option_map, option_and_then, map, slice_get, ◌||◌, not}
 use Rattle.std.specs.List.{list_all}
 use Rattle.std.specs.Ordering.{int_eq}
+use Rattle.rules.specs.Admissible.{Takes, most_slots}
 use Rattle.rules.specs.Papers.{Paper}
+use Rattle.rules.specs.Specification.{Spec}
 use Rattle.rules.specs.Parts.{NestedUnit, pages}
 use Rattle.rules.specs.Run.{document_of}
 use Rattle.rules.specs.Choice.{RowFault, imposed_row}
@@ -52,6 +54,8 @@ use Rattle.impose_words.specs.declared.request.ImposeRequest.{ImposeRequest}
 use Rattle.impose_messages.specs.declared.finished.Finished.{Finished}
 use Rattle.impose_messages.specs.declared.finished.PaperOrigin.{PaperOrigin}
 use Rattle.impose_messages.specs.declared.finished.PaperOrigin.TheVariants.{FirstPage}
+use Rattle.impose_cli.specs.declared.laying.RowLaying.{RowLaying}
+use Rattle.impose_cli.specs.declared.laying.RowLaying.TheVariants as row
 use Rattle.impose_cli.specs.declared.row_task.RowTask.{RowTask}
 
 -- how a layout's row is sewn
@@ -98,7 +102,7 @@ poster_in s columns rows sheet = record {
   overlap = rounded_up s.overlap;
 }
 
--- how a layout lays a row of pages of a paper on sheets, if it does (RULES, 14)
+-- how a layout lays a row of pages of a paper on sheets, if it does and names no specification for it (RULES, 14)
 abbrev pub laying_in : Layout → Spacing → (page_paper sheet_paper : Paper) → Option Laying
 laying_in (layout.Booklet signing long_edge) s page sheet =
     Some (laying.InCells (binding_setting_of sheet (binding_in s long_edge)) (scheme.Booklet long_edge (rounded_down s.creep)))
@@ -143,12 +147,43 @@ why_no_layout l s page sheet =
 abbrev pub cells_paper : ImposeRequest → (page_paper : Paper) → Paper
 cells_paper r page_paper = turned_paper (turn_of r.turn) page_paper
 
--- how a request lays pages of this paper on its sheets, if it does
-abbrev pub laying_by : ImposeRequest → (page_paper : Paper) → Option Laying
-laying_by r page_paper = let paper = cells_paper r page_paper in
-    laying_in r.layout r.spacing paper (sheet_paper_in r.layout r.sheet_paper paper)
+-- the layout names this specification for a row
+abbrev pub TakesNamed : Layout → Spec → Type 0
+TakesNamed (layout.SpecRow specs signing) spec = Takes most_slots (string_bytes specs) spec
+TakesNamed other spec = ⊥
 
--- and why it can't
+-- a layout lays a row of pages of this paper so on sheets of that: by the specification that it names, or in its own way
+abbrev pub LaysSo : Layout → Spacing → (page_paper sheet_paper : Paper) → Laying → Type 0
+LaysSo l s page_paper sheet_paper (laying.BySpec spec sheet page) = TakesNamed l spec.now × (sheet ≡ sheet_paper) × (page ≡ page_paper)
+LaysSo l s page_paper sheet_paper other = laying_in l s page_paper sheet_paper ≡ Some other
+
+-- the same of the laying of a task, to which the specification belongs
+abbrev pub IsLaidSo : Layout → Spacing → (page_paper sheet_paper : Paper) → RowLaying → Type 0
+IsLaidSo l s page_paper sheet_paper (row.Named spec sheet page) = TakesNamed l spec × (sheet ≡ sheet_paper) × (page ≡ page_paper)
+IsLaidSo l s page_paper sheet_paper (row.Plain how) = laying_in l s page_paper sheet_paper ≡ Some how
+
+-- the laying that a task's is
+abbrev pub IsLayingOf : RowLaying → Laying → Type 0
+IsLayingOf (row.Plain how) l = l ≡ how
+IsLayingOf (row.Named spec sheet page) (laying.BySpec named sheet_paper page_paper) =
+    (named.now ≡ spec) × (sheet_paper ≡ sheet) × (page_paper ≡ page)
+IsLayingOf (row.Named spec sheet page) other = ⊥
+
+-- a task may be laid; by a specification it always may
+abbrev pub MayBeLaidSo : RowLaying → Type 0
+MayBeLaidSo (row.Plain how) = MayBeLaid how
+MayBeLaidSo (row.Named spec sheet page) = ⊤
+
+-- a request lays pages of this paper so on its sheets
+abbrev pub LaysBy : ImposeRequest → (page_paper : Paper) → Laying → Type 0
+LaysBy r page_paper l = let paper = cells_paper r page_paper in
+    LaysSo r.layout r.spacing paper (sheet_paper_in r.layout r.sheet_paper paper) l
+
+abbrev pub IsLaidBy : ImposeRequest → (page_paper : Paper) → RowLaying → Type 0
+IsLaidBy r page_paper l = let paper = cells_paper r page_paper in
+    IsLaidSo r.layout r.spacing paper (sheet_paper_in r.layout r.sheet_paper paper) l
+
+-- why a request can't lay them so
 abbrev pub why_no_row : ImposeRequest → (page_paper : Paper) → Option ImposeFault
 why_no_row r page_paper = let paper = cells_paper r page_paper in
     why_no_layout r.layout r.spacing paper (sheet_paper_in r.layout r.sheet_paper paper)
@@ -191,8 +226,10 @@ abbrev pub or_first : Paper × PaperOrigin → Option Paper → Paper × PaperOr
 or_first found None = found
 or_first found (Some first) = (first, FirstPage)
 
-abbrev pub paper_for : Paper × PaperOrigin → (taken : List Paper) → Paper × PaperOrigin
-paper_for found taken = or_first found (first_instead_of found.0 taken)
+-- a specification places all pages by the document's paper
+abbrev pub paper_for : Layout → Paper × PaperOrigin → (taken : List Paper) → Paper × PaperOrigin
+paper_for (layout.SpecRow specs signing) found taken = found
+paper_for other found taken = or_first found (first_instead_of found.0 taken)
 
 -- a selection's counts among those of the row's pages as theirs do, since its blanks lie between these (RULES, 12.5)
 abbrev pub counted_among : Layout → (taken : List Paper) → Paper → Paper
@@ -206,27 +243,36 @@ counted_for l taken found = (counted_among l taken found.0, found.1)
 -- near to it, and else that of the row's first page (RULES, 12.5)
 abbrev pub row_paper : ImposeRequest → (input : List ℕ) → List NestedUnit → Paper × PaperOrigin
 row_paper r input us = let taken = row_papers (row_in r us) (own_in r input us) in
-    counted_for r.layout taken (paper_for (page_paper_found r.page_paper r.default_paper input) taken)
+    counted_for r.layout taken (paper_for r.layout (page_paper_found r.page_paper r.default_paper input) taken)
 
 abbrev pub IsRowPaper : ImposeRequest → (input : List ℕ) → Paper × PaperOrigin → Type 0
 IsRowPaper r input found = (us : List NestedUnit) × (document_of input ≡ Ok us) × (found ≡ row_paper r input us)
 
--- the papers of the pages: each its own. A selection puts pages whose papers count as one on one (RULES, 12.4)
-abbrev pub papers_to_place : Layout → (taken own : List Paper) → List Paper
-papers_to_place layout.Selection taken own = merge_near_sizes taken own
-papers_to_place other taken own = own
+-- the papers of the pages: each its own. A selection puts pages whose papers count as one on one (RULES, 12.4), and a
+-- specification places all by one
+abbrev pub papers_to_place : Layout → (one : Paper) → (taken own : List Paper) → List Paper
+papers_to_place layout.Selection one taken own = merge_near_sizes taken own
+papers_to_place (layout.SpecRow specs signing) one taken own = map (λ paper. one) own
+papers_to_place other one taken own = own
 
 abbrev pub counted_in : ImposeRequest → (input : List ℕ) → List NestedUnit → List Paper
-counted_in r input us = let own = own_in r input us in papers_to_place r.layout (row_papers (row_in r us) own) own
+counted_in r input us = let own = own_in r input us in
+    papers_to_place r.layout (row_paper r input us).0 (row_papers (row_in r us) own) own
 
 -- by which the pages are placed, once they are turned
 abbrev pub papers_in : ImposeRequest → (input : List ℕ) → List NestedUnit → List Paper
 papers_in r input us = map (cells_paper r) (counted_in r input us)
 
+-- pages that the named paper cuts are reported apart from those that reach beyond their papers, but by a specification
+abbrev pub has_cuts_apart : Layout → Bool
+has_cuts_apart (layout.SpecRow specs signing) = false
+has_cuts_apart other = true
+
 -- the document is accepted, and these of its pages reach beyond their papers
 abbrev pub HasReach : ImposeRequest → (input : List ℕ) → Option Reach → Type 0
 HasReach r input reach =
-    (us : List NestedUnit) × (document_of input ≡ Ok us) × (reach ≡ reach_in true r (counted_in r input us) input us)
+    (us : List NestedUnit) × (document_of input ≡ Ok us)
+    × (reach ≡ reach_in (has_cuts_apart r.layout) r (counted_in r input us) input us)
 
 -- a specification is made for the layout
 abbrev pub has_specification : Layout → Bool
@@ -259,7 +305,7 @@ cut_by_named (Some named) row input us = cut_on row named (papers_of_each_page N
 
 -- RULES, 17
 abbrev pub cut_in : ImposeRequest → (input : List ℕ) → List NestedUnit → Option Cut
-cut_in r input us = cut_by_named r.page_paper (row_in r us) input us
+cut_in r input us = cut_by_named (if has_cuts_apart r.layout then r.page_paper else None) (row_in r us) input us
 
 -- the document is accepted, and its pages have these papers, of which the named one cuts these
 pub record ArePapersOf (r : ImposeRequest) (input : List ℕ) (papers : List Paper) (cut : Option Cut) : Type 0 where
@@ -271,7 +317,6 @@ pub record ArePapersOf (r : ImposeRequest) (input : List ℕ) (papers : List Pap
 -- the layout lays rows on sheets
 abbrev pub LaysRows : Layout → Type 0
 LaysRows (layout.Spec specs) = ⊥
-LaysRows (layout.SpecRow specs signing) = ⊥
 LaysRows other = ⊤
 
 -- the task is what the request asks for with this document
@@ -282,9 +327,9 @@ pub record IsRowTask (r : ImposeRequest) (input : List ℕ) (t : RowTask) : Type
   pub behind : HasBehind input t.behind
   pub taken : HasTaken r input t.taken
   pub text : t.text.items ≡ text_for r t.papers.items t.page_paper input
-  pub laying : laying_by r t.page_paper ≡ Some t.laying
+  pub laying : IsLaidBy r t.page_paper t.laying
   pub possible : why_no_row r t.page_paper ≡ None
-  pub may_be_laid : MayBeLaid t.laying
+  pub may_be_laid : MayBeLaidSo t.laying
   pub signing : t.signing ≡ signing_in r.layout
   pub may_be_sewn : IfSome t.signing MayBeSewn
   pub border : is_border r.border ≡ true
@@ -296,7 +341,7 @@ pub record IsJobOf (r : ImposeRequest) (t : RowTask) (job : RowJob) : Type 0 whe
   pub papers : job.papers.now ≡ t.papers.items
   pub choice : choice_of job.asked.choice ≡ choice_in r.choice
   pub signing : job.asked.signing ≡ t.signing
-  pub laying : job.asked.laying ≡ t.laying
+  pub laying : IsLayingOf t.laying job.asked.laying
   pub same_scale : job.asked.same_scale ≡ r.spacing.same_scale
   pub border : job.border ≡ r.border
   pub inset : job.inset ≡ r.spacing.free.trim
@@ -313,7 +358,7 @@ pub record IsRowJob (r : ImposeRequest) (input : List ℕ) (page_paper : Paper) 
   pub turn : job.turn ≡ r.turn
   pub choice : choice_of job.asked.choice ≡ choice_in r.choice
   pub signing : job.asked.signing ≡ signing_in r.layout
-  pub laying : laying_by r page_paper ≡ Some job.asked.laying
+  pub laying : LaysBy r page_paper job.asked.laying
   pub possible : why_no_row r page_paper ≡ None
   pub options : HasOptions r
   pub same_scale : job.asked.same_scale ≡ r.spacing.same_scale

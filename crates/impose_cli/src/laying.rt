@@ -5,6 +5,9 @@ ghost use Rattle.layouts.specs.Refusals.{most_on_sheet, why_not_arranged};
 ghost use Rattle.rows.specs.Sewing.{MayBeSewn};
 ghost use Rattle.sheet_text.specs.Jobs.{is_border};
 ghost use Rattle.row_runs.specs.Sheets.{MayBeLaid};
+ghost use Rattle.rules.specs.Admissible.{Takes, most_slots};
+ghost use Rattle.impose_cli.specs.Refusals.{HasGoodName, RefusesRowLayout, RefusesSpecification};
+ghost use Rattle.impose_cli.specs.RowTasks.{IsLaidSo, IsLayingOf, LaysRows, MayBeLaidSo};
 ghost use Rattle.impose_cli.specs.Refusals.{RefusesLayout, RefusesOptions};
 ghost use Rattle.impose_cli.specs.RowTasks.{has_even_margins as are_even, has_one_margin as are_one, is_even_enough as are_even_enough};
 ghost use Rattle.impose_cli.specs.RowTasks.{cells_of_layout, filled_in, laying_in, scheme_in, why_no_layout, why_not_placed};
@@ -21,10 +24,12 @@ use layouts::{
     rounded_down, rounded_up,
 };
 use lengths::{Grains, Paper};
+use pagespec::{Spec, read_spec};
 use row_runs::{Laying, Scheme, turned_paper};
 use row_sheets::{Poster, check_poster};
 use rows::Signing;
 use sheet_plan::are_sides;
+use std::alloc::Global;
 
 /// The papers of the pages, once they are turned, and of the sheets. A selection keeps each page on its own paper.
 pub(crate) fn papers_for(request: &ImposeRequest, page_paper: &Paper) -> Papers
@@ -40,12 +45,85 @@ pub(crate) fn papers_for(request: &ImposeRequest, page_paper: &Paper) -> Papers
     Papers { page, sheet }
 }
 
+/// How a task lays its row.
+#[derive(Drop)]
+pub(crate) enum RowLaying {
+    /// As its layout does.
+    Plain(Laying<'static>),
+    /// By the specification that its layout names, on sheets of this paper and all with pages of that one.
+    Named {
+        spec: Spec,
+        sheet: Paper,
+        page: Paper,
+    },
+}
+
+impl RowLaying {
+    /// The laying, which is lent a specification.
+    pub(crate) fn lent(&self) -> Laying<'_>
+        requires { MayBeLaidSo self.now }
+        ensures is { IsLayingOf self.now result }
+        ensures may_be { MayBeLaid result }
+    {
+        match self {
+            RowLaying::Plain(laying) => laying.lent(),
+            RowLaying::Named { spec, sheet, page } => Laying::BySpec {
+                spec,
+                sheet: *sheet,
+                page: *page,
+            },
+        }
+    }
+}
+
+/// How the layout of a request lays its row on sheets.
+pub(crate) fn row_laying(
+    alloc: Global,
+    request: &ImposeRequest,
+    papers: &Papers,
+) -> Result<RowLaying, ImposeFault>
+    requires rows { LaysRows request.now.layout }
+    ensures laying { IfOk result
+        (IsLaidSo request.now.layout request.now.spacing papers.now.page papers.now.sheet) }
+    ensures may_be { IfOk result MayBeLaidSo }
+    ensures possible { OnOk result
+        (why_no_layout request.now.layout request.now.spacing papers.now.page papers.now.sheet ≡ None) }
+    ensures named { OnOk result (HasGoodName request.now.layout) }
+    ensures refused { IfErr result
+        (RefusesRowLayout request.now.layout request.now.spacing papers.now.page papers.now.sheet) }
+{
+    if let Layout::SpecRow { specs, .. } = &request.layout {
+        let spec = spec_named(alloc, specs.as_str())?;
+        return Ok(RowLaying::Named {
+            spec,
+            sheet: papers.sheet,
+            page: papers.page,
+        });
+    }
+    match laying_for(&request.layout, &request.spacing, papers) {
+        Ok(Some(laying)) => Ok(RowLaying::Plain(laying)),
+        Ok(None) => unreachable!(),
+        Err(fault) => Err(fault),
+    }
+}
+
+/// The specification of this text.
+pub(crate) fn spec_named(alloc: Global, specs: &str) -> Result<Spec, ImposeFault>
+    ensures taken { IfOk result (λ spec. Takes most_slots specs.now spec) }
+    ensures refused { IfErr result (RefusesSpecification specs.now) }
+{
+    match read_spec(alloc, specs) {
+        Ok(spec) => Ok(spec),
+        Err(error) => Err(ImposeFault::Run(RunError::from(error))),
+    }
+}
+
 /// How the layout lays pages on sheets; None for a specification.
 pub(crate) fn laying_for(
     layout: &Layout,
     spacing: &Spacing,
     papers: &Papers,
-) -> Result<Option<Laying>, ImposeFault>
+) -> Result<Option<Laying<'static>>, ImposeFault>
     ensures laying { IfOk result (λ laying.
         laying ≡ laying_in layout.now spacing.now papers.now.page papers.now.sheet) }
     ensures may_be { IfOk result (λ laying. IfSome laying MayBeLaid) }
@@ -125,7 +203,7 @@ fn cell_laying(
     layout: &Layout,
     spacing: &Spacing,
     papers: &Papers,
-) -> Result<Option<Laying>, ImposeFault>
+) -> Result<Option<Laying<'static>>, ImposeFault>
     requires { are_even_enough layout.now spacing.now.free ≡ true }
     ensures laying { IfOk result (λ laying.
         laying ≡ Some (filled_in layout.now (cells_of_layout layout.now spacing.now) papers.now.page papers.now.sheet)) }
@@ -181,7 +259,7 @@ fn booklet_laying(
     long_edge: bool,
     spacing: &Spacing,
     papers: &Papers,
-) -> Result<Option<Laying>, ImposeFault>
+) -> Result<Option<Laying<'static>>, ImposeFault>
     ensures laying { IfOk result (λ laying.
         laying ≡ laying_in (layout.Booklet signing long_edge) spacing.now papers.now.page papers.now.sheet) }
     ensures may_be { IfOk result (λ laying. IfSome laying MayBeLaid) }
@@ -211,7 +289,7 @@ fn poster_laying(
     rows: u32,
     spacing: &Spacing,
     papers: &Papers,
-) -> Result<Option<Laying>, ImposeFault>
+) -> Result<Option<Laying<'static>>, ImposeFault>
     ensures laying { IfOk result (λ laying.
         laying ≡ laying_in (layout.Poster columns rows) spacing.now papers.now.page papers.now.sheet) }
     ensures may_be { IfOk result (λ laying. IfSome laying MayBeLaid) }

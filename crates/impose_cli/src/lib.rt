@@ -12,7 +12,6 @@ mod program;
 mod reach;
 mod row_task;
 mod runs;
-mod spec_row;
 mod taken;
 mod task;
 

@@ -3,10 +3,10 @@ ghost use Rattle.std.specs.Prelude.{IfErr, IfOk, IfSome};
 ghost use Rattle.rows.specs.Sewing.{MayBeSewn};
 ghost use Rattle.dsc.specs.Serving.{Serve};
 ghost use Rattle.row_runs.specs.Runs.{RefusesRun};
-ghost use Rattle.row_runs.specs.Sheets.{MayBeAsked, MayBeLaid};
+ghost use Rattle.row_runs.specs.Sheets.{MayBeAsked};
 ghost use Rattle.impose_cli.specs.Endings.{RefusesRowRun, RefusesRowTaskRun};
 ghost use Rattle.impose_cli.specs.Looks.{TellsSheets, TellsRow, TellsTask};
-ghost use Rattle.impose_cli.specs.RowTasks.{LaysRows};
+ghost use Rattle.impose_cli.specs.RowTasks.{LaysRows, MayBeLaidSo};
 
 use crate::row_task::{RowTask, asked_fault_of, row_task};
 use dsc::{Document, Parts};
@@ -53,7 +53,7 @@ fn task_text(
     parts: Parts,
     look: Overview,
 ) -> Result<Vec<u8>, ImposeFault>
-    requires laid { MayBeLaid task.now.laying }
+    requires laid { MayBeLaidSo task.now.laying }
     requires sewn { IfSome task.now.signing MayBeSewn }
     requires parts { Serve parts task.now.text.items }
     ensures told { IfOk result (λ text. TellsTask request.now task.now look text.items) }
@@ -71,7 +71,7 @@ fn task_text(
         asked: SheetRequest {
             choice: request.choice.as_choice(),
             signing: task.signing,
-            laying: task.laying,
+            laying: task.laying.lent(),
             same_scale: request.spacing.same_scale,
         },
         swapped: request.swaps_margins(),

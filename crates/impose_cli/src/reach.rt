@@ -26,24 +26,25 @@ fn told_own(
     page_papers(alloc, document, None, &usual)
 }
 
-/// The pages taken that reach beyond the papers by which they are placed; `own` are the papers that the request finds for the pages. Pages that a
-/// paper of the command line cuts are reported apart.
+/// The pages that reach beyond the papers by which they are placed, of those that are taken, where these are the papers that
+/// a request finds for pages. Of those that the paper cuts which is named, it says whether they are reported apart.
 pub(crate) fn reach_of_row(
     alloc: Global,
     request: &ImposeRequest,
     document: &Document<'_>,
     papers: &[Paper],
     own: &[Paper],
+    cut_apart: bool,
 ) -> Result<Option<Reach>, AllocError>
     requires { own.now ≡ papers_of_each_page request.now.page_paper paper_named request.now.default_paper (bytes_of document.now) document.now }
-    ensures { IfOk result (λ reach. reach ≡ meaning.reach_in true request.now papers.now (bytes_of document.now) document.now) }
+    ensures { IfOk result (λ reach. reach ≡ meaning.reach_in cut_apart request.now papers.now (bytes_of document.now) document.now) }
 {
     match request.page_paper {
         Some(_) => {
             let told = told_own(alloc, request, document)?;
-            reach_of_pages(alloc, request, document, papers, told.as_slice(), true)
+            reach_of_pages(alloc, request, document, papers, told.as_slice(), cut_apart)
         }
-        None => reach_of_pages(alloc, request, document, papers, own, true),
+        None => reach_of_pages(alloc, request, document, papers, own, cut_apart),
     }
 }
 

@@ -1,8 +1,7 @@
 //! The task of laying a row of pages on sheets.
 ghost use Rattle.std.specs.Prelude.{◌≡◌, ◌<◌, ◌≤◌, ◌&&◌, ◌⊎◌, ℕ, length, true, IfErr, IfOk, IfSome, IsTrue, None, Ok, IsOk, OnErr};
-ghost use Rattle.std.specs.Prelude.{option_map, string_bytes};
+ghost use Rattle.std.specs.Prelude.{if◌then◌else◌, map, option_map, string_bytes};
 ghost use Rattle.rows.specs.Sewing.{MayBeSewn};
-ghost use Rattle.row_runs.specs.Sheets.{MayBeLaid};
 ghost use Rattle.impose_cli.specs.Endings.{Comes, RefusesRowTaskRun, edge_of_world, shown};
 ghost use Rattle.rules.specs.Parts.{bytes_of};
 ghost use Rattle.sheet_text.specs.Jobs.{is_border};
@@ -14,7 +13,7 @@ ghost use Rattle.impose_words.specs.Choices.{choice_in};
 ghost use Rattle.impose_cli.specs.RowTasks.{guarded_in, first_paper as first_paper_of};
 ghost use Rattle.impose_cli.specs.RowTasks.{ArePapersOf, HasReach, ImposesTask, IsRowPaper, IsRowTask, LaysRows, counted_in};
 ghost use Rattle.std.specs.List.{list_all};
-ghost use Rattle.impose_cli.specs.RowTasks.{TellsOnePaper};
+ghost use Rattle.impose_cli.specs.RowTasks.{MayBeLaidSo, TellsOnePaper, has_cuts_apart as cuts_apart};
 ghost use Rattle.layouts.specs.Grids.{is_same as are_same};
 ghost use Rattle.impose_cli.specs.RowTasks.{counted_among, cut_by_named, cut_in, paper_for, papers_in as papers_found, papers_to_place, row_paper};
 ghost use Rattle.impose_cli.specs.Reaches.{reach_in};
@@ -25,7 +24,7 @@ ghost use Rattle.dsc.specs.PagesBehind.{pages_behind};
 ghost use Rattle.dsc.specs.Serving.{ArePartsOf, Serve};
 
 use crate::attempt::{Attempt, refused_before};
-use crate::laying::{laying_for, papers_for, signing_for};
+use crate::laying::{RowLaying, papers_for, row_laying, signing_for};
 use crate::reach::reach_of_row;
 use crate::runs::impose_job;
 use crate::taken::{papers_on_row, papers_taken, row_of_choice, taken_count};
@@ -39,7 +38,7 @@ use imposer::{Report, RunError};
 use layouts::is_of_size;
 use lengths::Paper;
 use papers::{Cut, Reach, cut_by, first_instead_of, merge_near_sizes, page_papers};
-use row_runs::{Laying, RowJob, SheetError, SheetRequest, turned_papers};
+use row_runs::{RowJob, SheetError, SheetRequest, turned_papers};
 use rows::{RowError, Signing, imposed_row};
 use std::alloc::{AllocError, Global};
 use std::sync::Wait;
@@ -63,7 +62,7 @@ pub(crate) struct RowTask {
     pub(crate) behind: usize,
     /// The number of its pages that are taken, each counted once.
     pub(crate) taken: u32,
-    pub(crate) laying: Laying,
+    pub(crate) laying: RowLaying,
     pub(crate) signing: Option<Signing>,
 }
 
@@ -81,9 +80,7 @@ pub(crate) fn row_task(
     // The document is read as it came, so that a fault has its place there.
     let (found, parts) = papers_of(alloc, request, input.as_slice())?;
     let papers = papers_for(request, &found.page_paper);
-    let Some(laying) = laying_for(&request.layout, &request.spacing, &papers)? else {
-        unreachable!()
-    };
+    let laying = row_laying(alloc, request, &papers)?;
     let signing = signing_for(request)?;
     let sheet = guarded_paper(alloc, request, &found, &papers.sheet)?;
     let text = text_to_impose(request.is_guarded, &sheet, input)?;
@@ -192,7 +189,7 @@ fn papers_in(
     ensures cut { IfOk result (λ found.
         found.cut ≡ cut_in request.now (bytes_of document.now) document.now) }
     ensures reach { IfOk result (λ found.
-        found.reach ≡ reach_in true request.now (counted_in request.now (bytes_of document.now) document.now)
+        found.reach ≡ reach_in (cuts_apart request.now.layout) request.now (counted_in request.now (bytes_of document.now) document.now)
         (bytes_of document.now) document.now) }
     ensures behind { IfOk result (λ found. found.behind ≡ pages_behind document.now) }
     ensures taken { IfOk result (λ found. found.taken ≡ taken_in request.now document.now) }
@@ -204,9 +201,22 @@ fn papers_in(
     let taken = papers_on_row(alloc, row.as_slice(), own.as_slice())?;
     let (found, origin) = paper_of_row(request, document.text(), taken.as_slice());
     let page_paper = counted_paper(alloc, &request.layout, taken.as_slice(), &found)?;
-    let counted = papers_placed(alloc, &request.layout, taken.as_slice(), own.as_slice())?;
+    let counted = papers_placed(
+        alloc,
+        &request.layout,
+        &page_paper,
+        taken.as_slice(),
+        own.as_slice(),
+    )?;
     let cut = cut_pages(alloc, request, document, row.as_slice())?;
-    let reach = reach_of_row(alloc, request, document, counted.as_slice(), own.as_slice())?;
+    let reach = reach_of_row(
+        alloc,
+        request,
+        document,
+        counted.as_slice(),
+        own.as_slice(),
+        has_cuts_apart(&request.layout),
+    )?;
     let papers = turned_papers(alloc, request.turn, counted)?;
     let count = taken_count(alloc, row.as_slice(), document.pages())?;
     Ok(FoundPapers {
@@ -221,12 +231,15 @@ fn papers_in(
     })
 }
 
-/// The paper for which sheets and cells are made: the document's, if a page that is taken has it or one near to it, or else the paper of the first
-/// page taken.
+/// The paper for which sheets and cells are made: the document's, if a page that is taken has it or one near to it, and else
+/// that of the first one taken. A specification places all pages by the document's.
 fn paper_of_row(request: &ImposeRequest, input: &[u8], taken: &[Paper]) -> (Paper, PaperOrigin)
-    ensures { result ≡ paper_for (page_paper_found request.now.page_paper request.now.default_paper input.now) taken.now }
+    ensures { result ≡ paper_for request.now.layout (page_paper_found request.now.page_paper request.now.default_paper input.now) taken.now }
 {
     let (page_paper, origin) = paper_of_pages(request, input);
+    if matches!(&request.layout, Layout::SpecRow { .. }) {
+        return (page_paper, origin);
+    }
     match first_instead_of(&page_paper, taken) {
         Some(first) => (first, PaperOrigin::FirstPage),
         None => (page_paper, origin),
@@ -255,17 +268,20 @@ fn counted_paper(
     }
 }
 
-/// The papers by which pages are placed: each by its own. A selection puts pages with papers that count as equal on one size.
+/// The papers by which pages are placed: each its own. A selection puts pages whose papers count as one on one, and a
+/// specification places all by this one.
 fn papers_placed(
     alloc: Global,
     layout: &Layout,
+    one: &Paper,
     taken: &[Paper],
     own: &[Paper],
 ) -> Result<Vec<Paper>, AllocError>
-    ensures { IfOk result (λ papers. papers.items ≡ papers_to_place layout.now taken.now own.now) }
+    ensures { IfOk result (λ papers. papers.items ≡ papers_to_place layout.now one.now taken.now own.now) }
 {
     match layout {
         Layout::Selection => merge_near_sizes(alloc, taken, own),
+        Layout::SpecRow { .. } => all_of(alloc, one, own),
         _ => {
             let mut papers = Vec::new(alloc);
             papers.extend_from_slice(own)?;
@@ -274,15 +290,37 @@ fn papers_placed(
     }
 }
 
-/// The pages of the row that `--paper` cuts.
+/// This paper for each of those.
+fn all_of(alloc: Global, one: &Paper, own: &[Paper]) -> Result<Vec<Paper>, AllocError>
+    ensures { IfOk result (λ papers. papers.items ≡ map (λ paper. one.now) own.now) }
+{
+    let mut papers = Vec::new(alloc);
+    for _paper in own {
+        papers.push(*one)?;
+    }
+    Ok(papers)
+}
+
+/// Whether pages that the named paper cuts are reported apart from those that reach beyond their papers.
+fn has_cuts_apart(layout: &Layout) -> bool
+    ensures { result ≡ cuts_apart layout.now }
+{
+    !matches!(layout, Layout::SpecRow { .. })
+}
+
+/// The pages that the paper cuts which is named for them, of those that the row takes, if they are reported apart.
 fn cut_pages(
     alloc: Global,
     request: &ImposeRequest,
     document: &Document<'_>,
     row: &[Option<u32>],
 ) -> Result<Option<Cut>, AllocError>
-    ensures { IfOk result (λ cut. cut ≡ cut_by_named request.now.page_paper row.now (bytes_of document.now) document.now) }
+    ensures { IfOk result (λ cut. cut ≡ cut_by_named (if cuts_apart request.now.layout then request.now.page_paper else None)
+        row.now (bytes_of document.now) document.now) }
 {
+    if !has_cuts_apart(&request.layout) {
+        return Ok(None);
+    }
     let Some(named) = request.page_paper else {
         return Ok(None);
     };
@@ -356,7 +394,7 @@ pub(crate) fn impose_task<R: Threads + Wait + Sync, W: World>(
     world: W,
 ) -> Attempt<W, Report>
     requires countable { (W.seen world).failures < u64.MAX }
-    requires laid { MayBeLaid task.now.laying }
+    requires laid { MayBeLaidSo task.now.laying }
     requires sewn { IfSome task.now.signing MayBeSewn }
     requires border { IsTrue (is_border request.now.border) }
     requires parts { Serve parts task.now.text.items }
@@ -375,7 +413,7 @@ pub(crate) fn impose_task<R: Threads + Wait + Sync, W: World>(
         asked: SheetRequest {
             choice: request.choice.as_choice(),
             signing: task.signing,
-            laying: task.laying,
+            laying: task.laying.lent(),
             same_scale: request.spacing.same_scale,
         },
         swapped: request.swaps_margins(),

@@ -1,11 +1,10 @@
 //! Runs of requests, into outputs that are created once nothing is left to refuse.
-ghost use Rattle.std.specs.Prelude.{◌≡◌, ◌<◌, ◌⊎◌, [], ℕ, List, IfErr, IfOk, IfSome, IsTrue, MatchResult, OnOk, None, Some, Ok, Err, option_map, string_bytes, true};
+ghost use Rattle.std.specs.Prelude.{◌≡◌, ◌<◌, ◌⊎◌, [], ℕ, List, IfErr, IfOk, IsTrue, MatchResult, OnOk, None, Some, Ok, Err, option_map, string_bytes, true};
 ghost use Rattle.std.specs.IoError.{error_kind};
 ghost use Rattle.std.specs.declared.io.ErrorKind.TheVariants.{OutOfMemory};
 ghost use Rattle.impose_messages.specs.Faults.{without_memory};
 ghost use Rattle.rules.specs.Admissible.{Takes, most_slots};
 ghost use Rattle.rules.specs.Run.{document_of};
-ghost use Rattle.rows.specs.Sewing.{MayBeSewn};
 ghost use Rattle.sheet_text.specs.Jobs.{is_border};
 ghost use Rattle.imposer.specs.Outcomes.{AfterError, IsNoRefusal};
 ghost use Rattle.imposer.specs.Runs.{IsRunRefusal, IsUnwritten};
@@ -14,9 +13,8 @@ ghost use Rattle.imposer.specs.Workers.{AreWorkers};
 ghost use Rattle.row_runs.specs.Sheets.{MayBeAsked};
 ghost use Rattle.dsc.specs.Serving.{Serve};
 ghost use Rattle.impose_cli.specs.Tasks.{IsSpecLayout, run_asked};
-ghost use Rattle.impose_cli.specs.RowRuns.{Imposes, ImposesBySpec};
+ghost use Rattle.impose_cli.specs.RowRuns.{Imposes};
 ghost use Rattle.impose_cli.specs.RowTasks.{LaysRows};
-ghost use Rattle.impose_cli.specs.SpecRows.{LaysSpecRow, RefusesSpecRowJob};
 ghost use Rattle.impose_cli.specs.Endings.{Comes, RefusesRowJob, RefusesTaskRun, RunsRequest, edge_of_world, shown};
 ghost use Rattle.impose_cli.specs.Endings.{BreaksOff, Holds, IsNotCreated, IsSaidOf, WritesJob, WritesTask};
 ghost use Rattle.impose_cli.specs.Abouts.{reported_by};
@@ -27,7 +25,6 @@ use crate::attempt::{Attempt, refused_before};
 use crate::claims::claims_of;
 use crate::laying::is_drawn;
 use crate::row_task::{asked_fault_of, impose_task, row_task};
-use crate::spec_row::{impose_spec_task, spec_row_task};
 use crate::task::{Task, WORKERS, task_for};
 use command_words::name_of;
 use dsc::{Document, Parts};
@@ -35,10 +32,10 @@ use guard::RoomyText;
 use impose_messages::{Claims, Done, Finished, ImposeFault, PaperOrigin};
 use impose_words::{ImposeRequest, Layout};
 use imposer::{Job, NoListener, Open, Report, RunError, Sink, run_plan};
-use lengths::{Grains, Paper};
+use lengths::Paper;
 use pagespec::{Spec, read_spec};
 use papers::{Cut, Reach};
-use row_runs::{RowJob, SpecJob, plan_error};
+use row_runs::{RowJob, plan_error};
 use sheet_plan::Plan;
 use std::alloc::Global;
 use std::io::ErrorKind;
@@ -62,7 +59,6 @@ pub(crate) fn run_on_document<R: Threads + Wait + Sync, W: World>(
 {
     match &request.layout {
         Layout::Spec(_) => run_spec(rt, alloc, request, input, world),
-        Layout::SpecRow { .. } => run_spec_row(rt, alloc, request, input, world),
         _ => run_row(rt, alloc, request, input, world),
     }
 }
@@ -127,70 +123,6 @@ pub(crate) fn impose_job<R: Threads + Wait + Sync, W: World>(
         Err(error) => return refused_before(asked_fault_of(plan_error(error), pages), world),
     };
     let made = Job::made(&plan, job.document, &sheets, job.border, job.inset, &dress);
-    write_job(rt, alloc, &made, name, world)
-}
-
-// ---- by a specification on a row
-
-/// Carries out a request whose layout is a specification on a row.
-fn run_spec_row<R: Threads + Wait + Sync, W: World>(
-    rt: &R,
-    alloc: Global,
-    request: &ImposeRequest,
-    input: RoomyText,
-    world: W,
-) -> Attempt<W, Done>
-    requires countable { (W.seen world).failures < u64.MAX }
-    requires rows { LaysSpecRow request.now.layout }
-    ensures { RunsRequest request.now input.items (edge_of_world (W.tells world) W.seen W.Output.seen) result.outcome
-        world result.rest (shown W.Output.seen result.rest) }
-{
-    let told = claims_of(request, input.as_slice());
-    let (task, parts) = match spec_row_task(alloc, request, input) {
-        Ok(found) => found,
-        Err(fault) => return refused_before(fault, world),
-    };
-    let left = impose_spec_task(rt, alloc, request, &task, parts, world);
-    let about = About {
-        page_paper: task.page_paper,
-        origin: task.origin,
-        cut: None,
-        reach: task.counted.reach,
-        behind: task.counted.behind,
-        taken: task.counted.taken,
-        told,
-    };
-    Attempt {
-        outcome: reported(left.outcome, about),
-        rest: left.rest,
-    }
-}
-
-/// Imposes a row by a specification.
-pub(crate) fn impose_spec_job<R: Threads + Wait + Sync, W: World>(
-    rt: &R,
-    alloc: Global,
-    job: &SpecJob<'_, '_>,
-    name: Option<&str>,
-    world: W,
-) -> Attempt<W, Report>
-    requires countable { (W.seen world).failures < u64.MAX }
-    requires sewn { IfSome job.now.signing MayBeSewn }
-    requires border { IsTrue (is_border job.now.border) }
-    ensures { Comes (RefusesSpecRowJob job.now) (ImposesBySpec job.now) (option_map (λ n. n.now) name.entry) (edge_of_world (W.tells world) W.seen W.Output.seen) result.outcome
-        world result.rest (shown W.Output.seen result.rest) }
-{
-    let document = job.document;
-    let pages = document.pages();
-    let (sheets, dress) = match job.lay(alloc) {
-        Ok(laid) => laid,
-        Err(error) => return refused_before(asked_fault_of(error, pages), world),
-    };
-    let plan = match Plan::of_sheets(alloc, pages, &sheets) {
-        Ok(plan) => plan,
-        Err(error) => return refused_before(asked_fault_of(plan_error(error), pages), world),
-    };
-    let made = Job::made(&plan, document, &sheets, job.border, Grains::ZERO, &dress);
     write_job(rt, alloc, &made, name, world)
 }
 

@@ -1,13 +1,5 @@
-<<<<<<< ours
 //! The pages that a request takes.
-ghost use Rattle.std.specs.Prelude.{◌≡◌, ℕ, ◌<◌, ◌≤◌, ◌==◌, ◌||◌, if◌then◌else◌, IfOk, OnOk, None, length, get_or, false};
-||||||| base
-//! The row of pages that is taken.
-ghost use Rattle.std.specs.Prelude.{◌≡◌, ℕ, ◌<◌, ◌≤◌, ◌==◌, ◌||◌, if◌then◌else◌, IfOk, OnOk, None, length, get_or, false};
-=======
-//! The row of pages that is taken.
 ghost use Rattle.std.specs.Prelude.{◌≡◌, ℕ, ◌+◌, ◌<◌, ◌≤◌, ◌==◌, ◌||◌, if◌then◌else◌, IfOk, OnOk, None, length, get_or, false};
->>>>>>> theirs
 ghost use Rattle.std.specs.Prelude.{[], ◌++◌, option_and_then, slice_get};
 ghost use Rattle.rules.specs.Choice.{imposed_row as row_of, most_entries};
 ghost use Rattle.impose_words.specs.Choices.{choice_in};

@@ -16,12 +16,12 @@ ghost use Rattle.impose_cli.specs.Tasks.{HasBehind, HasPageCount, ComesToSpec, I
 ghost use Rattle.impose_cli.specs.Tasks.{is_said as says, taken_text};
 ghost use Rattle.impose_cli.specs.Reaches.{HasReachOver};
 ghost use Rattle.impose_cli.specs.Taken.{HasTaken};
-ghost use Rattle.impose_cli.specs.Refusals.{HasNoFault, HasOnePaper, HasOtherPapers, RefusesDocument, RefusesFor, RefusesTask, why_not_specified};
-ghost use Rattle.impose_cli.specs.Precheck.{IsPossible, IsSpecification, RefusesSpecification, RefusesUnread, named_cells_paper};
+ghost use Rattle.impose_cli.specs.Refusals.{HasNoFault, HasOnePaper, HasOtherPapers, IsSpecification, RefusesDocument, RefusesFor, RefusesSpecification, RefusesTask, why_not_specified};
+ghost use Rattle.impose_cli.specs.Precheck.{IsPossible, RefusesUnread, named_cells_paper};
 ghost use Rattle.impose_words.specs.declared.request.Layout.TheVariants as layout;
 ghost use Rattle.impose_messages.specs.declared.fault.ImposeFault.TheVariants as faults;
 
-use crate::laying::{check_sheets, laying_for, papers_for};
+use crate::laying::{check_sheets, laying_for, papers_for, spec_named};
 use crate::reach::reach_over;
 use crate::row_task::has_one_paper;
 use crate::taken::pages_of_choice;
@@ -29,10 +29,10 @@ use dsc::{Document, Parts};
 use guard::RoomyText;
 use impose_messages::{ImposeFault, PaperOrigin, refused_document};
 use impose_words::{ImposeRequest, Layout, Spacing};
-use imposer::{Options, RunError, Workers};
+use imposer::{Options, Workers};
 use layouts::{Binding, Cells, Papers, arrange, bind};
 use lengths::Paper;
-use pagespec::{Spec, Turn, read_spec, write_spec};
+use pagespec::{Spec, Turn, write_spec};
 use papers::{Reach, document_paper};
 use rows::{Signing, auto_sides};
 use std::alloc::{AllocError, Global};
@@ -96,9 +96,9 @@ fn check_spec(alloc: Global, specs: &str) -> Result<(), ImposeFault>
     ensures possible { OnOk result (IsSpecification specs.now) }
     ensures refused { IfErr result (RefusesSpecification specs.now) }
 {
-    match read_spec(alloc, specs) {
+    match spec_named(alloc, specs) {
         Ok(_) => Ok(()),
-        Err(error) => Err(ImposeFault::Run(RunError::from(error))),
+        Err(fault) => Err(fault),
     }
 }
 

@@ -27,7 +27,7 @@ use Rattle.row_runs.specs.declared.sheet_request.Laying.{Laying}
 use Rattle.row_runs.specs.declared.sheet_request.Laying.TheVariants as laying
 use Rattle.row_runs.specs.declared.sheet_request.Scheme.TheVariants as scheme
 use Rattle.row_runs.specs.Evened.{at_common_scale}
-use Rattle.row_runs.specs.Limits.{SheetsAreFew, AreFewAsLaid, limit_in, limit_passed}
+use Rattle.row_runs.specs.Limits.{IsLimit, SheetsAreFew, AreFewAsLaid, limit_in, limit_passed}
 use Rattle.row_runs.specs.Sheets.{MayBeLaid, WhyNoPlan, sheets_laid}
 
 -- ---- sheets with as many places each
@@ -190,6 +190,11 @@ no_plan (laying.InCells setting (scheme.Cards cells)) leaves papers row e may is
 no_plan (laying.Poster poster) leaves papers row e may is pages le =
     passes pages (row_tiles poster papers row) 1 e le (omega arith) (tiles_even poster papers row) (subst (λ (n : ℕ). limit_passed n 1 ≡ Some e) (sym (tiles_count poster papers row)) is)
 no_plan other leaves papers row e may is pages le = absurd (none-some e is)
+
+-- a limit that numbers alone tell is the one
+pub is_limit : (l : Laying) (n : ℕ) (e : MadeError) → limit_in l n ≡ Some e → IsLimit l n e
+is_limit (laying.BySpec spec sheet page) n e is = tt
+is_limit other n e is = is
 
 few_laid : (l : Laying) (leaves : ℕ) (papers : List Paper) (row : Row) → limit_in l (length row) ≡ None → AreFewAsLaid l (sheets_laid l leaves papers row)
 few_laid (laying.InCells setting (scheme.Cards cells)) leaves papers row is =

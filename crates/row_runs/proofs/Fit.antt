@@ -116,6 +116,7 @@ in_places (laying.InCells t scheme.Leaves) leaves papers row may fits =
 in_places (laying.InCells t (scheme.Booklet turned_backs creep)) leaves papers row may fits = at_fold (filling t papers) turned_backs creep leaves row may fits
 in_places (laying.InCells t scheme.Zine) leaves papers row may fits = (zine_is_read (filling t papers) row, zine_lies_in_cells (filling t papers) row may fits)
 in_places (laying.Poster p) leaves papers row may fits = shown_on p papers row fits
+in_places (laying.BySpec spec sheet page) leaves papers row may fits = tt
 
 pub asked_stand_in_places : AskedStandInPlaces
 asked_stand_in_places pages papers a made may asked =

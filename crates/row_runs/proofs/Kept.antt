@@ -35,6 +35,7 @@ lie_as : (m : Bool) (turn : Turn) (l : Laying) (leaves : ℕ) (papers : List Pap
     → AreInTheirCells turn m l leaves (map (turned_sheet turn) (swapped (swapped_room_in m l) (sheets_laid l leaves papers row)))
 lie_as m turn (laying.AsTheyAre blank) leaves papers row may fits = tt
 lie_as m turn (laying.Poster p) leaves papers row may fits = tt
+lie_as m turn (laying.BySpec spec sheet page) leaves papers row may fits = tt
 lie_as m turn (laying.InCells t (scheme.Booklet turned_backs creep)) leaves papers row may fits = halves_lie m turn (filling t papers) turned_backs creep leaves row may fits
 lie_as m turn (laying.InCells t scheme.Zine) leaves papers row may fits = zines_lie m turn (filling t papers) row may fits
 lie_as m turn (laying.InCells t (scheme.Grid cells)) leaves papers row may fits =
@@ -55,6 +56,7 @@ same_swapped_room m false l papers row = refl
 same_swapped_room m true (laying.AsTheyAre blank) papers row = refl
 same_swapped_room m true (laying.InCells t how) papers row = refl
 same_swapped_room m true (laying.Poster p) papers row = refl
+same_swapped_room m true (laying.BySpec spec sheet page) papers row = refl
 
 -- what is written is the row, laid, with backs moved and pages turned
 made_is : (j : RowJob) (made : List MadeSheet) → (are : AreTurned j made)
@@ -90,6 +92,7 @@ StandInRoom other made = ⊤
 in_room_too : (same_scale : Bool) (l : Laying) (papers : List Paper) (row : Row) (made : List MadeSheet) → StandAsLaid l made → StandInRoom (at_common_scale same_scale l papers row) made
 in_room_too false (laying.AsTheyAre blank) papers row made h = tt
 in_room_too false (laying.Poster p) papers row made h = tt
+in_room_too false (laying.BySpec spec sheet page) papers row made h = tt
 in_room_too false (laying.InCells t (scheme.Booklet turned_backs creep)) papers row made h = tt
 in_room_too false (laying.InCells t scheme.Zine) papers row made h = tt
 in_room_too false (laying.InCells t (scheme.Grid cells)) papers row made h = h
@@ -98,6 +101,7 @@ in_room_too false (laying.InCells t (scheme.Stack cells)) papers row made h = h
 in_room_too false (laying.InCells t scheme.Leaves) papers row made h = h
 in_room_too true (laying.AsTheyAre blank) papers row made h = tt
 in_room_too true (laying.Poster p) papers row made h = tt
+in_room_too true (laying.BySpec spec sheet page) papers row made h = tt
 in_room_too true (laying.InCells t (scheme.Booklet turned_backs creep)) papers row made h = tt
 in_room_too true (laying.InCells t scheme.Zine) papers row made h = tt
 in_room_too true (laying.InCells t (scheme.Grid cells)) papers row made h = h
@@ -109,6 +113,7 @@ keep_as : (m : Bool) (turn : Turn) (l : Laying) (leaves : ℕ) (papers : List Pa
     → KeepTheirRoom m l leaves (map (turned_sheet turn) (swapped (swapped_room_in m l) (sheets_laid l leaves papers row)))
 keep_as m turn (laying.AsTheyAre blank) leaves papers row may fits stand = tt
 keep_as m turn (laying.Poster p) leaves papers row may fits stand = tt
+keep_as m turn (laying.BySpec spec sheet page) leaves papers row may fits stand = tt
 keep_as m turn (laying.InCells t (scheme.Booklet turned_backs creep)) leaves papers row may fits stand = leaves_keep m turn (filling t papers) turned_backs creep leaves row may fits
 keep_as m turn (laying.InCells t scheme.Zine) leaves papers row may fits stand = tt
 keep_as m turn (laying.InCells t (scheme.Grid cells)) leaves papers row may fits stand =

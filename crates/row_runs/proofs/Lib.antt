@@ -1,4 +1,3 @@
-pub mod BySpec
 pub mod Examples
 pub mod SideExamples
 pub mod Lines

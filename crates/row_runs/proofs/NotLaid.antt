@@ -57,6 +57,7 @@ laid_none (laying.InCells t (scheme.Booklet turned_backs creep)) leaves papers r
     ap (option_map error.Arrangement) (on_leaves_none (filling t papers) creep leaves row fits)
 laid_none (laying.InCells t other) leaves papers row fits = ap (option_map error.Arrangement) (fit_none (filling t papers) row fits)
 laid_none (laying.Poster p) leaves papers row fits = ap (option_map error.Poster) (posters_none p papers row fits)
+laid_none (laying.BySpec spec sheet page) leaves papers row fits = refl
 
 -- ---- as is asked
 

@@ -1,5 +1,5 @@
 -- Pages that are laid at one scale.
-use Rattle.std.proofs.Common.{Bool, true, false, List, ◌≡◌, ◌∙◌, sym, ap, refl, None, ◌⊎◌, ⊎_elim}
+use Rattle.std.proofs.Common.{Bool, true, false, List, ◌≡◌, ◌∙◌, sym, refl, None}
 use Rattle.rules.specs.Papers.{Paper}
 use Rattle.rules.specs.Made.{MadeSheet}
 use Rattle.rules.specs.Rows.{Row}
@@ -9,7 +9,6 @@ use Rattle.row_runs.specs.declared.sheet_request.Scheme.TheVariants as scheme
 use Rattle.layouts.specs.declared.setting.Setting.{Setting}
 use Rattle.row_sheets.specs.Shapes.{filling}
 use Rattle.row_sheets.specs.SameScale.{at_one_scale, first_unscaled}
-use Rattle.row_sheets.specs.declared.poster.Poster.{Poster}
 use Rattle.row_runs.specs.declared.sheet_request.Scheme.{Scheme}
 use Rattle.row_runs.specs.Evened.{at_common_scale, why_not_even_if}
 use Rattle.row_runs.specs.Sheets.{MayBeLaid}
@@ -40,9 +39,9 @@ module _ (same_scale : Bool) (l : Laying) (papers : List Paper) (row : Row) wher
   pub fault_in_cells : (t : Setting) (how : Scheme) → same_scale ≡ true → l ≡ laying.InCells t how → why_not_even_if same_scale l papers row ≡ first_unscaled (filling t papers) row
   fault_in_cells t how same is = λ i. why_not_even_if (same i) (is i) papers row
 
-pub others_stay : (same_scale : Bool) (l : Laying) (papers : List Paper) (row : Row) → ((blank : Paper) × (l ≡ laying.AsTheyAre blank)) ⊎ ((poster : Poster) × (l ≡ laying.Poster poster))
+-- entries that aren't in cells stay as they are
+pub others_stay : (same_scale : Bool) (l : Laying) (papers : List Paper) (row : Row) → ((t : Setting) (how : Scheme) → l ≡ laying.InCells t how → ⊥)
     → (l ≡ at_common_scale same_scale l papers row) × (why_not_even_if same_scale l papers row ≡ None)
 others_stay false l papers row others = (refl, refl)
-others_stay true l papers row others = ⊎_elim
-    (λ p. (p.1 ∙ sym (ap (λ m. at_common_scale true m papers row) p.1), ap (λ m. why_not_even_if true m papers row) p.1))
-    (λ p. (p.1 ∙ sym (ap (λ m. at_common_scale true m papers row) p.1), ap (λ m. why_not_even_if true m papers row) p.1)) others
+others_stay true (laying.InCells t how) papers row others = absurd (others t how refl)
+others_stay true other papers row others = (refl, refl)

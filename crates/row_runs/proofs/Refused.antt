@@ -6,8 +6,6 @@ use Rattle.row_runs.specs.declared.error.SheetError.TheVariants as error
 use Rattle.row_runs.specs.declared.run.RowJob.{RowJob}
 use Rattle.row_runs.specs.Errors.{of_made_plan}
 use Rattle.row_runs.specs.Runs.{AreTurned, RefusesRun, swapped_room_for, page_count}
-use Rattle.row_runs.specs.BySpec.{AreBySpec, RefusesBySpec, page_count_of}
-use Rattle.row_runs.specs.declared.by_spec.SpecJob.{SpecJob}
 use Rattle.rules.specs.Made.{MadeSheet}
 use Rattle.pagespec.specs.Items.{turn_of}
 use Rattle.sheet_plan.specs.MadeRefusals.{RefusesMade}
@@ -39,8 +37,3 @@ pub sheets_refused : (j : RowJob) (made : List MadeSheet) (e : MadeError) → Ar
 sheets_refused j made e are h =
     of_plan_holds (RefusesRun j) (RefusesMade (page_count j) made) e
     (λ m refused. (are.laid, are.asked, subst (λ all. RefusesMade (page_count j) all m) are.turned refused)) (subst IsOk (sym are.asked.is_chosen) refl) h
-
--- the same of sheets of a specification on a row
-pub spec_refused : (j : SpecJob) (made : List MadeSheet) (e : MadeError) → AreBySpec j made → RefusesMade (page_count_of j) made e → RefusesBySpec j (of_made_plan e)
-spec_refused j made e are h =
-    of_plan_holds (RefusesBySpec j) (RefusesMade (page_count_of j) made) e (λ m refused. (made, are, refused)) (subst IsOk (sym are.is_chosen) refl) h

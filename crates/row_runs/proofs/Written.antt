@@ -71,6 +71,7 @@ laid_in_points (laying.InCells t (scheme.Booklet turned_backs creep)) leaves pap
 laid_in_points (laying.InCells t scheme.Zine) leaves papers row = tt
 laid_in_points (laying.AsTheyAre blank) leaves papers row = tt
 laid_in_points (laying.Poster p) leaves papers row = tt
+laid_in_points (laying.BySpec spec sheet page) leaves papers row = tt
 
 evened_in_points : (same_scale : Bool) (l : Laying) (papers : List Paper) (row : Row) (made : List MadeSheet) → InPointsAs (at_common_scale same_scale l papers row) made → InPointsAs l made
 evened_in_points false l papers row made h = h
@@ -82,6 +83,7 @@ evened_in_points true (laying.InCells t (scheme.Booklet turned_backs creep)) pap
 evened_in_points true (laying.InCells t scheme.Zine) papers row made h = tt
 evened_in_points true (laying.AsTheyAre blank) papers row made h = tt
 evened_in_points true (laying.Poster p) papers row made h = tt
+evened_in_points true (laying.BySpec spec sheet page) papers row made h = tt
 
 -- ---- on both sides
 
@@ -103,8 +105,10 @@ sides_stand : (m : Bool) (l : Laying) (laid : List MadeSheet) → MayBeLaid l �
 sides_stand false (laying.AsTheyAre blank) laid may points h = unexchanged (laying.AsTheyAre blank) laid h
 sides_stand false (laying.InCells t how) laid may points h = unexchanged (laying.InCells t how) laid h
 sides_stand false (laying.Poster p) laid may points h = unexchanged (laying.Poster p) laid h
+sides_stand false (laying.BySpec spec sheet page) laid may points h = tt
 sides_stand true (laying.AsTheyAre blank) laid may points h = unexchanged (laying.AsTheyAre blank) laid h
 sides_stand true (laying.Poster p) laid may points h = unexchanged (laying.Poster p) laid h
+sides_stand true (laying.BySpec spec sheet page) laid may points h = tt
 sides_stand true (laying.InCells t (scheme.Booklet turned_backs creep)) laid may points h =
     on_even_sides (laying.InCells t (scheme.Booklet turned_backs creep)) t.room laid may.even.across h
 sides_stand true (laying.InCells t scheme.Zine) laid may points h = on_even_sides (laying.InCells t scheme.Zine) t.room laid may.even.across h

@@ -109,6 +109,7 @@ read_as_laid (laying.InCells t scheme.Zine) leaves papers row turn m = same_fold
 read_as_laid (laying.InCells t (scheme.Booklet turned_backs creep)) leaves papers row turn m = tt
 read_as_laid (laying.AsTheyAre blank) leaves papers row turn m = tt
 read_as_laid (laying.Poster p) leaves papers row turn m = tt
+read_as_laid (laying.BySpec spec sheet page) leaves papers row turn m = tt
 
 pub written_are_read : WrittenAreRead
 written_are_read j made are =

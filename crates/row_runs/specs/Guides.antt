@@ -75,9 +75,11 @@ tile_room p = record {
   trim = 0;
 }
 
--- the lines of a laying: stacks and cards are cut between their cells, booklets and zines are folded
+-- the lines of a laying: stacks and cards are cut between their cells, booklets and zines are folded; pages as they are, and
+-- those by a specification, have none
 abbrev pub guides_in : Laying → List Guide
 guides_in (laying.AsTheyAre blank) = []
+guides_in (laying.BySpec spec sheet page) = []
 guides_in (laying.InCells t (scheme.Grid cells)) = margin_lines t.room
 guides_in (laying.InCells t (scheme.Booklet turned_backs creep)) = setting_guides Fold t
 guides_in (laying.InCells t scheme.Zine) = setting_guides Fold t

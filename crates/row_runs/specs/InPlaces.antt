@@ -42,7 +42,7 @@ IsMarkedAtFold t turned_backs creep made = (stand : LeavesStand t turned_backs c
 
 -- in cells that are filled in turn each page is fitted into its own, and they read in order; a stack's, cut and laid, are
 -- the row, and so are a zine's, folded and cut; booklets are marked at their fold; of a poster's pages each point is shown. How pages lie as they are
--- `StandAsLaid` says alone
+-- `StandAsLaid` says alone, and where they are by a specification it says itself
 abbrev pub StandInPlaces : Laying → List Paper → Row → List MadeSheet → Type 0
 StandInPlaces (laying.AsTheyAre blank) papers row made = ⊤
 StandInPlaces (laying.InCells t (scheme.Grid cells)) papers row made = All (StandsInCells t) made
@@ -51,6 +51,7 @@ StandInPlaces (laying.InCells t (scheme.Stack cells)) papers row made = All (Sta
 StandInPlaces (laying.InCells t scheme.Leaves) papers row made = All (StandsInCells t) made × ArePiledLeaves t row made
 StandInPlaces (laying.InCells t (scheme.Booklet turned_backs creep)) papers row made = IsMarkedAtFold t turned_backs creep made
 StandInPlaces (laying.InCells t scheme.Zine) papers row made = AreReadFolded row made × LieInZines t made
+StandInPlaces (laying.BySpec spec sheet page) papers row made = ⊤
 StandInPlaces (laying.Poster p) papers row made = (i page : ℕ) → entry_of row i ≡ Some page → IsShownOn p papers i page made
 
 -- the sheets that are asked for are in their places: a law

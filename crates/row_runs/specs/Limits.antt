@@ -1,5 +1,5 @@
 -- Limits of a plan that are known by numbers alone, before a sheet is made.
-use Rattle.std.specs.Prelude.{ℕ, ◌*◌, ◌≤◌, ⊤, nat_lt, ◌&&◌, if◌then◌else◌, List, length, sum_by, Option, Some, None}
+use Rattle.std.specs.Prelude.{◌≡◌, ℕ, ◌*◌, ◌≤◌, ⊤, nat_lt, ◌&&◌, if◌then◌else◌, List, length, sum_by, Option, Some, None}
 use Rattle.rules.specs.Admissible.{most_slots}
 use Rattle.rules.specs.Run.{most_sheets, most_places}
 use Rattle.rules.specs.Made.{MadeSheet}
@@ -18,11 +18,16 @@ limit_passed sheets places =
     else (if nat_lt most_places (sheets * places) then Some plan.TooManyPlaces else None))
 
 -- the one that the sheets of so many entries pass. Only cards and posters have more places than entries, but for the last
--- sheet (RULES, 16, step 13)
+-- sheet (RULES, 16, step 13). Those of a specification are counted as they are laid
 abbrev pub limit_in : Laying → (entries : ℕ) → Option MadeError
 limit_in (laying.InCells setting (scheme.Cards cells)) n = limit_passed n cells
 limit_in (laying.Poster poster) n = limit_passed (n * (poster.rows * poster.columns)) 1
 limit_in other n = None
+
+-- this limit is the one; of the sheets of a specification, which are counted as they are laid, it is what the plan says
+abbrev pub IsLimit : Laying → (entries : ℕ) → MadeError → Type 0
+IsLimit (laying.BySpec spec sheet page) n e = ⊤
+IsLimit other n e = limit_in other n ≡ Some e
 
 -- sheets that keep to the limits
 pub record SheetsAreFew (made : List MadeSheet) : Type 0 where

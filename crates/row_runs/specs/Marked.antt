@@ -26,7 +26,7 @@ abbrev pub ruled_if : (asked : Bool) → Setting → List Stroke
 ruled_if asked setting = if asked then note_lines setting.room setting.grid else []
 
 -- the strokes on each sheet of a laying, of the marks that are asked for: booklets are folded between their halves, and
--- cut round them; other sheets are cut between their cells; pages as they are, zines and posters have no marks. Lines for notes
+-- cut round them; other sheets are cut between their cells; pages as they are, zines, posters and specifications have no marks. Lines for notes
 -- are on sheets whose cells are filled in turn (RULES, 15)
 abbrev pub strokes_in : Marks → Laying → List Stroke
 strokes_in marks (laying.InCells t (scheme.Grid cells)) = cut_if marks.cut t ++ ruled_if marks.ruled t

@@ -32,6 +32,7 @@ abbrev pub sheet_paper : Laying → Paper
 sheet_paper (laying.AsTheyAre blank) = blank
 sheet_paper (laying.InCells t how) = t.room.paper
 sheet_paper (laying.Poster poster) = poster.sheet
+sheet_paper (laying.BySpec spec sheet page) = sheet
 
 abbrev pub paper_in : List Paper → (other : Paper) → Option ℕ → Paper
 paper_in papers other None = other

@@ -1,6 +1,7 @@
 -- How the sheets of a laying are read: on which sides they are printed, and where their places are.
-use Rattle.std.specs.Prelude.{ℕ, false, if◌then◌else◌, max, nat_abs, nat_lt, Option, Some, None}
+use Rattle.std.specs.Prelude.{ℕ, false, if◌then◌else◌, max, nat_abs, nat_lt, List, [], ◌∷◌, length, Option, Some, None}
 use Rattle.rules.specs.Papers.{Paper}
+use Rattle.rules.specs.Specification.{Item, Spec}
 use Rattle.layouts.specs.Cells.{Grid, held_height, held_width}
 use Rattle.layouts.specs.Grids.{plain_order}
 use Rattle.layouts.specs.Placed.{Room}
@@ -63,10 +64,20 @@ single = record { rows = 1; columns = 1; turned = false }
 abbrev pub tiles_in : Poster → Grid
 tiles_in p = record { rows = max 1 p.rows; columns = max 1 p.columns; turned = false }
 
+-- how many items the longest of these groups has, or this number if it is more
+abbrev pub most_items : ℕ → List (List Item) → ℕ
+most_items n [] = n
+most_items n (group ∷ groups) = most_items (max n (length group)) groups
+
+-- places side by side, as many as there are items on any sheet of a specification
+abbrev pub listed : Spec → Grid
+listed spec = record { rows = 1; columns = most_items 1 spec.groups; turned = false }
+
 abbrev pub places_read : Laying → Places
 places_read (laying.AsTheyAre blank) = Cells single plain_order
 places_read (laying.InCells t how) = Cells t.grid t.order
 places_read (laying.Poster poster) = Tiles (tiles_in poster)
+places_read (laying.BySpec spec sheet page) = Cells (listed spec.now) plain_order
 
 abbrev pub reading_in : (swap : Option Room) → Laying → Reading
 reading_in swap l = record { sides = sides_by swap l; places = places_read l }

@@ -11,6 +11,7 @@ use Rattle.layouts.specs.declared.error.ArrangementError.{ArrangementError}
 use Rattle.rows.specs.Choices.{choice_of}
 use Rattle.rows.specs.Sewing.{MayBeSewn, signing_of}
 use Rattle.rows.specs.Refusals.{RefusesRow}
+use Rattle.row_sheets.specs.BySpec.{by_spec}
 use Rattle.row_sheets.specs.RowSheets.{selected}
 use Rattle.row_sheets.specs.Filled.{Filling, card_sheets, duplex_sheets, grid_sheets, stack_sheets, zine_sheets}
 use Rattle.row_sheets.specs.Creep.{AreHalves, creeping_sheets, first_over_fold}
@@ -21,7 +22,7 @@ use Rattle.row_sheets.specs.Zine.{AreZineCells}
 use Rattle.sheet_plan.specs.MadeRefusals.{RefusesMade}
 use Rattle.sheet_plan.specs.declared.error.MadeError.{MadeError}
 use Rattle.row_runs.specs.Evened.{at_common_scale, why_not_even_if}
-use Rattle.row_runs.specs.Limits.{limit_in}
+use Rattle.row_runs.specs.Limits.{IsLimit}
 use Rattle.row_runs.specs.declared.sheet_request.SheetRequest.{SheetRequest}
 use Rattle.row_runs.specs.declared.sheet_request.Laying.{Laying}
 use Rattle.row_runs.specs.declared.sheet_request.Laying.TheVariants as laying
@@ -31,7 +32,7 @@ use Rattle.row_runs.specs.declared.error.SheetError.{SheetError}
 use Rattle.row_runs.specs.declared.error.SheetError.TheVariants as error
 
 -- a way of laying has at least one cell, and the sheet has all of them; those of a booklet are its halves, those of a
--- zine two rows of four; a poster has no more sheets than it may have, and no wider margins
+-- zine two rows of four; a poster has no more sheets than it may have, and no wider margins; a specification may be any
 abbrev pub MayBeLaid : Laying → Type 0
 MayBeLaid (laying.AsTheyAre blank) = ⊤
 MayBeLaid (laying.InCells t (scheme.Grid cells)) = (0 < cells) × (cells ≤ size t.grid)
@@ -41,6 +42,7 @@ MayBeLaid (laying.InCells t scheme.Leaves) = ⊤
 MayBeLaid (laying.InCells t (scheme.Booklet turned_backs creep)) = AreHalves t
 MayBeLaid (laying.InCells t scheme.Zine) = AreZineCells t
 MayBeLaid (laying.Poster poster) = (poster.rows * poster.columns ≤ most_tiles) × (poster.edge ≤ 10_000_000_000)
+MayBeLaid (laying.BySpec spec sheet page) = ⊤
 
 -- sheets may be asked for: they may be laid, and a signature may have its number of sides
 pub record MayBeAsked (a : SheetRequest) : Type 0 where
@@ -63,11 +65,12 @@ sheets_by_scheme scheme.Leaves f leaves row = duplex_sheets f row
 sheets_by_scheme (scheme.Booklet turned_backs creep) f leaves row = creeping_sheets f turned_backs creep leaves row
 sheets_by_scheme scheme.Zine f leaves row = zine_sheets f row
 
--- a row of pages with these papers, laid on sheets
+-- a row of pages with these papers, laid on sheets; by a specification all pages have one paper
 abbrev pub sheets_laid : Laying → (leaves : ℕ) → List Paper → Row → List MadeSheet
 sheets_laid (laying.AsTheyAre blank) leaves papers row = selected papers blank row
 sheets_laid (laying.InCells t how) leaves papers row = sheets_by_scheme how (filling t papers) leaves row
 sheets_laid (laying.Poster poster) leaves papers row = row_tiles poster papers row
+sheets_laid (laying.BySpec spec sheet page) leaves papers row = by_spec spec.now sheet page row
 
 -- why it can't be in the cells: the first page of the row that doesn't fit its own
 abbrev pub why_not_in : Scheme → Filling → (leaves : ℕ) → Row → Option ArrangementError
@@ -79,6 +82,7 @@ abbrev pub why_not_laid : Laying → (leaves : ℕ) → List Paper → Row → O
 why_not_laid (laying.AsTheyAre blank) leaves papers row = None
 why_not_laid (laying.InCells t how) leaves papers row = option_map error.Arrangement (why_not_in how (filling t papers) leaves row)
 why_not_laid (laying.Poster poster) leaves papers row = option_map error.Poster (first_no_poster poster papers row)
+why_not_laid (laying.BySpec spec sheet page) leaves papers row = None
 
 -- each page of the row has its place, laid so: for none of them there is such a reason
 abbrev pub FitAsLaid : Laying → (leaves : ℕ) → List Paper → Row → Type 0
@@ -86,6 +90,7 @@ FitAsLaid (laying.AsTheyAre blank) leaves papers row = ⊤
 FitAsLaid (laying.InCells t (scheme.Booklet turned_backs creep)) leaves papers row = AllFitOnLeaves (filling t papers) creep leaves row
 FitAsLaid (laying.InCells t other) leaves papers row = AllEntriesFit (filling t papers) row
 FitAsLaid (laying.Poster poster) leaves papers row = AllMayBePosters poster papers row
+FitAsLaid (laying.BySpec spec sheet page) leaves papers row = ⊤
 
 -- the sheets that it comes to pass a limit: of so few pages they are no plan, and this is their first fault
 abbrev pub WhyNoPlan : Laying → (leaves : ℕ) → List Paper → Row → MadeError → Type 0
@@ -99,7 +104,7 @@ RefusesLaying l leaves papers row error.OutOfReach = ⊥
 RefusesLaying l leaves papers row error.NoMemory = ⊤
 RefusesLaying l leaves papers row (error.Row e) = ⊥
 RefusesLaying l leaves papers row (error.Sheets e) =
-    FitAsLaid l leaves papers row × (limit_in l (length row) ≡ Some e) × WhyNoPlan l leaves papers row e
+    FitAsLaid l leaves papers row × IsLimit l (length row) e × WhyNoPlan l leaves papers row e
 
 -- ---- what is asked for
 
@@ -140,6 +145,6 @@ RefusesAsked pages papers a (error.Arrangement e) =
 RefusesAsked pages papers a (error.Poster e) =
     (row : Row) × (row_chosen pages a ≡ Ok row) × (why_not_asked papers a row ≡ Some (error.Poster e))
 RefusesAsked pages papers a (error.Sheets e) = (made : List MadeSheet) × (asked : AreAsked pages papers a made)
-    × (limit_in (laying_for a papers asked.row) (length (signed_if (sewn a) asked.row)) ≡ Some e) × RefusesMade pages made e
+    × IsLimit (laying_for a papers asked.row) (length (signed_if (sewn a) asked.row)) e × RefusesMade pages made e
 RefusesAsked pages papers a error.OutOfReach = ⊥
 RefusesAsked pages papers a error.NoMemory = IsOk (row_chosen pages a)

@@ -25,10 +25,11 @@ pub record HoldsOnePage (sheet : MadeSheet) : Type 0 where
 
 -- the sheets of a laying: in cells each page lies on what the margins leave of its sheet, and each two of a sheet are apart
 -- by the gap, on zines to 10^-5 of a point; on leaves nothing crosses the fold; as they are, each lies alone. What is on the tiles of a poster is
--- said by laws of their own
+-- said by laws of their own, and where pages are by a specification it says itself
 abbrev pub StandAsLaid : Laying → List MadeSheet → Type 0
 StandAsLaid (laying.AsTheyAre blank) made = All HoldsOnePage made
 StandAsLaid (laying.InCells t (scheme.Booklet turned_backs creep)) made = LeavesStand t turned_backs creep made
 StandAsLaid (laying.InCells t scheme.Zine) made = AllStand (closer t.room) made
 StandAsLaid (laying.InCells t other) made = AllStand t.room made
 StandAsLaid (laying.Poster poster) made = ⊤
+StandAsLaid (laying.BySpec spec sheet page) made = ⊤

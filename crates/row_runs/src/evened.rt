@@ -9,12 +9,12 @@ use lengths::Paper;
 use row_sheets::at_one_scale;
 
 /// The laying, with one scale for all pages of the row if that is requested.
-pub(crate) fn at_common_scale(
+pub(crate) fn at_common_scale<'l>(
     same_scale: bool,
-    laying: &Laying,
+    laying: &'l Laying<'_>,
     papers: &[Paper],
     row: &[Option<u32>],
-) -> Result<Laying, ArrangementError>
+) -> Result<Laying<'l>, ArrangementError>
     requires { MayBeLaid laying.now }
     ensures made { IfOk result (λ made. made ≡ evened_if_asked same_scale laying.now papers.now row.now) }
     ensures may_be { IfOk result MayBeLaid }
@@ -22,7 +22,7 @@ pub(crate) fn at_common_scale(
     ensures refused { IfErr result (λ error. why_not_even_if same_scale laying.now papers.now row.now ≡ Some error) }
 {
     if !same_scale {
-        return Ok(*laying);
+        return Ok(laying.lent());
     }
     match laying {
         Laying::InCells { setting, scheme } => {
@@ -32,6 +32,6 @@ pub(crate) fn at_common_scale(
                 scheme: *scheme,
             })
         }
-        Laying::AsTheyAre { .. } | Laying::Poster { .. } => Ok(*laying),
+        _ => Ok(laying.lent()),
     }
 }

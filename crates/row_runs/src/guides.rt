@@ -19,7 +19,7 @@ use std::alloc::{AllocError, Global};
 pub(crate) fn guides_of(
     alloc: Global,
     marks: Marks,
-    laying: &Laying,
+    laying: &Laying<'_>,
 ) -> Result<Vec<Guide>, AllocError>
     requires { MayBeLaid laying.now }
     ensures { IfOk result (λ guides. guides.items ≡ guides_with marks laying.now) }
@@ -30,12 +30,12 @@ pub(crate) fn guides_of(
     Ok(guides)
 }
 
-fn push_guides(laying: &Laying, guides: &mut Vec<Guide>) -> Result<(), AllocError>
+fn push_guides(laying: &Laying<'_>, guides: &mut Vec<Guide>) -> Result<(), AllocError>
     requires { MayBeLaid laying.now }
     ensures { OnOk result (guides.new.items ≡ guides.old.items ++ guides_in laying.now) }
 {
     match laying {
-        Laying::AsTheyAre { .. } => Ok(()),
+        Laying::AsTheyAre { .. } | Laying::BySpec { .. } => Ok(()),
         Laying::InCells { setting, scheme } => match scheme {
             Scheme::Grid { .. } => push_margin(&setting.room, guides),
             Scheme::Booklet { .. } => push_lines(GuideKind::Fold, setting, guides),
@@ -50,7 +50,7 @@ fn push_guides(laying: &Laying, guides: &mut Vec<Guide>) -> Result<(), AllocErro
 fn push_notes(
     alloc: Global,
     marks: Marks,
-    laying: &Laying,
+    laying: &Laying<'_>,
     guides: &mut Vec<Guide>,
 ) -> Result<(), AllocError>
     ensures { OnOk result (guides.new.items ≡ guides.old.items ++ note_guides marks laying.now) }

@@ -1,7 +1,6 @@
 //! A row of pages before it is written: what is asked for, laid on sheets, planned, listed or drawn.
 #![tactic(auto)]
 
-mod by_spec;
 mod declared_pages;
 mod error;
 mod evened;
@@ -18,7 +17,6 @@ mod sheet_request;
 mod swapped_margins;
 mod turning;
 
-pub use by_spec::SpecJob;
 pub use declared_pages::declared_page_count;
 pub use error::{SheetError, plan_error};
 pub use look::{row_plan, row_preview};

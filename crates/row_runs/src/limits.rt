@@ -11,9 +11,9 @@ const MOST_SLOTS: u128 = 4_096;
 
 const MOST_PLACES: u128 = 4_000_000;
 
-/// The limit of a plan that the sheets of this number of entries would pass. Only cards and posters have more slots than entries, apart from the last
-/// sheet.
-pub(crate) fn limit_in(laying: &Laying, entries: usize) -> Option<MadeError>
+/// The limit of a plan that the sheets of this number of entries would pass. Only cards and posters have more places than there
+/// are entries, but for the last sheet. Those of a specification are counted as they are laid.
+pub(crate) fn limit_in(laying: &Laying<'_>, entries: usize) -> Option<MadeError>
     ensures { result ≡ limit_of_laying laying.now entries }
 {
     match laying {
@@ -25,7 +25,7 @@ pub(crate) fn limit_in(laying: &Laying, entries: usize) -> Option<MadeError>
             let tiles = u128::from(poster.rows) * u128::from(poster.columns);
             limit_passed(entries as u128 * tiles, 1)
         }
-        Laying::AsTheyAre { .. } => None,
+        Laying::AsTheyAre { .. } | Laying::BySpec { .. } => None,
     }
 }
 

@@ -7,12 +7,13 @@ use dressing::{Marks, Stroke, cut_marks, fold_marks, note_lines, outer_cut_marks
 use layouts::Setting;
 use std::alloc::{AllocError, Global};
 
-/// The requested strokes on each sheet of a laying. Only layings that are folded have fold marks, and only those that are cut have cut marks. Pages
-/// as they are, zines and posters have none. Lines for notes are on sheets whose cells are filled in turn.
+/// The strokes on each sheet of a laying, of the marks that are asked for. A laying that isn't folded has no fold marks,
+/// and one that isn't cut no cut marks; pages as they are, zines, posters and specifications have none. Lines for notes are on sheets whose cells
+/// are filled in turn.
 pub(crate) fn strokes_of(
     alloc: Global,
     marks: Marks,
-    laying: &Laying,
+    laying: &Laying<'_>,
 ) -> Result<Vec<Stroke>, AllocError>
     ensures { IfOk result (λ strokes. strokes.items ≡ strokes_in marks laying.now) }
 {
@@ -23,7 +24,7 @@ pub(crate) fn strokes_of(
             Scheme::Zine => Ok(Vec::new(alloc)),
             _ => cut_if(alloc, marks.cut, setting),
         },
-        Laying::AsTheyAre { .. } | Laying::Poster { .. } => Ok(Vec::new(alloc)),
+        _ => Ok(Vec::new(alloc)),
     }
 }
 

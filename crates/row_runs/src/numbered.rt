@@ -131,18 +131,19 @@ fn entry_paper(papers: &[Paper], other: &Paper, entry: Option<u32>) -> Paper
 }
 
 /// The paper of the sheets, used for pages whose own paper isn't known.
-fn sheet_paper(laying: &Laying) -> &Paper
+fn sheet_paper<'p>(laying: &'p Laying<'_>) -> &'p Paper
     ensures { result.now ≡ sheet_paper_of laying.now }
 {
     match laying {
         Laying::AsTheyAre { blank } => blank,
         Laying::InCells { setting, .. } => &setting.room.paper,
         Laying::Poster { poster } => &poster.sheet,
+        Laying::BySpec { sheet, .. } => sheet,
     }
 }
 
 /// The distance from the middle of a page down to the foot of its cell; None where pages are their own cells.
-fn below_middle(laying: &Laying) -> Option<Grains>
+fn below_middle(laying: &Laying<'_>) -> Option<Grains>
     ensures { result ≡ below_of laying.now }
 {
     let Laying::InCells { setting, .. } = laying else {

@@ -1,20 +1,22 @@
 //! How the sheets of a laying are printed and read.
-ghost use Rattle.std.specs.Prelude.{◌≡◌, if◌then◌else◌};
+ghost use Rattle.std.specs.Prelude.{◌≡◌, ◌<◌, ◌^◌, if◌then◌else◌, length, sum_by};
 ghost use Rattle.layouts.specs.Cells.{held_height, held_width};
 ghost use Rattle.layouts.specs.Grids.{plain_order as order_of_one};
+ghost use Rattle.pagespec.specs.Items.{groups_of};
 ghost use Rattle.preview.specs.declared.naming.Edge.TheVariants.{Long, Short};
 ghost use Rattle.preview.specs.declared.reading.Places.TheVariants.{Cells};
-ghost use Rattle.row_runs.specs.Readings.{edge_at_side as edge_of, height_read, places_read, reading_in, sides_by as sides_of_swapped_room, sides_in, single as single_grid};
+ghost use Rattle.row_runs.specs.Readings.{edge_at_side as edge_of, height_read, listed as listed_grid, most_items as most_items_in, places_read, reading_in, sides_by as sides_of_swapped_room, sides_in, single as single_grid};
 ghost use Rattle.row_runs.specs.Readings.{edge_as_printed as edge_printed, tiles_in, width_read};
 
 use crate::sheet_request::{Laying, Scheme};
 use layouts::{FillOrder, Grid, Order, Room, Setting, Turned, extent};
 use lengths::Paper;
+use pagespec::{Item, Spec};
 use preview::{Edge, Places, Reading, Sides};
 use row_sheets::Poster;
 
 /// The sides on which the sheets of a laying are printed, and where their places are.
-pub(crate) fn reading_of(swap: &Option<Room>, laying: &Laying) -> Reading
+pub(crate) fn reading_of(swap: &Option<Room>, laying: &Laying<'_>) -> Reading
     ensures { result ≡ reading_in swap.now laying.now }
 {
     Reading {
@@ -24,7 +26,7 @@ pub(crate) fn reading_of(swap: &Option<Room>, laying: &Laying) -> Reading
 }
 
 /// The sides on which sheets are printed: both, if this room is exchanged on backs, or else those of the laying.
-pub(crate) fn sides_by(swap: &Option<Room>, laying: &Laying) -> Sides
+pub(crate) fn sides_by(swap: &Option<Room>, laying: &Laying<'_>) -> Sides
     ensures { result ≡ sides_of_swapped_room swap.now laying.now }
 {
     match swap {
@@ -47,7 +49,7 @@ fn edge_as_printed(paper: &Paper) -> Edge
 }
 
 /// How sheets are printed: on one side, or on both, with the edge on which leaves are flipped.
-fn printed_sides(laying: &Laying) -> Sides
+fn printed_sides(laying: &Laying<'_>) -> Sides
     ensures { result ≡ sides_in laying.now }
 {
     match laying {
@@ -109,7 +111,7 @@ fn sides_held(turned: bool, paper: &Paper) -> (u64, u64)
 }
 
 /// The cells that are the places, or the tiles of a poster.
-fn places_of(laying: &Laying) -> Places
+fn places_of(laying: &Laying<'_>) -> Places
     ensures { result ≡ places_read laying.now }
 {
     match laying {
@@ -124,7 +126,35 @@ fn places_of(laying: &Laying) -> Places
         Laying::Poster { poster } => Places::Tiles {
             grid: tiles_of(poster),
         },
+        Laying::BySpec { spec, .. } => Places::Cells {
+            grid: listed(spec),
+            order: plain_order(),
+        },
     }
+}
+
+/// Places side by side, as many as there are items on any sheet of a specification.
+fn listed(spec: &Spec) -> Grid
+    ensures { result ≡ listed_grid spec.now }
+{
+    Grid {
+        rows: 1,
+        columns: most_items(spec.groups()),
+        turned: false,
+    }
+}
+
+/// The most items of a group.
+fn most_items(groups: &[Vec<Item>]) -> u32
+    requires { sum_by length (groups_of groups.now) < 2 ^ 32 }
+    ensures value { result ≡ most_items_in 1 (groups_of groups.now) }
+    ensures some { 0 < result }
+{
+    let mut most = 1;
+    for group in groups {
+        most = most.max(group.len() as u32);
+    }
+    most
 }
 
 /// A grid with one cell.

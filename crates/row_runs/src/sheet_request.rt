@@ -10,14 +10,16 @@ ghost use Rattle.row_runs.specs.Sheets.{AreAsked, FitAsLaid, MayBeAsked, MayBeLa
 ghost use Rattle.row_runs.specs.Sheets.{leaves_in as leaves_of_signature, sheets_by_scheme, sheets_laid, why_not_in};
 ghost use Rattle.row_runs.specs.Standing.{StandAsLaid};
 
-use crate::error::SheetError;
+use crate::error::{SheetError, plan_error};
 use crate::evened::at_common_scale;
 use crate::limits::limit_in;
 use layouts::{ArrangementError, Setting};
 use lengths::Paper;
+use pagespec::Spec;
 use row_sheets::{
-    Creep, Poster, PosterError, card_sheets, check_cells, check_posters, creeping_booklet_sheets,
-    grid_sheets, leaf_sheets, poster_row_sheets, select, stack_sheets, zine_sheets,
+    Creep, Poster, PosterError, SpecOnRow, card_sheets, check_cells, check_posters,
+    creeping_booklet_sheets, grid_sheets, leaf_sheets, poster_row_sheets, select, spec_sheets,
+    stack_sheets, zine_sheets,
 };
 use rows::{Choice, RowError, Signing, chosen_row, signed_row};
 use sheet_plan::{MadeError, MadeSheets};
@@ -25,13 +27,47 @@ use std::alloc::Global;
 
 /// How a row is laid on sheets.
 #[derive(Clone, Copy)]
-pub enum Laying {
+pub enum Laying<'l> {
     /// Each page as it is, on a sheet of its own paper, and each blank on a sheet of this one.
-    AsTheyAre { blank: Paper },
+    AsTheyAre {
+        blank: Paper,
+    },
     /// Each page fitted into cells of sheets.
-    InCells { setting: Setting, scheme: Scheme },
+    InCells {
+        setting: Setting,
+        scheme: Scheme,
+    },
     /// Each page over several sheets, one page after the other. A blank leaves as many sheets blank.
-    Poster { poster: Poster },
+    Poster {
+        poster: Poster,
+    },
+    /// Where a specification names each page by its place in the row, with one paper for all sheets and one for all pages.
+    BySpec {
+        spec: &'l Spec,
+        sheet: Paper,
+        page: Paper,
+    },
+}
+
+impl<'l> Laying<'l> {
+    /// The same laying, for as long as this one is lent. What names a specification isn't copied as a whole.
+    pub fn lent(&self) -> Laying<'_>
+        ensures { result ≡ self.now }
+    {
+        match self {
+            Laying::AsTheyAre { blank } => Laying::AsTheyAre { blank: *blank },
+            Laying::InCells { setting, scheme } => Laying::InCells {
+                setting: *setting,
+                scheme: *scheme,
+            },
+            Laying::Poster { poster } => Laying::Poster { poster: *poster },
+            Laying::BySpec { spec, sheet, page } => Laying::BySpec {
+                spec: *spec,
+                sheet: *sheet,
+                page: *page,
+            },
+        }
+    }
 }
 
 /// The cells of the sheets in which the entries of a row are.
@@ -58,13 +94,14 @@ pub enum Scheme {
 pub struct SheetRequest<'t> {
     pub choice: Choice<'t>,
     pub signing: Option<Signing>,
-    pub laying: Laying,
+    pub laying: Laying<'t>,
     /// Whether all pages in cells have the scale of the largest paper.
     pub same_scale: bool,
 }
 
-/// The requested sheets of a document, given the papers of its pages. A page whose paper isn't known has the sheet's. Refused first for a fault of
-/// the row, then for the first page that fits no cell or can't be a poster, then for a limit that cards and posters pass before any sheet is made.
+/// The sheets that are asked for of a document, whose pages' papers are in their order. A page whose paper
+/// isn't known has the sheet's. What is wrong with the row is refused first, then the first page that fits no cell, or
+/// can't be a poster, then cards, posters and sheets of a specification that pass a limit of a plan: none of them is made.
 pub fn make_sheets(
     alloc: Global,
     pages: u32,
@@ -141,7 +178,7 @@ fn poster_error(error: PosterError) -> SheetError
 /// The row on sheets. A signature, if there are any, has this number of leaves.
 pub(crate) fn lay_row(
     alloc: Global,
-    laying: &Laying,
+    laying: &Laying<'_>,
     leaves: u32,
     papers: &[Paper],
     row: &[Option<u32>],
@@ -171,12 +208,24 @@ pub(crate) fn lay_row(
             Ok(sheets) => Ok(sheets),
             Err(error) => Err(poster_error(error)),
         },
+        Laying::BySpec { spec, sheet, page } => {
+            let on = SpecOnRow {
+                spec: *spec,
+                row,
+                sheet: *sheet,
+                page: *page,
+            };
+            match spec_sheets(alloc, &on) {
+                Ok(sheets) => Ok(sheets),
+                Err(error) => Err(plan_error(error)),
+            }
+        }
     }
 }
 
 /// Why a row whose sheets would pass this limit isn't laid. A page without a place is reported first.
 fn over_limit(
-    laying: &Laying,
+    laying: &Laying<'_>,
     papers: &[Paper],
     row: &[Option<u32>],
     limit: MadeError,
@@ -197,7 +246,7 @@ fn over_limit(
             Ok(()) => SheetError::Sheets(limit),
             Err(error) => poster_error(error),
         },
-        Laying::AsTheyAre { .. } => unreachable!(),
+        Laying::AsTheyAre { .. } | Laying::BySpec { .. } => unreachable!(),
     }
 }
 

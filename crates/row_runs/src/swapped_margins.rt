@@ -14,7 +14,7 @@ use sheet_plan::MadeSheets;
 use std::alloc::{AllocError, Global};
 
 /// The room of a laying's cells, if it is exchanged on backs.
-pub(crate) fn swapped_room_in(swapped: bool, laying: &Laying) -> Option<Room>
+pub(crate) fn swapped_room_in(swapped: bool, laying: &Laying<'_>) -> Option<Room>
     ensures { result ≡ meaning.swapped_room_in swapped laying.now }
 {
     match laying {

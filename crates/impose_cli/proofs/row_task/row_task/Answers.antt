@@ -5,7 +5,7 @@ use Rattle.layouts.proofs.Fitting.{handed_on}
 use Rattle.impose_messages.specs.Faults.{without_memory}
 use Rattle.impose_cli.specs.Tasks.{taken_text}
 use Rattle.impose_cli.specs.RowTasks.{IsRowPaper, first_paper, guarded_in, why_no_row}
-use Rattle.impose_cli.proofs.Rows.{refused_after, refused_found}
+use Rattle.impose_cli.proofs.Rows.{laid_as_asked, layout_refused, refused_after, refused_found}
 use Rattle.impose_cli.proofs.row_task.row_task.Goals as goal
 
 pub returns-in_err-found-clause-refused : goal.returns-in_err-found-clause-refused
@@ -17,14 +17,14 @@ pub returns-in_err-laying-clause-refused : goal.returns-in_err-laying-clause-ref
 returns-in_err-laying-clause-refused c =
     let found : IsRowPaper c.args.request.now c.args.input.items (c.in_ok-found.found.page_paper, c.in_ok-found.found.origin) = rw c.as_slice.ensures.value at c.in_ok-found.ensures.paper in
     handed_on c.from_residual-in_err-laying.result _ _ c.from_residual-in_err-laying.ensures.1
-    (refused_after c.args.request.now c.args.input.items _ _ found (inl (inr (search rules))))
+    (layout_refused c.args.request.now c.args.input.items (c.in_ok-found.found.page_paper, c.in_ok-found.found.origin) _ _ _ found c.papers_for-papers.ensures.page c.papers_for-papers.ensures.sheet c.in_err-laying.ensures.refused)
 
 pub returns-in_err-signing-clause-refused : goal.returns-in_err-signing-clause-refused
 returns-in_err-signing-clause-refused c =
     let found : IsRowPaper c.args.request.now c.args.input.items (c.in_ok-found.found.page_paper, c.in_ok-found.found.origin) = rw c.as_slice.ensures.value at c.in_ok-found.ensures.paper in
     let possible : why_no_row c.args.request.now c.in_ok-found.found.page_paper ≡ None = search rules in
     handed_on c.from_residual-in_err-signing.result _ _ c.from_residual-in_err-signing.ensures.1
-    (refused_after c.args.request.now c.args.input.items _ _ found (inr (possible, c.in_err-signing.ensures.refused)))
+    (refused_after c.args.request.now c.args.input.items _ _ found (inr (inr (possible, c.in_ok-laying.ensures.named, c.in_err-signing.ensures.refused))))
 
 pub returns-clause-is_task : goal.returns-clause-is_task
 returns-clause-is_task c = record {
@@ -37,9 +37,9 @@ returns-clause-is_task c = record {
       (c.in_ok-sheet.ensures.value
       ∙ ap (λ s. guarded_in c.args.request.now.layout (first_paper (imposed_row (length c.in_ok-found.found.papers.items) (choice_in c.args.request.now.choice) None) c.in_ok-found.found.papers.items s) s)
       c.papers_for-papers.ensures.sheet);
-  laying = search rules;
+  laying = laid_as_asked c.args.request.now _ _ _ c.in_ok-laying.laying c.papers_for-papers.ensures.page c.papers_for-papers.ensures.sheet c.in_ok-laying.ensures.laying;
   possible = search rules;
-  may_be_laid = search rules;
+  may_be_laid = c.in_ok-laying.ensures.may_be;
   signing = c.in_ok-signing.ensures.signing;
   may_be_sewn = c.in_ok-signing.ensures.may_be;
   border = c.in_ok-signing.ensures.border;

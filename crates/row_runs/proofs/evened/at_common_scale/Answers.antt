@@ -23,8 +23,9 @@ returns-in_err-setting-in-InCells-clause-refused c =
     handed_on c.from_residual.result c.in_err-setting-in-InCells.field-0.0 (λ error. why_not_even_if c.args.same_scale c.args.laying.now c.args.papers.now c.args.row.now ≡ Some error) c.from_residual.ensures.1
     (fault_in_cells _ _ c.args.papers.now c.args.row.now _ _ c.if-not-same_scale.false c.in-InCells.is ∙ c.in_err-setting-in-InCells.ensures.refused)
 
-pub returns-in-AsTheyAre-clause-made : goal.returns-in-AsTheyAre-clause-made
-returns-in-AsTheyAre-clause-made c = (others_stay c.args.same_scale c.args.laying.now c.args.papers.now c.args.row.now c.in-AsTheyAre.is).0
+pub returns-in_default-clause-made : goal.returns-in_default-clause-made
+returns-in_default-clause-made c =
+    c.lent-in_default.ensures ∙ (others_stay c.args.same_scale c.args.laying.now c.args.papers.now c.args.row.now c.in_default.not-InCells).0
 
-pub returns-in-AsTheyAre-clause-accepted : goal.returns-in-AsTheyAre-clause-accepted
-returns-in-AsTheyAre-clause-accepted c = (others_stay c.args.same_scale c.args.laying.now c.args.papers.now c.args.row.now c.in-AsTheyAre.is).1
+pub returns-in_default-clause-accepted : goal.returns-in_default-clause-accepted
+returns-in_default-clause-accepted c = (others_stay c.args.same_scale c.args.laying.now c.args.papers.now c.args.row.now c.in_default.not-InCells).1
