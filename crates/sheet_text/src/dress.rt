@@ -1,4 +1,4 @@
-//! The lines that an output gets besides its pages.
+//! The lines that an output has besides its pages.
 ghost use Rattle.std.specs.Prelude.{◌≡◌, ◌++◌, OnOk};
 ghost use Rattle.rules.specs.Dress.{lines_text};
 ghost use Rattle.sheet_text.specs.Dressings.{report_lines_if, with_numbers};
@@ -10,21 +10,22 @@ use crate::told::append_paper_report;
 use lengths::Paper;
 use std::alloc::AllocError;
 
-/// The lines that an output gets besides its pages: those of the header after the number of sheets, and those of its sheets. Only lines that all
-/// sheets have are stored; the others are made when a sheet is written.
+/// The lines that an output has besides its pages: header lines, which follow the number of sheets, and lines at the start and the end of each sheet.
+/// Only lines that are the same on all sheets are stored; the lines that differ from sheet to sheet are made when a sheet is written.
 #[derive(Drop)]
 pub struct SheetExtras {
+    /// The lines of the header.
     pub header: Lines,
-    /// Whether each sheet names its paper at its start, after its page line, and sets the device's page size.
+    /// Whether each sheet begins, after its `%%Page:` line, with lines that name its paper and set the device's page size.
     pub tells_papers: bool,
-    /// The lines at the end of each sheet, before its `showpage`.
+    /// The lines that every sheet has at its end, before its `showpage`.
     pub finish: Lines,
-    /// The numbers of its pages, which are drawn after these lines.
+    /// The page numbers, which are drawn after the lines of `finish`; None if pages aren't numbered.
     pub numbers: Option<Numbers>,
 }
 
 impl SheetExtras {
-    /// Appends the lines at the start of a sheet of this paper.
+    /// Appends the lines that begin a sheet of this paper; none unless `tells_papers` is set.
     pub(crate) fn append_start(&self, paper: &Paper, text: &mut Rope<'_>) -> Result<(), AllocError>
         ensures { OnOk result (text.new ≡ text.old ++ lines_text (report_lines_if self.now.tells_papers paper.now)) }
     {
@@ -34,7 +35,8 @@ impl SheetExtras {
         Ok(())
     }
 
-    /// Appends the lines at the end of a sheet. Lines that all sheets have aren't copied if they have 4,096 bytes or more.
+    /// Appends the lines that end this sheet (counted from 0): those of `finish`, then those that draw its page numbers. The lines of `finish` are
+    /// borrowed, not copied, if they have 4,096 bytes or more.
     pub(crate) fn append_finish<'n>(
         &'n self,
         sheet: u32,

@@ -1,4 +1,4 @@
-//! What is to be imposed.
+//! A job: a document, the plan of its sheets, and the lines that these have besides their pages.
 ghost use Rattle.std.specs.Prelude.{◌≡◌, ℕ, ◌<◌, ◌++◌, [], length, IsTrue, IfSome, OnOk, Option, Some, slice_get, slice_index_or};
 ghost use Rattle.rules.specs.Parts.{pages};
 ghost use Rattle.rules.specs.Specification.{Spec};
@@ -20,13 +20,15 @@ use sheet_plan::{MadeSheets, PlacedSlot, Plan};
 use std::alloc::AllocError;
 use std::marker::Model;
 
-/// A run's work: a plan of the pages of a document, the pages' papers, a border round each placed page if one is asked for, its distance from the
-/// page's edges, and the lines that the output gets besides.
+/// The work of a run. A document's pages are placed on sheets by a plan. Each page has a paper, and a border if one is requested. The output may have
+/// further lines besides its pages.
 #[derive(Drop)]
 pub struct Job<'j, 'd> {
     plan: &'j Plan<'j>,
     document: &'j Document<'d>,
+    /// The width of the border, in grains; None if pages have no border.
     pub(crate) border: Option<Grains>,
+    /// The distance of the border from the edges of its page, in grains.
     pub(crate) inset: Grains,
     papers: SheetPapers<'j>,
     sheets: u32,
@@ -56,7 +58,8 @@ impl<'j, 'd> Model for Job<'j, 'd> {
 }
 
 impl<'j, 'd> Job<'j, 'd> {
-    /// The job of a plan whose pages all have one paper.
+    /// The job of a plan whose pages all have the same paper. The output has no lines besides its pages. A border has this width in grains, and lies
+    /// along the edges of its page.
     pub fn new(
         plan: &'j Plan<'j>,
         document: &'j Document<'d>,
@@ -67,11 +70,11 @@ impl<'j, 'd> Job<'j, 'd> {
         requires border { IsTrue (is_border border) }
         ensures value { result ≡ of_frame plan.now document.now (framed paper border) }
 
-        // If the plan is that of a specification, in signatures or not, the output is the specification's.
+        // If the plan is that of a specification, in signatures or not, the job's output is the one that the specification prescribes.
         ensures output { (sides : Option ℕ) (spec : Spec) → plan.now ≡ planned_in sides spec (length (pages document.now))
             → output_of result ≡ output (framed paper border) sides spec document.now }
 
-        // Each sheet has the text of the plan's sheet with its number.
+        // The text of a sheet is the one that the plan's sheet of this number has.
         ensures texts { (s : ℕ) → text_of result s ≡ sheet_text (framed paper border)
             (pages document.now) s (slice_index_or plan.now.sheets s []) }
     {
@@ -85,7 +88,8 @@ impl<'j, 'd> Job<'j, 'd> {
         }
     }
 
-    /// The job of these sheets, which the plan is made of, with the lines of this dress. A border is drawn this far within each edge of its page.
+    /// The job of these sheets, in which a dress gives the lines that the output has besides its pages. The plan must be the one made of the same
+    /// sheets, for a document with the same number of pages. A border has a width in grains, and lies `inset` grains inside each edge of its page.
     pub fn made(
         plan: &'j Plan<'j>,
         document: &'j Document<'d>,
@@ -117,7 +121,7 @@ impl<'j, 'd> Job<'j, 'd> {
         }
     }
 
-    /// Its plan, whose pages are those of the document.
+    /// The plan of this job. It plans as many pages as the document has.
     pub fn plan(&self) -> &'j Plan<'j>
         ensures value { result.now ≡ self.now.plan }
         ensures same_pages { self.now.plan.pages ≡ length (pages self.now.units) }
@@ -127,21 +131,21 @@ impl<'j, 'd> Job<'j, 'd> {
         self.plan
     }
 
-    /// Its document.
+    /// The document whose pages are imposed.
     pub fn document(&self) -> &'j Document<'d>
         ensures { result.now ≡ self.now.units }
     {
         self.document
     }
 
-    /// The number of its sheets.
+    /// The number of sheets of this job.
     pub fn sheets(&self) -> u32
         ensures { result ≡ length self.now.plan.sheets }
     {
         self.sheets
     }
 
-    /// The text of the header's lines.
+    /// The text of the lines that the job adds to the header, with their line ends; empty if it adds none.
     pub fn header(&self) -> &'j [u8]
         ensures { result.now ≡ lines_text self.now.header }
     {
@@ -151,7 +155,7 @@ impl<'j, 'd> Job<'j, 'd> {
         }
     }
 
-    /// Appends the lines at the start of a sheet.
+    /// Appends the lines at the start of this sheet (counted from 0), after its `%%Page:` line.
     pub(crate) fn append_start(&self, sheet: u32, text: &mut Rope<'_>) -> Result<(), AllocError>
         requires { sheet < length self.now.plan.sheets }
         ensures { OnOk result (text.new ≡ text.old ++ lines_text (sheet_of self.now sheet).start) }
@@ -162,7 +166,7 @@ impl<'j, 'd> Job<'j, 'd> {
         }
     }
 
-    /// Appends the lines at its end.
+    /// Appends the lines at the end of this sheet, before its `showpage`.
     pub(crate) fn append_finish(&self, sheet: u32, text: &mut Rope<'j>) -> Result<(), AllocError>
         requires { sheet < length self.now.plan.sheets }
         ensures { OnOk result (text.new ≡ text.old ++ lines_text (sheet_of self.now sheet).finish) }
@@ -173,7 +177,7 @@ impl<'j, 'd> Job<'j, 'd> {
         }
     }
 
-    /// The page in a slot; None is a blank.
+    /// The page in this slot of a sheet, with its place and its paper; None if the slot is blank.
     pub(crate) fn placed(&self, sheet: u32, slot: u16) -> Option<PlacedSlot<'_>>
         requires sheet { sheet < length self.now.plan.sheets }
         requires slot { slot < length (pages_on self.now.plan sheet) }

@@ -1,4 +1,5 @@
-//! The text of a sheet: its page line, each page placed in its slot, the lines that it gets besides, and one `showpage`. No threads are involved.
+//! Makes the text of a sheet: its `%%Page:` line, each page placed in its slot, the lines that the sheet has besides its pages, and one `showpage`.
+//! No threads are involved.
 #![tactic(auto)]
 
 mod dress;

@@ -1,4 +1,4 @@
-//! Lines in one block.
+//! Lines of text, stored one after the other in one vector.
 ghost use Rattle.std.specs.Prelude.{◌≡◌, ℕ, ◌++◌, ◌∷◌, [], List, IsTrue, length, OnOk, OnErr, take};
 ghost use Rattle.rules.specs.Dress.{lines_text};
 ghost use Rattle.sheet_text.specs.LinesIn.{is_line};
@@ -6,7 +6,7 @@ ghost use Rattle.sheet_text.specs.LinesIn.{is_line};
 use std::alloc::{AllocError, Global};
 use std::marker::Model;
 
-/// Lines, each with its line end, in one block. A contract sees them without their line ends.
+/// Lines, each with its line end, stored one after the other in one vector. A contract sees the list of the lines, without their line ends.
 #[derive(Drop)]
 pub struct Lines {
     text: Vec<u8>,
@@ -25,7 +25,7 @@ impl Model for Lines {
 }
 
 impl Lines {
-    /// No lines. It takes no memory.
+    /// An empty list of lines. It allocates no memory.
     pub fn new(alloc: Global) -> Lines
         ensures { result ≡ [] }
     {
@@ -34,7 +34,7 @@ impl Lines {
         }
     }
 
-    /// Puts a line after the others; it has no LF in it. If memory is refused, nothing is added.
+    /// Adds a line at the end of the list. The line must not contain a line feed. If memory is refused, nothing is added.
     pub fn push(&mut self, line: &[u8]) -> Result<(), AllocError>
         requires { IsTrue (is_line line.now) }
         ensures pushed { OnOk result (self.new ≡ self.old ++ line.now ∷ []) }
@@ -50,7 +50,7 @@ impl Lines {
         }
     }
 
-    /// Their text.
+    /// The text of all lines, with their line ends.
     pub fn text(&self) -> &[u8]
         ensures { result.now ≡ lines_text self.now }
     {
@@ -58,7 +58,7 @@ impl Lines {
     }
 }
 
-/// Appends a line and its line end. If memory is refused, a part of them may be appended.
+/// Appends a line and its line end. If memory is refused, some of these bytes may have been appended.
 fn append_line(text: &mut Vec<u8>, line: &[u8]) -> Result<(), AllocError>
     ensures appended { OnOk result (text.new.items ≡ text.old.items ++ (line.now ++ 10 ∷ [])) }
     ensures begins { take (length text.old.items) text.new.items ≡ text.old.items }

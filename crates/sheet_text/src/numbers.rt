@@ -1,4 +1,4 @@
-//! The numbers of pages.
+//! Draws the numbers of pages on sheets.
 ghost use Rattle.std.specs.Prelude.{◌≡◌, ◌≤◌, ◌+◌, ◌*◌, ◌^◌, ◌++◌, ◌∷◌, [], nat_abs, pos, IsTrue, OnOk};
 ghost use Rattle.rules.specs.Papers.{is_side};
 ghost use Rattle.rules.specs.Dress.{lines_text};
@@ -14,23 +14,23 @@ use pagespec::Turn;
 use sheet_plan::{MadeSheets, PlacedSlot};
 use std::alloc::AllocError;
 
-/// The height of a number above the foot of its cell, in grains: 18 points.
+/// The height of a number above the foot of its page's cell, in grains: 18 points.
 const ABOVE_FOOT: i128 = 2_286_000_000_000;
 
-/// The numbers of pages that are drawn on sheets.
+/// The page numbers to draw on the sheets of a job.
 #[derive(Drop)]
 pub struct Numbers {
-    /// The size of their font.
+    /// The size of the font, in grains.
     pub size: Grains,
-    /// The number of the row's first page.
+    /// The number to draw on the first page of the row; the following pages are numbered from it in steps of 1.
     pub first: u32,
-    /// The sheets, on which each page is named by its place in the row, counted from 0.
+    /// The sheets to number. A slot names its page by the page's place in the row, counted from 0, and not by its number in the document.
     pub places: MadeSheets,
-    /// The distance from the middle of a page down to the foot of its cell; None if the page is its own cell.
+    /// The distance in grains from the middle of a page down to the foot of its cell. None if each page is its own cell.
     pub below: Option<Grains>,
 }
 
-/// Appends the lines that draw the numbers of a sheet's pages.
+/// Appends the lines that draw the numbers of the pages on this sheet (counted from 0); none if there is no such sheet.
 pub(crate) fn append_numbers(
     numbers: &Numbers,
     sheet: u32,
@@ -47,7 +47,7 @@ pub(crate) fn append_numbers(
     Ok(())
 }
 
-/// Appends the line of a slot; a blank has none.
+/// Appends the line that draws the number of the page in this slot; nothing if the slot is blank.
 fn append_slot_number(
     numbers: &Numbers,
     slot: Option<PlacedSlot<'_>>,
@@ -61,7 +61,7 @@ fn append_slot_number(
     }
 }
 
-/// Appends the line that draws a page's number.
+/// Appends the line that draws the number of this page.
 fn append_number_line(
     numbers: &Numbers,
     placed: &PlacedSlot<'_>,
@@ -78,7 +78,7 @@ fn append_number_line(
     Ok(())
 }
 
-/// The font of numbers.
+/// Appends the operators that set the font, Times-Roman, in this size (in grains).
 fn append_font(size: Grains, text: &mut Rope<'_>) -> Result<(), AllocError>
     ensures { OnOk result (text.new ≡ text.old ++ font_text size) }
 {
@@ -88,7 +88,7 @@ fn append_font(size: Grains, text: &mut Rope<'_>) -> Result<(), AllocError>
     Ok(())
 }
 
-/// Appends the place of a page's lower left corner, and the page's turn.
+/// Appends the operators that move the origin to the page's lower left corner and turn the axes as the page is turned.
 fn append_page_corner(placed: &PlacedSlot<'_>, text: &mut Rope<'_>) -> Result<(), AllocError>
     ensures { OnOk result (text.new ≡ text.old ++ corner_text placed.now.paper.now (item_of placed.now.item.now)) }
 {
@@ -102,7 +102,7 @@ fn append_page_corner(placed: &PlacedSlot<'_>, text: &mut Rope<'_>) -> Result<()
     Ok(())
 }
 
-/// The degrees by which a page is turned to the left.
+/// The angle by which this turn rotates a page to the left, as a decimal number of degrees.
 fn degrees(turn: Turn) -> &'static [u8]
     ensures { result.now ≡ degrees_of (turn_of turn) }
 {
@@ -114,7 +114,7 @@ fn degrees(turn: Turn) -> &'static [u8]
     }
 }
 
-/// Appends the place of a page's number, from the page's lower left corner on.
+/// Appends the point where the page's number is drawn, in points from the page's lower left corner, and the operator `moveto`.
 fn append_foot(
     below: Option<Grains>,
     placed: &PlacedSlot<'_>,
@@ -129,7 +129,7 @@ fn append_foot(
     Ok(())
 }
 
-/// The height of a number above the page's lower edge.
+/// The height of a number above the lower edge of its page, in grains. It is negative if the page's edge lies above the number.
 fn rise(below: Option<Grains>, placed: &PlacedSlot<'_>) -> i128
     ensures value { result ≡ rise_of below placed.now.paper.now (item_of placed.now.item.now) }
     ensures in_range { nat_abs result ≤ 2 * 10 ^ 23 }
@@ -142,7 +142,7 @@ fn rise(below: Option<Grains>, placed: &PlacedSlot<'_>) -> i128
     }
 }
 
-/// The distance from the start of a page's side to its middle, on the sheet.
+/// Half the length that this side of a page has on the sheet, in grains.
 fn middle(scale: Number, side: Grains) -> i128
     requires { IsTrue (is_side side) }
     ensures value { result ≡ pos (middle_of scale side) }
@@ -151,7 +151,7 @@ fn middle(scale: Number, side: Grains) -> i128
     (scaled(scale, side) / 2_000_000_000) as i128
 }
 
-/// The length of a page's side on the sheet, in 10^-9 of a grain.
+/// The length that this side of a page has on the sheet, in 10^-9 of a grain.
 fn scaled(scale: Number, side: Grains) -> u128
     requires { IsTrue (is_side side) }
     ensures value { result ≡ nat_abs scale * nat_abs side }
@@ -160,7 +160,7 @@ fn scaled(scale: Number, side: Grains) -> u128
     u128::from(scale.billionths().unsigned_abs()) * side.get().unsigned_abs()
 }
 
-/// Appends the number, centred at its place.
+/// Appends the number and the operators that draw it, centred at the current point.
 fn append_shown(number: u64, text: &mut Rope<'_>) -> Result<(), AllocError>
     ensures { OnOk result (text.new ≡ text.old ++ shown_text number) }
 {

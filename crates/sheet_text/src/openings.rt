@@ -1,4 +1,4 @@
-//! The texts before placed pages, each printed once and kept.
+//! Keeps the texts that open placed pages, so that each is made only once.
 ghost use Rattle.std.specs.Prelude.{◌≡◌, ◌++◌, OnOk, IfOk, IfSome, true, false};
 ghost use Rattle.rules.specs.Output.{Frame, border_within, opening_text as opening};
 ghost use Rattle.pagespec.specs.Items.{item_of};
@@ -11,11 +11,11 @@ use placement::opening_within;
 use std::alloc::{AllocError, Global};
 use std::marker::Model;
 
-/// The most texts that are kept.
+/// The largest number of texts that are kept.
 const MOST_KEPT: usize = 64;
 
-/// The texts before placed pages, each printed once and kept, 64 of them at most. Sheets have few items, and repeat them.
-/// A contract sees how many are kept.
+/// The texts that open placed pages, kept for reuse. Most jobs place all their pages by a few items, so at most 64 texts are kept. A contract sees
+/// the number of kept texts.
 #[derive(Drop)]
 pub struct Openings {
     alloc: Global,
@@ -32,8 +32,8 @@ impl Model for Openings {
     ghost invariant = { λ o. vec_len o.kept ≤ 64 };
 }
 
-/// The text before a page that is placed by this item on this paper, with a border of this width within its edges, if
-/// there is one.
+/// The text that opens a page of this paper if this item places it. A border, if there is one, has this width, and lies `inset` grains inside the
+/// page's edges.
 #[derive(Drop)]
 struct Opening {
     item: Item,
@@ -46,7 +46,7 @@ struct Opening {
 }
 
 impl Openings {
-    /// No texts yet. It takes no memory.
+    /// Keeps no texts yet. It allocates no memory.
     pub fn new(alloc: Global) -> Openings
         ensures { result ≡ 0 }
     {
@@ -56,7 +56,7 @@ impl Openings {
         }
     }
 
-    /// Appends the text before a page of this paper that this item places.
+    /// Appends the text that opens a page of this paper if this item places it. A text that isn't kept is made, and kept if there is room for it.
     pub(crate) fn append(
         &mut self,
         job: &Job<'_, '_>,
@@ -76,7 +76,7 @@ impl Openings {
         Ok(())
     }
 
-    /// Appends the text if it is kept. Returns whether it was.
+    /// Appends the text for this item and paper if it is kept, and returns whether it is.
     fn append_kept(
         &self,
         job: &Job<'_, '_>,
@@ -97,7 +97,7 @@ impl Openings {
         Ok(false)
     }
 
-    /// Keeps a text, unless 64 are kept.
+    /// Keeps this text for the item and paper, unless 64 texts are kept already.
     fn keep(
         &mut self,
         job: &Job<'_, '_>,
@@ -123,7 +123,7 @@ impl Openings {
 }
 
 impl Opening {
-    /// The text, if it belongs to a page that this item places.
+    /// The kept text, if it was made for the same item, paper and border; None otherwise.
     fn text_for(&self, job: &Job<'_, '_>, item: &Item, paper: &Paper) -> Option<&[u8]>
         ensures { IfSome result (λ text. text.now ≡ opening (record { paper = paper.now; border = job.now.border }) (item_of item.now)) }
     {
@@ -142,7 +142,7 @@ impl Opening {
     }
 }
 
-/// Whether both are the same number of the same unit.
+/// Whether both measures are the same number of the same unit.
 fn are_equal_measures(one: Measure, other: Measure) -> bool
     ensures { result ≡ true → one ≡ other }
 {

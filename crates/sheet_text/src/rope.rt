@@ -1,4 +1,4 @@
-//! A text in pieces.
+//! Text made of several pieces, so that long slices needn't be copied.
 ghost use Rattle.std.specs.Prelude.{◌≡◌, ◌+◌, ◌*◌, ◌^◌, ◌<◌, ◌≤◌, ◌++◌, [], length, nat_abs, IfOk, IfSome, IsNone, OnOk, OnErr};
 ghost use Rattle.rules.specs.Numbers.{points_text};
 ghost use Rattle.rules.specs.Output.{closing_text as closing};
@@ -8,17 +8,18 @@ use placement::closing_text;
 use std::alloc::{AllocError, Global};
 use std::marker::Model;
 
-/// Slices of at least this length stay where they are. Shorter ones are cheaper to copy than to keep apart.
+/// Slices of at least this number of bytes are borrowed. Copying a shorter slice is cheaper than keeping a reference to it.
 pub(crate) const LEAST_BORROWED: usize = 4_096;
 
-/// A text in pieces: bytes of its own, and between them slices that live longer and aren't copied. A contract sees it as the list of all its bytes.
+/// Text made of pieces: bytes that the rope owns, and between them borrowed slices, which aren't copied. A contract sees the list of all bytes, in
+/// order.
 #[derive(Drop)]
 pub struct Rope<'r> {
     pub(crate) own: Vec<u8>,
     pub(crate) slices: Vec<Borrowed<'r>>,
 }
 
-/// A slice that comes before the byte `at` of a rope's own bytes, or after all of them.
+/// A borrowed slice. It stands before the owned byte with index `at`, or after all owned bytes if there is no such byte.
 #[derive(Clone, Copy)]
 pub(crate) struct Borrowed<'r> {
     pub(crate) at: usize,
@@ -37,7 +38,7 @@ impl<'r> Model for Rope<'r> {
 }
 
 impl<'r> Rope<'r> {
-    /// An empty text. It takes no memory.
+    /// An empty rope. It allocates no memory.
     pub fn new(alloc: Global) -> Rope<'r>
         ensures { result ≡ [] }
     {
@@ -47,7 +48,7 @@ impl<'r> Rope<'r> {
         }
     }
 
-    /// Makes the text empty. It keeps its memory.
+    /// Removes all text, but keeps the allocated memory.
     pub fn clear(&mut self)
         ensures { self.new ≡ [] }
     {
@@ -55,7 +56,7 @@ impl<'r> Rope<'r> {
         self.slices.clear();
     }
 
-    /// Makes room for this number of further bytes of its own.
+    /// Reserves memory for this number of further bytes to own.
     pub fn reserve(&mut self, count: usize) -> Result<(), AllocError>
         ensures { self.new ≡ self.old }
     {
@@ -70,7 +71,7 @@ impl<'r> Rope<'r> {
         self.own.extend_from_slice(bytes)
     }
 
-    /// Appends bytes that live as long as the text: without a copy if they are 4,096 or more. If memory is refused,
+    /// Appends bytes that live as long as the rope. They are borrowed if there are 4,096 or more of them, and copied otherwise. If memory is refused,
     /// nothing is appended.
     pub fn append_borrowed(&mut self, bytes: &'r [u8]) -> Result<(), AllocError>
         ensures appended { OnOk result (self.new ≡ self.old ++ bytes.now) }
@@ -87,21 +88,21 @@ impl<'r> Rope<'r> {
         Ok(())
     }
 
-    /// Appends what is written after a placed page. If memory is refused, nothing is appended.
+    /// Appends the text that closes a placed page. If memory is refused, nothing is appended.
     pub(crate) fn append_closing(&mut self) -> Result<(), AllocError>
         ensures { OnOk result (self.new ≡ self.old ++ closing) }
     {
         closing_text(&mut self.own)
     }
 
-    /// Appends a length in points. If memory is refused, nothing is appended.
+    /// Appends a length, written as a number of points. If memory is refused, nothing is appended.
     pub(crate) fn append_points(&mut self, length: Grains) -> Result<(), AllocError>
         ensures { OnOk result (self.new ≡ self.old ++ points_text length) }
     {
         print_points(length, &mut self.own)
     }
 
-    /// Appends a length that is given as a number of grains, in points. If memory is refused, nothing is appended.
+    /// Appends a length that is given in grains, written as a number of points. If memory is refused, nothing is appended.
     pub(crate) fn append_grains(&mut self, grains: i128) -> Result<(), AllocError>
         requires { nat_abs grains ≤ 2 * 10 ^ 23 }
         ensures { OnOk result (self.new ≡ self.old ++ points_text grains) }
@@ -109,12 +110,12 @@ impl<'r> Rope<'r> {
         print_grains(grains, &mut self.own)
     }
 
-    /// The number of its own bytes for which it has memory.
+    /// The number of bytes that the rope can own without allocating more memory.
     pub fn capacity(&self) -> usize {
         self.own.capacity()
     }
 
-    /// Its pieces, in order.
+    /// The pieces of the text, in order.
     pub fn pieces(&self) -> Pieces<'_, 'r>
         ensures { result ≡ self.now }
     {
@@ -126,7 +127,7 @@ impl<'r> Rope<'r> {
         }
     }
 
-    /// A copy of the text in one piece.
+    /// Copies the whole text into one vector.
     pub fn to_vec(&self, alloc: Global) -> Result<Vec<u8>, AllocError>
         ensures { IfOk result (λ copy. copy.items ≡ self.now) }
     {
@@ -139,14 +140,16 @@ impl<'r> Rope<'r> {
     }
 }
 
-/// The pieces of a text that haven't been taken yet. A contract sees them as the bytes of all of them.
+/// The pieces of a rope that haven't been taken yet. A contract sees the bytes of all these pieces, in order.
 #[derive(Drop)]
 pub struct Pieces<'p, 'r> {
-    /// The place of the first of its own bytes that are left.
+    /// The index, in the rope, of the first byte of `own`.
     pub(crate) from: usize,
+    /// The owned bytes that haven't been taken.
     pub(crate) own: &'p [u8],
+    /// All borrowed slices of the rope.
     pub(crate) slices: &'p [Borrowed<'r>],
-    /// The index of the first slice that is left.
+    /// The index of the first borrowed slice that hasn't been taken.
     pub(crate) next: usize,
 }
 
@@ -162,7 +165,7 @@ impl<'p, 'r> Model for Pieces<'p, 'r> {
 }
 
 impl<'p, 'r> Pieces<'p, 'r> {
-    /// The total length; None if it passes `usize::MAX`, which can happen because one slice may occur many times.
+    /// The number of bytes in all remaining pieces. None if it exceeds `usize::MAX`, which can happen because one slice may occur many times.
     pub fn len(&self) -> Option<usize>
         ensures counted { IfSome result (λ count. count ≡ length self.now) }
         ensures uncounted { IsNone result → usize.MAX < length self.now }
@@ -174,7 +177,7 @@ impl<'p, 'r> Pieces<'p, 'r> {
         Some(count)
     }
 
-    /// Takes the next piece, which has at least one byte. None if no piece is left.
+    /// Takes the next piece, which has at least one byte; None if no piece is left.
     pub fn take_next(&mut self) -> Option<&'p [u8]>
         ensures taken { IfSome result (λ piece. self.old ≡ piece.now ++ self.new) }
         ensures some { IfSome result (λ piece. 0 < length piece.now) }

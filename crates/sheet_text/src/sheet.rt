@@ -1,4 +1,4 @@
-//! The text of a sheet.
+//! Makes the text of a sheet.
 ghost use Rattle.std.specs.Prelude.{◌≡◌, ℕ, ◌+◌, ◌<◌, ◌≤◌, ◌++◌, List, IfOk, OnOk, codes, decimal, length, Some, slice_get};
 ghost use Rattle.rules.specs.Bytes.{line};
 ghost use Rattle.rules.specs.Parts.{pages};
@@ -19,8 +19,8 @@ use crate::rope::{LEAST_BORROWED, Rope};
 use itoa::Buffer;
 use std::alloc::{AllocError, Global};
 
-/// The text of a sheet, counted from 0: its page line, each slot's page in order, placed on the sheet, and one
-/// `showpage`. The bodies are prepared anew from the document.
+/// The text of a sheet, counted from 0: its `%%Page:` line, the page of each slot in order, placed on the sheet, and one `showpage`. The bodies of
+/// the pages are taken from the document and prepared anew. The only error is refused memory.
 pub fn sheet_text(alloc: Global, job: &Job<'_, '_>, sheet: u32) -> Result<Vec<u8>, AllocError>
     requires { sheet < length job.now.plan.sheets }
     ensures { IfOk result (λ text. text.items ≡ text_of job.now sheet) }
@@ -29,7 +29,7 @@ pub fn sheet_text(alloc: Global, job: &Job<'_, '_>, sheet: u32) -> Result<Vec<u8
     text.to_vec(alloc)
 }
 
-/// The same text in pieces.
+/// The text that `sheet_text` returns, as a rope.
 pub fn sheet_rope<'r>(alloc: Global, job: &Job<'r, '_>, sheet: u32) -> Result<Rope<'r>, AllocError>
     requires { sheet < length job.now.plan.sheets }
     ensures { IfOk result (λ text. text ≡ text_of job.now sheet) }
@@ -41,14 +41,14 @@ pub fn sheet_rope<'r>(alloc: Global, job: &Job<'r, '_>, sheet: u32) -> Result<Ro
     Ok(text)
 }
 
-/// Makes a text the page line of a sheet and the lines at its start. Its earlier content is dropped, and its memory is reused. A text without memory
-/// gets room for about all that is copied into the text of the sheet.
+/// Begins the text of a sheet, counted from 0: replaces the content of this rope by the sheet's `%%Page:` line and the lines at its start. A rope
+/// that has no memory yet reserves about as much as the whole sheet will need.
 pub fn begin_sheet(text: &mut Rope<'_>, job: &Job<'_, '_>, sheet: u32) -> Result<(), AllocError>
     requires { sheet < length job.now.plan.sheets }
     ensures { OnOk result (text.new ≡ page_line sheet ++ lines_text (sheet_of job.now sheet).start) }
 {
     text.clear();
-    // One that was used before mostly has the room.
+    // A rope that was used for an earlier sheet usually has enough memory.
     if text.capacity() == 0 {
         text.reserve(likely_len(job, sheet))?;
     }
@@ -57,8 +57,8 @@ pub fn begin_sheet(text: &mut Rope<'_>, job: &Job<'_, '_>, sheet: u32) -> Result
     Ok(())
 }
 
-/// Appends the lines at the end of a sheet, and the line that ends and prints it. Lines that all sheets have aren't copied if they have 4,096 bytes
-/// or more.
+/// Ends the text of a sheet: appends the lines at its end, and `showpage`. Lines that are the same on all sheets are borrowed, not copied, if they
+/// have 4,096 bytes or more.
 pub fn end_sheet<'r>(text: &mut Rope<'r>, job: &Job<'r, '_>, sheet: u32) -> Result<(), AllocError>
     requires { sheet < length job.now.plan.sheets }
     ensures { OnOk result (text.new ≡
@@ -69,8 +69,8 @@ pub fn end_sheet<'r>(text: &mut Rope<'r>, job: &Job<'r, '_>, sheet: u32) -> Resu
     Ok(())
 }
 
-/// About the number of bytes that are copied into the text of a sheet, without lines of its own. It is seldom too small, so the bytes aren't moved
-/// while the text is made.
+/// An estimate of the number of bytes that the rope of a sheet will own, without the lines besides its pages. It is seldom too small, so the rope
+/// seldom has to be moved to a larger block of memory.
 fn likely_len(job: &Job<'_, '_>, sheet: u32) -> usize
     requires { sheet < length job.now.plan.sheets }
     ensures { result ≤ most_room job.now sheet }
@@ -82,8 +82,8 @@ fn likely_len(job: &Job<'_, '_>, sheet: u32) -> usize
     len
 }
 
-/// About the number of bytes that are copied for a slot: those of a page that isn't borrowed, and about two hundred for the texts round it. 0 for a
-/// blank slot.
+/// An estimate of the number of bytes that the rope of a sheet will own for this slot. It is 0 if the slot is blank. Otherwise it is 256, for the
+/// texts that open and close the page, plus the length of the page's body unless the body is borrowed.
 fn likely_slot_len(job: &Job<'_, '_>, sheet: u32, slot: u16) -> usize
     requires sheet { sheet < length job.now.plan.sheets }
     requires slot { slot < length (pages_on job.now.plan sheet) }
@@ -97,7 +97,7 @@ fn likely_slot_len(job: &Job<'_, '_>, sheet: u32, slot: u16) -> usize
     copied_len(body).saturating_add(256)
 }
 
-/// The number of these bytes that are copied, since long ones are borrowed.
+/// How many of these bytes are copied: none if there are enough of them to be borrowed.
 fn copied_len(bytes: &[u8]) -> usize
     ensures { result ≤ length bytes.now }
 {
@@ -108,7 +108,7 @@ fn copied_len(bytes: &[u8]) -> usize
     }
 }
 
-/// Appends the line that begins a sheet. Sheets are counted from 0, and from 1 in the text.
+/// Appends the `%%Page:` line of a sheet. The argument counts sheets from 0, and the line counts them from 1.
 fn append_page_line(text: &mut Rope<'_>, sheet: u32) -> Result<(), AllocError>
     ensures { OnOk result (text.new ≡ text.old ++ page_line sheet) }
 {
@@ -122,7 +122,7 @@ fn append_page_line(text: &mut Rope<'_>, sheet: u32) -> Result<(), AllocError>
     Ok(())
 }
 
-/// Appends the texts of all slots of a sheet, in order.
+/// Appends the text of each slot of a sheet, in order.
 fn append_slots(
     alloc: Global,
     text: &mut Rope<'_>,
@@ -139,7 +139,7 @@ fn append_slots(
     Ok(())
 }
 
-/// Appends a slot: its page, or nothing if it is blank.
+/// Appends the text of a slot: the placed page, or nothing if the slot is blank.
 fn append_slot(
     alloc: Global,
     text: &mut Rope<'_>,
@@ -163,8 +163,8 @@ fn append_slot(
     Ok(())
 }
 
-/// Appends the prepared body of the page in a slot that isn't blank, between the texts that open and close it. A body of 4,096 bytes or more isn't
-/// copied.
+/// Appends the page in this slot: the text that opens it, this prepared body, and the text that closes it. The body is borrowed, not copied, if it
+/// has 4,096 bytes or more. The slot mustn't be blank; if it is, the appended text isn't specified.
 pub fn append_placed<'r>(
     text: &mut Rope<'r>,
     openings: &mut Openings,

@@ -1,9 +1,10 @@
-//! The papers of a job's pages.
+//! The papers of the pages of a job.
 use crate::dress::SheetExtras;
 use lengths::Paper;
 use sheet_plan::MadeSheets;
 
-/// One paper for all pages; or made sheets, whose pages have papers of their own, with their lines.
+/// The papers of the pages of a job. Either all pages have the same paper, or the sheets are made sheets, in which each page has a paper of its own.
+/// Only the latter have lines besides their pages.
 #[derive(Drop)]
 pub(crate) enum SheetPapers<'j> {
     One(Paper),

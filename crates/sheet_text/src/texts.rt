@@ -1,4 +1,4 @@
-//! Texts of several sheets in the same memory.
+//! Texts of several sheets, stored in the same memory.
 ghost use Rattle.std.specs.Prelude.{◌≡◌, ◌≢◌, ◌<◌, ◌≤◌, ◌++◌, ◌∷◌, [], length, take, drop, IfSome, IsNone, OnOk, OnErr, Some, slice_get};
 ghost use Rattle.std.specs.List.{range_with_len};
 ghost use Rattle.sheet_text.specs.Texts.{sheets_of, joined_texts, texts_in, AreIn};
@@ -8,7 +8,8 @@ use std::alloc::{AllocError, Global};
 use std::marker::Model;
 use std::mem;
 
-/// Sheets, counted from 0, with their texts in pieces. The texts' own bytes share one block of memory. A contract sees a list of sheets and texts.
+/// Sheets, counted from 0, each with its text. The bytes that the texts own are stored in one vector. A contract sees a list of pairs of a sheet and
+/// its text.
 #[derive(Drop)]
 pub struct Texts<'r> {
     alloc: Global,
@@ -16,7 +17,8 @@ pub struct Texts<'r> {
     parts: Vec<TextPart<'r>>,
 }
 
-/// A sheet's text: where its own bytes begin and end, and the slices between them, whose places are counted from the text's start.
+/// The text of one sheet: the bytes from `start` to `end` of the common vector, and the borrowed slices between them, whose places are counted from
+/// `start`.
 #[derive(Drop)]
 struct TextPart<'r> {
     sheet: u32,
@@ -36,7 +38,7 @@ impl<'r> Model for Texts<'r> {
 }
 
 impl<'r> Texts<'r> {
-    /// None yet. They take no memory.
+    /// An empty list of sheets. It allocates no memory.
     pub fn new(alloc: Global) -> Texts<'r>
         ensures { result ≡ [] }
     {
@@ -47,7 +49,7 @@ impl<'r> Texts<'r> {
         }
     }
 
-    /// Drops all of them, and keeps their memory.
+    /// Removes all sheets, but keeps the allocated memory.
     pub fn clear(&mut self)
         ensures { self.new ≡ [] }
     {
@@ -55,8 +57,8 @@ impl<'r> Texts<'r> {
         self.parts.clear();
     }
 
-    /// Adds a sheet with its text, and leaves an empty text, which keeps its memory. If memory is refused, nothing is
-    /// added.
+    /// Adds a sheet with its text at the end of the list. The rope is left empty and keeps its memory for the next sheet. If memory is refused,
+    /// nothing changes.
     pub fn push(&mut self, sheet: u32, text: &mut Rope<'r>) -> Result<(), AllocError>
         ensures pushed { OnOk result (self.new ≡ self.old ++ (sheet, text.old) ∷ []) }
         ensures emptied { OnOk result (text.new ≡ []) }
@@ -76,14 +78,14 @@ impl<'r> Texts<'r> {
         Ok(())
     }
 
-    /// The number of sheets.
+    /// The number of sheets in the list.
     pub fn len(&self) -> usize
         ensures { result ≡ length self.now }
     {
         self.parts.len()
     }
 
-    /// The sheet at this index.
+    /// The number of the sheet at this index of the list, counted from 0.
     pub fn sheet(&self, nth: usize) -> u32
         requires nth { nth < length self.now }
         ensures { slice_get (sheets_of self.now) nth ≡ Some result }
@@ -91,8 +93,8 @@ impl<'r> Texts<'r> {
         self.parts[nth].sheet
     }
 
-    /// The text of this sheet, if it has this index, with those of up to `most - 1` next sheets that can be written with it: their number, and their
-    /// bytes.
+    /// Text for a single write: that of this sheet, followed by those of up to `most - 1` next sheets that adjoin it in memory. Returns the number of
+    /// these sheets and their bytes; None if the sheet isn't at index `nth` of the list.
     pub fn joined(&self, sheet: u32, nth: usize, most: u32) -> Option<(u32, Pieces<'_, 'r>)>
         requires most { 0 < most }
         ensures count { IfSome result (λ j. (0 < j.0) × (j.0 ≤ most)) }
@@ -111,8 +113,8 @@ impl<'r> Texts<'r> {
     }
 }
 
-/// The text of this sheet, which has this index, with those of up to `most - 1` next sheets that follow it in memory: their number, and their bytes.
-/// A text with slices is returned alone.
+/// The text of this sheet, which is at index `nth`, followed by those of up to `most - 1` next sheets that adjoin it in memory. Returns the number of
+/// these sheets and their bytes. A text with borrowed slices is returned alone.
 fn neighbours<'p, 'r>(
     own: &'p [u8],
     parts: &'p [TextPart<'r>],

@@ -8,7 +8,7 @@ use crate::rope::Rope;
 use lengths::Paper;
 use std::alloc::AllocError;
 
-/// Appends the lines of a sheet of this paper, if sheets have several.
+/// Appends the lines by which a sheet reports this paper: its `%%PageMedia:` line, then the PostScript code that sets the device's page size.
 pub(crate) fn append_paper_report(paper: &Paper, text: &mut Rope<'_>) -> Result<(), AllocError>
     ensures { OnOk result (text.new ≡ text.old ++ lines_text (sheet_lines paper.now)) }
 {
@@ -21,7 +21,7 @@ pub(crate) fn append_paper_report(paper: &Paper, text: &mut Rope<'_>) -> Result<
     Ok(())
 }
 
-/// The line that names its medium.
+/// Appends the `%%PageMedia:` line, which names the paper by its two sides in points, such as `595x842`.
 fn append_medium(paper: &Paper, text: &mut Rope<'_>) -> Result<(), AllocError>
     ensures { OnOk result (text.new ≡ text.old ++ line (codes "%%PageMedia: " ++ size_name paper.now)) }
 {
@@ -33,7 +33,8 @@ fn append_medium(paper: &Paper, text: &mut Rope<'_>) -> Result<(), AllocError>
     Ok(())
 }
 
-/// Appends the last of the lines that set the device's page size, which sets it.
+/// Appends the line that sets the device's page size. The line takes a Boolean off the stack, which the lines before it leave there, and sets the size
+/// only if that is true and the interpreter has `setpagedevice`.
 fn append_size_if_shown(paper: &Paper, text: &mut Rope<'_>) -> Result<(), AllocError>
     ensures { OnOk result (text.new ≡ text.old ++ line (setting_line paper.now)) }
 {
@@ -43,7 +44,7 @@ fn append_size_if_shown(paper: &Paper, text: &mut Rope<'_>) -> Result<(), AllocE
     Ok(())
 }
 
-/// Both sides, in points.
+/// Appends the width and the height of the paper, in points.
 fn append_page_size(paper: &Paper, text: &mut Rope<'_>) -> Result<(), AllocError>
     ensures { OnOk result (text.new ≡ text.old ++ size_text paper.now) }
 {
