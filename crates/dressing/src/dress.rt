@@ -1,4 +1,4 @@
-//! The dress by which sheets report their papers, with the marks and the numbers at their ends.
+//! The lines that report papers and draw marks and page numbers.
 ghost use Rattle.std.specs.Prelude.{◌≡◌, IfOk};
 ghost use Rattle.papers.specs.Told.{telling};
 ghost use Rattle.sheet_text.specs.Dressings.{dress_in};
@@ -11,7 +11,8 @@ use sheet_plan::MadeSheets;
 use sheet_text::{Numbers, SheetExtras};
 use std::alloc::{AllocError, Global};
 
-/// The dress by which these sheets report their papers, with the strokes and the numbers at the end of each.
+/// The dress of an output of these sheets: the lines that it has besides its pages. They report the papers of the sheets. At the end of each sheet
+/// they draw the strokes and then the page numbers. Refused for lack of memory, and for 2^32 sheets or more.
 pub fn dress_of(
     alloc: Global,
     sheets: &MadeSheets,

@@ -1,36 +1,36 @@
-//! Laws of the definitions. The functions do nothing.
+//! Laws of the marks, the lines for notes and the page numbers. Each contract is a law; the functions do nothing.
 ghost use Rattle.dressing.specs.Between.{FoldMarksAreOnFold, MarksAreBetween};
 ghost use Rattle.dressing.specs.Laws.{DrawnIsTame, LinesAreBeside, LinesAreInCell, MarksAreInMargin, MarksAreOutside, MarksMissPages, PiecesAreLike};
 ghost use Rattle.dressing.specs.AtFoot.{NumbersAreAtFoot};
 ghost use Rattle.dressing.specs.Numbered.{NoMarksAreTelling};
 ghost use Rattle.dressing.specs.Quiet.{DrawnAreFound, DrawnIsQuiet};
 
-/// If a sheet is cut along all marks of a side, its pieces are equally wide.
+/// If a sheet is cut along all lines that run in one direction, its pieces are equally wide.
 pub fn pieces_are_like()
     ensures { PiecesAreLike }
 {}
 
-/// Marks lie on lines midway between cells, or half a gap outside of them, at both ends of each line.
+/// Marks lie at both ends of lines that run midway between cells, or half a gap outside the outer cells.
 pub fn marks_are_between()
     ensures { MarksAreBetween }
 {}
 
-/// A booklet's fold marks lie on its fold.
+/// The fold marks of a booklet lie on its fold.
 pub fn fold_marks_are_on_fold()
     ensures { FoldMarksAreOnFold }
 {}
 
-/// No mark goes over a cell.
+/// No mark crosses a cell.
 pub fn marks_are_outside()
     ensures { MarksAreOutside }
 {}
 
-/// No mark goes over a page in a cell, if pages aren't trimmed.
+/// No mark crosses a page that lies in a cell, if pages aren't trimmed.
 pub fn marks_miss_pages()
     ensures { MarksMissPages }
 {}
 
-/// If there is a margin, all marks are in it.
+/// If a sheet has margins, all marks lie in them.
 pub fn marks_are_in_margin()
     ensures { MarksAreInMargin }
 {}
@@ -40,27 +40,28 @@ pub fn lines_are_in_cell()
     ensures { LinesAreInCell }
 {}
 
-/// No line for notes goes over a cell in which a page may be.
+/// No line for notes crosses a cell that may have a page.
 pub fn lines_are_beside()
     ensures { LinesAreBeside }
 {}
 
-/// The number of a page in the middle of its cell is at the foot of the cell, in the middle.
+/// If a page is in the middle of its cell, its number is at the foot of the cell, in the middle.
 pub fn numbers_are_at_foot()
     ensures { NumbersAreAtFoot }
 {}
 
-/// Sheets with marks and numbers can be imposed again.
+/// The lines that draw marks and numbers begin no page, data or embedded document, so sheets that have them can be imposed again.
 pub fn drawn_is_tame()
     ensures { DrawnIsTame }
 {}
 
-/// The papers that sheets with marks and numbers report are found in the same way as those of plain sheets.
+/// Lines that draw marks and numbers don't affect how the papers of sheets are found in an output.
 pub fn drawn_is_quiet()
     ensures { DrawnIsQuiet }
 {}
 
-/// The papers of sheets, whatever is drawn on them, are found in the output as they are printed.
+/// In an output whose sheets report their papers, the paper of each sheet is found again, as it is printed, whatever is drawn on the sheets. The
+/// output must have at least one sheet and be within the limits of an input, and the last page of the document must leave no embedded document open.
 pub fn drawn_are_found()
     ensures { DrawnAreFound }
 {}

@@ -1,4 +1,5 @@
-//! What is on sheets besides their pages: lines that report papers, marks for folds and cuts, lines for notes, numbers of pages.
+//! The lines that sheets have besides their pages. They report papers, draw marks for folding and cutting, draw lines for notes, and draw page
+//! numbers.
 #![tactic(auto)]
 
 mod dress;

@@ -1,4 +1,4 @@
-//! The lines that draw marks.
+//! PostScript lines that draw strokes.
 ghost use Rattle.std.specs.Prelude.{◌≡◌, ◌++◌, ◌∷◌, [], IfOk, OnOk, map};
 ghost use Rattle.sheet_text.specs.PageNumbers.{number_point_text};
 ghost use Rattle.dressing.specs.Drawn.{mark_lines as lines_of, stroke_line};
@@ -8,7 +8,7 @@ use lengths::{Grains, print_points};
 use sheet_text::Lines;
 use std::alloc::{AllocError, Global};
 
-/// The lines that draw these strokes; none if there are no strokes.
+/// The PostScript lines that draw these strokes, one line for each; none if there are no strokes.
 pub fn mark_lines(alloc: Global, strokes: &[Stroke]) -> Result<Lines, AllocError>
     ensures { IfOk result (λ lines. lines ≡ lines_of strokes.now) }
 {
@@ -31,7 +31,7 @@ fn push_strokes(alloc: Global, lines: &mut Lines, strokes: &[Stroke]) -> Result<
     Ok(())
 }
 
-/// The line that draws a stroke.
+/// Adds the line that draws this stroke.
 fn push_stroke(alloc: Global, lines: &mut Lines, stroke: &Stroke) -> Result<(), AllocError>
     ensures { OnOk result (lines.new ≡ lines.old ++ stroke_line stroke.now ∷ []) }
 {

@@ -1,4 +1,4 @@
-//! The header's lines that report papers.
+//! Header lines that report papers.
 ghost use Rattle.std.specs.Prelude.{◌≡◌, ◌++◌, ◌∷◌, [], codes, fold, map, nat_abs, IfOk, IsTrue, OnOk, ◌≤◌, ◌*◌, ◌^◌};
 ghost use Rattle.papers.specs.Own.{smallest_cover as covering_paper};
 ghost use Rattle.rules.specs.Numbers.{points_text};
@@ -13,7 +13,7 @@ use papers::smallest_cover;
 use sheet_text::Lines;
 use std::alloc::{AllocError, Global};
 
-/// The header's lines for these papers.
+/// The header lines that report these papers: none without papers, one medium for a single paper, and one medium for each of several.
 pub(crate) fn header_lines(alloc: Global, told: &[Paper]) -> Result<Lines, AllocError>
     ensures { IfOk result (λ lines. lines ≡ (telling_of told.now).header) }
 {
@@ -44,7 +44,7 @@ fn several_papers(alloc: Global, first: &Paper, others: &[Paper]) -> Result<Line
     Ok(lines)
 }
 
-/// The media after the first.
+/// Adds a line for each paper after the first.
 fn push_others(alloc: Global, lines: &mut Lines, others: &[Paper]) -> Result<(), AllocError>
     ensures { OnOk result (lines.new
         ≡ lines.old ++ map (λ r. medium_line (codes "%%+ ") (size_name r) r) others.now) }
@@ -55,7 +55,7 @@ fn push_others(alloc: Global, lines: &mut Lines, others: &[Paper]) -> Result<(),
     Ok(())
 }
 
-/// The least paper that covers all of these.
+/// The smallest paper that covers all of these.
 fn covering_all(first: &Paper, others: &[Paper]) -> Paper
     ensures { result ≡ fold covering_paper first.now others.now }
 {
@@ -66,7 +66,8 @@ fn covering_all(first: &Paper, others: &[Paper]) -> Paper
     large
 }
 
-/// Adds the box of a paper in whole numbers. If the sides aren't whole, the exact box follows.
+/// Adds the `%%BoundingBox:` line of a paper, in whole points. If a side isn't a whole number of points, the exact `%%HiResBoundingBox:` line
+/// follows.
 fn push_boxes(alloc: Global, lines: &mut Lines, paper: &Paper) -> Result<(), AllocError>
     ensures { OnOk result (lines.new ≡ lines.old ++ box_lines paper.now) }
 {
@@ -77,7 +78,7 @@ fn push_boxes(alloc: Global, lines: &mut Lines, paper: &Paper) -> Result<(), All
     push_exact_box(alloc, lines, paper)
 }
 
-/// The box of a paper, in whole numbers, rounded up.
+/// Adds the `%%BoundingBox:` line of a paper, with its sides rounded up to whole points.
 fn push_box(alloc: Global, lines: &mut Lines, paper: &Paper) -> Result<(), AllocError>
     ensures { OnOk result (lines.new ≡ lines.old ++ box_line (whole_paper paper.now) ∷ []) }
 {
@@ -88,7 +89,7 @@ fn push_box(alloc: Global, lines: &mut Lines, paper: &Paper) -> Result<(), Alloc
     Ok(())
 }
 
-/// Adds the exact box of a paper.
+/// Adds the `%%HiResBoundingBox:` line of a paper, with its exact sides in points.
 fn push_exact_box(alloc: Global, lines: &mut Lines, paper: &Paper) -> Result<(), AllocError>
     ensures { OnOk result (lines.new ≡ lines.old ++ exact_box_line paper.now ∷ []) }
 {
@@ -99,14 +100,14 @@ fn push_exact_box(alloc: Global, lines: &mut Lines, paper: &Paper) -> Result<(),
     Ok(())
 }
 
-/// Whether both sides are printed as whole points.
+/// Whether both sides, as they are printed, are whole numbers of points.
 fn is_in_whole_points(paper: &Paper) -> bool
     ensures { result ≡ whole paper.now }
 {
     printed_parts(paper.width()) % 100_000 == 0 && printed_parts(paper.height()) % 100_000 == 0
 }
 
-/// A side, in grains: what is printed of it, rounded up to whole points.
+/// The side, as it is printed, rounded up to whole points, in grains.
 fn whole_up(side: Grains) -> i128
     requires { IsTrue (is_side side) }
     ensures value { result ≡ up_to_whole side }
@@ -116,7 +117,7 @@ fn whole_up(side: Grains) -> i128
     (points * 127_000_000_000) as i128
 }
 
-/// Adds the line of a medium that is the only one.
+/// Adds the `%%DocumentMedia:` line of an output in which all sheets have this paper. The medium is named `Plain`.
 fn push_medium(alloc: Global, lines: &mut Lines, paper: &Paper) -> Result<(), AllocError>
     ensures { OnOk result (lines.new
         ≡ lines.old ++ medium_line (codes "%%DocumentMedia: ") (codes "Plain") paper.now ∷ []) }
@@ -128,7 +129,7 @@ fn push_medium(alloc: Global, lines: &mut Lines, paper: &Paper) -> Result<(), Al
     Ok(())
 }
 
-/// Adds the line of the first of several media, with a name made from its sides.
+/// Adds the `%%DocumentMedia:` line of the first of several papers. The medium is named by its sides, such as `595x842`.
 fn push_named_medium(alloc: Global, lines: &mut Lines, paper: &Paper) -> Result<(), AllocError>
     ensures { OnOk result (lines.new
         ≡ lines.old ++ medium_line (codes "%%DocumentMedia: ") (size_name paper.now) paper.now ∷ []) }
@@ -141,7 +142,7 @@ fn push_named_medium(alloc: Global, lines: &mut Lines, paper: &Paper) -> Result<
     Ok(())
 }
 
-/// Adds the line of a further medium.
+/// Adds the `%%+` line of a further paper. The medium is named by its sides.
 fn push_continued(alloc: Global, lines: &mut Lines, paper: &Paper) -> Result<(), AllocError>
     ensures { OnOk result (lines.new
         ≡ lines.old ++ medium_line (codes "%%+ ") (size_name paper.now) paper.now ∷ []) }
@@ -154,7 +155,7 @@ fn push_continued(alloc: Global, lines: &mut Lines, paper: &Paper) -> Result<(),
     Ok(())
 }
 
-/// Appends the text after the name of a medium: its sides, and that nothing else is known of it.
+/// Appends the rest of a medium's line, after its name: the sides in points, the weight 0, and an empty colour and type, which stand for unknown.
 fn append_medium_sides(line: &mut Vec<u8>, paper: &Paper) -> Result<(), AllocError>
     ensures { OnOk result (line.new.items ≡ line.old.items ++ medium_text [] paper.now) }
 {
@@ -164,7 +165,7 @@ fn append_medium_sides(line: &mut Vec<u8>, paper: &Paper) -> Result<(), AllocErr
     Ok(())
 }
 
-/// Appends both sides, in points.
+/// Appends the width and the height, in points.
 fn append_both_sides(line: &mut Vec<u8>, paper: &Paper) -> Result<(), AllocError>
     ensures { OnOk result (line.new.items ≡ line.old.items ++ size_text paper.now) }
 {
@@ -174,7 +175,7 @@ fn append_both_sides(line: &mut Vec<u8>, paper: &Paper) -> Result<(), AllocError
     Ok(())
 }
 
-/// Appends both sides in whole points, rounded up.
+/// Appends the width and the height, rounded up to whole points.
 fn append_whole_size(line: &mut Vec<u8>, paper: &Paper) -> Result<(), AllocError>
     ensures { OnOk result (line.new.items ≡ line.old.items ++ size_text (whole_paper paper.now)) }
 {
@@ -191,7 +192,7 @@ fn append_whole(line: &mut Vec<u8>, side: Grains) -> Result<(), AllocError>
     print_grains(whole_up(side), line)
 }
 
-/// Appends the name of a medium, made from its sides.
+/// Appends the name of a medium, made from its sides in points.
 fn append_medium_name(line: &mut Vec<u8>, paper: &Paper) -> Result<(), AllocError>
     ensures { OnOk result (line.new.items ≡ line.old.items ++ size_name paper.now) }
 {

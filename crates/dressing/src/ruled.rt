@@ -1,4 +1,4 @@
-//! Lines for notes beside pages.
+//! Lines for notes, in cells beside those of the pages.
 ghost use Rattle.std.specs.Prelude.{◌≡◌, ◌*◌, ◌^◌, ◌<◌, ◌≤◌, ◌++◌, IfOk, OnOk};
 ghost use Rattle.dressing.specs.Ruled.{line_below as below_of, line_count as count_of, note_line as line_of};
 ghost use Rattle.dressing.specs.Ruled.{note_lines as lines_of, row_lines};
@@ -7,11 +7,11 @@ use crate::strokes::Stroke;
 use layouts::{Cell, Grid, Room, cell_size, in_grains};
 use std::alloc::{AllocError, Global};
 
-/// The distance between lines, in 10^-5 of a point.
+/// The distance between neighbouring lines, in 10^-5 of a point: 24 points.
 const LINE_STEP: u64 = 2_400_000;
 
-/// The lines to write on. They are in each cell of the last column, as one reads the sheet; pages are in the other columns. Lines are 24 points
-/// apart, and reach from the left to the right side of the cell.
+/// The lines for notes on a sheet. They are in the last cell of each row of cells, as one reads the sheet; pages are in the cells before it. Lines
+/// cross the cell from side to side, 24 points apart; the first is 24 points below the cell's top, and none is on its lower side.
 pub fn note_lines(alloc: Global, room: &Room, grid: Grid) -> Result<Vec<Stroke>, AllocError>
     ensures { IfOk result (λ lines. lines.items ≡ lines_of room.now grid) }
 {
@@ -22,7 +22,7 @@ pub fn note_lines(alloc: Global, room: &Room, grid: Grid) -> Result<Vec<Stroke>,
     Ok(lines)
 }
 
-/// Adds the lines of a row's cell.
+/// Adds the lines in the last cell of this row.
 fn push_row(room: &Room, grid: Grid, row: u32, lines: &mut Vec<Stroke>) -> Result<(), AllocError>
     requires { row < grid.rows }
     ensures { OnOk result (lines.new.items ≡ lines.old.items ++ row_lines room.now grid row) }
@@ -33,7 +33,7 @@ fn push_row(room: &Room, grid: Grid, row: u32, lines: &mut Vec<Stroke>) -> Resul
     Ok(())
 }
 
-/// The number of lines of a cell.
+/// The number of lines in a cell.
 fn line_count(room: &Room, grid: Grid) -> u32
     ensures value { result ≡ count_of room.now grid }
     ensures few { result ≤ 10_000_000 }
@@ -42,7 +42,7 @@ fn line_count(room: &Room, grid: Grid) -> u32
     (height.saturating_sub(1) / LINE_STEP) as u32
 }
 
-/// Line k of a row's cell, counted from 1 from the top.
+/// The k-th line, counted from 1 at the top, in the last cell of this row.
 fn note_line(room: &Room, grid: Grid, row: u32, k: u32) -> Stroke
     requires { row < grid.rows }
     ensures { result ≡ line_of room.now grid row k }
@@ -51,7 +51,7 @@ fn note_line(room: &Room, grid: Grid, row: u32, k: u32) -> Stroke
     line_below(grid.turned, &cell, u64::from(k) * LINE_STEP)
 }
 
-/// A line through a cell, this far below its upper side as one reads the sheet, in 10^-5 of a point.
+/// A line across a cell, at this depth below the top of the cell as one reads the sheet, in 10^-5 of a point.
 fn line_below(turned: bool, cell: &Cell, depth: u64) -> Stroke
     requires { depth ≤ 11 * 10 ^ 15 }
     ensures { result ≡ below_of turned cell.now depth }

@@ -1,4 +1,4 @@
-//! The strokes by which sheets are marked.
+//! Strokes that mark where sheets are folded and cut.
 ghost use Rattle.std.specs.Prelude.{◌≡◌, ◌<◌, ◌≤◌, ◌++◌, pos, nat_abs, IfOk, OnOk};
 ghost use Rattle.dressing.specs.Strokes.{far_end as far_of, near_end as near_of};
 ghost use Rattle.dressing.specs.Strokes.{cut_marks as cut_of, fold_marks as fold_of, has_half_gap as has_room_of, has_room_round as round_has_room};
@@ -11,7 +11,7 @@ use layouts::{Grid, HUNDRED_THOUSANDTH, Room, from_far, gap_at, grains, in_grain
 use lengths::Grains;
 use std::alloc::{AllocError, Global};
 
-/// The marks that are asked for: where sheets are folded, where they are cut, lines for notes beside pages, and page numbers.
+/// The marks that are requested: for folding, for cutting, lines for notes, and page numbers.
 #[derive(Clone, Copy, Debug, PartialEq, Eq)]
 pub struct Marks {
     pub fold: bool,
@@ -20,17 +20,17 @@ pub struct Marks {
     pub numbers: Option<Numbering>,
 }
 
-/// A line on a sheet between two points, each given by its distances from the left and the lower edge.
+/// A straight line on a sheet. A point is given by its distances, in grains, from the left and the lower edge of the sheet.
 #[derive(Clone, Copy, Debug, PartialEq, Eq)]
 pub struct Stroke {
     pub start: (Grains, Grains),
     pub end: (Grains, Grains),
 }
 
-/// The greatest length of a stroke, in 10^-5 of a point.
+/// The greatest length of a mark, in 10^-5 of a point: 18 points.
 const LONGEST: u64 = 1_800_000;
 
-/// The marks for cutting a sheet between its cells, and around them if the margins have room.
+/// Marks for cutting a sheet between its cells, and also around the outer cells if all margins have room for half a gap.
 pub fn cut_marks(alloc: Global, room: &Room, grid: Grid) -> Result<Vec<Stroke>, AllocError>
     ensures { IfOk result (λ strokes. strokes.items ≡ cut_of room.now grid) }
 {
@@ -40,7 +40,8 @@ pub fn cut_marks(alloc: Global, room: &Room, grid: Grid) -> Result<Vec<Stroke>, 
     Ok(strokes)
 }
 
-/// The marks for cutting a sheet that is folded between its cells: around the cells only, if the margins have room.
+/// Marks for cutting a sheet that is folded, and not cut, between its cells. They are around the outer cells, and there are none unless all margins
+/// have room for half a gap.
 pub fn outer_cut_marks(alloc: Global, room: &Room, grid: Grid) -> Result<Vec<Stroke>, AllocError>
     ensures { IfOk result (λ strokes. strokes.items ≡ outer_cut_of room.now grid) }
 {
@@ -49,7 +50,7 @@ pub fn outer_cut_marks(alloc: Global, room: &Room, grid: Grid) -> Result<Vec<Str
     Ok(outer)
 }
 
-/// The marks for folding a sheet between its cells.
+/// Marks for folding a sheet between its cells.
 pub fn fold_marks(alloc: Global, room: &Room, grid: Grid) -> Result<Vec<Stroke>, AllocError>
     ensures { IfOk result (λ strokes. strokes.items ≡ fold_of room.now grid) }
 {
@@ -58,7 +59,7 @@ pub fn fold_marks(alloc: Global, room: &Room, grid: Grid) -> Result<Vec<Stroke>,
     Ok(folds)
 }
 
-/// Adds the marks between all cells.
+/// Adds the marks between neighbouring cells.
 fn push_between(room: &Room, grid: Grid, strokes: &mut Vec<Stroke>) -> Result<(), AllocError>
     ensures { OnOk result (strokes.new.items ≡ strokes.old.items ++ marks_between room.now grid) }
 {
@@ -67,7 +68,7 @@ fn push_between(room: &Room, grid: Grid, strokes: &mut Vec<Stroke>) -> Result<()
     Ok(())
 }
 
-/// Adds the marks around all cells, if the margins have room for them.
+/// Adds the marks around the outer cells, if all margins have room for half a gap.
 fn push_round_if_room(room: &Room, grid: Grid, strokes: &mut Vec<Stroke>) -> Result<(), AllocError>
     ensures { OnOk result (strokes.new.items ≡ strokes.old.items ++ outer_cut_of room.now grid) }
 {
@@ -77,7 +78,7 @@ fn push_round_if_room(room: &Room, grid: Grid, strokes: &mut Vec<Stroke>) -> Res
     Ok(())
 }
 
-/// Adds the marks around all cells.
+/// Adds the marks around the outer cells.
 fn push_round(room: &Room, grid: Grid, strokes: &mut Vec<Stroke>) -> Result<(), AllocError>
     ensures { OnOk result (strokes.new.items ≡ strokes.old.items ++ marks_round room.now grid) }
 {
@@ -106,7 +107,7 @@ fn push_level_round(room: &Room, parts: u32, strokes: &mut Vec<Stroke>) -> Resul
     Ok(())
 }
 
-/// Whether the margins along all edges have room for half a gap.
+/// Whether the margins at all four edges have room for half a gap.
 fn has_room_round(room: &Room) -> bool
     ensures { result ≡ round_has_room room.now }
 {
@@ -116,7 +117,7 @@ fn has_room_round(room: &Room) -> bool
     beside && above
 }
 
-/// Whether a margin has room for half of this gap.
+/// Whether this margin is there and has room for half of this gap, both in 10^-5 of a point.
 fn has_half_gap(edge: u64, gap: u64) -> bool
     requires { edge ≤ 10_000_000_000 }
     ensures { result ≡ has_room_of edge gap }
@@ -124,7 +125,7 @@ fn has_half_gap(edge: u64, gap: u64) -> bool
     edge != 0 && gap <= 2 * edge
 }
 
-/// Adds the marks between cells side by side.
+/// Adds the marks between columns of cells.
 fn push_upright_between(
     room: &Room,
     parts: u32,
@@ -139,7 +140,7 @@ fn push_upright_between(
     Ok(())
 }
 
-/// Adds the marks between cells one above another.
+/// Adds the marks between rows of cells.
 fn push_level_between(room: &Room, parts: u32, strokes: &mut Vec<Stroke>) -> Result<(), AllocError>
     requires { 0 < parts }
     ensures { OnOk result (strokes.new.items ≡ strokes.old.items ++ level_between room.now parts) }
@@ -150,7 +151,8 @@ fn push_level_between(room: &Room, parts: u32, strokes: &mut Vec<Stroke>) -> Res
     Ok(())
 }
 
-/// Adds the strokes along the line before cell k of several cells side by side.
+/// Adds the marks at both ends of the upright line to the left of column k, counted from 0. If k is the number of columns, the line is to the right
+/// of the last one.
 fn push_upright(
     room: &Room,
     parts: u32,
@@ -173,7 +175,8 @@ fn push_upright(
     Ok(())
 }
 
-/// Adds the strokes along the line below cell k of several cells one above another.
+/// Adds the marks at both ends of the level line below row k, counted from 0 at the bottom. If k is the number of rows, the line is above the last
+/// one.
 fn push_level(room: &Room, parts: u32, k: u32, strokes: &mut Vec<Stroke>) -> Result<(), AllocError>
     requires some { 0 < parts }
     requires part { k ≤ parts }
@@ -191,7 +194,8 @@ fn push_level(room: &Room, parts: u32, k: u32, strokes: &mut Vec<Stroke>) -> Res
     Ok(())
 }
 
-/// The distance from the edge at which strokes end, for a margin of this width.
+/// How far from the edge of the sheet marks end, in grains. They end at the inner end of this margin, whose width is in 10^-5 of a point. Without a
+/// margin they end 18 points from the edge.
 fn far_end(edge: u64) -> Grains
     requires { edge ≤ 10_000_000_000 }
     ensures value { result ≡ pos (far_of edge) }
@@ -204,7 +208,7 @@ fn far_end(edge: u64) -> Grains
     }
 }
 
-/// The distance from the edge at which they begin.
+/// How far from the edge of the sheet marks begin, in grains. They begin 18 points nearer to the edge than they end, or at the edge if that is less.
 fn near_end(edge: u64) -> Grains
     requires { edge ≤ 10_000_000_000 }
     ensures value { result ≡ pos (near_of edge) }

@@ -9,15 +9,15 @@ use sheet_plan::MadeSheets;
 use std::alloc::{AllocError, Global};
 use std::collections::BTreeSet;
 
-/// The sides of a paper as they are printed, in whole 10^-5 points.
+/// The sides of a paper as they are printed, in whole 10^-5 of a point.
 #[derive(Clone, Copy, Debug, PartialEq, Eq, PartialOrd, Ord)]
 struct Size {
     width: i128,
     height: i128,
 }
 
-/// The papers that sheets report: each one whose printed size differs from all before it. Refused only for lack of memory, and if there are 2^32
-/// sheets.
+/// The papers that these sheets report, each printed size once, in the order of its first sheet. Refused for lack of memory, and for 2^32 sheets or
+/// more.
 pub fn reported_papers(alloc: Global, sheets: &MadeSheets) -> Result<Vec<Paper>, AllocError>
     ensures { IfOk result (λ told. told.items ≡ papers_told (papers_of sheets.now)) }
 {
@@ -32,7 +32,7 @@ pub fn reported_papers(alloc: Global, sheets: &MadeSheets) -> Result<Vec<Paper>,
     Ok(told)
 }
 
-/// Adds a paper, if its printed size differs from all of these.
+/// Adds a paper if no paper in `told` has the same printed size. `sizes` has the printed sizes of all papers in `told`.
 fn add_paper(
     told: &mut Vec<Paper>,
     sizes: &mut BTreeSet<Size>,
@@ -51,7 +51,7 @@ fn add_paper(
     Ok(())
 }
 
-/// The printed sides of a paper.
+/// The sides of a paper as they are printed.
 fn size_in_print(paper: &Paper) -> Size
     ensures { result ≡ size_of paper.now }
 {
@@ -61,7 +61,7 @@ fn size_in_print(paper: &Paper) -> Size
     }
 }
 
-/// The printed side, in whole 10^-5 points.
+/// The side as it is printed, in whole 10^-5 of a point.
 pub(crate) fn printed_parts(side: Grains) -> u128
     requires { IsTrue (is_side side) }
     ensures value { result ≡ parts_of side }
@@ -70,7 +70,7 @@ pub(crate) fn printed_parts(side: Grains) -> u128
     in_print(side).unsigned_abs()
 }
 
-/// A side in whole 10^-5 points, rounded half away from zero.
+/// The side in whole 10^-5 of a point, rounded to the nearest whole number; halves are rounded away from zero.
 fn in_print(side: Grains) -> i128
     requires { IsTrue (is_side side) }
     ensures value { result ≡ printed side }
