@@ -1,4 +1,4 @@
-//! Writes the sheets of a run to a sink, in order. No threads are involved.
+//! Writes the sheets of a run to a sink, in the order of their numbers. No threads are involved.
 #![tactic(auto)]
 
 mod reorder_buffer;

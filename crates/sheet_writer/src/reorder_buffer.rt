@@ -1,4 +1,4 @@
-//! Sheets that came before their turn.
+//! A buffer for finished sheets that must wait, because earlier sheets haven't been written yet.
 ghost use Rattle.std.specs.Prelude.{◌≡◌, ◌≢◌, ℕ, ◌<◌, ◌≤◌, Some, None, length, slice_get, true, false, All, IfOk, IfSome, IsNone, MatchOption};
 ghost use Rattle.sheet_text.specs.Jobs.{JobView, text_of};
 ghost use Rattle.sheet_text.specs.Texts.{TextsView, sheets_of};
@@ -8,30 +8,32 @@ ghost use Rattle.sheet_writer.specs.Places.{last_entry, buffer_place, in_place, 
 use sheet_text::{Pieces, Texts};
 use std::alloc::{AllocError, Global};
 
-/// Takes back sheets that were written, so that their memory can be reused.
+/// Receives the texts of sheets that have been written, so that their memory can be reused.
 pub trait Spent<'r> {
-    /// Takes sheets whose texts are no longer needed.
+    /// Takes the texts of sheets that have been written.
     fn give_back(&mut self, sheets: Texts<'r>);
 }
 
-/// The place of a sheet: its group of sheets, and its index there.
+/// Where a sheet is in the buffer: the index of its group in `groups`, and its own index in that group.
 #[derive(Clone, Copy)]
 pub struct Place {
     pub group: usize,
     pub nth: usize,
 }
 
-/// Places for sheets that wait for their turn. A sheet's place is its number modulo the count of places, so the
-/// sheets of one window have different places. Sheets that came together are at the place of the last of them: when
-/// that one is written, all of them are.
+/// Finished sheets that wait until all sheets before them are written. Each sheet number has a place: the number modulo the count of places. So the
+/// sheets of one window, which has at most that many sheets, have different places. Sheets arrive in groups. A group is stored at the place of its
+/// last sheet (the one with the greatest number), since the whole group has been written once that sheet has.
 #[derive(Drop)]
 pub struct ReorderBuffer<'r> {
+    /// For each place, where the sheet with this place is.
     pub places: Vec<Place>,
+    /// The groups, each at the place of its last sheet; None if the place is free.
     pub groups: Vec<Option<Texts<'r>>>,
 }
 
 impl<'r> ReorderBuffer<'r> {
-    /// A buffer with this many places, all empty.
+    /// A buffer with this number of places, all of them free. The only error is refused memory.
     pub fn new(alloc: Global, count: u32) -> Result<Self, AllocError>
         ensures early { IfOk result (λ early. (job : JobView) → AreEarly job early.groups.items) }
         ensures places { IfOk result (λ early. length early.places.items ≡ count) }
@@ -47,8 +49,9 @@ impl<'r> ReorderBuffer<'r> {
         Ok(ReorderBuffer { places, groups })
     }
 
-    /// Puts sheets in their places. Each can be found if no two of them have the same place. A sheet that is replaced counts as one that never came.
-    /// If other sheets are already in these places, the new ones are dropped; a sheet that never came is made again.
+    /// Stores a group of finished sheets at the place of its last sheet. If that place isn't free, the new group is dropped, and its sheets are made
+    /// again when they are to be written. All sheets of the group can be found afterwards if no two of them have the same place. A sheet whose place
+    /// another sheet takes over counts as one that never came.
     pub fn put(&mut self, finished: Texts<'r>)
         ensures early { (job : JobView) → HaveTexts (text_of job) finished.entry
             → AreEarly job self.old.groups.items → AreEarly job self.new.groups.items }
@@ -74,7 +77,7 @@ impl<'r> ReorderBuffer<'r> {
         self.groups[group] = Some(finished);
     }
 
-    /// Records where each sheet of a group is.
+    /// Records for each sheet of a group where it is.
     fn mark_all(&mut self, finished: &Texts<'_>, group: usize)
         ensures groups { self.new.groups ≡ self.old.groups }
         ensures count { length self.new.places.items ≡ length self.old.places.items }
@@ -90,7 +93,7 @@ impl<'r> ReorderBuffer<'r> {
         }
     }
 
-    /// Records where a sheet is.
+    /// Records where a sheet is. Whatever was recorded for the same place is lost.
     fn mark(&mut self, sheet: u32, at: Place)
         ensures groups { self.new.groups ≡ self.old.groups }
         ensures count { length self.new.places.items ≡ length self.old.places.items }
@@ -105,14 +108,15 @@ impl<'r> ReorderBuffer<'r> {
         }
     }
 
-    /// The number of a sheet's place.
+    /// The place of a sheet.
     fn place_of(&self, sheet: u32) -> usize
         ensures { 0 < length self.now.groups.items → result ≡ buffer_place self.now sheet }
     {
         sheet as usize % self.groups.len().max(1)
     }
 
-    /// The text of a sheet, if it came, with those of up to `most - 1` next sheets that can be written with it: their number, and their bytes.
+    /// Text for a single write: that of this sheet, followed by those of up to `most - 1` next sheets that adjoin it in memory. Returns the number of
+    /// these sheets and their bytes; None if this sheet hasn't come.
     pub fn joined(&self, sheet: u32, most: u32) -> Option<(u32, Pieces<'_, 'r>)>
         requires most { 0 < most }
         ensures count { IfSome result (λ j. (0 < j.0) × (j.0 ≤ most)) }
@@ -134,7 +138,7 @@ impl<'r> ReorderBuffer<'r> {
         finished.joined(sheet, nth, most)
     }
 
-    /// The group of sheets that are all written once this one is, if there is one. Its place becomes free.
+    /// Removes and returns the group whose last sheet this is, and frees its place. None, and no change, if there is no such group.
     pub fn take_written(&mut self, sheet: u32) -> Option<Texts<'r>>
         ensures early { (job : JobView) → AreEarly job self.old.groups.items → AreEarly job self.new.groups.items }
         ensures places { self.new.places ≡ self.old.places }
@@ -160,7 +164,7 @@ impl<'r> ReorderBuffer<'r> {
     }
 }
 
-/// The last of these sheets.
+/// The greatest number of a sheet in the group; 0 if the group is empty.
 fn last(finished: &Texts<'_>) -> u32
     ensures { result ≡ last_entry (sheets_of finished.now) }
 {

@@ -1,4 +1,4 @@
-//! Where a run writes.
+//! Destinations for the output of a run.
 ghost use Rattle.std.specs.Prelude.{◌≡◌, ℕ, ◌+◌, ◌-◌, ◌^◌, ◌<◌, ◌≤◌, List, Option, Some, None, length, take, IfOk};
 ghost use Rattle.std.specs.Prelude.{IfErr, OnOk, OnErr, [], vec_len, vec_capacity};
 ghost use Rattle.std.specs.Io.KnownBytes.{Appends, Keeps};
@@ -10,16 +10,16 @@ use std::alloc::{AllocError, Global};
 use std::io;
 use std::marker::Model;
 
-/// A sink refused a call and took nothing.
+/// The sink refused a call and took none of its bytes.
 #[derive(Clone, Copy, Debug, PartialEq, Eq)]
 pub struct SinkFault;
 
-/// Takes bytes in order, a part or all of those of a call.
+/// A destination for bytes, which it takes in order. A call may take only some of the bytes that are offered, from the front.
 pub trait Sink {
-    // Which bytes it has taken, if it reports them, and how many calls it has refused.
+    // The bytes that it has taken, if it reports them, and the number of calls that it has refused.
     ghost seen: { Self → SinkView };
 
-    /// Takes the first of the bytes, at least one, and returns their number.
+    /// Takes one or more bytes from the front of this slice, and returns their number. After an error it has taken none.
     fn accept(&mut self, bytes: &[u8]) -> Result<usize, SinkFault>
         requires some { 0 < length bytes.now }
         requires countable { IsCountable (seen self.old) }
@@ -30,13 +30,13 @@ pub trait Sink {
         ensures raised { OnErr result ((seen self.new).failures ≡ (seen self.old).failures + 1) };
 }
 
-/// A sink failed after it had taken this many bytes.
+/// A sink refused a call after it had taken the first `written` bytes of a text.
 #[derive(Clone, Copy, Debug, PartialEq, Eq)]
 pub(crate) struct Stopped {
     pub(crate) written: usize,
 }
 
-/// Gives the sink all the bytes, in as many calls as are needed.
+/// Gives the sink all these bytes, in as many calls as are needed. Stops at the first call that the sink refuses.
 pub(crate) fn write_all<S: Sink>(sink: &mut S, bytes: &[u8]) -> Result<(), Stopped>
     requires countable { IsCountable (S.seen sink.old) }
     ensures whole { OnOk result (Appends (S.seen sink.old).bytes (S.seen sink.new).bytes bytes.now) }
@@ -55,7 +55,7 @@ pub(crate) fn write_all<S: Sink>(sink: &mut S, bytes: &[u8]) -> Result<(), Stopp
     Ok(())
 }
 
-/// Gives the sink all pieces of a text, in order.
+/// Gives the sink all pieces of a text, in order. Stops at the first call that the sink refuses.
 pub(crate) fn write_pieces<S: Sink>(sink: &mut S, text: Pieces<'_, '_>) -> Result<(), Stopped>
     requires countable { IsCountable (S.seen sink.old) }
     requires counted { length text ≤ u64.MAX }
@@ -80,7 +80,7 @@ pub(crate) fn write_pieces<S: Sink>(sink: &mut S, text: Pieces<'_, '_>) -> Resul
     Ok(())
 }
 
-/// A writer as a sink. An error of the writer, even an interrupted write, and an accepted count of 0 are failures.
+/// A sink that passes its bytes to a writer. A call fails if the writer returns an error, even for an interrupted write, or accepts 0 bytes.
 #[derive(Drop)]
 pub struct WriteSink<T: io::Write> {
     writer: T,
@@ -88,6 +88,7 @@ pub struct WriteSink<T: io::Write> {
 }
 
 impl<T: io::Write> WriteSink<T> {
+    /// A sink for this writer, which has not failed yet.
     pub fn new(writer: T) -> Self
         ensures told { (⟦<WriteSink<T> as Sink>⟧.seen result).bytes ≡ T.contents writer }
         ensures fresh { (⟦<WriteSink<T> as Sink>⟧.seen result).failures ≡ 0 }
@@ -98,7 +99,7 @@ impl<T: io::Write> WriteSink<T> {
         }
     }
 
-    /// The writer.
+    /// Returns the writer.
     pub fn into_inner(self) -> T
         ensures { T.contents result ≡ (⟦<WriteSink<T> as Sink>⟧.seen self).bytes }
     {
@@ -120,8 +121,8 @@ impl<T: io::Write> Sink for WriteSink<T> {
     }
 }
 
-/// A list of bytes as a sink. It has room for `room` bytes, takes at most `per_call` in a call, and returns Ok from
-/// at most `calls` calls.
+/// A sink that keeps its bytes in a vector. It has room for `room` bytes in all, takes at most `per_call` bytes in one call, and refuses every call
+/// after the first `calls` successful ones.
 #[derive(Drop)]
 pub struct MemorySink {
     bytes: Vec<u8>,
@@ -146,7 +147,7 @@ impl Model for MemorySink {
 }
 
 impl MemorySink {
-    /// Reserves the room, so that no later call needs memory.
+    /// An empty sink. Memory for `room` bytes is reserved now, so that no later call needs any; the only error is that this memory is refused.
     pub fn new(alloc: Global, room: usize, per_call: usize, calls: u64) -> Result<Self, AllocError>
         ensures { IfOk result (λ s. s ≡ record {
           bytes = [];
@@ -166,7 +167,7 @@ impl MemorySink {
         })
     }
 
-    /// The bytes that it has taken.
+    /// The bytes that the sink has taken.
     pub fn bytes(&self) -> &[u8]
         ensures { result.now ≡ self.now.bytes }
     {
@@ -182,9 +183,9 @@ impl Sink for MemorySink {
         requires countable { self.old.failures < u64.MAX }
         ensures within { IfOk result (λ k. (0 < k) × (k ≤ length bytes.now)) }
         ensures taken { IfOk result (λ k. self.new ≡ after_taking self.old (take k bytes.now)) }
-        // For an Ok a call must be left.
+        // A call succeeds only if fewer than `calls` calls have succeeded before.
         ensures answers { OnOk result (0 < self.old.calls) }
-        // It takes as much as the slice, the room left and the limit per call allow.
+        // The sink takes as many bytes as the slice has, as the room left allows, and as the limit for one call allows.
         ensures most { IfOk result (λ k. k ≡ acceptable self.old (length bytes.now)) }
         ensures refused { OnErr result (IsSpent self.old (length bytes.now)) }
         ensures kept { OnErr result (self.new ≡ record self.old { failures = self.old.failures + 1 }) }

@@ -1,4 +1,4 @@
-//! Writes the output of a job: each sheet when its turn comes, and at the end what is left.
+//! Writes the output of a job: each sheet once all sheets before it are written, and at the end the remaining sheets and the trailer.
 ghost use Rattle.std.specs.Prelude.{◌≡◌, ℕ, ◌+◌, ◌-◌, ◌<◌, ◌≤◌, ◌⊎◌, None, Some, IfErr, OnOk, length};
 ghost use Rattle.std.specs.Prelude.{if◌then◌else◌, false};
 ghost use Rattle.rules.specs.Filters.{trailer_text};
@@ -15,22 +15,27 @@ use std::alloc::Global;
 /// Why nothing more is written.
 #[derive(Clone, Copy, Debug)]
 pub enum Halt {
-    /// The sink failed.
+    /// The sink refused a call.
     Failed,
-    /// Memory was refused, or there are more bytes than a report can count.
+    /// Memory was refused, or the output has 2^64 bytes or more, which a report can't count.
     NoMemory,
 }
 
-/// How far the output is written: the next sheet, the number of bytes, and the number of remaining sheets that no worker imposed.
+/// How much of the output has been written.
 #[derive(Clone, Copy, Debug)]
 pub struct Progress {
+    /// The number of the next sheet to write, counted from 0.
     pub next: u32,
+    /// The number of bytes that the sink has taken.
     pub written: u64,
+    /// The number of sheets that no worker imposed, and that were made only when they were to be written.
     pub swept: u32,
+    /// Why writing has stopped; None if it hasn't.
     pub halted: Option<Halt>,
 }
 
-/// Gives the sink a text, and counts its bytes.
+/// Writes a text to the sink, and adds the number of bytes that the sink took to `written`. If the sum would exceed 2^64 - 1 with the whole text,
+/// nothing is written, and the result is halted with `NoMemory`.
 pub fn write_text<S: Sink>(sink: &mut S, progress: Progress, text: &[u8]) -> Progress
     requires countable { IsCountable (S.seen sink.old) }
     ensures handed { Handed text.now (S.seen sink.old) (S.seen sink.new) progress result }
@@ -43,7 +48,7 @@ pub fn write_text<S: Sink>(sink: &mut S, progress: Progress, text: &[u8]) -> Pro
     advanced(progress, total, write_all(sink, text))
 }
 
-/// Gives the sink a text in pieces, and counts its bytes.
+/// Writes a text in pieces to the sink, and counts its bytes as `write_text` does.
 pub fn write_in_pieces<S: Sink>(sink: &mut S, progress: Progress, text: Pieces<'_, '_>) -> Progress
     requires countable { IsCountable (S.seen sink.old) }
     ensures handed { Handed text.entry (S.seen sink.old) (S.seen sink.new) progress result }
@@ -59,7 +64,7 @@ pub fn write_in_pieces<S: Sink>(sink: &mut S, progress: Progress, text: Pieces<'
     }
 }
 
-/// How far the output is written after a text was given to the sink. `total` is the number of bytes with the whole text.
+/// The progress after the sink was given a text. `total` is the number of bytes written once the sink has taken the whole text.
 fn advanced(progress: Progress, total: u64, handed: Result<(), Stopped>) -> Progress
     requires { IfErr handed (λ e. progress.written + e.written ≤ total) }
     ensures written { OnOk handed (result ≡ record progress { written = total; halted = None }) }
@@ -90,7 +95,7 @@ fn halted(progress: Progress, written: u64, why: Halt) -> Progress
     }
 }
 
-/// Writes the texts of the next `count` sheets.
+/// Writes the text of the next `count` sheets, and moves `next` past them.
 fn write_sheets<S: Sink>(
     job: &Job<'_, '_>,
     sink: &mut S,
@@ -115,7 +120,8 @@ fn write_sheets<S: Sink>(
     }
 }
 
-/// Writes the early sheets whose turn has come, and gives back those that are all written.
+/// Writes the sheets in the buffer that are next, until the next sheet hasn't come or all sheets are written. Groups of which all sheets are written
+/// are handed to `spent`.
 pub fn write_early<'r, S: Sink, B: Spent<'r>>(
     job: &Job<'_, '_>,
     sink: &mut S,
@@ -127,11 +133,11 @@ pub fn write_early<'r, S: Sink, B: Spent<'r>>(
     requires going { progress.halted ≡ None }
     requires early { AreEarly job.now early.old.groups.items }
     ensures goes_on { GoesOn job.now (S.seen sink.old) (S.seen sink.new) progress result }
-    // It continues until all sheets are written, or the next one hasn't come.
+    // It ends only when all sheets are written, or when the next sheet hasn't come.
     ensures far { result.halted ≡ None
         → (length job.now.plan.sheets ≤ result.next) ⊎ (has_come early.new result.next ≡ false) }
     ensures early { AreEarly job.now early.new.groups.items }
-    // It lets none of the sheets go that are still to be written.
+    // No sheet that is still to be written leaves the buffer.
     ensures stays { (sheet : ℕ) → result.next ≤ sheet → has_come early.new sheet ≡ has_come early.old sheet }
     ensures steady { result.halted ≡ None → (S.seen sink.new).failures ≡ (S.seen sink.old).failures }
 {
@@ -151,8 +157,8 @@ pub fn write_early<'r, S: Sink, B: Spent<'r>>(
     progress
 }
 
-/// Writes what is left when all workers have ended: the other sheets in order, each made again if it never came,
-/// and the trailer. After a halt nothing more is written.
+/// Writes the rest of the output after all workers have ended: the remaining sheets in order, then the trailer. A sheet that never came is made here.
+/// Nothing is written after a halt.
 pub fn write_rest<S: Sink>(
     alloc: Global,
     job: &Job<'_, '_>,
@@ -168,7 +174,7 @@ pub fn write_rest<S: Sink>(
     ensures ended { EndsAfter job.now (S.seen sink.old) (S.seen sink.new) progress result }
     ensures swept { result.swept ≤ length job.now.plan.sheets }
 
-    // At the end exactly those sheets are counted that hadn't come.
+    // At the end `swept` is the number of remaining sheets that hadn't come.
     ensures counted { result.halted ≡ None → result.swept
         ≡ not_come early.now progress.next (length job.now.plan.sheets - progress.next) }
 {
@@ -188,7 +194,7 @@ pub fn write_rest<S: Sink>(
     write_text(sink, progress, trailer)
 }
 
-/// Writes the next sheet. If it never came, it is made again and counted.
+/// Writes the next sheet. If it never came, it is made here, and `swept` is increased by 1.
 fn write_next<S: Sink>(
     alloc: Global,
     job: &Job<'_, '_>,
