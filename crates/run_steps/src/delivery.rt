@@ -1,4 +1,4 @@
-//! A page is put on the shelf, published and marked.
+//! The first step of a run: a prepared page is put on the shelf, published in the table, and marked in each of its slots.
 ghost use Rattle.std.specs.Prelude.{◌≡◌, ℕ, ◌<◌, ◌≤◌, ◌+◌, ◌++◌, [], ◌∷◌, List, length, All, filter};
 ghost use Rattle.std.specs.Prelude.{IfOk, IfErr, OnOk, IsTrue, MatchResult, vec_capacity, if◌then◌else◌};
 ghost use Rattle.rules.specs.Sheets.{layout};
@@ -18,31 +18,31 @@ use std::fmt;
 use std::fmt::Debug;
 use std::sync::Wait;
 
-/// The result of a delivery.
+/// The result of a delivery: the answers of the table, and the sheets that the queue refused.
 #[derive(Debug, Drop)]
 pub struct Delivered<'d> {
-    /// The receipt, by which the page is read from the shelf.
+    /// The receipt with which any thread can read the page from the shelf.
     pub receipt: Receipt<'d>,
-    /// Whether the page is now published at the receipt's index, or kept an earlier index.
+    /// Whether the page got the index in the receipt, or already had an earlier index, which it keeps.
     pub published: Published,
-    /// The answer of each mark, one for each place of the page, in order.
+    /// The reply to each mark, one for each place (a sheet and a slot) of the page, in order.
     pub replies: Vec<Reply>,
-    /// The answer of each closing, one for each group of a wide sheet that a mark filled, in order.
+    /// The reply to each closing of a group, in order. A group of a wide sheet is closed if a mark filled it.
     pub closings: Vec<Closing>,
-    /// The sheets that the page completed and for which the queue had no room, in order.
+    /// The sheets that the page completed and that the queue refused because it was full, in order.
     pub handed_back: Vec<u32>,
 }
 
-/// Why a page was not delivered. Table, queue, seat and pass are unchanged.
+/// Why a page wasn't delivered. The table, the queue, the seat and the pass are unchanged.
 #[derive(Drop)]
 pub enum DeliverError<'d> {
-    /// A growth was refused. The shelf is unchanged too, and the page is returned.
+    /// Memory was refused. The shelf is unchanged too, and the page is returned.
     NoMemory(Prepared<'d>),
-    /// The page is on the shelf, at an index beyond those that a receipt can have.
+    /// The page is on the shelf, but its index has more than 32 bits, so there is no receipt for it.
     ShelfFull(Overflow<'d>),
 }
 
-// A derived one takes a minute to prove.
+// This implementation is written by hand, since a derived one takes a minute to prove.
 impl Debug for DeliverError<'_> {
     fn fmt<W: fmt::Write>(&self, f: &mut fmt::Formatter<W>) -> fmt::Result {
         f.write_str(match self {
@@ -52,10 +52,12 @@ impl Debug for DeliverError<'_> {
     }
 }
 
-/// Puts a page on the shelf, publishes it, and marks its places in order. A group of a wide sheet that a mark fills is closed before the next place
-/// is marked. A sheet that a mark or a closing completes is put on the queue at once. The call may wait for other threads at the shelf or the queue.
+/// Delivers a prepared page: puts it on the shelf, publishes it in the table, and marks its places in order. If a mark fills a group of a wide sheet,
+/// the group is closed before the next place is marked. If a mark or a closing completes a sheet, the sheet is put on the queue at once. The call may
+/// wait for other threads that are using the shelf or the queue.
 ///
-/// The table is one of the plan. All growth comes before the first call, so a refusal changes nothing.
+/// The table must be one of this plan. All memory is reserved before the first call on the table or the queue, so that a refusal leaves both
+/// unchanged.
 pub fn deliver<'d, R: Wait>(
     rt: &R,
     alloc: Global,
@@ -72,8 +74,8 @@ pub fn deliver<'d, R: Wait>(
     requires plan { table.now.layout ≡ layout plan.now }
     requires page { prepared.page < plan.now.pages }
 
-    // At Ok the seat published the page at the receipt's index and marked its places, each once and in order, with the
-    // closing of each group directly after the mark that filled it, and called nothing else.
+    // At Ok the seat published the page at the receipt's index and marked each of its places once, in order. It closed each group directly after the
+    // mark that filled it, and made no other calls.
     ensures called { MatchResult result
         (λ d. MakesCalls seat.old (calls_of table.now.layout prepared.entry.page d) seat.new)
         (λ e. seat.new ≡ seat.old) }
@@ -81,13 +83,13 @@ pub fn deliver<'d, R: Wait>(
         AreAnswered table.now.layout prepared.entry.page d.replies.items d.closings.items) }
     ensures seat { IsSeatOf table.now seat.new }
 
-    // At Ok each sheet that the page completed was put on the queue, in order, but for those handed back.
+    // At Ok each sheet that the page completed was put on the queue, in order, except those handed back.
     ensures handed_on { MatchResult result
         (λ d. HandedOn ready.now (completed (calls_of table.now.layout prepared.entry.page d)) d.handed_back.items
         pass.old pass.new)
         (λ e. pass.new ≡ pass.old) }
 
-    // If the pass has room for its page's places, every sheet that the page completed was put.
+    // If the pass has room for all places of the page, no sheet is handed back.
     ensures by_right { IfOk result (λ d. length (places_of table.now.layout prepared.entry.page) ≤ puts_in pass.old.room
         → d.handed_back.items ≡ []) }
     ensures pass { IsPassOf ready.now pass.new }
@@ -104,20 +106,20 @@ pub fn deliver<'d, R: Wait>(
     delivery.deliver(rt, seat, pass, prepared, Answers::new(alloc))
 }
 
-/// Where pages are delivered: the table of a plan, the shelf, and the queue of the sheets that are complete.
+/// Where pages are delivered: the table of a plan, the shelf for prepared pages, and the queue for completed sheets.
 #[derive(Drop)]
 pub struct Delivery<'f, 'p, 't, 'd> {
     pub plan: &'f Plan<'p>,
     pub table: &'f GatherTable<'t>,
     pub shelf: &'f Shelf<'d>,
     pub ready: &'f Ready,
-    /// Whether pages are put as the shelf's document's own, so that an imposer needn't compare them.
+    /// Whether pages are put on the shelf as those of the shelf's own document. An imposer then needn't compare their bytes.
     pub as_own: bool,
     ghost same_plan: { table.now.layout ≡ layout plan.now },
 }
 
 impl<'f, 'p, 't, 'd> Delivery<'f, 'p, 't, 'd> {
-    /// Does what `deliver` does, with memory left by an earlier delivery.
+    /// Delivers a page like the function `deliver`, but reuses the memory of an earlier delivery for the answers.
     pub fn deliver<R: Wait>(
         &self,
         rt: &R,
@@ -131,8 +133,8 @@ impl<'f, 'p, 't, 'd> Delivery<'f, 'p, 't, 'd> {
         requires page { prepared.page < self.now.plan.now.pages }
         requires own { IsTrue self.now.as_own → IsOwn self.now.shelf.now prepared }
 
-        // At Ok the seat published the page at the receipt's index and marked its places, each once and in order, with
-        // the closing of each group directly after the mark that filled it, and called nothing else.
+        // At Ok the seat published the page at the receipt's index and marked each of its places once, in order. It closed each group directly after
+        // the mark that filled it, and made no other calls.
         ensures called { MatchResult result
             (λ d. MakesCalls seat.old (calls_of self.now.table.now.layout prepared.entry.page d) seat.new)
             (λ e. seat.new ≡ seat.old) }
@@ -140,13 +142,13 @@ impl<'f, 'p, 't, 'd> Delivery<'f, 'p, 't, 'd> {
             AreAnswered self.now.table.now.layout prepared.entry.page d.replies.items d.closings.items) }
         ensures seat { IsSeatOf self.now.table.now seat.new }
 
-        // At Ok each sheet that the page completed was put on the queue, in order, but for those handed back.
+        // At Ok each sheet that the page completed was put on the queue, in order, except those handed back.
         ensures handed_on { MatchResult result
             (λ d. HandedOn self.now.ready.now (completed (calls_of self.now.table.now.layout prepared.entry.page d))
             d.handed_back.items pass.old pass.new)
             (λ e. pass.new ≡ pass.old) }
 
-        // If the pass has room for its page's places, every sheet that the page completed was put.
+        // If the pass has room for all places of the page, no sheet is handed back.
         ensures by_right { IfOk result (λ d.
             length (places_of self.now.table.now.layout prepared.entry.page) ≤ puts_in pass.old.room
             → d.handed_back.items ≡ []) }
@@ -183,7 +185,8 @@ impl<'f, 'p, 't, 'd> Delivery<'f, 'p, 't, 'd> {
         })
     }
 
-    /// Marks the places in order, each with the closing and the put that follow from its mark. There is room for all answers.
+    /// Marks these places in order. After each mark, closes the group that it filled and puts the sheet that it completed on the queue. The lists of
+    /// answers must be empty and have enough memory reserved.
     fn mark_places<R: Wait>(
         &self,
         rt: &R,
@@ -225,7 +228,7 @@ impl<'f, 'p, 't, 'd> Delivery<'f, 'p, 't, 'd> {
     }
 }
 
-/// The answers to a delivery at the places of a page, and the sheets that are handed back, in reused memory.
+/// Lists for the answers of a delivery and for the sheets handed back. Their memory is reused from one delivery to the next.
 #[derive(Drop)]
 pub struct Answers {
     replies: Vec<Reply>,
@@ -234,7 +237,7 @@ pub struct Answers {
 }
 
 impl Answers {
-    /// No answers yet.
+    /// Empty lists. They allocate no memory.
     pub fn new(alloc: Global) -> Self {
         Answers {
             replies: Vec::new(alloc),
@@ -243,7 +246,7 @@ impl Answers {
         }
     }
 
-    /// The memory of an earlier delivery's answers, which are dropped.
+    /// The lists of an earlier delivery. They are emptied when they are used again.
     pub fn of(delivered: Delivered<'_>) -> Self {
         let Delivered {
             receipt: _,
@@ -259,7 +262,7 @@ impl Answers {
         }
     }
 
-    /// No answers yet, with room for those of this many places.
+    /// Empties the lists, and reserves memory for the answers of a page with this number of places.
     fn reserve(&mut self, places: usize) -> Result<(), AllocError>
         ensures replies { OnOk result ((self.new.replies.items ≡ []) × (places ≤ vec_capacity self.new.replies)) }
         ensures closings { OnOk result ((self.new.closings.items ≡ []) × (places ≤ vec_capacity self.new.closings)) }
@@ -276,7 +279,7 @@ impl Answers {
     }
 }
 
-/// Marks the place, and closes the group if the mark filled one.
+/// Marks this place (a sheet and a slot), and closes the group that the mark filled, if it filled one.
 fn mark_and_close(
     table: &GatherTable<'_>,
     seat: &mut Seat,
@@ -296,7 +299,7 @@ fn mark_and_close(
     (reply, Some(closing))
 }
 
-/// Adds the answer of a closing, if there was one, to the answers, for which there is room.
+/// Adds the reply of a closing, if there was one. The list must have memory reserved for it.
 fn push_closing(closings: &mut Vec<Closing>, closing: Option<Closing>)
     requires room { length closings.old.items < vec_capacity closings.old }
     ensures items { closings.new.items ≡ closings.old.items ++ answer_list closing }
@@ -307,7 +310,7 @@ fn push_closing(closings: &mut Vec<Closing>, closing: Option<Closing>)
     }
 }
 
-/// Whether a mark with this reply completed its sheet, or the closing of the group that it filled did.
+/// Whether a sheet was completed by a mark with this reply, or by the closing that followed the mark.
 fn completes_sheet(reply: Reply, closing: Option<Closing>) -> bool
     ensures { result ≡ completes_sheet reply closing }
 {
@@ -318,7 +321,7 @@ fn completes_sheet(reply: Reply, closing: Option<Closing>) -> bool
     }
 }
 
-/// Puts the sheet on the queue if it was completed.
+/// Puts the sheet on the queue if it was completed. If the queue is full, the sheet is added to `handed_back`.
 fn hand_on_completed<R: Wait>(
     rt: &R,
     ready: &Ready,

@@ -1,4 +1,4 @@
-//! A sheet is made of pages from the shelf.
+//! The second step of a run: a completed sheet is imposed from the pages on the shelf.
 ghost use Rattle.std.specs.Prelude.{◌≡◌, ◌↔◌, ℕ, ◌+◌, ◌-◌, ◌<◌, ◌≤◌, ◌++◌, ◌∷◌, [], IfOk, OnOk, OnErr, MatchResult, length};
 ghost use Rattle.std.specs.Prelude.{IsTrue, Some, slice_get, slice_index_or, true};
 ghost use Rattle.rules.specs.Parts.{pages};
@@ -20,7 +20,7 @@ use sheet_text::{Job, Openings, Rope, append_placed, begin_sheet, end_sheet};
 use std::alloc::Global;
 use thiserror::Error;
 
-/// An imposed sheet, counted from 0, with its text.
+/// An imposed sheet (counted from 0) and its text.
 #[derive(Debug, PartialEq, Eq, Drop)]
 pub struct Imposed {
     pub sheet: u32,
@@ -32,14 +32,14 @@ pub struct Imposed {
 pub enum ImposeError {
     #[error("out of memory")]
     NoMemory,
-    /// The shelf had no entry at a page's index, or the entry isn't the document's page.
+    /// The shelf has no entry at the index that the table gives for a page, or the entry isn't that page of the document.
     #[error("a page is not on the shelf")]
     NotShown,
 }
 
-/// Makes the text of a complete sheet, counted from 0, of the pages on the shelf, as `sheet_text` does. The table is one for the job's plan. The seat
-/// has seen the sheet complete, by a look that was answered 0. Pages are looked up in slot order. After a refusal some of the first pages were looked
-/// up, and after `NotShown` at least one.
+/// Makes the text of a complete sheet, counted from 0, from the prepared pages on the shelf. The text is the one that `sheet_text` makes. The table
+/// must be one of the job's plan, and the seat must have seen that the sheet is complete (`is_complete`). The pages are looked up in the order of
+/// their slots. After an error only some of the first pages have been looked up; after `NotShown` at least one has.
 pub fn impose<'d>(
     alloc: Global,
     seat: &mut Seat,
@@ -71,21 +71,22 @@ pub fn impose<'d>(
     Ok(Imposed { sheet, text })
 }
 
-/// The sources of imposed sheets: a job, the table of its plan, and the shelf with the pages. The sheets' texts refer to long bodies, which stay on
-/// the shelf.
+/// The sources of imposed sheets: a job, the table of its plan, and the shelf with the prepared pages. The texts of the sheets borrow long bodies
+/// from the shelf.
 #[derive(Drop)]
 pub struct Imposition<'s, 'r, 't, 'd> {
     pub job: &'s Job<'r, 'd>,
     pub table: &'s GatherTable<'t>,
     pub shelf: &'r Shelf<'d>,
-    /// Whether the shelf is that of the job's document. Then a page that was put as the document's own isn't compared with it.
+    /// Whether the shelf belongs to the job's document. A page that was put there as one of this document's needn't be compared with it.
     pub is_of_document: bool,
     ghost of_document: { IsTrue is_of_document → IsShelfOf shelf.now job.now.units },
     ghost same_plan: { table.now.layout ≡ layout job.now.plan },
 }
 
 impl<'s, 'r, 't, 'd> Imposition<'s, 'r, 't, 'd> {
-    /// Does what `impose` does, with openings that are kept from other sheets, and in the memory of this text, whose content is dropped.
+    /// Imposes a sheet like the function `impose`, but reuses the memory of `text`, whose old content is dropped, and the openings kept from earlier
+    /// sheets.
     pub fn impose(
         &self,
         text: &mut Rope<'r>,
@@ -113,7 +114,7 @@ impl<'s, 'r, 't, 'd> Imposition<'s, 'r, 't, 'd> {
         Ok(())
     }
 
-    /// Looks up the pages of all slots of a sheet, in order, and appends the slots' texts.
+    /// Looks up the page of each slot of a sheet, in order, and appends the text of each slot.
     fn append_shelved_slots(
         &self,
         text: &mut Rope<'r>,
@@ -139,7 +140,7 @@ impl<'s, 'r, 't, 'd> Imposition<'s, 'r, 't, 'd> {
         Ok(())
     }
 
-    /// Looks up the page of a slot and appends the slot's text; nothing if it is blank.
+    /// Looks up the page in this slot, and appends the text of the slot. A blank slot has no text.
     fn append_shelved(
         &self,
         text: &mut Rope<'r>,
@@ -163,7 +164,8 @@ impl<'s, 'r, 't, 'd> Imposition<'s, 'r, 't, 'd> {
             return Ok(());
         };
 
-        // The seat shows that its front is a legal history, in which the pages of a complete sheet have an index.
+        // Reading the share shows that the seat's front is a legal history of the table. In such a history each page of a complete sheet has an
+        // index.
         seat.share();
         let shown = self.find_shelved(seat, page)?;
         match append_placed(text, openings, job, sheet, slot, shown.body()) {
@@ -172,7 +174,7 @@ impl<'s, 'r, 't, 'd> Imposition<'s, 'r, 't, 'd> {
         }
     }
 
-    /// Looks up a page that has an index, and finds it on the shelf.
+    /// Looks up the index of a page in the table, and finds the page on the shelf. The page must have an index.
     fn find_shelved(&self, seat: &mut Seat, page: u32) -> Result<&'r Prepared<'d>, ImposeError>
         requires seat { IsSeatOf self.now.table.now seat.old }
         requires in_table { page < self.now.table.now.layout.pages }
@@ -195,8 +197,7 @@ impl<'s, 'r, 't, 'd> Imposition<'s, 'r, 't, 'd> {
         Ok(found.page)
     }
 
-    /// Whether this is a page of the document, with this number. Its bytes are compared, unless it was put as the
-    /// document's own.
+    /// Whether the entry is page `page` of the document. Its bytes are compared with the document's, unless it was put as the document's own.
     fn is_page(&self, found: &Shelved<'_, 'd>, page: u32) -> bool
         requires in_document { page < length (pages self.now.job.now.units) }
         requires own { IsTrue found.now.is_own → IsOwn self.now.shelf.now found.now.page.now }
@@ -214,7 +215,8 @@ impl<'s, 'r, 't, 'd> Imposition<'s, 'r, 't, 'd> {
     }
 }
 
-/// Looks once, and returns whether the sheet is seen complete: no slot of it is missing, or no group of a wide one is open.
+/// Looks once at a sheet in the table, and returns whether it is complete. A sheet is complete if all its slots are marked, and a wide sheet if all
+/// its groups are closed.
 pub fn is_complete(seat: &mut Seat, table: &GatherTable<'_>, sheet: u32) -> bool
     requires seat { IsSeatOf table.now seat.old }
     requires sheet { sheet < length table.now.layout.sheets }

@@ -1,50 +1,51 @@
-//! Laws of the calls of a run, by the definitions. The functions do nothing: the contract of each is a law.
+//! Laws of the calls that deliveries make. Each contract is a law; the functions do nothing.
 ghost use Rattle.run_steps.specs.Delivery.{DeliveriesClose, CompletedAreCounted, CompletedAreFew, NoneHandedBack};
 ghost use Rattle.run_steps.specs.Duty.{DeliveriesWeigh, SharesAreAll};
 ghost use Rattle.run_steps.specs.Gathered.{GathersAll, GatheredAreFound, TakenAtMostOnce};
 
-/// A delivery does the work of its page.
+/// A delivery makes exactly the changes of the table that its page needs: the publishing of the page, and a mark for each of its places.
 pub fn deliveries_weigh()
     ensures { DeliveriesWeigh }
 {}
 
-/// The shares of all preparers together are the work of all pages.
+/// If pages are shared out to preparers by their number modulo the count of preparers, all shares together are all the work.
 pub fn shares_are_all()
     ensures { SharesAreAll }
 {}
 
-/// Let a seat have all shares, and its own calls have done the work of all pages and closed each group that they filled. It has seen each page
-/// published once, each slot with a page marked once, each group of a wide sheet with such a slot closed once, and every sheet completed.
+/// Take a seat that has all shares. Suppose its own calls made the changes that all pages need, and closed each group that a mark filled. Then each
+/// page was published once, each slot with a page was marked once, each group with such a slot was closed once, and every sheet is complete.
 pub fn gathers_all()
     ensures { GathersAll }
 {}
 
-/// A caller after a gathering finds each page of a sheet, always at the same index.
+/// Once a run has gathered all its pages, any caller that looks up a page of a sheet finds it, always at the same index.
 pub fn gathered_are_found()
     ensures { GatheredAreFound }
 {}
 
-/// From the queue of a gathering no sheet was taken twice, and no sheet left on it was taken.
+/// In the queue of a run that has gathered all its pages, no sheet was taken twice, and no sheet that is still there was taken.
 pub fn taken_at_most_once()
     ensures { TakenAtMostOnce }
 {}
 
-/// A delivery closes each group of a wide sheet that its marks fill.
+/// A delivery closes each group of a wide sheet that one of its marks fills.
 pub fn deliveries_close()
     ensures { DeliveriesClose }
 {}
 
-/// A sheet occurs among those that calls completed as often as calls completed it.
+/// In the list of sheets that a series of calls completed, each sheet occurs as often as one of the calls completed it.
 pub fn completed_are_counted()
     ensures { CompletedAreCounted }
 {}
 
-/// A delivery completes no more sheets than its page has places.
+/// A delivery completes at most as many sheets as its page has places.
 pub fn completed_are_few()
     ensures { CompletedAreFew }
 {}
 
-/// If the pass has room for a delivery's sheets, none is handed back: each put is by right and lowers the room by one.
+/// If the pass has room for the sheets that a delivery completes, none of them is handed back. Each put is then made by right, and lowers the room of
+/// the pass by 1.
 pub fn none_handed_back()
     ensures { NoneHandedBack }
 {}
