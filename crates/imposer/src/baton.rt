@@ -1,47 +1,50 @@
-//! Workers of one kind take turns.
+//! Lets the workers of one kind take turns.
 use crossbeam_utils::CachePadded;
 use std::sync::Wait;
 use std::sync::atomic::AtomicU64;
 use std::sync::atomic::Ordering::SeqCst;
 use std::time::Duration;
 
-/// The bytes of pages in a stint, roughly.
+/// About how many bytes of pages a worker handles in one stint.
 const BYTES_OF_A_STINT: usize = 524_288;
 
-/// The work that comes with each page, however small, in bytes, roughly.
+/// The cost of a page besides that of its bytes, however small it is. It is an estimate, given as a number of bytes.
 const BYTES_BESIDE: usize = 512;
 
-/// The most pages, or batches of sheets, in a stint.
+/// The greatest number of pages, or batches of sheets, in one stint.
 const LONGEST_STINT: usize = 512;
 
-/// The fewest pages in a stint that takes turns. With fewer, pages are so large that workers don't get in each other's way.
+/// The fewest pages in a stint for which workers take turns. If a stint has fewer, pages are so large that workers don't get in each other's way.
 const FEWEST_IN_TURN: u32 = 32;
 
-/// The number of naps that a worker takes before it goes on without a turn, and the length of one.
+/// The number of times that a worker sleeps while it waits for its turn. After that it goes on without the turn.
 const MOST_NAPS: u32 = 20;
 
+/// The time for which a worker sleeps, in microseconds.
 const MICROSECONDS_OF_A_NAP: u64 = 500;
 
-/// Turns of workers of one kind. If pages are small, workers that run at the same time spend most of it on taking words of the table and the queue
-/// from each other. So one does a stint while the others sleep. This is advice and not a lock: a worker that has slept for long goes on without a
-/// turn, so nobody waits for a worker that waits for something else.
+/// The turns that the workers of one kind take. If pages are small, workers that run at the same time mostly compete for the same words of the table
+/// and of the queue. So one worker does a stint while the others sleep. A turn is advice and not a lock: a worker that has slept for about 10
+/// milliseconds goes on without a turn. So no worker waits forever, even if the one that has the turn waits for something else.
 #[derive(Drop)]
 pub(crate) struct Baton {
-    /// 1 while a worker has the turn.
+    /// 1 if a worker has the turn, 0 if none has.
     taken: CachePadded<AtomicU64>,
-    /// The number of pages, or batches, in a stint.
+    /// The number of pages, or batches of sheets, in a stint.
     len: u32,
 }
 
-/// A worker's place in its stint.
+/// How far a worker is in its stint.
 #[derive(Drop)]
 pub(crate) struct Shift {
+    /// Whether the worker has the turn.
     has_turn: bool,
+    /// The number of pages, or batches, that are left in the stint.
     left: u32,
 }
 
 impl Shift {
-    /// No stint has begun.
+    /// The state of a worker that has not begun a stint.
     pub(crate) fn new() -> Self {
         Shift {
             has_turn: false,
@@ -51,7 +54,7 @@ impl Shift {
 }
 
 impl Baton {
-    /// Turns for pages of this many bytes on average.
+    /// Turns for workers that handle pages of this average number of bytes. No worker has the turn yet.
     pub(crate) fn new(page_len: usize) -> Self {
         let len = (BYTES_OF_A_STINT / page_len.saturating_add(BYTES_BESIDE)).min(
             LONGEST_STINT,
@@ -62,7 +65,7 @@ impl Baton {
         }
     }
 
-    /// Counts one more page, or batch of sheets. At the end of the stint the turn goes to the next worker, and this one waits for it.
+    /// Counts one more page, or batch of sheets, of this worker. At the end of its stint the worker gives up the turn and waits for the next one.
     pub(crate) fn pass_if_due<R: Wait>(&self, rt: &R, stint: &mut Shift) {
         if stint.left > 0 {
             stint.left -= 1;
@@ -73,7 +76,7 @@ impl Baton {
         stint.left = self.len;
     }
 
-    /// Ends a stint early.
+    /// Ends this worker's stint early, and gives up the turn if the worker has it.
     pub(crate) fn end(&self, stint: &mut Shift) {
         stint.left = 0;
         if stint.has_turn {
@@ -82,13 +85,13 @@ impl Baton {
         }
     }
 
-    /// Gives the turn to the next worker.
+    /// Makes the turn free, and wakes one worker that waits for it.
     pub(crate) fn give(&self) {
         self.taken.store(0, SeqCst);
         self.taken.wake_one();
     }
 
-    /// Waits for the turn. Returns whether it got the turn.
+    /// Waits for the turn, for at most `MOST_NAPS` naps. Returns whether this worker has got it.
     fn wait<R: Wait>(&self, rt: &R) -> bool {
         for _ in 0..MOST_NAPS {
             if self.taken.compare_exchange(0, 1, SeqCst, SeqCst).is_ok() {

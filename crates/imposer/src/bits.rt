@@ -1,13 +1,13 @@
-//! Bits in a row of words.
+//! Sets of numbers, stored as bits in a list of words.
 ghost use Rattle.std.specs.Prelude.{◌≡◌, ℕ, ◌+◌, ◌*◌, ◌/◌, ◌<◌, ◌≤◌, ◌||◌, ◌&&◌, ◌==◌, not, false, length, get_or, OnOk};
 ghost use Rattle.imposer.specs.SheetNumbers.{has_number as bit};
 
 use std::alloc::AllocError;
 
-/// The number of bits of a word.
+/// The number of bits in a word.
 pub(crate) const BITS: usize = 64;
 
-/// Whether the number's bit is set.
+/// Whether the bit of this number is set.
 pub(crate) fn has_bit(words: &[u64], number: u32) -> bool
     requires { number / 64 < length words.now }
     ensures { result ≡ bit words.now number }
@@ -16,7 +16,7 @@ pub(crate) fn has_bit(words: &[u64], number: u32) -> bool
     word >> (number % 64) & 1 == 1
 }
 
-/// Sets the number's bit.
+/// Sets the bit of this number.
 pub(crate) fn set_bit(words: &mut Vec<u64>, number: u32)
     requires { number / 64 < length words.old.items }
     ensures set { (k : ℕ) → bit words.new.items k ≡ ((k == number) || bit words.old.items k) }
@@ -25,7 +25,7 @@ pub(crate) fn set_bit(words: &mut Vec<u64>, number: u32)
     words[number as usize / BITS] |= 1u64 << (number % 64);
 }
 
-/// Clears the number's bit.
+/// Clears the bit of this number.
 pub(crate) fn clear_bit(words: &mut Vec<u64>, number: u32)
     requires { number / 64 < length words.old.items }
     ensures cleared { (k : ℕ) → bit words.new.items k ≡ (not (k == number) && bit words.old.items k) }
@@ -34,7 +34,7 @@ pub(crate) fn clear_bit(words: &mut Vec<u64>, number: u32)
     words[number as usize / BITS] &= !(1u64 << (number % 64));
 }
 
-/// Appends words of 0 if the number has no bit yet.
+/// Appends words without set bits until the list has a bit for this number.
 pub(crate) fn cover(words: &mut Vec<u64>, number: u32) -> Result<(), AllocError>
     ensures covered { OnOk result (number / 64 < length words.new.items) }
     ensures same { (k : ℕ) → bit words.new.items k ≡ bit words.old.items k }
@@ -47,7 +47,8 @@ pub(crate) fn cover(words: &mut Vec<u64>, number: u32) -> Result<(), AllocError>
     Ok(())
 }
 
-/// The first word from this one on with a set bit. If no word up to that of `end` has one, the word after it.
+/// The index of the first word, from the word `from` on, that has a set bit. If no word up to the one with the bit of `end` has one, the index after
+/// that word, or `from` if it is greater.
 pub(crate) fn next_filled(words: &[u64], from: usize, end: u32) -> usize
     ensures forward { from ≤ result }
     ensures blank { (k : ℕ) → 64 * from ≤ k → k < 64 * result → bit words.now k ≡ false }

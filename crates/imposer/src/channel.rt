@@ -1,4 +1,4 @@
-//! The channel of finished sheets from the imposers to the collector. A message has some sheets of one imposer.
+//! The channel that carries finished sheets from the imposers to the collector. A message has one or more sheets of one imposer.
 ghost use Rattle.std.specs.Prelude.{◌≡◌, ℕ, List, [], All, ⊤};
 ghost use Rattle.sheet_text.specs.Jobs.{text_of};
 
@@ -8,7 +8,7 @@ use crossbeam_queue::ArrayQueue;
 use sheet_text::{Job, Texts};
 use std::marker::{Brand, PhantomData};
 
-/// Ghost parameter, chosen in the proof of each call; no code: the text that each sheet of the run's job has.
+/// The text that each sheet of the run's job must have. It is a ghost parameter, which has no code and is chosen in the proof of each call.
 pub(crate) trait SheetTexts {
     ghost text: { ℕ → List ℕ };
 }
@@ -17,7 +17,7 @@ impl SheetTexts for Brand {
     ghost text = { λ s. [] };
 }
 
-/// The channel's rule: each sheet of a message has its own text.
+/// The rule of the channel: each sheet in a message has the text that `T` gives for it.
 pub(crate) struct SheetRule<T: SheetTexts> {
     of: PhantomData<T>,
 }
@@ -46,7 +46,7 @@ impl<T: SheetTexts> Split<()> for SheetRule<T> {
     ghost right = { λ v. v };
 }
 
-/// The job of a run, whose sheets have the texts of the rule.
+/// The job of a run, in which the text of each sheet is the one that `T` gives for it.
 #[derive(Drop)]
 pub(crate) struct RuledJob<'s, 'r, 'd, T: SheetTexts> {
     pub(crate) job: &'s Job<'r, 'd>,
@@ -54,18 +54,20 @@ pub(crate) struct RuledJob<'s, 'r, 'd, T: SheetTexts> {
     ghost texts: { (s : ℕ) → T.text s ≡ text_of job.now s },
 }
 
-/// A token for sending or receiving.
+/// A token with which messages are sent or received.
 pub(crate) type Ticket<'r> = Pass<Texts<'r>, ()>;
 
+/// The end of the channel that imposers use.
 pub(crate) type SheetSender<'r, T> = RuledSender<Texts<'r>, (), SheetRule<T>>;
 
+/// The end of the channel that the collector uses.
 pub(crate) type SheetReceiver<'r, T> = RuledReceiver<Texts<'r>, (), SheetRule<T>>;
 
-/// The two ends of the channel, and places for sheets that were written.
+/// Both ends of the channel, and the queue in which the memory of written sheets goes back to the imposers.
 #[derive(Drop)]
 pub(crate) struct Channel<'r, T: SheetTexts> {
     pub(crate) sender: SheetSender<'r, T>,
     pub(crate) receiver: SheetReceiver<'r, T>,
-    /// Sheets that were written, for reuse of their memory.
+    /// Texts of sheets that have been written. Imposers reuse their memory.
     pub(crate) spent: ArrayQueue<Texts<'r>>,
 }

@@ -1,4 +1,4 @@
-//! The collector: its state, and how it takes sheets that the workers finish.
+//! The collector, which takes finished sheets from the channel and writes them in order.
 ghost use Rattle.std.specs.Prelude.{◌≡◌, None, IsTrue};
 ghost use Rattle.sheet_writer.specs.Sinks.{IsCountable};
 ghost use Rattle.crossbeam_channel.specs.Claims.{IsSeatAt};
@@ -17,7 +17,8 @@ use sheet_writer::{Progress, Sink, write_early, write_text};
 use std::sync::Wait;
 use std::sync::atomic::Ordering::SeqCst;
 
-/// The collector's sink, its desk, and its progress. It owns no memory, so the owner of the sink can say what becomes of it.
+/// The state of the collector: its sink, its desk and its progress. It only borrows the sink and the desk, so that their owner can prove how they
+/// have changed.
 #[derive(Drop)]
 pub(crate) struct CollectorState<'a, 'r, S> {
     pub(crate) sink: &'a mut S,
@@ -46,7 +47,7 @@ impl<'s, 'r, 't, 'd, 'a, T: SheetTexts, G: Gate, S: Sink> Collector<CollectorSta
     }
 }
 
-/// Takes finished sheets until all imposers have ended, or until nothing more may be written.
+/// Takes finished sheets from the channel and writes them, until all imposers have ended or nothing more may be written.
 fn take_all<'r, R: Wait, T: SheetTexts, G: Gate, S: Sink>(
     rt: &R,
     input: &RunInput<'_, 'r, '_, '_, T, G>,
@@ -69,8 +70,8 @@ fn take_all<'r, R: Wait, T: SheetTexts, G: Gate, S: Sink>(
     }
 }
 
-/// Takes a batch of finished sheets and writes those whose turn has come, or sleeps a little if there is none. False if no batch will come, or
-/// nothing more may be written.
+/// Takes one message from the channel and writes the sheets that are next in order. If there is no message, sleeps for a short time. Returns false if
+/// no message will come any more, or if nothing more may be written.
 fn take_turn<'r, R: Wait, T: SheetTexts, G: Gate, S: Sink>(
     rt: &R,
     input: &RunInput<'_, 'r, '_, '_, T, G>,
@@ -91,7 +92,7 @@ fn take_turn<'r, R: Wait, T: SheetTexts, G: Gate, S: Sink>(
 {
     let shared = input.shared;
     let channel = input.channel;
-    // Asked before the channel is: what the last imposer sent is there then.
+    // The count is read before the channel. If it is 0, the last message of the last imposer is in the channel by then.
     let none_left = shared.imposers_left.load(SeqCst) == 0;
     shared.floor.gate.before_look(Look::Channel);
     let received = channel

@@ -1,37 +1,39 @@
-//! Gates hear of the steps of a run, and of the looks between them.
+//! Gates, which are called at each step of a run and at each look for work.
 
 /// A step of a run.
 #[derive(Clone, Copy, Debug, PartialEq, Eq)]
 pub enum Step {
-    /// The body of this page is delivered.
+    /// The prepared page with this number is delivered.
     Deliver(u32),
-    /// This sheet is imposed.
+    /// The sheet with this number is imposed.
     Impose(u32),
 }
 
-/// A look for what other threads may have brought.
+/// A look for work that another thread may have handed over.
 #[derive(Clone, Copy, Debug, PartialEq, Eq)]
 pub enum Look {
-    /// An imposer looks for a sheet on the queue.
+    /// An imposer looks for a sheet in the queue.
     Queue,
-    /// The collector looks for a finished sheet in the channel.
+    /// The collector looks for finished sheets in the channel.
     Channel,
 }
 
-/// Is called before and after each step. A gate may wait, as those of tests do.
+/// A gate is called before and after each step, by the thread that takes it. It may make the thread wait, which tests use to order the steps.
 pub trait Gate {
+    /// Called before this step.
     fn before(&self, step: Step);
 
+    /// Called after this step.
     fn after(&self, step: Step);
 
-    /// Is called before each look; by default it does nothing. The number of looks depends on the schedule of the threads.
+    /// Called before each look. By default it does nothing. How many looks there are depends on how threads are scheduled.
     fn before_look(&self, _look: Look) {}
 
-    /// Is called after each look; by default it does nothing.
+    /// Called after each look. By default it does nothing.
     fn after_look(&self, _look: Look) {}
 }
 
-/// The gate that does nothing.
+/// A gate that does nothing.
 #[derive(Clone, Copy, Debug)]
 pub struct Open;
 

@@ -1,4 +1,4 @@
-//! The part of a run in which all its workers start and end.
+//! The part of a run that uses threads: from the start of the workers to their end.
 ghost use Rattle.std.specs.Prelude.{◌≡◌, ℕ, ◌+◌, ◌-◌, ◌<◌, ◌≤◌, List, Option, None, Err, length, IfOk, IfErr, IfSome, IsNone};
 ghost use Rattle.std.specs.Prelude.{IsSome, IsTrue, OnOk};
 ghost use Rattle.std.specs.Io.KnownBytes.{Appends};
@@ -45,23 +45,25 @@ use std::sync::Wait;
 use std::sync::atomic::AtomicU32;
 use std::thread::Threads;
 
-/// A run whose workers have all ended.
+/// The result of a run whose workers have all ended.
 #[derive(Debug, Drop)]
 pub struct Gathered<'d> {
-    /// The outcome; its only errors are out of memory and a failed write.
+    /// How the run ended. The only errors are refused memory and a failed write.
     pub outcome: Result<Report, RunError>,
-    /// The token of a page for which the shelf gave no receipt, if there was one; None after out of memory.
+    /// The token of a page for which the shelf gave no receipt, if there was one. None if memory was refused.
     pub unshelved: Option<Overflow<'d>>,
-    /// The joined seats and passes of all workers; None after out of memory.
+    /// The seat and the pass that join those of all workers. None if memory was refused.
     pub tokens: Option<(Seat, Pass)>,
 }
 
-/// Lets preparers deliver the document's pages and imposers impose the sheets, while the caller's thread writes them in order, each as soon as all
-/// before it are written. Sheets that no imposer sent are made at the end, in their places.
+/// Makes and writes the sheets of a job. Preparers deliver the pages of the document, and imposers impose the sheets, each in a thread of its own.
+/// The caller's thread writes the sheets in order, each as soon as all sheets before it are written. Sheets that no imposer has sent are made at the
+/// end, and are also written in order.
 ///
-/// The table is one of the job's plan, seat and pass have seen nothing yet, and the queue has room for every sheet. Each worker has a seat and a pass
-/// of its own, which are joined when it ends. If the pass has room by right for all puts of the preparers, each gets the room that it needs, and the
-/// queue refuses no put. A pass by right with less room has puts refused even if the queue has room; those sheets are made at the end.
+/// The table must be one of the job's plan, the seat and the pass must be unused, and the queue must have room for every sheet. Each worker gets a
+/// seat and a pass of its own, and these are joined when the worker ends. If the pass has room by right for all puts of the preparers, each preparer
+/// gets the room that it needs, and the queue refuses no put. If the pass has less room by right, some puts are refused even though the queue isn't
+/// full, and the sheets of these puts are made at the end.
 pub fn gather<'j, 'd, R: Threads + Wait + Sync, G: Gate + Sync, S: Sink>(
     rt: &R,
     alloc: Global,
@@ -82,29 +84,29 @@ pub fn gather<'j, 'd, R: Threads + Wait + Sync, G: Gate + Sync, S: Sink>(
     requires workers { AreWorkers workers }
     requires countable { IsCountable (S.seen sink.old) }
 
-    // At Ok exactly the output was appended, and the report has its numbers.
+    // At Ok the sink has taken exactly the output, and the report has the numbers of this output.
     ensures finished { IfOk result.outcome (λ report. Appends (S.seen sink.old).bytes (S.seen sink.new).bytes (output_of job.now)
         × ReportsOf job.now report) }
 
-    // After an error the sink has taken as much of the output as the error says.
+    // After an error the sink has taken the first bytes of the output, as many as the error says.
     ensures written { IfErr result.outcome (WrotePartOf job.now (S.seen sink.old) (S.seen sink.new)) }
     ensures steady { OnOk result.outcome ((S.seen sink.new).failures ≡ (S.seen sink.old).failures) }
     ensures failed { IfErr result.outcome (λ e. FailedIn e (S.seen sink.old) (S.seen sink.new)) }
 
-    // Seat and pass come back whole, but after out of memory.
+    // Seat and pass come back whole, unless memory was refused.
     ensures handed_back { TokensComeBack result }
     ensures whole { IfSome result.tokens (λ t. AreWhole table.now ready.now t.0 t.1) }
 
-    // One publish for each page, one mark for each needed slot, one closing for each group of a wide sheet that has
-    // such a slot, and exactly one completing call for each sheet that has pages.
+    // The table has seen one publish for each page, one mark for each slot with a page, and no others. It has seen one closing for each group of a
+    // wide sheet that has such a slot. Each sheet with pages was completed by exactly one of these calls.
     ensures gathered { OnOk result.outcome (IsNone result.unshelved
         → IfSome result.tokens (λ t. IsGathered table.now.layout t.0.front)) }
 
-    // A token that comes back is that of an entry of this shelf.
+    // If a token comes back, its entry is on this shelf.
     ensures unshelved { IfSome result.unshelved (IsOn shelf.now) }
 
-    // No sheet was put on the queue twice, and what was taken and what is left is what was put. If the pass has room for
-    // all puts, every complete sheet was put exactly once.
+    // No sheet was put on the queue twice. The sheets taken off the queue, and those left on it, are the sheets that were put. If the pass has room
+    // for all puts, every complete sheet was put exactly once.
     ensures handed_on { IfSome result.tokens (λ t. IsHandedOn t.1.front
         × (HasRoomForAll table.now.layout workers.preparers pass → AreAllPut table.now.layout t.0.front t.1.front)) }
 {
@@ -120,7 +122,8 @@ pub fn gather<'j, 'd, R: Threads + Wait + Sync, G: Gate + Sync, S: Sink>(
     gather_objects(rt, floor, Tokens { seat, pass }, workers, sink)
 }
 
-/// `gather` on these objects. The shelf may be that of the job's document: then pages are put as the document's own, and imposers don't compare them.
+/// Gathers on these objects like `gather`. If the shelf belongs to the job's document, pages are put there as this document's own, and imposers don't
+/// compare their bytes.
 pub(crate) fn gather_objects<'d, R: Threads + Wait + Sync, G: Gate + Sync, S: Sink>(
     rt: &R,
     floor: RunObjects<'_, '_, '_, 'd, G>,
@@ -135,7 +138,7 @@ pub(crate) fn gather_objects<'d, R: Threads + Wait + Sync, G: Gate + Sync, S: Si
     ensures { EndsOn floor.entry (HasRoomForAll floor.entry.table.now.layout workers.preparers tokens.pass)
         (S.seen sink.old) (S.seen sink.new) result }
 {
-    // Each shows that it keeps what every seat and every pass keeps.
+    // These calls prove about the seat and the pass what holds for every seat and every pass.
     tokens.seat.share();
     tokens.pass.share();
     let job = floor.job;
@@ -155,7 +158,7 @@ pub(crate) fn gather_objects<'d, R: Threads + Wait + Sync, G: Gate + Sync, S: Si
     gather_with_rule::<Brand, R, G, S>(rt, &shared, tokens, workers, sink)
 }
 
-/// `gather`, generic in `T`, the texts of the channel's rule.
+/// Gathers like `gather`. `T` is the text of each sheet in the channel's rule.
 fn gather_with_rule<
     'r,
     'd,
@@ -211,14 +214,14 @@ fn gather_with_rule<
         ruled: &ruled,
     };
     let gathered = gather_on_threads(rt, &input, &mut desk, supplies, sink);
-    // By calls, so that what becomes of the parts is proved once, and not here.
+    // These are dropped by calls, so that the effect of dropping them is proved once, in the callee.
     drop(desk);
     drop(channel);
     gathered
 }
 
-/// The part of `gather` after the sheets without pages are on the queue. The workers run with these inputs, and the collector writes the sheets that
-/// they finish at this desk. The collector's state is taken apart, so that what became of the sink is known.
+/// Runs the workers and the collector, once the sheets without pages are on the queue, and then writes the rest of the output. The collector's state
+/// is taken apart at the end, so that it is known how the sink has changed.
 fn gather_on_threads<
     'r,
     'd,
@@ -280,14 +283,14 @@ fn put_blank_sheets<R: Wait, G: Gate>(
     ensures put { (back : List ℕ) × HandedOn shared.now.floor.ready.now sheets.now back pass.old pass.new }
 {
     for k in 0..sheets.len() {
-        // The collector makes a sheet that the queue hands back, so its turn isn't waited for.
+        // If the queue refuses a sheet, the collector makes the sheet at the end. So imposers mustn't wait until it is written.
         if shared.floor.ready.put(rt, pass, sheets[k]).is_err() {
             shared.window.lift();
         }
     }
 }
 
-/// The result if memory was refused.
+/// The result after memory was refused.
 fn out_of_memory<'d>(written: u64) -> Gathered<'d>
     ensures { GivesUp written result }
 {
@@ -298,7 +301,8 @@ fn out_of_memory<'d>(written: u64) -> Gathered<'d>
     }
 }
 
-/// The result when all workers have ended: out of memory if one of them met it, or else the collector's.
+/// The result once all workers have ended. If memory was refused to one of them (`ended` is None), the run was refused memory. Otherwise the rest of
+/// the output is written.
 fn finish<'d, S: Sink>(
     alloc: Global,
     job: &Job<'_, 'd>,
@@ -322,7 +326,7 @@ fn finish<'d, S: Sink>(
     }
 }
 
-/// Writes the rest when all workers have ended, and returns the result.
+/// Writes the sheets that are left and the trailer, and returns the result. All workers have ended.
 fn conclude<'d, S: Sink>(
     alloc: Global,
     job: &Job<'_, 'd>,
@@ -337,7 +341,7 @@ fn conclude<'d, S: Sink>(
         result.outcome }
     ensures tokens { HandsBackAll ended.entry result }
 
-    // The report counts the sheets that hadn't come.
+    // The report counts as `swept` the sheets that hadn't come.
     ensures swept { IfOk result.outcome (λ report. report.swept ≡ not_come state.old.desk.now.early
         state.old.progress.next (length job.now.plan.sheets - state.old.progress.next)) }
 {
@@ -369,7 +373,7 @@ fn conclude<'d, S: Sink>(
     }
 }
 
-/// The numbers of a job whose whole output was written.
+/// The report of a job whose whole output was written.
 fn report_on(job: &Job<'_, '_>, rest: Progress) -> Report
     requires swept { rest.swept ≤ length job.now.plan.sheets }
     ensures numbers { rest.written ≡ length (output_of job.now) → ReportsOf job.now result }

@@ -1,4 +1,4 @@
-//! Waits for the threads of a run, and joins what they return.
+//! Waits for the threads of a run, and joins their results.
 ghost use Rattle.std.specs.Prelude.{◌≡◌, ℕ, ◌+◌, ◌<◌, IfOk, IfSome, slice_index_or, vec_len};
 ghost use Rattle.imposer.specs.Growth.{GathersAllJoined};
 ghost use Rattle.imposer.specs.HandlePromises.{IsPreparer};
@@ -8,7 +8,7 @@ use crate::thread_work::Work;
 use std::alloc::AllocError;
 use std::thread::Threads;
 
-/// Waits for all preparers, and joins their results to what is held. None if one of them ran out of memory.
+/// Waits for all preparers, and joins their results to those that the caller holds. None if memory was refused to one of them.
 pub(crate) fn join_preparers<'s, R: Threads, H: Drop, W: Work<H>>(
     rt: &R,
     shared: &'s W,
@@ -32,7 +32,7 @@ pub(crate) fn join_preparers<'s, R: Threads, H: Drop, W: Work<H>>(
     all
 }
 
-/// Waits for all imposers, and joins their results to those of the preparers. None if one of them ran out of memory.
+/// Waits for all imposers, and joins their results to those of the preparers. None if memory was refused to a preparer or to an imposer.
 pub(crate) fn join_imposers<'s, R: Threads, H: Drop, W: Work<H>>(
     rt: &R,
     shared: &'s W,
@@ -58,7 +58,7 @@ pub(crate) fn join_imposers<'s, R: Threads, H: Drop, W: Work<H>>(
     all
 }
 
-/// Joins the result of a worker to those joined before. None if either is missing.
+/// Joins the result of one worker to the results joined before. None if one of the two is missing.
 fn merge<H: Drop, W: Work<H>>(
     shared: &W,
     all: Option<H>,

@@ -1,5 +1,5 @@
-//! A run: a document and a page specification in, the sheets out. Planned sheets are imposed by threads that share a table, a shelf and a queue. A
-//! set of sheet numbers has one bit for each.
+//! A run: it reads a document and a page specification, and writes the imposed sheets. Planned sheets are imposed by several threads, which share a
+//! table, a shelf and a queue.
 #![tactic(auto)]
 
 mod baton;

@@ -1,4 +1,4 @@
-//! Listeners hear how a run ended.
+//! Listeners, which learn how a run ended.
 ghost use Rattle.std.specs.Prelude.{List, Option, None};
 ghost use Rattle.imposer.specs.Listening.{Hears};
 ghost use Rattle.imposer.specs.declared.listener.GatheredPlan.{GatheredPlan};
@@ -7,7 +7,7 @@ use crate::gathering::Gathered;
 use gather_table::GatherTable;
 use handover::Ready;
 
-/// A run that has ended, with its table and queue: they show all calls of its workers.
+/// A run whose workers have ended, with its table and its queue. The tokens in `gathered` show all calls that the workers made on these.
 #[derive(Drop)]
 pub struct GatheredPlan<'j, 'd> {
     pub table: GatherTable<'j>,
@@ -15,16 +15,17 @@ pub struct GatheredPlan<'j, 'd> {
     pub gathered: Gathered<'d>,
 }
 
-/// Hears once how a run ended.
+/// A listener is called once, at the end of a run.
 pub trait Listener {
-    // The runs that it has heard of, if it remembers them.
+    // The runs with which it has been called, if it records them.
     ghost heard: { Self → Option (List GatheredPlan) };
 
+    /// Called with a run that has ended.
     fn ended(&mut self, ended: GatheredPlan<'_, '_>)
         ensures { Hears (heard self.old) (heard self.new) ended.entry };
 }
 
-/// The listener that does nothing.
+/// A listener that does nothing.
 #[derive(Clone, Copy, Debug)]
 pub struct NoListener;
 

@@ -8,17 +8,20 @@ use crate::worker_counts::Workers;
 use lengths::{Grains, Paper};
 use sheet_plan::are_sides;
 
-/// The options of a run beside its specification: the pages' paper, the width of a border round each placed page and the number of sides of a
-/// signature, if they are requested, and the numbers of workers. A signature has a positive multiple of four sides, at most 1,000,000.
+/// The options of a run, besides its page specification.
 #[derive(Clone, Copy, Debug, PartialEq, Eq)]
 pub struct Options {
+    /// The paper of the pages.
     pub paper: Paper,
+    /// The width, in grains, of a border round each placed page; None for no border. It must be above 0.
     pub border: Option<Grains>,
+    /// The number of sides of a signature; None if pages aren't put into signatures. It must be a multiple of 4 from 4 to 1,000,000.
     pub sides: Option<u32>,
+    /// The numbers of threads.
     pub workers: Workers,
 }
 
-/// Whether a border, if there is one, is wider than 0.
+/// Whether the width of a border is above 0, or there is no border.
 fn is_border_valid(border: Option<Grains>) -> bool
     ensures { result ≡ is_border border }
 {
@@ -28,7 +31,7 @@ fn is_border_valid(border: Option<Grains>) -> bool
     }
 }
 
-/// Whether a signature may have this number of sides, if one is given.
+/// Whether the number of sides of a signature is a multiple of 4 from 4 to 1,000,000, or there are no signatures.
 fn are_sides_valid(sides: Option<u32>) -> bool
     ensures { IsTrue result ↔ AreSidesIfGiven sides }
 {
@@ -38,7 +41,7 @@ fn are_sides_valid(sides: Option<u32>) -> bool
     }
 }
 
-/// Whether the numbers of workers, the border and the sides of a signature are in range.
+/// Whether the numbers of threads, the border and the sides of a signature are in range.
 pub(crate) fn options_are_valid(options: &Options) -> bool
     ensures { IsTrue result ↔ AreOptions options.now }
 {

@@ -1,29 +1,30 @@
-//! The outcome of a run.
+//! How a run ends.
 use dsc::DscError;
 use pagespec::SpecError;
 use sheet_plan::PlanError;
 use std::alloc::AllocError;
 use thiserror::Error;
 
-/// The numbers of a finished run.
+/// The numbers of a run that has finished.
 #[derive(Clone, Copy, Debug, PartialEq, Eq)]
 pub struct Report {
     /// The number of pages of the document.
     pub pages: u32,
-    /// The number of sheets of the output.
+    /// The number of sheets in the output.
     pub sheets: u32,
-    /// The number of sheets without a page.
+    /// The number of sheets that have no page.
     pub born: u32,
-    /// The number of sheets that no worker imposed, and that were made at the end.
+    /// The number of sheets that no worker imposed, and that were made when the rest was written.
     pub swept: u32,
-    /// The number of bytes of the output.
+    /// The number of bytes in the output.
     pub bytes: u64,
 }
 
-/// Why a run didn't finish, in the order of its checks.
+/// Why a run didn't finish. The variants are in the order in which a run checks them.
 #[derive(Clone, Copy, Debug, PartialEq, Eq, Error)]
 pub enum RunError {
-    /// A worker count outside 1 to 16, a border that isn't above zero, or a number of sides that no signature has.
+    /// An option is out of range. Numbers of threads are from 1 to 16, a border is wider than 0, and a signature has a multiple of 4 sides, from 4 to
+    /// 1,000,000.
     #[error("bad options")]
     Options,
     #[error(transparent)]
@@ -32,15 +33,15 @@ pub enum RunError {
     Document(DscError),
     #[error(transparent)]
     Plan(PlanError),
-    /// Memory was refused after the sink had taken the first `written` bytes of the output.
+    /// Memory was refused. The sink has taken the first `written` bytes of the output.
     #[error("out of memory")]
     NoMemory { written: u64 },
-    /// The sink failed after it had taken the first `written` bytes of the output.
+    /// The sink failed. It has taken the first `written` bytes of the output.
     #[error("cannot write output")]
     Write { written: u64 },
 }
 
-// Out of memory, wherever it is met before anything was written, is the run's own answer.
+// Memory refused while the specification, the document or the plan is read becomes the run's own error `NoMemory`, with 0 bytes written.
 
 impl From<SpecError> for RunError {
     ghost use Rattle.std.specs.Prelude.{◌≡◌};

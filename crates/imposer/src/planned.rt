@@ -1,4 +1,4 @@
-//! A run on sheets that were planned.
+//! Runs on sheets that are already planned.
 ghost use Rattle.std.specs.Prelude.{◌≡◌, ◌+◌, ◌<◌, ◌≤◌, IfOk, IfErr, OnOk, Ok};
 ghost use Rattle.std.specs.Io.KnownBytes.{Appends};
 ghost use Rattle.rules.specs.Output.{output};
@@ -28,13 +28,14 @@ use std::alloc::{AllocError, Global};
 use std::sync::Wait;
 use std::thread::Threads;
 
-/// Gives a sink the sheets of a job, whose document was read and whose sheets were planned before: those of a specification, or made sheets with the
-/// lines of a dress.
+/// Imposes and writes the sheets of a job. Its document has been read. Its sheets have been planned by a specification, or they are a layout's
+/// sheets, with the lines of a dress.
 ///
-/// The only errors are `NoMemory` and `Write`, after which the sink has taken the first `written` bytes of the output. The sink isn't flushed. At the
-/// end the listener gets the table and the queue, with the tokens of all calls on them.
+/// The only errors are `NoMemory` and `Write`. After an error the sink has taken the first `written` bytes of the output. The sink isn't flushed. At
+/// the end the listener gets the table and the queue, with the tokens of all calls that were made on them.
 ///
-/// Preparers and imposers run in threads of their own, and the caller's thread writes the sheets in order, each as soon as all before it are written.
+/// Preparers and imposers run in threads of their own. The caller's thread writes the sheets in order, each as soon as all sheets before it are
+/// written.
 pub fn run_plan<R: Threads + Wait + Sync, G: Gate + Sync, S: Sink, L: Listener>(
     rt: &R,
     alloc: Global,
@@ -46,16 +47,17 @@ pub fn run_plan<R: Threads + Wait + Sync, G: Gate + Sync, S: Sink, L: Listener>(
 ) -> Result<Report, RunError>
     requires workers { AreWorkers workers }
     requires countable { IsCountable (S.seen sink.old) }
-    // Exactly the output was appended, and the report has its numbers.
+    // At Ok the sink has taken exactly the output, and the report has the numbers of this output.
     ensures finished { IfOk result (λ report.
         Appends (S.seen sink.old).bytes (S.seen sink.new).bytes (output_of job.now) × ReportsOf job.now report) }
     ensures refused { IfErr result IsNoRefusal }
-    // After an error the sink has taken as much of the output as the error says.
+    // After an error the sink has taken the first bytes of the output, as many as the error says.
     ensures written { IfErr result (WrotePartOf job.now (S.seen sink.old) (S.seen sink.new)) }
-    // At Ok the sink didn't fail in the call, and after an error as often as the error allows: at Write once.
+    // At Ok the sink hasn't failed in this call. After `Write` it has failed once, and after `NoMemory` at most once.
     ensures steady { OnOk result ((S.seen sink.new).failures ≡ (S.seen sink.old).failures) }
     ensures failed { IfErr result (λ e. FailedIn e (S.seen sink.old) (S.seen sink.new)) }
-    // The listener heard once of the job's own table, with all calls on it; or of nothing, if memory ran out before that.
+    // The listener was called with one run, which has the table of this job and all calls on it. If memory was refused before there was a table, it
+    // wasn't called.
     ensures heard { HearsOfRun job.now (L.heard listener.old) (L.heard listener.new) result }
 {
     match gather_plan(rt, alloc, job, workers, gate, sink) {
@@ -68,7 +70,8 @@ pub fn run_plan<R: Threads + Wait + Sync, G: Gate + Sync, S: Sink, L: Listener>(
     }
 }
 
-/// `run_plan`, which returns what its listener gets. If memory runs out before there is a table, nothing is written.
+/// Imposes and writes like `run_plan`, and returns the object that the listener gets. If memory is refused before there is a table, nothing is
+/// written.
 fn gather_plan<'j, 'd, R: Threads + Wait + Sync, G: Gate + Sync, S: Sink>(
     rt: &R,
     alloc: Global,
@@ -97,7 +100,7 @@ fn gather_plan<'j, 'd, R: Threads + Wait + Sync, G: Gate + Sync, S: Sink>(
     };
     keep_blocks(alloc);
     let gathered = gather_objects(rt, floor, tokens, workers, sink);
-    // By a call, so that what becomes of its parts is proved once, and not here.
+    // The shelf is dropped by a call, so that the effect of dropping it is proved once, in the callee.
     drop(shelf);
     Ok(GatheredPlan {
         table,
@@ -106,7 +109,7 @@ fn gather_plan<'j, 'd, R: Threads + Wait + Sync, G: Gate + Sync, S: Sink>(
     })
 }
 
-/// A table of this plan, and a queue with room for all puts of `preparers` threads, with fresh tokens of both.
+/// A table of this plan and a queue with room for all puts of this number of preparers, with an unused seat and pass.
 fn table_and_queue<'j>(
     alloc: Global,
     plan: &Plan<'j>,
@@ -123,11 +126,12 @@ fn table_and_queue<'j>(
     Ok((table, queue, Tokens { seat, pass }))
 }
 
-/// The largest size of blocks that are kept.
+/// The size of the block that `keep_blocks` makes, in bytes.
 const KEPT_BLOCK: usize = 4_194_304;
 
-/// Makes a block and frees it. From then on the C library keeps freed blocks up to this size, and doesn't return them to the system and ask for new
-/// ones, which must be cleared. Lists that were made before still go back to the system. Without this call a run is only slower.
+/// Makes a block of memory and frees it. From then on the C library keeps freed blocks of up to this size. It neither returns them to the system nor
+/// asks the system for new ones, which would have to be cleared. Blocks that were made before this call still go back to the system. Without this
+/// call a run is slower, but has the same result.
 fn keep_blocks(alloc: Global) {
     drop(Vec::<u8>::with_capacity(alloc, KEPT_BLOCK));
 }

@@ -1,4 +1,4 @@
-//! The greatest number of puts, and a queue with room for all of them.
+//! The greatest number of times that workers put sheets on the queue, and a queue with room for all these puts.
 ghost use Rattle.std.specs.Prelude.{◌≡◌, ◌+◌, ◌<◌, ◌≤◌, length, min, IfOk};
 ghost use Rattle.rules.specs.Sheets.{layout};
 ghost use Rattle.sheet_plan.specs.Places.{places_of};
@@ -14,7 +14,7 @@ use sheet_plan::Plan;
 use std::alloc::{AllocError, Global};
 
 impl<'s, 'r, 't, 'd, G: Gate> Shared<'s, 'r, 't, 'd, G> {
-    /// The part of the pass's room for preparer `number` of `count`: the room that it needs, or what is left.
+    /// The part of this pass's room that preparer `number` of `count` gets: as much as it needs, or all that is left.
     pub(crate) fn room_for(&self, pass: &Pass, number: u32, count: u32) -> u32
         requires number { number < count }
         ensures { result ≡ min (most_puts self.now.floor.table.now.layout count number) (puts_in pass.now.room) }
@@ -24,20 +24,21 @@ impl<'s, 'r, 't, 'd, G: Gate> Shared<'s, 'r, 't, 'd, G> {
     }
 }
 
-/// The most puts of preparer `number` of `count`: it completes no more sheets than its pages have places, and no more than there are.
+/// The greatest number of puts that preparer `number` of `count` makes. It completes at most as many sheets as its pages have places, and at most all
+/// sheets of the plan.
 pub(crate) fn most_puts(plan: &Plan<'_>, number: u32, count: u32) -> u32
     requires number { number < count }
     ensures { result ≡ most_puts (layout plan.now) count number }
 {
     let mut puts = 0;
-    // Its own pages lie as far apart as there are preparers.
+    // The preparer's pages are `count` apart.
     for page in (number..plan.pages()).step_by(count as usize) {
         puts = with_puts_of(plan, page, puts);
     }
     puts
 }
 
-/// The same with one page more.
+/// The greatest number of puts once this page is counted too, if it was `puts` before. It never exceeds the number of sheets.
 fn with_puts_of(plan: &Plan<'_>, page: u32, puts: u32) -> u32
     requires page { page < plan.now.pages }
     ensures { result ≡ min (puts + length (places_of (layout plan.now) page)) (length plan.now.sheets) }
@@ -48,7 +49,7 @@ fn with_puts_of(plan: &Plan<'_>, page: u32, puts: u32) -> u32
         .min(plan.sheets() as usize) as u32
 }
 
-/// The most puts that `count` preparers make, with those for sheets without pages.
+/// The greatest number of puts in a run with `count` preparers, including the puts of sheets without pages.
 pub(crate) fn most_puts_in_all(plan: &Plan<'_>, count: u32) -> u64
     requires count { (0 < count) × (count ≤ 16) }
     ensures { result ≡ most_puts_in_all (layout plan.now) count }
@@ -60,7 +61,7 @@ pub(crate) fn most_puts_in_all(plan: &Plan<'_>, count: u32) -> u64
     puts + plan.born_complete().len() as u64
 }
 
-/// A queue for the sheets of this plan, and its pass, with room for all puts of `preparers` threads.
+/// A queue for the sheets of this plan, and its pass. Both have room for all puts of a run with this number of preparers.
 pub(crate) fn ready_for(
     alloc: Global,
     plan: &Plan<'_>,

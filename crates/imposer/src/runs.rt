@@ -1,4 +1,4 @@
-//! A run from bytes to bytes.
+//! Runs from the bytes of a document to the bytes of the output.
 ghost use Rattle.std.specs.Prelude.{◌≡◌, ◌+◌, ◌<◌, IfOk, IfErr, OnOk, Ok};
 ghost use Rattle.std.specs.Io.KnownBytes.{Appends};
 ghost use Rattle.rules.specs.Output.{output};
@@ -26,13 +26,14 @@ use std::alloc::Global;
 use std::sync::Wait;
 use std::thread::Threads;
 
-/// Reads the specification and the document, and gives a sink the sheets.
+/// Reads the page specification and the document, imposes the sheets, and writes them to the sink.
 ///
-/// A refusal names the first check that fails: of the options, the specification, the document, the plan; then nothing is written. After `NoMemory`
-/// and `Write` the sink has taken the first `written` bytes of the output. The sink isn't flushed.
+/// If the request is refused, the error is that of the first check that fails. The options are checked first, then the specification, the document
+/// and the plan; nothing has been written then. After `NoMemory` and `Write` the sink has taken the first `written` bytes of the output. The sink
+/// isn't flushed.
 ///
-/// Preparers and imposers run in threads of their own, and the caller's thread writes the sheets in order, each as soon as all before it are written.
-/// No byte depends on the numbers of workers or on the schedule of the threads.
+/// Preparers and imposers run in threads of their own. The caller's thread writes the sheets in order, each as soon as all sheets before it are
+/// written. The output depends neither on the numbers of threads nor on how threads are scheduled.
 pub fn run<R: Threads + Wait + Sync, G: Gate + Sync, S: Sink>(
     rt: &R,
     alloc: Global,
@@ -43,16 +44,16 @@ pub fn run<R: Threads + Wait + Sync, G: Gate + Sync, S: Sink>(
     sink: &mut S,
 ) -> Result<Report, RunError>
     requires countable { IsCountable (S.seen sink.old) }
-    // Exactly the output was appended, and the report has its numbers.
+    // At Ok the sink has taken exactly the output, and the report has the numbers of this output.
     ensures finished { IfOk result (λ report. Accepted (request options.now spec.now input.now) (λ spec us.
         Appends (S.seen sink.old).bytes (S.seen sink.new).bytes (output (frame_of options.now) options.now.sides spec us)
         × Reports (frame_of options.now) options.now.sides spec us report)) }
-    // An error names the first check that fails.
+    // A refusal is that of the first check that fails.
     ensures refused { IfErr result (λ e. IsRunRefusal (request options.now spec.now input.now) e) }
-    // After an error the sink has taken as much of the output as the error says, and nothing after a refusal.
+    // After an error the sink has taken the first bytes of the output, as many as the error says; none after a refusal.
     ensures written { IfErr result (λ e.
         HasWritten (request options.now spec.now input.now) (S.seen sink.old) (S.seen sink.new) e) }
-    // At Ok the sink didn't fail in the call, and after an error as often as the error allows: at Write once.
+    // At Ok the sink hasn't failed in this call. After `Write` it has failed once, and after `NoMemory` at most once.
     ensures steady { OnOk result ((S.seen sink.new).failures ≡ (S.seen sink.old).failures) }
     ensures failed { IfErr result (λ e. FailedIn e (S.seen sink.old) (S.seen sink.new)) }
 {
@@ -60,14 +61,14 @@ pub fn run<R: Threads + Wait + Sync, G: Gate + Sync, S: Sink>(
     run_read(rt, alloc, &read, options, gate, sink)
 }
 
-/// The specification and the document of a run, once they are read.
+/// The specification and the document of a run, after they have been read.
 #[derive(Drop)]
 struct Given<'d> {
     spec: Spec,
     document: Document<'d>,
 }
 
-/// Checks the options, and reads the specification and the document.
+/// Checks the options, then reads the specification and the document.
 fn read_request<'d>(
     alloc: Global,
     input: &'d [u8],
@@ -86,7 +87,7 @@ fn read_request<'d>(
     Ok(Given { spec, document })
 }
 
-/// Plans the sheets, and runs.
+/// Plans the sheets of a request that has been read, imposes them and writes them.
 fn run_read<R: Threads + Wait + Sync, G: Gate + Sync, S: Sink>(
     rt: &R,
     alloc: Global,
@@ -116,7 +117,7 @@ fn run_read<R: Threads + Wait + Sync, G: Gate + Sync, S: Sink>(
     )
 }
 
-/// Plans the pages in order, or in signatures if a number of sides is given.
+/// Plans the sheets for pages in their order, or, if a number of sides is given, for pages in signatures of that number of sides.
 fn plan_pages<'s>(
     alloc: Global,
     spec: &'s Spec,

@@ -11,8 +11,8 @@ use sheet_text::Job;
 use sheet_writer::ReorderBuffer;
 use std::alloc::{AllocError, Global};
 
-/// The collector's state: the texts round the sheets, places for sheets that come before their turn, and its ticket for
-/// receiving.
+/// The objects at the collector's desk: the header and the trailer of the output, a buffer for sheets that wait until earlier ones are written, and a
+/// ticket for receiving.
 #[derive(Drop)]
 pub(crate) struct CollectorParts<'r> {
     pub(crate) header: Vec<u8>,
@@ -21,7 +21,7 @@ pub(crate) struct CollectorParts<'r> {
     pub(crate) receiving: Ticket<'r>,
 }
 
-/// The collector's desk, and the channel of finished sheets with a ticket for the imposers.
+/// The collector's desk, the channel of finished sheets, and a ticket for sending on it.
 #[derive(Drop)]
 pub(crate) struct Setup<'r, T: SheetTexts> {
     pub(crate) desk: CollectorParts<'r>,
@@ -30,8 +30,8 @@ pub(crate) struct Setup<'r, T: SheetTexts> {
 }
 
 impl<'r, T: SheetTexts> Setup<'r, T> {
-    /// The desk and the channel of a job. Places, channel and the queue of written sheets have room for all sheets of a window of this size, so no
-    /// imposer waits.
+    /// Makes the desk and the channel of a job. The buffer, the channel and the queue of written texts each have room for all sheets of a window of
+    /// this size, so that no imposer waits for room.
     pub(crate) fn new(alloc: Global, job: &Job<'_, '_>, window: u32) -> Result<Self, AllocError>
         ensures desk { IfOk result (λ s. IsDeskOf job.now s.desk) }
         ensures receiving { IfOk result (λ s. IsSeatAt (receives_on s.channel.receiver) s.desk.receiving) }
@@ -56,7 +56,7 @@ impl<'r, T: SheetTexts> Setup<'r, T> {
     }
 }
 
-/// A channel for this number of messages, with a ticket for sending and one for receiving.
+/// A channel with room for this number of messages, a ticket for sending, and a ticket for receiving.
 fn channel_of<'r, T: SheetTexts>(
     alloc: Global,
     room: usize,

@@ -1,4 +1,4 @@
-//! What all threads of one run share.
+//! Objects that the threads of a run share.
 ghost use Rattle.std.specs.Prelude.{◌≡◌, IsTrue};
 ghost use Rattle.rules.specs.Sheets.{layout};
 ghost use Rattle.handover.specs.Shelves.{IsShelfOf};
@@ -12,7 +12,7 @@ use sheet_text::Job;
 use std::alloc::Global;
 use std::sync::atomic::AtomicU32;
 
-/// The objects of a run: a job, the table of its plan, the shelf for its pages, and the queue of sheets that are ready.
+/// The objects of a run: its job, the table of the job's plan, the shelf for prepared pages, and the queue of completed sheets.
 #[derive(Drop)]
 pub(crate) struct RunObjects<'s, 'r, 't, 'd, G> {
     pub(crate) alloc: Global,
@@ -20,14 +20,14 @@ pub(crate) struct RunObjects<'s, 'r, 't, 'd, G> {
     pub(crate) job: &'s Job<'r, 'd>,
     pub(crate) table: &'s GatherTable<'t>,
     pub(crate) shelf: &'r Shelf<'d>,
-    /// Whether the shelf is that of the job's document. Then pages are put as the document's own and aren't compared.
+    /// Whether the shelf belongs to the job's document. Pages are then put there as this document's own, and imposers don't compare their bytes.
     pub(crate) is_of_document: bool,
     pub(crate) ready: &'s Ready,
     ghost of_document: { IsTrue is_of_document → IsShelfOf shelf.now job.now.units },
     ghost same_plan: { table.now.layout ≡ layout job.now.plan },
 }
 
-/// The objects that all threads of one run share.
+/// The objects that all workers of a run share.
 #[derive(Drop)]
 pub(crate) struct Shared<'s, 'r, 't, 'd, G> {
     pub(crate) floor: RunObjects<'s, 'r, 't, 'd, G>,
@@ -39,17 +39,18 @@ pub(crate) struct Shared<'s, 'r, 't, 'd, G> {
     pub(crate) imposers_left: AtomicU32,
     /// The sheets that may be imposed now.
     pub(crate) window: Window,
-    /// The turns of the preparers; the imposers have their own.
+    /// The turns of the preparers.
     pub(crate) preparing: Baton,
+    /// The turns of the imposers.
     pub(crate) imposing: Baton,
 }
 
-/// The objects that the threads of a run need, including the caller's: the shared ones, and the channel of finished sheets.
+/// The objects that all threads of a run need, the caller's included: those that the workers share, and the channel of finished sheets.
 #[derive(Drop)]
 pub(crate) struct RunInput<'s, 'r, 't, 'd, T: SheetTexts, G> {
     pub(crate) shared: &'s Shared<'s, 'r, 't, 'd, G>,
     pub(crate) channel: &'s Channel<'r, T>,
-    /// The same job, with the texts of the channel's rule.
+    /// The job again, with the text that the channel's rule gives for each sheet.
     pub(crate) ruled: &'s RuledJob<'s, 'r, 'd, T>,
     ghost same_job: { ruled.now.job.now ≡ shared.now.floor.job.now },
 }

@@ -1,4 +1,4 @@
-//! The set.
+//! Sets of sheet numbers.
 ghost use Rattle.std.specs.Prelude.{◌≡◌, ℕ, ◌<◌, ◌≤◌, ◌↔◌, true, IfSome, IfNone, OnOk, OnErr, IsTrue};
 ghost use Rattle.std.specs.Ordering.{nat_cmp};
 ghost use Rattle.std.specs.Coded.{coded_ℕ};
@@ -9,12 +9,11 @@ use crate::bits::{BITS, clear_bit, cover, has_bit, next_filled, set_bit};
 use std::alloc::{AllocError, Global};
 use std::marker::Model;
 
-/// A set of sheet numbers. It has a bit for each number up to the greatest, whether the number is in the set or
-/// not.
+/// A set of sheet numbers, stored as one bit for each number from 0 up to the greatest number that was ever in the set.
 #[derive(Drop)]
 pub struct SheetSet {
     words: Vec<u64>,
-    /// The first word that may have a bit set.
+    /// The index of the first word that may have a set bit.
     first: usize,
     /// The number of set bits.
     count: u64,
@@ -31,7 +30,7 @@ impl Model for SheetSet {
 }
 
 impl SheetSet {
-    /// The empty set.
+    /// The empty set. It allocates no memory.
     pub fn new(alloc: Global) -> Self
         ensures { result ≡ set.empty }
     {
@@ -42,14 +41,14 @@ impl SheetSet {
         }
     }
 
-    /// Whether no number is in the set.
+    /// Whether the set is empty.
     pub fn is_empty(&self) -> bool
         ensures { IsTrue result ↔ self.now ≡ set.empty }
     {
         self.count == 0
     }
 
-    /// Adds a number to the set. If there is no memory for it, the set is unchanged.
+    /// Adds a number to the set. If memory is refused, the set is unchanged.
     pub fn insert(&mut self, sheet: u32) -> Result<(), AllocError>
         ensures inserted { OnOk result (self.new ≡ set.insert self.old sheet) }
         ensures refused { OnErr result (self.new ≡ self.old) }
@@ -63,7 +62,7 @@ impl SheetSet {
         Ok(())
     }
 
-    /// Removes the smallest number from the set, if it is below `end`. Otherwise the set is unchanged.
+    /// Removes and returns the smallest number of the set, if it is below `end`. Otherwise returns None and leaves the set unchanged.
     pub fn take_first_before(&mut self, end: u32) -> Option<u32>
         ensures first { IfSome result (IsSmallest self.old) }
         ensures before { IfSome result (λ sheet. sheet < end) }

@@ -1,10 +1,10 @@
-//! Sheets that were written, for reuse of their memory.
+//! Hands the memory of written sheets back to the imposers.
 use crossbeam_queue::ArrayQueue;
 use sheet_text::Texts;
 use sheet_writer::Spent;
 use std::sync::Wait;
 
-/// The queue of written sheets. Sheets for which it has no room are dropped.
+/// The queue of texts that have been written. A text for which the queue has no room is dropped.
 #[derive(Drop)]
 pub(crate) struct Written<'w, 'r, R> {
     pub(crate) rt: &'w R,

@@ -1,4 +1,4 @@
-//! The work of the threads of a run, by type parameters, and what each thread promises.
+//! The work of the threads of a run, as type parameters, and the promise of each thread.
 ghost use Rattle.std.specs.Prelude.{◌≡◌, ℕ, ◌+◌, ◌-◌, ◌<◌, IfOk};
 ghost use Rattle.imposer.specs.Growth.{StaysGathered, GainsPreparer, GainsImposer};
 
@@ -6,48 +6,46 @@ use std::alloc::AllocError;
 use std::sync::Wait;
 use std::thread::Promise;
 
-/// The work of preparers, on objects that all threads share. A worker holds an `H`, and returns it when it ends. An `H` has shares: the caller begins
-/// with some, gives one to each worker, and has them again when all are joined.
+/// The work of preparers, on an object that all threads share (`Self`). A worker holds an `H`, and returns it when it ends. An `H` has a number of
+/// shares: the caller begins with several, gives one to each worker, and has them back once all workers are joined.
 ///
-/// Neither `H` nor the shared part shows a lifetime to the code that starts and joins threads. With a lifetime, the promise of a thread couldn't be
-/// proved.
+/// The code that starts and joins threads sees no lifetime in `H` or `Self`. With a lifetime, the promise of a thread couldn't be proved.
 pub trait Work<H> {
-    // It belongs to the shared part.
+    // The `H` belongs to this shared object.
     ghost is_held: { Self → H → Type 0 };
 
-    // The number of its shares.
+    // The number of shares that the `H` has.
     ghost share: { Self → H → ℕ };
 
-    // It has one share, and nothing has been done with it.
+    // The `H` has one share, and hasn't been used.
     ghost is_new: { Self → H → Type 0 };
 
-    // The same for the preparer of this number, one of `count`: it has what that one needs.
+    // The `H` has one share, hasn't been used, and has all that preparer `number` of `count` needs.
     ghost is_new_preparer: { Self → (count number : ℕ) → H → Type 0 };
 
-    // It has what the preparers from this number on need, of `count` in all.
+    // The `H` has all that the preparers from `number` on need, of `count` preparers.
     ghost is_enough: { Self → (count number : ℕ) → H → Type 0 };
 
-    // It has one share, and comes from a worker that has ended.
+    // The `H` has one share, and was returned by a worker that has ended.
     ghost is_back: { Self → H → Type 0 };
 
-    // The preparer of this number, one of `count`, did its part with it.
+    // Preparer `number` of `count` has done its work with the `H`.
     ghost has_prepared: { Self → (count number : ℕ) → H → Type 0 };
 
-    // An imposer did its part with it.
+    // An imposer has done its work with the `H`.
     ghost has_imposed: { Self → H → Type 0 };
 
-    // It is what is left of the first, joined with what was returned: by this number of preparers, the first of
-    // `count`, and by any number of imposers.
+    // The `H` is the rest of `first`, joined with the results of the first `joined` of `count` preparers and of any number of imposers.
     ghost has_gathered: { Self → (first : H) → (count joined : ℕ) → H → Type 0 };
 
-    /// The work of the preparer of this number, one of `count`.
+    /// Does the work of preparer `number` of `count`, and returns its `H`. The only error is refused memory.
     fn prepare<R: Wait>(&self, rt: &R, held: H, number: u32, count: u32) -> Result<H, AllocError>
         requires count { 0 < count }
         requires held { is_new_preparer self.now count number held }
         ensures back { IfOk result (is_back self.now) }
         ensures prepared { IfOk result (has_prepared self.now count number) };
 
-    /// The tokens of preparer `number` of `count`: one of the caller's shares, and the room that it needs.
+    /// Splits off an `H` for preparer `number` of `count`: one of the caller's shares, and the room that the preparer needs.
     fn split_preparer(&self, held: &mut H, number: u32, count: u32) -> H
         requires held { is_held self.now held.old }
         requires share { 1 < share self.now held.old }
@@ -59,7 +57,7 @@ pub trait Work<H> {
         ensures enough { is_enough self.now count (number + 1) held.new }
         ensures given { is_new_preparer self.now count number result };
 
-    /// The tokens of one more worker: one of the caller's shares.
+    /// Splits off one of the caller's shares, for a further worker.
     fn split(&self, held: &mut H) -> H
         requires held { is_held self.now held.old }
         requires share { 1 < share self.now held.old }
@@ -68,7 +66,7 @@ pub trait Work<H> {
         ensures gathered { StaysGathered (has_gathered self.now) held.old held.new }
         ensures given { is_new self.now result };
 
-    /// Joins the result of a worker to those joined before.
+    /// Joins the result of a worker to the results joined before.
     fn join(&self, all: H, theirs: H) -> H
         requires all { is_held self.now all }
         requires theirs { is_back self.now theirs }
@@ -78,38 +76,38 @@ pub trait Work<H> {
         ensures imposed { GainsImposer (has_gathered self.now) (has_imposed self.now) all theirs result };
 }
 
-/// The work of imposers. `T` is a ticket, with which an imposer sends finished sheets.
+/// The work of imposers. A `T` is a ticket, with which an imposer sends finished sheets.
 pub trait Imposing<H, T>: Work<H> {
-    // It is a ticket of this channel.
+    // The ticket is for sending on the channel of this shared object.
     ghost sends: { Self → T → Type 0 };
 
-    /// The work of an imposer.
+    /// Does the work of an imposer, and returns its `H`. The only error is refused memory.
     fn impose<R: Wait>(&self, rt: &R, held: H, ticket: T) -> Result<H, AllocError>
         requires held { Self.is_new self.now held }
         requires ticket { sends self.now ticket }
         ensures back { IfOk result (Self.is_back self.now) }
         ensures imposed { IfOk result (Self.has_imposed self.now) };
 
-    /// Tells imposers that nothing more is collected, so that they stop waiting for the collector.
+    /// Tells the imposers that nothing more is collected, so that they stop waiting for the collector.
     fn stop(&self);
 
-    /// A further ticket.
+    /// Makes a further ticket from this one.
     fn another(&self, ticket: &mut T) -> T
         requires { sends self.now ticket.old }
         ensures kept { sends self.now ticket.new }
         ensures given { sends self.now result };
 }
 
-/// The work of the caller's thread while the workers run, with a state `S`.
+/// The work of the caller's thread while the workers run. `S` is the state that it changes.
 pub trait Collector<S> {
-    // The state is as required at the start.
+    // The state is one with which collecting may start.
     ghost is_ready_to_collect: { Self → S → Type 0 };
 
-    // The final state, given the initial one.
+    // The relation between the state before collecting and the state after it.
     ghost collected: { Self → S → S → Type 0 };
 
-    // The ghost name of the reference that the state holds, or 0. Whoever lent it learns what was written only if
-    // it is known to be the same reference.
+    // The ghost name of the reference in the state, or 0 if there is none. The lender of that reference can prove facts about the final value only if
+    // the reference is known to be the same at the end.
     ghost reference: { Self → S → ℕ };
 
     /// Takes the sheets that the workers finish, until all workers have ended.
@@ -119,7 +117,7 @@ pub trait Collector<S> {
         ensures collected { collected self.now state.old state.new };
 }
 
-/// The promise of a preparer's thread.
+/// The promise of a preparer's thread: the preparer's work was done with the `H` that it returns.
 #[derive(Drop)]
 pub(crate) struct Prepares<'a, W> {
     pub(crate) shared: &'a W,
@@ -131,7 +129,7 @@ impl<'a, H, W: Work<H>> Promise<Result<H, AllocError>> for Prepares<'a, W> {
     ghost kept_by = { λ p r. IfOk r (λ h. W.is_back p.shared.now h × W.has_prepared p.shared.now p.count p.number h) };
 }
 
-/// The promise of an imposer's thread.
+/// The promise of an imposer's thread: the imposer's work was done with the `H` that it returns.
 #[derive(Drop)]
 pub(crate) struct Imposes<'a, W> {
     pub(crate) shared: &'a W,

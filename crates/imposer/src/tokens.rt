@@ -2,7 +2,7 @@
 use gather_table::Seat;
 use handover::{Overflow, Pass};
 
-/// A seat of the gathering table and a pass of the ready queue.
+/// The tokens with which a worker makes its calls: a seat for the table, and a pass for the queue.
 #[derive(Drop)]
 pub(crate) struct Tokens {
     pub(crate) seat: Seat,

@@ -17,51 +17,54 @@ use std::sync::atomic::Ordering::SeqCst;
 use std::sync::atomic::{AtomicBool, AtomicU64};
 use std::time::Duration;
 
-/// The bytes of the window's texts together, roughly.
+/// About how many bytes the texts of a window have together.
 const BYTES_AHEAD: usize = 786_432;
 
-/// The bytes of text round a placed page, roughly.
+/// About how many bytes of text surround a placed page.
 const BYTES_ROUND_A_PAGE: usize = 256;
 
-/// The work that comes with each sheet, however small, in bytes, roughly.
+/// The cost of a sheet besides that of its text, however small it is. It is an estimate, given as a number of bytes.
 const BYTES_BESIDE: usize = 32;
 
-/// The most sheets of a window.
+/// The greatest number of sheets in a window.
 const MOST_SHEETS: usize = 4_096;
 
-/// A window of at least this many sheets is moved by a quarter at a time, and a worker without work sleeps at once.
+/// The least number of sheets in a window that is long. A long window moves by a quarter of its length at a time, and a worker that finds no work in
+/// it sleeps at once.
 const MANY_SHEETS: u32 = 256;
 
-/// An imposer sends at most an eighth of a window's sheets together, and at most an eighth of its share of all sheets. So imposers work side by side,
-/// and beside the collector.
+/// In one message an imposer sends at most an eighth of a window's sheets, at most an eighth of its share of all sheets, and at least one sheet. So
+/// imposers work at the same time as each other and as the collector.
 const BATCHES: u32 = 8;
 
-/// The shortest and the longest nap, in microseconds.
+/// The length of the shortest nap, in microseconds.
 const SHORTEST_NAP: u64 = 50;
 
+/// The length of the longest nap, in microseconds.
 const LONGEST_NAP: u64 = 400;
 
-/// The sheets that may be imposed: `len` of them, from the next one to be written. Texts that wait for their turn take memory, so an imposer only
-/// keeps the number of a sheet further on, and imposes it when the window has come near.
+/// The sheets that may be imposed now: `len` sheets, beginning with the next one to be written. Finished texts take memory until they are written. So
+/// an imposer only notes the number of a sheet past the window, and imposes the sheet when the window reaches it.
 #[derive(Drop)]
 pub(crate) struct Window {
     /// The next sheet to be written, or one a little before it.
     next: CachePadded<AtomicU64>,
-    /// Whether the window has no end, because the next sheet to be written may never come.
+    /// Whether the window has no end. It has none once the next sheet to be written may never come.
     lifted: AtomicBool,
+    /// The number of sheets in the window.
     pub(crate) len: u32,
-    /// The number of sheets that are written before the window moves.
+    /// The number of sheets that must be written before the window moves.
     step: u32,
-    /// The most sheets that an imposer sends together.
+    /// The greatest number of sheets that an imposer sends in one message.
     pub(crate) batch: u32,
 }
 
 impl Window {
-    /// A window of about three quarters of a megabyte of text, for a job whose slots have this number of bytes of text. It has at least two sheets,
-    /// and one for each imposer.
+    /// A window with about 768 KiB of text, for a job whose slots have this number of bytes of text together. It has at least two sheets, and at
+    /// least one for each imposer.
     ///
-    /// That a run ends depends on the step: all sheets of a window may be imposed without a word, so a step no longer than the window is reached, and
-    /// the window moves on.
+    /// A step is never longer than the window. So once all sheets of the window are written, the window has moved, and imposers that wait for it go
+    /// on.
     pub(crate) fn new(job: &Job<'_, '_>, workers: Workers, bytes: usize) -> Self
         requires bytes { bytes ≡ min (bytes_of_texts job.now) usize.MAX }
         ensures len { result.len ≡ window_len (length job.now.plan.sheets) workers.imposers bytes }
@@ -82,7 +85,7 @@ impl Window {
         }
     }
 
-    /// The first sheet past the window.
+    /// The first sheet past the window; `u32::MAX` if the window has no end.
     pub(crate) fn end(&self) -> u32 {
         if self.lifted.load(SeqCst) {
             return u32::MAX;
@@ -95,25 +98,25 @@ impl Window {
         u32::try_from(self.next.load(SeqCst)).unwrap_or(u32::MAX)
     }
 
-    /// Reports that all sheets before `next` are written. A window with many sheets moves by a quarter at once, since imposers read this word for
-    /// each sheet.
+    /// Tells the window that all sheets before `next` are written. The window moves only if a whole step has been written since it last moved. A long
+    /// step spares imposers, which read this word for each sheet, from fetching it anew each time.
     pub(crate) fn come_to(&self, next: u32) {
         if next >= self.next().saturating_add(self.step) {
             self.move_to(next);
         }
     }
 
-    /// Moves the window to `next`; all sheets before that are written.
+    /// Moves the window so that it begins with `next`. All sheets before that one have been written.
     pub(crate) fn move_to(&self, next: u32) {
         self.next.store(u64::from(next), SeqCst);
     }
 
-    /// Lets imposers go on past the window: a sheet won't come, or nothing more is written.
+    /// Takes away the end of the window, since a sheet won't come or nothing more will be written.
     pub(crate) fn lift(&self) {
         self.lifted.store(true, SeqCst);
     }
 
-    /// Yields or sleeps a little, 400 microseconds at most. A sleeping thread isn't woken.
+    /// Yields the processor or sleeps, for at most 400 microseconds. Nothing wakes a sleeping thread earlier.
     pub(crate) fn rest<R: Wait>(&self, rt: &R, idling: &mut Idling) {
         if self.step == 1 && !idling.backoff.is_completed() {
             idling.backoff.snooze();
@@ -122,7 +125,7 @@ impl Window {
         }
     }
 
-    /// The idling of a thread that begins to look for work.
+    /// The state of a thread that begins to look for work.
     pub(crate) fn idling(&self) -> Idling {
         Idling {
             backoff: Backoff::new(),
@@ -132,24 +135,24 @@ impl Window {
     }
 }
 
-/// How a thread waits for work. If sheets are large it backs off, then sleeps shortly, until it has found something. If they are small it sleeps at
-/// once, and each nap of the run is twice as long as the one before, up to the longest.
+/// How a thread waits for work. If sheets are large, it first yields the processor a few times, and then takes short naps, until it has found work.
+/// If they are small, it takes a nap at once, and each nap is twice as long as the one before, up to the longest.
 #[derive(Drop)]
 pub(crate) struct Idling {
     backoff: Backoff,
-    /// The length of the next nap, in microseconds, before the limit.
+    /// The length of the next nap, in microseconds. A nap isn't longer than the longest one, even if this number is greater.
     nap: u64,
-    /// Whether naps grow longer.
+    /// Whether naps become longer.
     grows: bool,
 }
 
 impl Idling {
-    /// Work was found.
+    /// Notes that work was found.
     pub(crate) fn end(&self) {
         self.backoff.reset();
     }
 
-    /// The length of the nap to take now.
+    /// The length of the nap to take now. The next one is twice as long, if naps become longer.
     fn next_nap(&mut self) -> Duration
         ensures most { as_nanos result ≤ (if self.old.grows then 400_000 else 50_000) }
         ensures grows { self.new.grows ≡ self.old.grows }
@@ -165,7 +168,7 @@ impl Idling {
     }
 }
 
-/// The number of bytes of all pages, and roughly that of the texts of all slots; the largest `usize` if there are more.
+/// The number of bytes of all pages, and about the number of bytes in the texts of all slots. Each is `usize::MAX` if it would be greater.
 pub(crate) fn bytes_of_pages(job: &Job<'_, '_>) -> (usize, usize)
     ensures pages { result.0 ≡ min (bytes_together (pages job.now.units)) usize.MAX }
     ensures texts { result.1 ≡ min (bytes_of_texts job.now) usize.MAX }
@@ -182,16 +185,16 @@ pub(crate) fn bytes_of_pages(job: &Job<'_, '_>) -> (usize, usize)
     (of_pages, of_slots)
 }
 
-/// Sheets that an imposer took off the queue and that lay past the window.
+/// The sheets that an imposer holds: it took them off the queue, and they lay past the window.
 #[derive(Drop)]
 pub(crate) struct Held {
     sheets: SheetSet,
-    /// The end of the window at the last look that found none of them in it.
+    /// The end of the window at the imposer's last look that found no held sheet in it.
     looked_to: u32,
 }
 
 impl Held {
-    /// No sheet is held.
+    /// Holds no sheet yet. It allocates no memory.
     pub(crate) fn new(alloc: Global) -> Self
         ensures { result.sheets ≡ set.empty }
     {
@@ -201,13 +204,14 @@ impl Held {
         }
     }
 
+    /// Whether no sheet is held.
     pub(crate) fn is_empty(&self) -> bool
         ensures { IsTrue result ↔ self.now.sheets ≡ set.empty }
     {
         self.sheets.is_empty()
     }
 
-    /// Holds a sheet. If there is no memory for its number, the same sheets are held as before.
+    /// Holds one more sheet. If memory is refused, nothing changes.
     pub(crate) fn push(&mut self, sheet: u32) -> Result<(), AllocError>
         ensures held { OnOk result (self.new.sheets ≡ set.insert self.old.sheets sheet) }
         ensures refused { OnErr result (self.new.sheets ≡ self.old.sheets) }
@@ -215,7 +219,7 @@ impl Held {
         self.sheets.insert(sheet)
     }
 
-    /// Takes the first held sheet, if it lies before `end`.
+    /// Removes and returns the first held sheet, if it lies before `end`.
     pub(crate) fn pop_before(&mut self, end: u32) -> Option<u32>
         ensures first { IfSome result (IsSmallest self.old.sheets) }
         ensures before { IfSome result (λ sheet. sheet < end) }
@@ -226,8 +230,8 @@ impl Held {
         self.sheets.take_first_before(end)
     }
 
-    /// Whether some are held and the window has moved since the last call. Then it is better to wait for these than to take more off the queue, which
-    /// other imposers may want.
+    /// Whether sheets are held and the window has moved since the last call. If so, the imposer should wait for these sheets instead of taking
+    /// further ones off the queue, which other imposers may want.
     pub(crate) fn come_nearer(&mut self, end: u32) -> bool
         ensures kept { self.new.looked_to ≡ end }
         ensures same { self.new.sheets ≡ self.old.sheets }

@@ -1,8 +1,8 @@
-//! The number of threads of a run.
+//! The numbers of worker threads of a run.
 ghost use Rattle.std.specs.Prelude.{◌↔◌, IsTrue};
 ghost use Rattle.imposer.specs.Workers.{AreWorkers};
 
-/// The numbers of threads that prepare pages and that impose sheets, from 1 to 16 each.
+/// The number of threads that prepare pages, and the number of threads that impose sheets. Each is from 1 to 16.
 #[derive(Clone, Copy, Debug, PartialEq, Eq)]
 pub struct Workers {
     pub preparers: u32,
@@ -10,7 +10,7 @@ pub struct Workers {
 }
 
 impl Workers {
-    /// Whether both numbers are from 1 to 16.
+    /// Whether each number is from 1 to 16.
     pub fn are_valid(self) -> bool
         ensures { IsTrue result ↔ AreWorkers self }
     {
