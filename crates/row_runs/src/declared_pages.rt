@@ -1,4 +1,4 @@
-//! The number of pages that a document declares.
+//! Reads the number of pages that a document declares.
 ghost use Rattle.std.specs.Prelude.{◌≡◌, ◌<◌, ◌≤◌, ◌+◌, codes, drop, length, option_map};
 ghost use Rattle.dsc.specs.Fields.{fields_in};
 ghost use Rattle.rules.specs.Units.{line_len};
@@ -11,8 +11,9 @@ use dsc::{
 use memchr::memmem::FinderRev;
 use papers::first_comment;
 
-/// The number of pages that a document declares: by the first `%%Pages:` of its header or, if that is `(atend)`, by the first one after the last
-/// `%%Trailer` outside embedded documents (DSC 3.0, 5.1).
+/// The number of pages that a document declares in its comments (DSC 3.0, 5.1). It is given by the first `%%Pages:` of the header. If that is
+/// `(atend)`, it is given by the first `%%Pages:` that follows the last `%%Trailer` line and isn't in an embedded document. None if there is no such
+/// comment, or if its value isn't a number.
 pub fn declared_page_count(text: &[u8]) -> Option<usize>
     ensures { result ≡ meaning.declared_page_count text.now }
 {
@@ -20,7 +21,7 @@ pub fn declared_page_count(text: &[u8]) -> Option<usize>
     count_by(pages_field(header)?, text)
 }
 
-/// The number of pages that this field of a document's header declares.
+/// The number of pages that this first field of the header's `%%Pages:` declares. If the field is `(atend)`, the end of the text is read.
 fn count_by(field: &[u8], text: &[u8]) -> Option<usize>
     ensures { result ≡ meaning.count_by field.now (meaning.last_lines text.now) }
 {
@@ -31,21 +32,21 @@ fn count_by(field: &[u8], text: &[u8]) -> Option<usize>
     }
 }
 
-/// The first field of the first `%%Pages:` among these lines.
+/// The first field after the first `%%Pages:` in these lines.
 fn pages_field(lines: &[u8]) -> Option<&[u8]>
     ensures { option_map (λ field. field.now) result ≡ meaning.pages_field (contents lines.now) }
 {
     first_field(pages_value(lines)?)
 }
 
-/// The first field of the first `%%Pages:` among these lines, outside embedded documents.
+/// The first field after the first `%%Pages:` in these lines that isn't in an embedded document.
 fn last_field(lines: &[u8]) -> Option<&[u8]>
     ensures { option_map (λ field. field.now) result ≡ meaning.first_field (meaning.pages_outside 0 (contents lines.now)) }
 {
     first_field(value_outside(lines)?)
 }
 
-/// The text after the colon of that comment.
+/// The text after the first `%%Pages:` in these lines that isn't in an embedded document.
 fn value_outside(lines: &[u8]) -> Option<&[u8]>
     ensures { option_map (λ value. fields_in value.now) result ≡ meaning.pages_outside 0 (contents lines.now) }
 {
@@ -63,7 +64,8 @@ fn value_outside(lines: &[u8]) -> Option<&[u8]>
     None
 }
 
-/// The text after the colon, if a line with this content is a `%%Pages:` outside embedded documents.
+/// The text after the colon, if this line is a `%%Pages:` comment and `depth`, the number of embedded documents that are open, is 0. `content` is the
+/// line without its line end.
 fn value_at(depth: usize, content: &[u8]) -> Option<&[u8]>
     ensures { option_map (λ value. fields_in value.now) result ≡ meaning.pages_at depth content.now }
 {
@@ -71,7 +73,7 @@ fn value_at(depth: usize, content: &[u8]) -> Option<&[u8]>
     if depth == 0 { Some(value) } else { None }
 }
 
-/// The number of embedded documents that are open after a line with this content.
+/// The number of embedded documents that are open after a line with this content, if `depth` were open before it.
 fn depth_behind(depth: usize, content: &[u8]) -> usize
     requires { depth < usize.MAX }
     ensures value { result ≡ meaning.depth_behind depth content.now }
@@ -94,7 +96,7 @@ fn first_field(value: &[u8]) -> Option<&[u8]>
     Some(field)
 }
 
-/// The text after the colon of the first `%%Pages:` among these lines.
+/// The text after the first `%%Pages:` in these lines.
 fn pages_value(lines: &[u8]) -> Option<&[u8]>
     ensures { option_map (λ value. fields_in value.now) result ≡ comment_fields (codes "%%Pages") (contents lines.now) }
 {
@@ -104,7 +106,8 @@ fn pages_value(lines: &[u8]) -> Option<&[u8]>
     }
 }
 
-/// The text after the last `%%Trailer`, or all of it if there is none. The search begins at the end, where the trailer of most documents is.
+/// The text after the last `%%Trailer` line, or the whole text if there is no such line. The search begins at the end of the text, where the trailer
+/// of most documents is.
 fn last_lines(text: &[u8]) -> &[u8]
     ensures { contents result.now ≡ meaning.last_lines text.now }
 {
@@ -114,14 +117,14 @@ fn last_lines(text: &[u8]) -> &[u8]
         if trailer_at(text, at) {
             return after_line(text, at);
         }
-        // Those that begin before this one end before its last byte.
+        // Any `%%Trailer` that begins earlier ends before the last byte of this one.
         let (before, _) = front.split_at(at + 8);
         front = before;
     }
     text
 }
 
-/// Whether a line that begins the trailer starts at this byte.
+/// Whether a `%%Trailer` line begins at this byte.
 fn trailer_at(text: &[u8], at: usize) -> bool
     requires { at ≤ length text.now }
     ensures { result ≡ meaning.trailer_at at text.now }
@@ -130,7 +133,7 @@ fn trailer_at(text: &[u8], at: usize) -> bool
     begins_line(text, at) && is_trailer_line(first_content(line))
 }
 
-/// Whether a line starts at this byte, which is not a line feed.
+/// Whether a line begins at this byte. The byte must not be a line feed.
 fn begins_line(text: &[u8], at: usize) -> bool
     requires { at ≤ length text.now }
     ensures { result ≡ meaning.begins_line at text.now }
@@ -142,7 +145,7 @@ fn begins_line(text: &[u8], at: usize) -> bool
     before == b'\r' || before == b'\n'
 }
 
-/// The text after the line that starts at this byte.
+/// The text after the line that begins at this byte.
 fn after_line(text: &[u8], at: usize) -> &[u8]
     requires { at ≤ length text.now }
     ensures { result.now ≡ drop (line_len (drop at text.now)) (drop at text.now) }
@@ -158,7 +161,7 @@ fn is_trailer_line(content: &[u8]) -> bool
     key_of(content) == b"%%Trailer".as_slice()
 }
 
-/// The value of the digits, or the greatest number.
+/// The value of a field of digits, or `usize::MAX` if it is greater. None if the field has other characters.
 fn value_of_digits(field: &[u8]) -> Option<usize>
     ensures { result ≡ meaning.value_of_digits field.now }
 {

@@ -1,4 +1,4 @@
-//! Why a row isn't imposed.
+//! Why a row can't be imposed.
 ghost use Rattle.std.specs.Prelude.{◌≡◌};
 ghost use Rattle.row_runs.specs.Errors.{of_made_plan};
 
@@ -8,22 +8,22 @@ use rows::RowError;
 use sheet_plan::MadeError;
 use thiserror::Error;
 
-/// Why a row isn't imposed, in the order of the checks.
+/// Why a row can't be imposed. The variants are in the order in which a row is checked.
 #[derive(Clone, Copy, Debug, PartialEq, Eq, Error)]
 pub enum SheetError {
-    /// There is no such row. Never out of memory.
+    /// The row can't be made. This error is never refused memory, which is `NoMemory`.
     #[error(transparent)]
     Row(RowError),
-    /// A page of the row can't be placed in a cell. Never out of memory.
+    /// A page of the row can't be placed in a cell. This error is never refused memory, which is `NoMemory`.
     #[error(transparent)]
     Arrangement(ArrangementError),
-    /// A page of the row can't be such a poster. Never out of memory.
+    /// A page of the row can't be made into such a poster. This error is never refused memory, which is `NoMemory`.
     #[error(transparent)]
     Poster(PosterError),
-    /// The sheets can't be planned. Never out of memory.
+    /// The sheets can't be planned. This error is never refused memory, which is `NoMemory`.
     #[error(transparent)]
     Sheets(MadeError),
-    /// A page would be moved by 100,000 points or more, because it is on a back or turned.
+    /// A page would be placed 100,000 points or more away from the sheet's corner, because it is shifted on a back or turned.
     #[error("a page would be placed 100,000 points or more away")]
     OutOfReach,
     /// Memory was refused.
@@ -31,7 +31,7 @@ pub enum SheetError {
     NoMemory,
 }
 
-/// An error of the plan as one of this type.
+/// Converts an error of the plan to a `SheetError`. Refused memory becomes `SheetError::NoMemory`.
 pub fn plan_error(error: MadeError) -> SheetError
     ensures { result ≡ of_made_plan error }
 {

@@ -1,4 +1,4 @@
-//! Layings with one scale for all pages of a row.
+//! One scale for all pages of a row.
 ghost use Rattle.std.specs.Prelude.{◌≡◌, IfErr, IfOk, None, OnOk, Some};
 ghost use Rattle.row_runs.specs.Evened.{at_common_scale as evened_if_asked, why_not_even_if};
 ghost use Rattle.row_runs.specs.Sheets.{MayBeLaid};
@@ -8,7 +8,8 @@ use layouts::ArrangementError;
 use lengths::Paper;
 use row_sheets::at_one_scale;
 
-/// The laying, with one scale for all pages of the row if that is requested.
+/// The same laying, or if `same_scale` is set and pages are in cells, one in which all pages of the row have the least of their scales. Refused for
+/// the first page that fits no cell.
 pub(crate) fn at_common_scale<'l>(
     same_scale: bool,
     laying: &'l Laying<'_>,

@@ -1,4 +1,4 @@
-//! Lines that are drawn on sheets: margins, lines between cells, and lines for notes.
+//! Guides for a drawing of sheets: lines that show margins, cuts, folds and lines for notes.
 ghost use Rattle.std.specs.Prelude.{◌≡◌, ◌<◌, ◌≤◌, ◌++◌, IfOk, OnOk, map};
 ghost use Rattle.row_runs.specs.Guides.{guides_in, level as level_of, level_line as level_line_of};
 ghost use Rattle.row_runs.specs.Guides.{level_lines, level_margin, lines_between, setting_guides, margin_lines};
@@ -15,7 +15,7 @@ use preview::{Guide, GuideKind};
 use row_sheets::Poster;
 use std::alloc::{AllocError, Global};
 
-/// The guides of a laying: its margins, the cuts between cells, the folds of booklets and zines, and the lines for notes that are requested.
+/// The guides of a laying: its margins, the cuts between cells, the folds of booklets and zines, and the lines for notes if they are requested.
 pub(crate) fn guides_of(
     alloc: Global,
     marks: Marks,
@@ -46,7 +46,7 @@ fn push_guides(laying: &Laying<'_>, guides: &mut Vec<Guide>) -> Result<(), Alloc
     }
 }
 
-/// Adds the lines for notes that are requested.
+/// Adds the lines for notes, if they are requested and the cells of the laying are filled in turn.
 fn push_notes(
     alloc: Global,
     marks: Marks,
@@ -87,7 +87,7 @@ fn note_guide(line: &Stroke) -> Guide
     }
 }
 
-/// A sheet of a poster with its margins.
+/// One sheet of a poster, with the poster's margins and no gaps.
 fn tile_room(poster: &Poster) -> Room
     requires { poster.now.edge ≤ 10_000_000_000 }
     ensures { result ≡ tile_room_of poster.now }
@@ -104,7 +104,7 @@ fn tile_room(poster: &Poster) -> Room
     }
 }
 
-/// Adds the guides of a setting; those between its cells have this kind.
+/// Adds the guides of a setting: those of its margins, and lines of this kind between its cells.
 fn push_lines(kind: GuideKind, setting: &Setting, guides: &mut Vec<Guide>) -> Result<(), AllocError>
     ensures { OnOk result (guides.new.items ≡ guides.old.items ++ setting_guides kind setting.now) }
 {
@@ -113,7 +113,7 @@ fn push_lines(kind: GuideKind, setting: &Setting, guides: &mut Vec<Guide>) -> Re
     Ok(())
 }
 
-/// Adds the guides of margins, if there are any.
+/// Adds the guides of the margins that aren't 0.
 fn push_margin(room: &Room, guides: &mut Vec<Guide>) -> Result<(), AllocError>
     ensures { OnOk result (guides.new.items ≡ guides.old.items ++ margin_lines room.now) }
 {
@@ -122,7 +122,7 @@ fn push_margin(room: &Room, guides: &mut Vec<Guide>) -> Result<(), AllocError>
     Ok(())
 }
 
-/// Adds the guides of the left and right margins.
+/// Adds the guides of the left and the right margin.
 fn push_upright_margin(room: &Room, guides: &mut Vec<Guide>) -> Result<(), AllocError>
     ensures { OnOk result (guides.new.items ≡ guides.old.items ++ upright_margin room.now) }
 {
@@ -132,7 +132,7 @@ fn push_upright_margin(room: &Room, guides: &mut Vec<Guide>) -> Result<(), Alloc
     Ok(())
 }
 
-/// Adds the guides of the lower and upper margins.
+/// Adds the guides of the lower and the upper margin.
 fn push_level_margin(room: &Room, guides: &mut Vec<Guide>) -> Result<(), AllocError>
     ensures { OnOk result (guides.new.items ≡ guides.old.items ++ level_margin room.now) }
 {
@@ -142,7 +142,7 @@ fn push_level_margin(room: &Room, guides: &mut Vec<Guide>) -> Result<(), AllocEr
     Ok(())
 }
 
-/// Adds the lines between all cells of a grid.
+/// Adds the lines between neighbouring cells of a grid.
 fn push_lines_between(
     kind: GuideKind,
     room: &Room,
@@ -156,7 +156,7 @@ fn push_lines_between(
     Ok(())
 }
 
-/// Adds the lines between cells side by side.
+/// Adds the lines between columns of cells.
 fn push_upright_lines(
     kind: GuideKind,
     room: &Room,
@@ -172,7 +172,7 @@ fn push_upright_lines(
     Ok(())
 }
 
-/// Adds the lines between cells one above another.
+/// Adds the lines between rows of cells.
 fn push_level_lines(
     kind: GuideKind,
     room: &Room,
@@ -188,7 +188,7 @@ fn push_level_lines(
     Ok(())
 }
 
-/// The line before cell k of several cells side by side.
+/// The upright line to the left of column k, counted from 0. `parts` is the number of columns.
 fn upright_line(kind: GuideKind, room: &Room, parts: u32, k: u32) -> Guide
     requires { k < parts }
     ensures { result ≡ upright_line_of kind room.now parts k }
@@ -197,7 +197,7 @@ fn upright_line(kind: GuideKind, room: &Room, parts: u32, k: u32) -> Guide
     upright(kind, &room.paper, x)
 }
 
-/// The line below cell k of several cells one above another.
+/// The level line below row k, counted from 0 at the bottom. `parts` is the number of rows.
 fn level_line(kind: GuideKind, room: &Room, parts: u32, k: u32) -> Guide
     requires { k < parts }
     ensures { result ≡ level_line_of kind room.now parts k }
@@ -206,7 +206,7 @@ fn level_line(kind: GuideKind, room: &Room, parts: u32, k: u32) -> Guide
     level(kind, &room.paper, y)
 }
 
-/// A line at this distance from the left edge.
+/// An upright line over the whole sheet, at this distance from the left edge, in grains.
 fn upright(kind: GuideKind, paper: &Paper, x: Grains) -> Guide
     ensures { result ≡ upright_of kind paper.now x }
 {
@@ -217,7 +217,7 @@ fn upright(kind: GuideKind, paper: &Paper, x: Grains) -> Guide
     }
 }
 
-/// A line at this distance from the lower edge.
+/// A level line over the whole sheet, at this distance from the lower edge, in grains.
 fn level(kind: GuideKind, paper: &Paper, y: Grains) -> Guide
     ensures { result ≡ level_of kind paper.now y }
 {

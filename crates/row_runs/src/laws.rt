@@ -1,4 +1,4 @@
-//! Laws of the definitions. The functions do nothing.
+//! Laws of the sheets that a row makes. Each contract is a law; the functions do nothing.
 ghost use Rattle.row_runs.specs.InPlaces.{AskedStandInPlaces};
 ghost use Rattle.row_runs.specs.ReadAsBound.{AskedIsRead};
 ghost use Rattle.row_runs.specs.SwappedMargins.{FittedAreInPoints, SwappedStands};
@@ -6,48 +6,50 @@ ghost use Rattle.row_runs.specs.Turning.{TurnedStands, TurnsAddUp};
 ghost use Rattle.row_runs.specs.NumbersLie.{NumbersInCells, NumbersInHalves};
 ghost use Rattle.row_runs.specs.Written.{NothingIsMoved, TurnedStaysInCell, UprightIsUnturned, WrittenAreRead, WrittenInCells, WrittenInPlaces, WrittenIsBound, WrittenKeepRoom, WrittenStand};
 
-/// The pages of the requested sheets are fitted into their cells and read in order. Stacks are the row once they are cut and laid, and zines once
-/// they are folded. Each point of a poster's pages is shown. No page of such sheets was refused.
+/// On sheets as they are laid, pages are fitted into their cells, in reading order. Once the sheets of a stack are cut and piled, its pages are in
+/// the order of the row. Once a zine is folded and cut, so are its pages. The fold marks of a booklet are on its fold. Each point of a poster's page
+/// is on one of its sheets.
 pub fn asked_stand_in_places()
     ensures { AskedStandInPlaces }
 {}
 
-/// A requested booklet whose leaves are folded, put into one another and bound is read in the order of the chosen row.
+/// A booklet is read in the order of the chosen row, once its leaves are folded, put into one another and bound.
 pub fn asked_is_read()
     ensures { AskedIsRead }
 {}
 
-/// Two quarter turns of a page are a half turn, three are one to the right, and four are none.
+/// Two quarter turns of a page are a half turn, three are a quarter turn to the right, and four leave the page as it was.
 pub fn turns_add_up()
     ensures { TurnsAddUp }
 {}
 
-/// Each point of a turned page is where a page of the turned paper has it, to 10^-5 of a point.
+/// Turning a page moves none of its points by more than 10^-5 of a point from where the same point of a page with the turned paper would be.
 pub fn turned_stands()
     ensures { TurnedStands }
 {}
 
-/// Pages that lie inside a room and apart do so on fronts too; on backs they do with left and right margins exchanged. Pages are moved by points, as
-/// fitted ones are.
+/// If pages lie between the margins of a sheet and apart from each other, they also do so after left and right margins are exchanged on backs
+/// (`stands`). Fitted pages have their offsets in points, as this needs (`points`).
 pub fn swapped_stands()
     ensures stands { SwappedStands }
     ensures points { FittedAreInPoints }
 {}
 
-/// If nothing is exchanged on backs and no page is turned, sheets are written as they are laid.
+/// If no margins are exchanged on backs and no page is turned, sheets are written as they are laid.
 pub fn written_as_laid()
     ensures moved { NothingIsMoved }
     ensures turned { UprightIsUnturned }
 {}
 
-/// A page that lies in a cell is still in it when turned; a trimmed one to 10^-5 of a point.
+/// A page that lies in a cell still does when it is turned. If pages are trimmed, it may reach 10^-5 of a point past the cell.
 pub fn turned_stays_in_cell()
     ensures { TurnedStaysInCell }
 {}
 
-/// Sheets as they are written keep their places. If no page is turned, the sheets stand as they are laid, each back between the margins of its
-/// side (`stand`), and in their places (`places`). Turned or not, each page lies in its cell (`cells`), and untrimmed ones between
-/// the margins and apart (`room`); cells, stacks and zines (`read`) and booklets (`bound`) are read in the order of the row.
+/// Where the pages are on the sheets that are written. If no page is turned, pages stand as they are laid, and on backs between the margins of the
+/// back (`stand`). If also no margins are exchanged, pages are in the places of the laying (`places`). Whether turned or not, each page lies in its
+/// cell (`cells`), and pages that aren't trimmed lie between the margins and apart from each other (`room`). Cells, stacks and zines (`read`) and
+/// booklets (`bound`) are read in the order of the row.
 pub fn written_keeps_place()
     ensures stand { WrittenStand }
     ensures places { WrittenInPlaces }
@@ -57,7 +59,7 @@ pub fn written_keeps_place()
     ensures bound { WrittenIsBound }
 {}
 
-/// The number of each page is at the foot of the page's cell, in the middle; in a booklet the halves are the cells.
+/// The number of a page is at the foot of the page's cell, in the middle. In a booklet the cells are the halves of a sheet's side.
 pub fn numbers_lie_in_cells()
     ensures cells { NumbersInCells }
     ensures halves { NumbersInHalves }

@@ -1,4 +1,4 @@
-//! A row of pages before it is written: what is asked for, laid on sheets, planned, listed or drawn.
+//! Prepares a row of pages for writing: takes a request, lays the row on sheets, and lists or draws these sheets.
 #![tactic(auto)]
 
 mod declared_pages;

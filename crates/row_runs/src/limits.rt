@@ -1,18 +1,21 @@
-//! Limits that are tested before a sheet is made.
+//! Limits that are checked before sheets are made.
 ghost use Rattle.std.specs.Prelude.{◌≡◌, ◌<◌, ◌^◌};
 ghost use Rattle.row_runs.specs.Limits.{limit_in as limit_of_laying, limit_passed as first_passed};
 
 use crate::sheet_request::{Laying, Scheme};
 use sheet_plan::MadeError;
 
+/// The greatest number of sheets in a plan.
 const MOST_SHEETS: u128 = 1_000_000;
 
+/// The greatest number of slots on one sheet.
 const MOST_SLOTS: u128 = 4_096;
 
+/// The greatest number of slots on all sheets of a plan together.
 const MOST_PLACES: u128 = 4_000_000;
 
-/// The limit of a plan that the sheets of this number of entries would pass. Only cards and posters have more places than there
-/// are entries, but for the last sheet. Those of a specification are counted as they are laid.
+/// The limit of a plan that a row with this number of entries would exceed, if any. It is checked for cards and posters only, since they need many
+/// more slots than there are entries. The sheets of a specification are checked while they are laid.
 pub(crate) fn limit_in(laying: &Laying<'_>, entries: usize) -> Option<MadeError>
     ensures { result ≡ limit_of_laying laying.now entries }
 {
@@ -29,7 +32,7 @@ pub(crate) fn limit_in(laying: &Laying<'_>, entries: usize) -> Option<MadeError>
     }
 }
 
-/// The first limit that this number of sheets would pass, with this number of slots on each.
+/// The first limit that this number of sheets with this number of slots on each would exceed; None if there is no such limit.
 fn limit_passed(sheets: u128, places: u128) -> Option<MadeError>
     requires { places < 2 ^ 32 }
     ensures { result ≡ first_passed sheets places }

@@ -1,4 +1,4 @@
-//! A look at the sheets that would be imposed.
+//! Lists and drawings of the sheets that a run would impose.
 ghost use Rattle.std.specs.Prelude.{◌≡◌, IfErr, IfOk, OnOk, Ok};
 ghost use Rattle.rules.specs.MadePlans.{made_plan_of};
 ghost use Rattle.sheet_plan.specs.MadeRefusals.{RefusesMade};
@@ -20,8 +20,8 @@ use preview::{Guide, plan_text, preview_text};
 use sheet_plan::{MadeError, MadeSheets, Plan};
 use std::alloc::{AllocError, Global};
 
-/// The list of the sheets that a run would impose. If there are more sheets or leaves than `most`, the middle is left out. The faults are those of
-/// the run.
+/// A list of the sheets that a run would impose, as text. If there are more than `most` sheets or leaves, those in the middle are left out. The
+/// errors are those of the run.
 pub fn row_plan(alloc: Global, job: &RowJob<'_, '_>, most: u32) -> Result<Vec<u8>, SheetError>
     requires asked { MayBeAsked job.now.asked }
     ensures told { IfOk result (λ text. TellsPlan job.now most text.items) }
@@ -36,8 +36,8 @@ pub fn row_plan(alloc: Global, job: &RowJob<'_, '_>, most: u32) -> Result<Vec<u8
     }
 }
 
-/// The drawing of the sheets that a run would impose, as an SVG. Margins, cuts, folds and lines for notes are drawn on each sheet if all sheets have
-/// the same. If there are more sheets than `most`, the first are drawn. The faults are those of the run.
+/// A drawing of the sheets that a run would impose, as SVG. Margins, cuts, folds and lines for notes are also drawn, unless margins are exchanged on
+/// backs. If there are more than `most` sheets, only the first `most` are drawn. The errors are those of the run.
 pub fn row_preview(alloc: Global, job: &RowJob<'_, '_>, most: u32) -> Result<Vec<u8>, SheetError>
     requires asked { MayBeAsked job.now.asked }
     ensures told { IfOk result (λ text. TellsPicture job.now most text.items) }
@@ -68,7 +68,7 @@ fn drawn(
     Ok(text)
 }
 
-/// The guides on each sheet of a job.
+/// The guides to draw on each sheet of a job. There are none if margins are exchanged on backs, where they would be elsewhere.
 fn guides_for(alloc: Global, job: &RowJob<'_, '_>) -> Result<Vec<Guide>, AllocError>
     requires { MayBeAsked job.now.asked }
     ensures { IfOk result (λ guides. guides.items ≡ guides_on job.now) }
@@ -80,7 +80,7 @@ fn guides_for(alloc: Global, job: &RowJob<'_, '_>) -> Result<Vec<Guide>, AllocEr
     }
 }
 
-/// The sheets that would be imposed.
+/// The sheets that a run would impose, with pages on backs shifted and pages turned.
 fn planned_sheets(alloc: Global, job: &RowJob<'_, '_>) -> Result<MadeSheets, SheetError>
     requires asked { MayBeAsked job.now.asked }
     ensures made { IfOk result (ArePlanned job.now) }
@@ -99,7 +99,7 @@ fn planned_sheets(alloc: Global, job: &RowJob<'_, '_>) -> Result<MadeSheets, She
     }
 }
 
-/// Whether these sheets can be planned, on this number of pages.
+/// Checks that these sheets can be planned for a document with this number of pages.
 fn check_plan(alloc: Global, pages: u32, sheets: &MadeSheets) -> Result<(), MadeError>
     ensures planned { OnOk result (made_plan_of pages sheets.now ≡ Ok sheets.now) }
     ensures refused { IfErr result (RefusesMade pages sheets.now) }

@@ -1,4 +1,4 @@
-//! The marks on sheets.
+//! The marks that are drawn on sheets.
 ghost use Rattle.std.specs.Prelude.{◌≡◌, ◌++◌, IfOk};
 ghost use Rattle.row_runs.specs.Marked.{cut_if as cut_of, fold_if as fold_of, outer_cut_if as outer_cut_of, ruled_if as ruled_of, strokes_in};
 
@@ -7,9 +7,8 @@ use dressing::{Marks, Stroke, cut_marks, fold_marks, note_lines, outer_cut_marks
 use layouts::Setting;
 use std::alloc::{AllocError, Global};
 
-/// The strokes on each sheet of a laying, of the marks that are asked for. A laying that isn't folded has no fold marks,
-/// and one that isn't cut no cut marks; pages as they are, zines, posters and specifications have none. Lines for notes are on sheets whose cells
-/// are filled in turn.
+/// The strokes that are drawn on each sheet of a laying, for the requested marks. Grids, cards and stacks have cut marks, and booklets have fold
+/// marks and cut marks. Only grids have lines for notes. Zines, posters, specifications and pages that are left as they are have no strokes.
 pub(crate) fn strokes_of(
     alloc: Global,
     marks: Marks,
@@ -28,7 +27,7 @@ pub(crate) fn strokes_of(
     }
 }
 
-/// The strokes on each side of a booklet's leaves: at the fold, and round both halves.
+/// The strokes on each side of a booklet's leaves, for the requested marks: at the fold, and around both halves.
 fn booklet_strokes(
     alloc: Global,
     marks: Marks,
@@ -43,7 +42,7 @@ fn booklet_strokes(
     Ok(strokes)
 }
 
-/// The cut marks, then the lines for notes.
+/// The requested cut marks, followed by the requested lines for notes.
 fn cut_and_ruled(alloc: Global, marks: Marks, setting: &Setting) -> Result<Vec<Stroke>, AllocError>
     ensures { IfOk result (λ strokes. strokes.items ≡ cut_of marks.cut setting.now ++ ruled_of marks.ruled setting.now) }
 {

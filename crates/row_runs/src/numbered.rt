@@ -1,4 +1,4 @@
-//! The numbers on sheets.
+//! The page numbers that are drawn on sheets.
 ghost use Rattle.std.specs.Prelude.{◌≡◌, ◌≤◌, ◌<◌, ◌⊎◌, ℕ, IfErr, IfOk, Option, Some, false, length, map, slice_get};
 ghost use Rattle.rules.specs.Choice.{most_entries};
 ghost use Rattle.row_runs.specs.Numbers.{are_numbers_reached, below_middle as below_of, place_named, numbers_asked, paper_in as paper_of_entry, places_by};
@@ -19,7 +19,9 @@ use sheet_plan::MadeSheets;
 use sheet_text::Numbers;
 use std::alloc::{AllocError, Global};
 
-/// The requested numbers for a document with this number of pages. On backs they are moved with their pages, if the places can be written.
+/// The page numbers for the sheets of this request, if numbers are requested (`how`). `pages` is the number of pages of the document. If `swap` is
+/// given, its left and right margins are exchanged on backs, and numbers there are shifted like their pages. Refused as `OutOfReach` if a shifted
+/// number would be 100,000 points or more away, or if there are too many sheets.
 pub(crate) fn numbers_on(
     alloc: Global,
     pages: u32,
@@ -54,7 +56,7 @@ pub(crate) fn numbers_on(
     }))
 }
 
-/// The requested sheets, with each page named by its place in the row.
+/// The sheets of this request, in which each slot names its page by the page's place in the row.
 fn places_of(
     alloc: Global,
     pages: u32,
@@ -82,7 +84,7 @@ fn places_of(
     }
 }
 
-/// The row with each page named by its place in it.
+/// The row in which each page is named by its place, counted from 0. Blanks stay blank.
 fn named_places(alloc: Global, row: &[Option<u32>]) -> Result<Vec<Option<u32>>, AllocError>
     requires { length row.now ≤ most_entries }
     ensures { IfOk result (λ places. places.items ≡ named_places_from 0 row.now) }
@@ -94,7 +96,7 @@ fn named_places(alloc: Global, row: &[Option<u32>]) -> Result<Vec<Option<u32>>, 
     Ok(places)
 }
 
-/// An entry of the row, with its page named by its place.
+/// The entry at this place of the row, with its page named by the place.
 fn named_at(row: &[Option<u32>], place: u32) -> Option<u32>
     requires { place < length row.now }
     ensures { (entry : Option ℕ) → slice_get row.now place ≡ Some entry → result ≡ place_named place entry }
@@ -105,7 +107,7 @@ fn named_at(row: &[Option<u32>], place: u32) -> Option<u32>
     }
 }
 
-/// The papers of the row's pages, in order.
+/// The papers of the row's pages, in the order of the row. Where a page's paper isn't known, it is `other`.
 fn papers_on_row(
     alloc: Global,
     papers: &[Paper],
@@ -130,7 +132,7 @@ fn entry_paper(papers: &[Paper], other: &Paper, entry: Option<u32>) -> Paper
     }
 }
 
-/// The paper of the sheets, used for pages whose own paper isn't known.
+/// The paper of the laying's sheets. It is used for pages whose own paper isn't known.
 fn sheet_paper<'p>(laying: &'p Laying<'_>) -> &'p Paper
     ensures { result.now ≡ sheet_paper_of laying.now }
 {
@@ -142,7 +144,7 @@ fn sheet_paper<'p>(laying: &'p Laying<'_>) -> &'p Paper
     }
 }
 
-/// The distance from the middle of a page down to the foot of its cell; None where pages are their own cells.
+/// The distance from the middle of a page down to the foot of its cell, in grains. None if each page is its own cell.
 fn below_middle(laying: &Laying<'_>) -> Option<Grains>
     ensures { result ≡ below_of laying.now }
 {

@@ -15,7 +15,8 @@ use pagespec::{Item, Spec};
 use preview::{Edge, Places, Reading, Sides};
 use row_sheets::Poster;
 
-/// The sides on which the sheets of a laying are printed, and where their places are.
+/// On which sides the sheets of a laying are printed, and where the places of their pages are. If `swap` is given, its left and right margins are
+/// exchanged on backs.
 pub(crate) fn reading_of(swap: &Option<Room>, laying: &Laying<'_>) -> Reading
     ensures { result ≡ reading_in swap.now laying.now }
 {
@@ -25,7 +26,7 @@ pub(crate) fn reading_of(swap: &Option<Room>, laying: &Laying<'_>) -> Reading
     }
 }
 
-/// The sides on which sheets are printed: both, if this room is exchanged on backs, or else those of the laying.
+/// On which sides sheets are printed: on both if margins are exchanged on backs, and otherwise as the laying says.
 pub(crate) fn sides_by(swap: &Option<Room>, laying: &Laying<'_>) -> Sides
     ensures { result ≡ sides_of_swapped_room swap.now laying.now }
 {
@@ -37,7 +38,7 @@ pub(crate) fn sides_by(swap: &Option<Room>, laying: &Laying<'_>) -> Sides
     }
 }
 
-/// The edge of a sheet along its height.
+/// The edge of a sheet that runs along its height, as it is printed: the short or the long one.
 fn edge_as_printed(paper: &Paper) -> Edge
     ensures { result ≡ edge_printed paper.now }
 {
@@ -48,7 +49,7 @@ fn edge_as_printed(paper: &Paper) -> Edge
     }
 }
 
-/// How sheets are printed: on one side, or on both, with the edge on which leaves are flipped.
+/// Whether the sheets of a laying are printed on one side or on both. If on both, also the edge on which leaves are flipped.
 fn printed_sides(laying: &Laying<'_>) -> Sides
     ensures { result ≡ sides_in laying.now }
 {
@@ -66,14 +67,14 @@ fn printed_sides(laying: &Laying<'_>) -> Sides
     }
 }
 
-/// The edge on which a booklet's leaves are flipped, given whether backs are rotated by 180 degrees.
+/// The edge on which a booklet's leaves are flipped: the long one if backs are rotated by 180 degrees, and otherwise the short one.
 fn edge_of_backs(turned: bool) -> Edge
     ensures { result ≡ (if turned then Long else Short) }
 {
     if turned { Edge::Long } else { Edge::Short }
 }
 
-/// The edge on which leaves are turned over like the pages of a book, as one reads them.
+/// The edge on which leaves are turned over like the pages of a book, with the sheet held as one reads it.
 fn edge_at_side(setting: &Setting) -> Edge
     ensures { result ≡ edge_of setting.now }
 {
@@ -85,7 +86,7 @@ fn edge_at_side(setting: &Setting) -> Edge
     }
 }
 
-/// The width and height of the sheet, as one reads it.
+/// The width and the height of the sheet, held as one reads it, in 10^-5 of a point.
 fn sides_read(setting: &Setting) -> (u64, u64)
     ensures width { result.0 ≡ width_read setting.now }
     ensures height { result.1 ≡ height_read setting.now }
@@ -97,7 +98,7 @@ fn sides_read(setting: &Setting) -> (u64, u64)
     }
 }
 
-/// The width and height of the sheet, held so that its pages are upright.
+/// The width and the height of the sheet, held with its pages upright, in 10^-5 of a point. `turned` says whether pages are turned on the sheet.
 fn sides_held(turned: bool, paper: &Paper) -> (u64, u64)
     ensures width { result.0 ≡ held_width turned paper.now }
     ensures height { result.1 ≡ held_height turned paper.now }
@@ -110,7 +111,7 @@ fn sides_held(turned: bool, paper: &Paper) -> (u64, u64)
     }
 }
 
-/// The cells that are the places, or the tiles of a poster.
+/// The places of pages on a sheet: its cells, or the tiles of a poster.
 fn places_of(laying: &Laying<'_>) -> Places
     ensures { result ≡ places_read laying.now }
 {
@@ -133,7 +134,7 @@ fn places_of(laying: &Laying<'_>) -> Places
     }
 }
 
-/// Places side by side, as many as there are items on any sheet of a specification.
+/// A row of places, as many as the longest group of a specification has items.
 fn listed(spec: &Spec) -> Grid
     ensures { result ≡ listed_grid spec.now }
 {
@@ -144,7 +145,7 @@ fn listed(spec: &Spec) -> Grid
     }
 }
 
-/// The most items of a group.
+/// The number of items in the longest group; 1 if there is no group.
 fn most_items(groups: &[Vec<Item>]) -> u32
     requires { sum_by length (groups_of groups.now) < 2 ^ 32 }
     ensures value { result ≡ most_items_in 1 (groups_of groups.now) }
@@ -178,7 +179,7 @@ fn plain_order() -> Order
     }
 }
 
-/// The tiles of a poster. A poster without tiles has no sheets.
+/// The tiles of a poster. At least one row and one column are given, even for a poster without tiles, which has no sheets.
 fn tiles_of(poster: &Poster) -> Grid
     ensures { result ≡ tiles_in poster.now }
 {

@@ -1,4 +1,4 @@
-//! A row of a document's pages, laid on sheets.
+//! A row of a document's pages that is laid on sheets.
 ghost use Rattle.std.specs.Prelude.{IfErr, IfOk};
 ghost use Rattle.row_runs.specs.Sheets.{MayBeAsked};
 ghost use Rattle.row_runs.specs.SheetsRuns.{IsDressOf};
@@ -19,31 +19,36 @@ use sheet_plan::MadeSheets;
 use sheet_text::SheetExtras;
 use std::alloc::Global;
 
-/// What is imposed of a document, which was read before; how its pages are turned, and the papers that they have then, in
-/// their order, where those that aren't known have the sheet's; whether left and right margins are exchanged on every second
-/// sheet; a border round each page, wider than nothing, if one is asked for, and how far within the
-/// page's edges it is drawn; and which marks are drawn at the end of each sheet.
+/// A job: a document, a request for its sheets, and options that apply to all of these sheets.
 #[derive(Clone, Copy)]
 pub struct RowJob<'j, 'd> {
+    /// The document, which has been read.
     pub document: &'j Document<'d>,
+    /// How each page is turned before it is placed.
     pub turn: Turn,
+    /// The paper of each page after it is turned, in the order of the pages. A page that has no entry has the paper of the sheets.
     pub papers: &'j [Paper],
+    /// The pages that are chosen, their signatures, and how they are laid on sheets.
     pub asked: SheetRequest<'j>,
+    /// Whether left and right margins are exchanged on every second sheet, since it is the back of a leaf.
     pub swapped: bool,
+    /// The width of a border round each page, in grains; None for no border. It is above 0.
     pub border: Option<Grains>,
+    /// The distance of the border from the edges of its page, in grains.
     pub inset: Grains,
+    /// The marks that are drawn at the end of each sheet.
     pub marks: Marks,
 }
 
 impl<'j, 'd> RowJob<'j, 'd> {
-    /// The requested sheets, with backs moved and pages turned, and the lines that report their papers and draw their marks and numbers. Refused
-    /// first for a fault of the row, then for a page that fits no cell. A caller that creates an output plans the sheets before: `Plan::of_sheets`
-    /// refuses what is left to refuse.
+    /// The sheets of the request, with pages on backs shifted and pages turned, and the lines that report papers and draw marks and numbers. The
+    /// first fault is reported: one of the row, then a page that fits no cell, then the others of `SheetError`. Not all sheets that this returns can
+    /// be planned, so a caller should call `Plan::of_sheets` before it creates an output.
     pub fn lay(&self, alloc: Global) -> Result<(MadeSheets, SheetExtras), SheetError>
         requires { MayBeAsked self.now.asked }
         ensures turned { IfOk result (λ laid. AreTurned self.now laid.0) }
         ensures dressed { IfOk result (λ laid. IsDressOf (drawn_of self.now) laid.0 laid.1) }
-        // A refusal names the first fault.
+        // The error is the first fault.
         ensures refused { IfErr result (RefusesRun self.now) }
     {
         let count = self.document.pages();

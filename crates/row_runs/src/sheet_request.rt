@@ -1,4 +1,4 @@
-//! Sheets as they are requested.
+//! Requests for sheets, and the sheets that they make.
 ghost use Rattle.std.specs.Prelude.{◌≡◌, ◌<◌, ◌≤◌, IfErr, IfOk, IfSome, OnOk, Ok, None, Some, length, option_map, ℕ};
 ghost use Rattle.rules.specs.Choice.{most_entries};
 ghost use Rattle.rows.specs.Sewing.{MayBeSewn, signing_of};
@@ -28,20 +28,21 @@ use std::alloc::Global;
 /// How a row is laid on sheets.
 #[derive(Clone, Copy)]
 pub enum Laying<'l> {
-    /// Each page as it is, on a sheet of its own paper, and each blank on a sheet of this one.
+    /// Each page is left as it is, on a sheet of its own paper. Each blank is on a sheet of the paper `blank`.
     AsTheyAre {
         blank: Paper,
     },
-    /// Each page fitted into cells of sheets.
+    /// Each page is fitted into a cell of a sheet.
     InCells {
         setting: Setting,
         scheme: Scheme,
     },
-    /// Each page over several sheets, one page after the other. A blank leaves as many sheets blank.
+    /// Each page is spread over several sheets, one page after the other. A blank makes as many blank sheets as a page makes sheets.
     Poster {
         poster: Poster,
     },
-    /// Where a specification names each page by its place in the row, with one paper for all sheets and one for all pages.
+    /// A specification places the pages, and names each page by its place in the row. All sheets have the paper `sheet`, and all pages have the paper
+    /// `page`.
     BySpec {
         spec: &'l Spec,
         sheet: Paper,
@@ -50,7 +51,7 @@ pub enum Laying<'l> {
 }
 
 impl<'l> Laying<'l> {
-    /// The same laying, for as long as this one is lent. What names a specification isn't copied as a whole.
+    /// The same laying, borrowed from this one. It only copies the reference to the specification.
     pub fn lent(&self) -> Laying<'_>
         ensures { result ≡ self.now }
     {
@@ -70,38 +71,44 @@ impl<'l> Laying<'l> {
     }
 }
 
-/// The cells of the sheets in which the entries of a row are.
+/// Which entries of a row are in which cells of the sheets.
 #[derive(Clone, Copy)]
 pub enum Scheme {
-    /// In this number of cells a sheet, from cell to cell and then from sheet to sheet.
+    /// Each sheet takes the next `cells` entries of the row.
     Grid { cells: u32 },
-    /// Each entry in all of this number of cells.
+    /// Each sheet has one entry, in all its `cells` cells.
     Cards { cells: u32 },
-    /// In this number of cells a sheet, from sheet to sheet and then from cell to cell.
+    /// The row runs through the same cell of all sheets, and then through the next cell. Each sheet has `cells` cells.
     Stack { cells: u32 },
-    /// Like a stack on both sides of leaves, in all cells.
+    /// The row runs through the cells as in a stack, but through both sides of leaves and through all cells of the grid.
     Leaves,
-    /// Two entries on each side of leaves, for a row in signatures. For printers that flip a sheet on its long edge the backs are rotated by 180
-    /// degrees. The pages of a signature's innermost leaf are moved towards the fold by the creep, in 10^-5 of a point, those of the outermost not at
-    /// all, the others in equal steps.
+    /// Each side of a leaf has two entries of a row in signatures. Backs are rotated by 180 degrees for printers that flip a sheet on its long edge
+    /// (`turned_backs`). In each signature, pages are moved towards the fold: on the innermost leaf by `creep`, in 10^-5 of a point, and on the
+    /// outermost leaf not at all. From leaf to leaf the distance grows in equal steps.
     Booklet { turned_backs: bool, creep: u64 },
-    /// Eight entries on one side of each sheet, to be folded and cut: two rows of four cells, the first rotated by 180 degrees.
+    /// Each sheet has eight entries on one side, and is folded and cut into a booklet. It has two rows of four cells; pages of the first row are
+    /// rotated by 180 degrees.
     Zine,
 }
 
-/// A request for sheets of a document: the pages, their signatures if any, and the layout.
+/// A request for sheets of a document.
 #[derive(Clone, Copy)]
 pub struct SheetRequest<'t> {
+    /// Which pages are imposed.
     pub choice: Choice<'t>,
+    /// How the row is put into signatures; None without signatures.
     pub signing: Option<Signing>,
+    /// How the row is laid on sheets.
     pub laying: Laying<'t>,
-    /// Whether all pages in cells have the scale of the largest paper.
+    /// Whether all pages in cells get the same scale, which is the least of their scales.
     pub same_scale: bool,
 }
 
-/// The sheets that are asked for of a document, whose pages' papers are in their order. A page whose paper
-/// isn't known has the sheet's. What is wrong with the row is refused first, then the first page that fits no cell, or
-/// can't be a poster, then cards, posters and sheets of a specification that pass a limit of a plan: none of them is made.
+/// The sheets that are requested of a document with this number of pages. `papers` has the paper of each page, in order; a page that has no entry
+/// there has the paper of the sheets.
+///
+/// The first fault is reported. A fault of the row comes first, and then the first page that fits no cell or can't be made into a poster. The last
+/// fault is a limit of a plan that cards, a poster or a specification would exceed. After a refusal no sheets are made.
 pub fn make_sheets(
     alloc: Global,
     pages: u32,
@@ -132,7 +139,7 @@ pub fn make_sheets(
     lay_row(alloc, &laying, leaves, papers, entries)
 }
 
-/// The number of leaves of a signature of the row; None without signatures.
+/// The number of leaves in a signature of this row; 0 without signatures.
 pub(crate) fn leaves_in(signing: Option<Signing>, row: &[Option<u32>]) -> u32
     requires sewn { IfSome signing MayBeSewn }
     requires some { 0 < length row.now }
@@ -145,7 +152,7 @@ pub(crate) fn leaves_in(signing: Option<Signing>, row: &[Option<u32>]) -> u32
     }
 }
 
-/// A refusal of the row as an error of this type.
+/// Converts an error of the row to a `SheetError`. Refused memory becomes `SheetError::NoMemory`.
 pub(crate) fn row_error(error: RowError) -> SheetError
     ensures { result ≡ of_row error }
 {
@@ -155,7 +162,7 @@ pub(crate) fn row_error(error: RowError) -> SheetError
     }
 }
 
-/// A refusal of the cells as an error of this type.
+/// Converts an error of the cells to a `SheetError`. Refused memory becomes `SheetError::NoMemory`.
 fn arrangement_error(error: ArrangementError) -> SheetError
     ensures { result ≡ of_arrangement error }
 {
@@ -165,7 +172,7 @@ fn arrangement_error(error: ArrangementError) -> SheetError
     }
 }
 
-/// A refusal of a poster as an error of this type.
+/// Converts an error of a poster to a `SheetError`. Refused memory becomes `SheetError::NoMemory`.
 fn poster_error(error: PosterError) -> SheetError
     ensures { result ≡ of_poster error }
 {
@@ -175,7 +182,7 @@ fn poster_error(error: PosterError) -> SheetError
     }
 }
 
-/// The row on sheets. A signature, if there are any, has this number of leaves.
+/// Lays a row on sheets. If the row is in signatures, `leaves` is the number of leaves in each.
 pub(crate) fn lay_row(
     alloc: Global,
     laying: &Laying<'_>,
@@ -223,7 +230,7 @@ pub(crate) fn lay_row(
     }
 }
 
-/// Why a row whose sheets would pass this limit isn't laid. A page without a place is reported first.
+/// Why a row whose sheets would exceed this limit isn't laid. A page that fits no cell, or can't be made into a poster, is reported before the limit.
 fn over_limit(
     laying: &Laying<'_>,
     papers: &[Paper],
@@ -250,7 +257,7 @@ fn over_limit(
     }
 }
 
-/// The row in the cells of sheets.
+/// Lays a row in the cells of sheets.
 fn lay_in_cells(
     alloc: Global,
     setting: &Setting,

@@ -1,4 +1,4 @@
-//! Sheets that are printed on both sides, fronts and backs in turn, with left and right margins exchanged on backs.
+//! Left and right margins that are exchanged on backs. Sheets are printed on both sides, so that they are fronts and backs in turn.
 ghost use Rattle.std.specs.Prelude.{◌≡◌, ◌^◌, ◌≤◌, IfOk, IfSome, is_some, length, nat_abs, true};
 ghost use Rattle.rules.specs.Run.{most_sheets};
 ghost use Rattle.rules.specs.Specification.{Upright};
@@ -13,7 +13,7 @@ use pagespec::{Item, Turn};
 use sheet_plan::MadeSheets;
 use std::alloc::{AllocError, Global};
 
-/// The room of a laying's cells, if it is exchanged on backs.
+/// The margins and gaps of a laying in cells, if they are exchanged on backs.
 pub(crate) fn swapped_room_in(swapped: bool, laying: &Laying<'_>) -> Option<Room>
     ensures { result ≡ meaning.swapped_room_in swapped laying.now }
 {
@@ -23,7 +23,7 @@ pub(crate) fn swapped_room_in(swapped: bool, laying: &Laying<'_>) -> Option<Room
     }
 }
 
-/// The same sheets, with left and right margins exchanged on backs.
+/// The same sheets, with left and right margins exchanged on backs. Pages are shifted by the difference of the margins.
 pub(crate) fn swapped_sheets(
     alloc: Global,
     swap: &Option<Room>,
@@ -36,14 +36,16 @@ pub(crate) fn swapped_sheets(
     turned_sheets(alloc, Turn::None, swap, sheets)
 }
 
-/// The room that is exchanged on this sheet: only backs, every second sheet, are moved.
+/// The room whose left and right margins are exchanged on this sheet, counted from 0. Sheets with odd numbers are backs, and only on these are
+/// margins exchanged.
 pub(crate) fn swapped_room_on(swap: &Option<Room>, sheet: u32) -> Option<Room>
     ensures { result ≡ meaning.swapped_room_on swap.now sheet }
 {
     if sheet % 2 == 1 { *swap } else { None }
 }
 
-/// The item of a page that is moved from this room into the exchanged one. None if the offset can't be written. Without a room the item stays.
+/// The item that places a page with left and right margins of this room exchanged. Without a room it is the same item. None if the offset would be
+/// 100,000 points or more.
 pub(crate) fn moved_item(swap: &Option<Room>, item: &Item) -> Option<Item>
     ensures value { IfSome result (λ moved. item_of moved ≡ meaning.moved_item swap.now (item_of item.now)) }
     ensures near { is_some result ≡ is_moved_near swap.now (item_of item.now) }
@@ -60,7 +62,8 @@ pub(crate) fn moved_item(swap: &Option<Room>, item: &Item) -> Option<Item>
     }
 }
 
-/// The distance to the right from a room to the exchanged one.
+/// How far pages are shifted to the right if left and right margins of this room are exchanged, in 10^-5 of a point. It is negative if they are
+/// shifted to the left.
 fn swap_shift(room: &Room) -> i64
     ensures value { result ≡ meaning.swap_shift room.now }
     ensures in_range { nat_abs result ≤ 10 ^ 17 }

@@ -1,4 +1,4 @@
-//! Pages that are turned before they are placed.
+//! Turns pages before they are placed.
 ghost use Rattle.std.specs.Prelude.{◌≡◌, ◌^◌, ◌<◌, ◌≤◌, IfOk, IfSome, IsTrue, OnOk, is_some, length, map, nat_abs, pos, true};
 ghost use Rattle.std.specs.List.{list_all};
 ghost use Rattle.rules.specs.Papers.{is_side};
@@ -17,7 +17,7 @@ use pagespec::{Item, Measure, Turn};
 use sheet_plan::{MadeSheets, MadeSlot, PlacedSlot};
 use std::alloc::{AllocError, Global};
 
-/// The paper of a page once it is turned: a quarter turn exchanges its sides.
+/// The paper of a page after this turn: a quarter turn exchanges width and height.
 pub fn turned_paper(turn: Turn, paper: &Paper) -> Paper
     ensures { result ≡ meaning.turned_paper (turn_of turn) paper.now }
 {
@@ -27,7 +27,7 @@ pub fn turned_paper(turn: Turn, paper: &Paper) -> Paper
     }
 }
 
-/// The papers of pages once they are turned.
+/// The papers of pages after this turn, in the same order. The only error is refused memory.
 pub fn turned_papers(
     alloc: Global,
     turn: Turn,
@@ -51,8 +51,8 @@ fn all_papers(alloc: Global, turn: Turn, papers: &[Paper]) -> Result<Vec<Paper>,
     Ok(turned)
 }
 
-/// The same sheets with the pages turned; they were laid as pages of the turned papers. Pages on backs are first moved from this room into the
-/// exchanged one, if there is one.
+/// The same sheets, with all pages turned. Until then the sheets must be laid for pages with the turned papers. If `swap` is given, its left and
+/// right margins are exchanged on backs, and pages there are shifted before they are turned.
 pub(crate) fn turned_sheets(
     alloc: Global,
     turn: Turn,
@@ -89,7 +89,7 @@ fn all_sheets(
     Ok(turned)
 }
 
-/// The slots of a sheet, moved and turned, in place of the earlier ones.
+/// Replaces the content of `slots` by the slots of this sheet, with pages shifted and turned.
 fn turn_slots(
     slots: &mut Vec<MadeSlot>,
     turn: Turn,
@@ -126,7 +126,7 @@ fn turned_slot(turn: Turn, swap: &Option<Room>, slot: Option<PlacedSlot<'_>>) ->
     }
 }
 
-/// An item whose page is first moved and then turned, if its offsets can be written.
+/// The item for a page that is first shifted and then turned. None if an offset would be 100,000 points or more.
 pub(crate) fn changed_item(
     turn: Turn,
     swap: &Option<Room>,
@@ -141,7 +141,7 @@ pub(crate) fn changed_item(
     turned_item(turn, paper, &moved)
 }
 
-/// The item that places a page where this one places a page of the turned paper, if its offsets can be written.
+/// The item that places a page with this turn where `item` would place a page of the turned paper. None if an offset would be 100,000 points or more.
 fn turned_item(turn: Turn, paper: &Paper, item: &Item) -> Option<Item>
     ensures value { IfSome result (λ turned. item_of turned ≡ meaning.turned_item (turn_of turn) paper.now (item_of item.now)) }
     ensures near { is_some result ≡ reaching.is_turned_near (turn_of turn) paper.now (item_of item.now) }
@@ -157,7 +157,7 @@ fn turned_item(turn: Turn, paper: &Paper, item: &Item) -> Option<Item>
     })
 }
 
-/// One turn followed by another.
+/// The turn that is the same as one turn followed by another.
 fn turn_sum(turn: Turn, other: Turn) -> Turn
     ensures { turn_of result ≡ meaning.turn_sum (turn_of turn) (turn_of other) }
 {
@@ -169,7 +169,7 @@ fn turn_sum(turn: Turn, other: Turn) -> Turn
     }
 }
 
-/// The turn with a further quarter to the left.
+/// This turn followed by a quarter turn to the left.
 fn quarter_left(turn: Turn) -> Turn
     ensures { turn_of result ≡ meaning.quarter_left (turn_of turn) }
 {
@@ -181,7 +181,7 @@ fn quarter_left(turn: Turn) -> Turn
     }
 }
 
-/// The lower left corner of a page on its turned paper, which has this width and height.
+/// Where the lower left corner of a page of this width and height is on its turned paper, in the unit of these lengths.
 fn turned_corner(turn: Turn, width: i64, height: i64) -> (i64, i64)
     requires width { nat_abs width ≤ 10 ^ 17 }
     requires height { nat_abs height ≤ 10 ^ 17 }
@@ -198,7 +198,7 @@ fn turned_corner(turn: Turn, width: i64, height: i64) -> (i64, i64)
     }
 }
 
-/// A point, turned about the origin.
+/// Turns a point about the origin.
 fn turned_by(turn: Turn, x: i64, y: i64) -> (i64, i64)
     requires x { nat_abs x ≤ 10 ^ 17 }
     requires y { nat_abs y ≤ 10 ^ 17 }
@@ -225,7 +225,7 @@ fn scaled_length(scale: Number, side: Grains) -> i64
     ((length + 1_269_999_999_999_999) / 1_270_000_000_000_000) as i64
 }
 
-/// The measure increased by this many 10^-5 of a point, if it can be written.
+/// The measure increased by `by` times 10^-5 of its unit. None if the result would be 100,000 units or more.
 pub(crate) fn shifted(by: i64, measure: Measure) -> Option<Measure>
     requires { nat_abs by ≤ 10 ^ 17 }
     ensures value { IfSome result (λ moved. measure_of moved ≡ meaning.shifted by (measure_of measure)) }
