@@ -1,4 +1,4 @@
-//! An output behind a buffer.
+//! An output with a buffer in front of it.
 ghost use Rattle.std.specs.Prelude.{◌≡◌, ◌+◌, ◌-◌, ◌<◌, ◌≤◌, [], ◌++◌, IfErr, IfOk, OnErr, OnOk, drop, false, length, take, true, vec_capacity, vec_len};
 ghost use Rattle.std.specs.Io.KnownBytes.{Appends, Keeps, append_known};
 ghost use Rattle.world.specs.Outputs.{IsFrontOf, IsSteady};
@@ -6,13 +6,13 @@ ghost use Rattle.world.specs.Outputs.{IsFrontOf, IsSteady};
 use crate::output::Output;
 use sheet_writer::{Sink, SinkFault};
 
-/// A write failed after this number of bytes.
+/// A write failed after the first `written` bytes of a text had been written.
 #[derive(Clone, Copy, Debug, PartialEq, Eq)]
 pub struct Broken {
     pub written: usize,
 }
 
-/// Writes all of the bytes, in as many calls as are needed.
+/// Writes all these bytes to the output, in as many calls as are needed. Stops at the first call that fails.
 pub fn write_all<T: Output>(output: &mut T, bytes: &[u8]) -> Result<(), Broken>
     requires countable { (T.seen output.old).failures < u64.MAX }
     ensures whole { OnOk result (Appends (T.seen output.old).bytes (T.seen output.new).bytes bytes.now) }
@@ -31,7 +31,7 @@ pub fn write_all<T: Output>(output: &mut T, bytes: &[u8]) -> Result<(), Broken>
     Ok(())
 }
 
-/// An output behind a buffer, as a sink.
+/// An output with a buffer in front of it, used as a sink. Bytes that fit into the buffer wait there until it is full.
 #[derive(Drop)]
 pub struct Buffered<T> {
     output: T,
@@ -39,7 +39,7 @@ pub struct Buffered<T> {
 }
 
 impl<T: Output> Buffered<T> {
-    /// An output behind this buffer, which is emptied.
+    /// Puts this buffer in front of an output. The buffer is emptied first; its capacity is the number of bytes that can wait in it.
     pub fn new(buffer: Vec<u8>, output: T) -> Buffered<T>
         ensures told { (⟦<Buffered<T> as Sink>⟧.seen result).bytes ≡ (T.seen output).bytes }
         ensures failures { (⟦<Buffered<T> as Sink>⟧.seen result).failures ≡ (T.seen output).failures }
@@ -49,7 +49,7 @@ impl<T: Output> Buffered<T> {
         Buffered { output, buffer }
     }
 
-    /// Writes the buffered bytes to the output, and flushes it.
+    /// Writes the bytes in the buffer to the output, and flushes the output. After an error, bytes that weren't written stay in the buffer.
     pub fn write_out(&mut self) -> Result<(), SinkFault>
         requires countable { (⟦<Buffered<T> as Sink>⟧.seen self.old).failures < u64.MAX }
         ensures kept { Keeps (⟦<Buffered<T> as Sink>⟧.seen self.old).bytes (⟦<Buffered<T> as Sink>⟧.seen self.new).bytes }
@@ -65,7 +65,7 @@ impl<T: Output> Buffered<T> {
         }
     }
 
-    /// Writes the buffered bytes and flushes. Returns whether all were written, and the output.
+    /// Writes the bytes in the buffer to the output, and flushes the output. Returns whether both succeeded, and the output.
     pub fn finish(self) -> (bool, T)
         requires countable { (⟦<Buffered<T> as Sink>⟧.seen self).failures < u64.MAX }
         ensures whole { result.0 ≡ true → Keeps (⟦<Buffered<T> as Sink>⟧.seen self).bytes (T.seen result.1).bytes }
@@ -81,21 +81,21 @@ impl<T: Output> Buffered<T> {
         }
     }
 
-    /// The number of bytes in the buffer.
+    /// The number of bytes that wait in the buffer.
     pub fn waiting(&self) -> usize
         ensures { result ≡ length self.now.buffer.items }
     {
         self.buffer.len()
     }
 
-    /// The output, without the buffered bytes.
+    /// Returns the output. Bytes that still wait in the buffer are lost.
     pub fn into_output(self) -> T
         ensures { result ≡ self.output }
     {
         self.output
     }
 
-    /// Writes the buffered bytes to the output.
+    /// Writes the bytes in the buffer to the output. After an error, bytes that weren't written stay in the buffer.
     fn write_buffer(&mut self) -> Result<(), SinkFault>
         requires countable { (T.seen self.old.output).failures < u64.MAX }
         ensures kept { Keeps (append_known (T.seen self.old.output).bytes self.old.buffer.items)
@@ -118,8 +118,8 @@ impl<T: Output> Buffered<T> {
         }
     }
 
-    /// Takes the first of bytes for which the buffer has no room. The buffer is written first; these bytes are too, if they are at least as many as
-    /// the buffer holds.
+    /// Takes bytes for which the buffer has too little room. The buffer is written to the output first. If the bytes are fewer than its capacity, all
+    /// of them are then put into the buffer. Otherwise they are offered to the output directly, which may take only the first of them.
     fn accept_many(&mut self, bytes: &[u8]) -> Result<usize, SinkFault>
         requires some { 0 < length bytes.now }
         requires countable { (T.seen self.old.output).failures < u64.MAX }
@@ -158,7 +158,7 @@ impl<T: Output> Sink for Buffered<T> {
     }
 }
 
-/// Appends bytes for which there is room.
+/// Appends bytes to the buffer, which must have room for them.
 fn append(buffer: &mut Vec<u8>, bytes: &[u8])
     requires { vec_len buffer.old + length bytes.now ≤ vec_capacity buffer.old }
     ensures { buffer.new.items ≡ buffer.old.items ++ bytes.now }
@@ -168,7 +168,7 @@ fn append(buffer: &mut Vec<u8>, bytes: &[u8])
     };
 }
 
-/// Removes this many bytes at the front.
+/// Removes the first `count` bytes of the buffer.
 fn remove_front(buffer: &mut Vec<u8>, count: usize)
     requires { count ≤ vec_len buffer.old }
     ensures items { buffer.new.items ≡ drop count buffer.old.items }

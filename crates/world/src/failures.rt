@@ -1,4 +1,4 @@
-//! The failures of a world.
+//! Counts the failures of a world.
 ghost use Rattle.std.specs.Prelude.{◌≡◌, ◌+◌, ◌<◌, ◌≤◌, None, Some, option_map};
 ghost use Rattle.std.specs.IoError.{error_kind};
 
@@ -6,7 +6,7 @@ use crate::source::ReadSource;
 use std::io;
 use std::io::{ErrorKind, Read};
 
-/// The number of a world's failures, and the cause of the last one.
+/// How often a world has failed, and the kind of error of its last failure.
 #[derive(Clone, Copy, Debug, PartialEq, Eq)]
 pub struct Failures {
     pub count: u64,
@@ -26,7 +26,7 @@ impl Failures {
         }
     }
 
-    /// Counts one more failure, with this cause.
+    /// Counts one more failure, and records the kind of its error.
     pub fn add(&mut self, cause: &io::Error)
         requires { self.old.count < u64.MAX }
         ensures { self.new ≡ record { count = self.old.count + 1; last = Some (error_kind cause.now) } }
@@ -35,7 +35,7 @@ impl Failures {
         self.last = Some(cause.kind());
     }
 
-    /// Counts the failures of an input, which is closed. Returns the cause of its last one, if it failed.
+    /// Adds the failures of an input, which is dropped and so closed. Returns the error of its last failure, or None if it hasn't failed.
     pub fn close<T: Read + Drop>(&mut self, source: ReadSource<T>) -> Option<io::Error>
         requires { self.old.count + failures_of source ≤ u64.MAX }
         ensures cause { result ≡ cause_of source }

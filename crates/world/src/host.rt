@@ -1,4 +1,4 @@
-//! The files and standard streams of the machine.
+//! The world of the machine on which the program runs.
 ghost use Rattle.std.specs.Prelude.{◌≡◌, ◌+◌, ◌<◌, ◌≤◌, None, option_map};
 ghost use Rattle.std.specs.IoError.{error_kind};
 ghost use Rattle.world.specs.Worlds.{cause_of, failures_of};
@@ -11,7 +11,7 @@ use std::fs::{File, Files};
 use std::io::{Read, Stdin, Stdout, Write};
 use std::{fs, io};
 
-/// The files and standard streams of the machine.
+/// The world of the machine on which the program runs: its files and standard streams.
 #[derive(Drop)]
 pub struct Host<'a, R: Files> {
     files: &'a R,
@@ -20,14 +20,14 @@ pub struct Host<'a, R: Files> {
     failures: Failures,
 }
 
-/// A file that is read, or standard input.
+/// An input of the machine: a file or standard input.
 #[derive(Drop)]
 pub enum HostInput<F> {
     File(F),
     Standard(Stdin),
 }
 
-/// A file that is written, or standard output.
+/// An output of the machine: a file or standard output.
 #[derive(Drop)]
 pub enum HostOutput<F> {
     File(F),
@@ -35,7 +35,7 @@ pub enum HostOutput<F> {
 }
 
 impl<'a, R: Files> Host<'a, R> {
-    /// A world that hasn't failed yet.
+    /// The world with these files and standard streams. It has not failed yet.
     pub fn new(files: &'a R, stdin: Stdin, stdout: Stdout) -> Host<'a, R>
         ensures { (⟦<Host<'a, R> as World>⟧.seen result).failures ≡ 0 }
     {
@@ -53,7 +53,7 @@ impl<'a, R: Files> World for Host<'a, R> {
 
     type Output = WriteOutput<HostOutput<R::File>>;
 
-    // It doesn't remember what it was asked for.
+    // It doesn't record the calls that are made.
     ghost seen = { λ host. record { asked = None; failures = host.failures.count; cause = host.failures.last } };
 
     fn open(&mut self, name: Option<&str>) -> io::Result<HostInput<R::File>> {

@@ -1,4 +1,4 @@
-//! An output that is created when its first byte is to be written.
+//! Outputs that are created only when the first byte is to be written.
 ghost use Rattle.std.specs.Prelude.{◌≡◌, ◌<◌, ◌||◌, [], List, Option, None, is_some, option_map, true, ℕ};
 ghost use Rattle.std.below.core.specs.declared.int.u64.TheConstants.{MAX as most_failures};
 ghost use Rattle.std.specs.Option.{ForSome};
@@ -11,7 +11,8 @@ use crate::world::{Refused, World};
 use std::io;
 use std::marker::{Brand, PhantomData};
 
-/// Ghost parameter, chosen in the proof of each call; no code: what was seen of a world before an output of this name is requested.
+/// The state of a world before an output of this name is created, as a contract sees it. It is a ghost parameter, which has no code and is chosen in
+/// the proof of each call.
 pub trait Before {
     ghost seen: { WorldView };
 
@@ -24,21 +25,22 @@ impl Before for Brand {
     ghost name = { None };
 }
 
-/// The name of an output, and the world that is asked to create it.
+/// The name of an output (None for standard output), and the world that is to create it.
 #[derive(Drop)]
 pub struct Asked<'n, W: World> {
     pub name: Option<&'n str>,
     pub world: W,
 }
 
-/// A world that refused an output, and the number of writes that have failed because of this.
+/// A world that refused to create an output, and the number of writes that have failed because of this.
 #[derive(Drop)]
 pub struct Denied<W> {
     pub refused: Refused<W>,
     pub times: u64,
 }
 
-/// An output that is created when its first byte is to be written. If the world refuses it, it isn't asked again.
+/// An output that is created only when its first byte is to be written. Until then it keeps the world that is to create it. If the world refuses, all
+/// later writes fail with the same error, and the world isn't asked again.
 #[derive(Drop)]
 pub struct Late<'n, W: World, B: Before> {
     name: Option<&'n str>,
@@ -54,14 +56,14 @@ pub struct Late<'n, W: World, B: Before> {
     ghost begun: { ForSome output (λ o. (W.Output.seen o).failures ≡ 0 → (W.Output.seen o).has_taken ≡ true) },
 }
 
-/// The fate of an output that is created late.
+/// The state in which an output that is created late has ended.
 #[derive(Drop)]
 pub enum Fate<W, O> {
-    /// The world wasn't asked for it.
+    /// The output wasn't created, since nothing was written. The world is returned.
     Unasked(W),
-    /// The world was asked once and refused.
+    /// The world was asked once to create the output, and refused.
     Refused(Refused<W>),
-    /// It was created.
+    /// The output was created.
     Created(O),
 }
 
@@ -69,7 +71,7 @@ impl<'n, W: World, B: Before> Late<'n, W, B> {
     ghost use Rattle.world.specs.Outputs.{fresh_output, told_if};
     ghost use Rattle.world.specs.Lates.{IsFate};
 
-    /// An output that is requested but not created yet.
+    /// An output that isn't created yet.
     pub fn new(asked: Asked<'n, W>) -> Late<'n, W, B>
         requires named { option_map (λ n. n.now) asked.name ≡ B.name }
         requires seen { W.seen asked.world ≡ B.seen }
@@ -87,7 +89,7 @@ impl<'n, W: World, B: Before> Late<'n, W, B> {
         }
     }
 
-    /// The fate of the output.
+    /// Ends the use of the output, and returns the state in which it has ended.
     pub fn fate(self) -> Fate<W, W::Output>
         ensures { IsFate W.tells W.seen W.Output.seen B.name B.seen (⟦<Late<'n, W, B> as Output>⟧.seen self.entry) result }
     {

@@ -1,4 +1,4 @@
-//! The surroundings of a program: files, standard streams, and reading an input whole.
+//! The surroundings of a program: its files and standard streams. Inputs can be read whole, and outputs can be buffered.
 #![tactic(auto)]
 
 mod buffered;

@@ -1,18 +1,18 @@
-//! Outputs.
+//! Outputs, to which bytes are written.
 ghost use Rattle.std.specs.Prelude.{◌≡◌, ◌<◌, ◌≤◌, IfOk, false, is_some, length, true};
 ghost use Rattle.std.specs.Io.KnownBytes.{Keeps, WriteAppends};
 
 use std::io;
 use std::io::{ErrorKind, Write};
 
-/// A destination for bytes. It counts its failures.
+/// A destination for bytes, which counts its failures.
 pub trait Output {
     ghost use Rattle.world.specs.Outputs.{CountsCall, CountsWrite, OutputView};
 
-    // What it reports, whether it has taken a byte, and how often and why it failed.
+    // The bytes that it has taken (if it reports them), whether it has taken any, the number of its failures, and the error of the last one.
     ghost seen: { Self → OutputView };
 
-    /// Writes the first of the bytes, at least one, and returns their number.
+    /// Writes one or more bytes from the front of this slice, and returns their number. After an error none were written.
     fn write(&mut self, bytes: &[u8]) -> io::Result<usize>
         requires some { 0 < length bytes.now }
         requires countable { (seen self.old).failures < u64.MAX }
@@ -20,22 +20,23 @@ pub trait Output {
         ensures written { WriteAppends (seen self.old).bytes (seen self.new).bytes result bytes.now }
         ensures counted { CountsWrite (seen self.old) (seen self.new) result };
 
-    /// Passes on what was written, if it is still held back.
+    /// Passes on bytes that were written and are still held back.
     fn flush(&mut self) -> io::Result<()>
         requires countable { (seen self.old).failures < u64.MAX }
         ensures kept { Keeps (seen self.old).bytes (seen self.new).bytes }
         ensures counted { CountsCall (seen self.old) (seen self.new) result };
 
-    /// The number of its failures.
+    /// The number of failures so far.
     fn failures(&self) -> u64
         ensures { result ≡ (seen self.now).failures };
 
-    /// The cause of its last failure, if it failed.
+    /// The error of the last failure; None if there was no failure.
     fn cause(&self) -> Option<io::Error>
         ensures { result ≡ (seen self.now).cause };
 }
 
-/// A writer as an output. Each error of the writer is a failure, and so is each write that takes none of the bytes.
+/// A writer used as an output. A write fails if the writer returns an error or takes none of the bytes, and a flush fails if the writer returns an
+/// error.
 #[derive(Drop)]
 pub struct WriteOutput<T> {
     pub writer: T,
@@ -47,7 +48,7 @@ pub struct WriteOutput<T> {
 impl<T: Write> WriteOutput<T> {
     ghost use Rattle.world.specs.Outputs.{fresh_output};
 
-    /// An output for the bytes that are written to the writer from now on.
+    /// An output that writes to this writer. It has taken no byte and has not failed yet.
     pub fn new(writer: T) -> WriteOutput<T>
         ensures { ⟦<WriteOutput<T> as Output>⟧.seen result ≡ fresh_output (T.contents writer) }
     {

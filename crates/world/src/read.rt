@@ -1,4 +1,4 @@
-//! Reading a whole input.
+//! Reads whole inputs.
 ghost use Rattle.std.specs.Prelude.{◌≡◌, ◌+◌, ◌<◌, ◌≤◌, IfOk, IfErr, OnOk, OnErr, vec_len};
 ghost use Rattle.std.specs.Prelude.{length, take, drop, max, replicate};
 ghost use Rattle.std.specs.Io.KnownBytes.{Consumes, IsAtEnd, Keeps};
@@ -8,19 +8,20 @@ ghost use Rattle.world.specs.declared.read.ReadFault.TheVariants.{Device, NoMemo
 use crate::source::{Source, SourceFault};
 use std::alloc::{AllocError, Global};
 
-/// The most bytes that are read: one more than an input may have, so that a longer input is seen to be too long.
+/// The greatest number of bytes that are read. It is one more than an input may have, so that an input that is too long is noticed.
 pub const MOST_BYTES: usize = 1_073_741_825;
 
-/// The room that the source is offered first. Most documents are small, and touching memory takes time.
+/// The room that a source is offered first, in bytes. It is small, because most documents are small and touching memory takes time.
 const FIRST_PIECE: usize = 16_384;
 
-/// The least room that the source is offered, after the first piece.
+/// The least room that a source is offered later, in bytes.
 const LEAST_ROOM: usize = 65_536;
 
-/// The number of bytes that are zeroed at once before reading, few enough to be still in the cache then.
+/// The number of bytes that are cleared at a time before they are read into. It is small enough for these bytes to stay in the processor's cache.
 const PIECE: usize = 262_144;
 
-/// The length from which on an input is large: then room for the longest one is reserved at once, so no byte is moved again.
+/// The length, in bytes, from which an input counts as large. Room for the longest possible input is then reserved at once, so that no byte has to be
+/// moved later.
 const LARGE: usize = 1_048_576;
 
 /// Why an input couldn't be read.
@@ -28,7 +29,7 @@ const LARGE: usize = 1_048_576;
 pub enum ReadFault {
     /// The source failed.
     Device,
-    /// There was no memory for the bytes.
+    /// Memory for the bytes was refused.
     NoMemory,
 }
 
@@ -48,25 +49,25 @@ impl From<SourceFault> for ReadFault {
     }
 }
 
-/// The bytes of the source to its end, or the first [`MOST_BYTES`] of them if there are more.
+/// All bytes of the source, or the first [`MOST_BYTES`] if there are more.
 ///
-/// They are read straight into the vector, which grows by a piece at a time. From a megabyte on, until all is read, it has room for the longest
-/// input, if there is address space. After a fault the bytes are lost.
+/// The bytes are read directly into the vector, which grows piece by piece. Once it has a megabyte, address space for the longest possible input is
+/// reserved until the input ends; if that is refused, the vector grows as it fills. After an error the bytes read so far are lost.
 pub fn read_input<S: Source>(alloc: Global, source: &mut S) -> Result<Vec<u8>, ReadFault>
     requires countable { (S.seen source.old).failures < u64.MAX }
     ensures within { IfOk result (λ bytes. vec_len bytes ≤ most_bytes) }
     ensures read { IfOk result (λ bytes. IsFirst most_bytes (S.seen source.old).bytes bytes.items) }
     ensures rest { IfOk result (λ bytes. Consumes (S.seen source.old).bytes (S.seen source.new).bytes bytes.items) }
-    // It ends after that many bytes, whatever comes of it.
+    // It takes at most that many bytes from the source, even if it fails.
     ensures most { ConsumesAtMost most_bytes (S.seen source.old).bytes (S.seen source.new).bytes }
-    // It is Device if the source failed in the call, and only then.
+    // The error is Device exactly if the source failed in this call.
     ensures steady { OnOk result ((S.seen source.new).failures ≡ (S.seen source.old).failures) }
     ensures refused { IfErr result (IsFaultOf (S.seen source.old).failures (S.seen source.new).failures) }
 {
     read_input_behind(alloc, 0, source)
 }
 
-/// The same after `room` zero bytes, for a caller that will put something before the input.
+/// Reads like `read_input`, but leaves `room` zero bytes before the input, where the caller can put other bytes later.
 pub fn read_input_behind<S: Source>(
     alloc: Global,
     room: u32,
@@ -78,9 +79,9 @@ pub fn read_input_behind<S: Source>(
     ensures read { IfOk result (λ bytes. IsFirst most_bytes (S.seen source.old).bytes (drop room bytes.items)) }
     ensures rest { IfOk result (λ bytes.
         Consumes (S.seen source.old).bytes (S.seen source.new).bytes (drop room bytes.items)) }
-    // It ends after that many bytes, whatever comes of it.
+    // It takes at most that many bytes from the source, even if it fails.
     ensures most { ConsumesAtMost most_bytes (S.seen source.old).bytes (S.seen source.new).bytes }
-    // It is Device if the source failed in the call, and only then.
+    // The error is Device exactly if the source failed in this call.
     ensures steady { OnOk result ((S.seen source.new).failures ≡ (S.seen source.old).failures) }
     ensures refused { IfErr result (IsFaultOf (S.seen source.old).failures (S.seen source.new).failures) }
 {
@@ -100,7 +101,8 @@ pub fn read_input_behind<S: Source>(
     Ok(bytes)
 }
 
-/// Fills once after the first `filled` bytes, up to `most` bytes.
+/// Makes room after the first `filled` bytes if there is too little, and reads into it once. The vector has at most `most` bytes. Returns the number
+/// of bytes read, which is 0 at the end of the source.
 fn fill_more<S: Source>(
     source: &mut S,
     bytes: &mut Vec<u8>,
@@ -127,7 +129,7 @@ fn fill_more<S: Source>(
     Ok(fill_behind(source, bytes.as_mut_slice(), filled)?)
 }
 
-/// Makes room after the first `filled` bytes for a further piece, or for all that may still be read.
+/// Makes room after the first `filled` bytes if there is too little: for one more piece, or for all bytes that may still come if these are fewer.
 fn make_room(bytes: &mut Vec<u8>, filled: usize, most: usize) -> Result<(), AllocError>
     requires filled { filled ≤ vec_len bytes.old }
     requires more { filled < most }
@@ -137,7 +139,7 @@ fn make_room(bytes: &mut Vec<u8>, filled: usize, most: usize) -> Result<(), Allo
     ensures most { vec_len bytes.new ≤ most }
     ensures room { OnOk result (filled < vec_len bytes.new) }
 
-    // No more than a piece, and what is offered at least, is made ready ahead of what was read.
+    // At most 262,144 + 65,536 bytes are cleared ahead of the bytes that were read.
     ensures ahead { vec_len bytes.new ≤ max (vec_len bytes.old) (filled + (262_144 + 65_536)) }
 {
     let len = bytes.len();
@@ -150,7 +152,7 @@ fn make_room(bytes: &mut Vec<u8>, filled: usize, most: usize) -> Result<(), Allo
     Ok(())
 }
 
-/// The room to offer in a buffer of this length. The first piece is filled to its end.
+/// The least room to offer, in bytes, once the vector has this length. The first piece is always filled to its end.
 fn least_room(len: usize) -> usize
     ensures some { 0 < result }
     ensures few { result ≤ 65_536 }
@@ -158,7 +160,7 @@ fn least_room(len: usize) -> usize
     if len <= FIRST_PIECE { 1 } else { LEAST_ROOM }
 }
 
-/// The next length of the buffer.
+/// The length to which a vector of this length grows next.
 fn next_len(len: usize, most: usize) -> usize
     requires more { len < most }
     requires enough { MOST_BYTES ≤ most }
@@ -173,8 +175,8 @@ fn next_len(len: usize, most: usize) -> usize
     }
 }
 
-/// Reserves room, once, for all that may be read. It is only address space: memory that isn't filled isn't touched. If there is none, the vector
-/// grows as it fills.
+/// Reserves address space for all bytes that may still come. The system provides memory only for bytes that are filled. If the reservation is
+/// refused, the vector grows as it fills.
 fn reserve_all(bytes: &mut Vec<u8>, most: usize)
     requires { vec_len bytes.old ≤ most }
     ensures same { bytes.new.items ≡ bytes.old.items }
@@ -183,7 +185,7 @@ fn reserve_all(bytes: &mut Vec<u8>, most: usize)
     let _ = bytes.reserve(most - bytes.len());
 }
 
-/// Frees the room after a large input.
+/// Frees the memory after the bytes, if the input is large.
 fn give_back_room(bytes: &mut Vec<u8>)
     ensures same { bytes.new.items ≡ bytes.old.items }
     ensures len { vec_len bytes.new ≡ vec_len bytes.old }
@@ -193,7 +195,7 @@ fn give_back_room(bytes: &mut Vec<u8>)
     }
 }
 
-/// Fills the buffer after the first `filled` bytes.
+/// Reads into the buffer once, after its first `filled` bytes. Returns the number of bytes read, which is 0 at the end of the source.
 pub(crate) fn fill_behind<S: Source>(
     source: &mut S,
     buffer: &mut [u8],

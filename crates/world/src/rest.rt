@@ -1,10 +1,10 @@
-//! The rest of a world.
+//! The world after a program has ended, or the output that it became.
 
-/// The rest of a world: itself, or the output that it became.
+/// The world after a program has ended. Creating an output uses the world up, so that either the world or the output is left.
 #[derive(Drop)]
 pub enum Rest<W, O> {
-    /// No output was created: the world is returned.
+    /// The world itself. No output was created in it.
     World(W),
-    /// An output was created.
+    /// The output that was created in it.
     Output(O),
 }

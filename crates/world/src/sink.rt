@@ -1,4 +1,4 @@
-//! Outputs that are created at once.
+//! Creates buffered outputs.
 ghost use Rattle.std.specs.Prelude.{◌≡◌, ◌<◌, [], option_map, IfOk, IfErr};
 ghost use Rattle.world.specs.Outputs.{told_if};
 ghost use Rattle.world.specs.Creating.{IsUncreated};
@@ -10,8 +10,9 @@ use std::alloc::Global;
 use std::io;
 use std::io::ErrorKind;
 
-/// Creates the output of this name, behind a buffer of this size. If there is no memory for the buffer, the world is returned unchanged. If the world
-/// refuses the output, it is returned without a new output.
+/// Creates the output of this name (None for standard output), behind a buffer of `capacity` bytes. If memory for the buffer is refused, the world is
+/// returned unchanged, with that error. If the world refuses to create the output, it is returned with this failure counted, and without a new
+/// output.
 pub fn created<W: World>(
     alloc: Global,
     capacity: usize,

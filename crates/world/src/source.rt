@@ -1,21 +1,22 @@
-//! Sources of bytes.
+//! Sources, from which bytes are read.
 ghost use Rattle.std.specs.Prelude.{◌≡◌, ◌<◌, ◌≤◌, IfOk, is_some, length, true};
 
 use std::io;
 use std::io::Read;
 
-/// A source failed and gave nothing.
+/// The source failed, and gave no bytes in this call.
 #[derive(Clone, Copy, Debug, PartialEq, Eq)]
 pub struct SourceFault;
 
-/// A source of bytes.
+/// A source of bytes, which are read in order.
 pub trait Source {
     ghost use Rattle.world.specs.Input.{Counts, Fills, SourceView};
 
-    // Which bytes are still to come, if it reports them, and how often it has failed.
+    // The bytes that are still to come (if it reports them), and the number of its failures.
     ghost seen: { Self → SourceView };
 
-    /// Moves some of the next bytes to the front of `buffer` and returns their number, 0 only at the end.
+    /// Moves one or more of the next bytes to the front of `buffer`, and returns their number; 0 only at the end of the source. After an error no
+    /// byte was taken.
     fn fill(&mut self, buffer: &mut [u8]) -> Result<usize, SourceFault>
         requires room { 0 < length buffer.old }
         requires countable { (seen self.old).failures < u64.MAX }
@@ -24,7 +25,7 @@ pub trait Source {
         ensures counted { Counts (seen self.old).failures (seen self.new).failures result };
 }
 
-/// A reader as a source. Each error of the reader, even an interrupted read, is a failure.
+/// A reader used as a source. Each error of the reader is a failure, even that of an interrupted read.
 #[derive(Drop)]
 pub struct ReadSource<T> {
     reader: T,
@@ -34,7 +35,7 @@ pub struct ReadSource<T> {
 }
 
 impl<T: Read> ReadSource<T> {
-    /// A source of the rest of what the reader gives, without failures so far.
+    /// A source of the bytes that the reader has still to give. It has not failed yet.
     pub fn new(reader: T) -> ReadSource<T>
         ensures remaining { (⟦<ReadSource<T> as Source>⟧.seen result).bytes ≡ T.remaining reader }
         ensures fresh { (⟦<ReadSource<T> as Source>⟧.seen result).failures ≡ 0 }
@@ -46,7 +47,7 @@ impl<T: Read> ReadSource<T> {
         }
     }
 
-    /// The number of its failures.
+    /// The number of failures so far.
     pub fn failures(&self) -> u64
         ensures { result ≡ self.now.failures }
     {
@@ -55,7 +56,7 @@ impl<T: Read> ReadSource<T> {
 }
 
 impl<T: Read + Drop> ReadSource<T> {
-    /// The cause of its last failure, if it failed.
+    /// The error of the last failure; None if there was no failure.
     pub fn into_cause(self) -> Option<io::Error>
         ensures { result ≡ self.cause }
     {

@@ -1,9 +1,9 @@
-//! Lines for the person who runs a program.
+//! Writes lines for the person who runs the program.
 ghost use Rattle.std.specs.Prelude.{◌≡◌};
 
 use std::io::Write;
 
-/// Writes a line, and returns the program's status, even if the line can't be written: then nobody would hear of it.
+/// Writes this line and returns this status, even if the line can't be written, since there would be no way to report that.
 pub fn tell<T: Write>(to: &mut T, line: &[u8], status: u8) -> u8
     ensures { result ≡ status }
 {

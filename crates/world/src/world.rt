@@ -10,42 +10,42 @@ use crate::source::ReadSource;
 use std::io;
 use std::io::Read;
 
-/// The files and standard streams around a program, and what it may do with them.
+/// The files and standard streams around a program, which opens inputs and creates an output there.
 ///
-/// A name is that of a file; None is the standard stream. Creating an output uses the world up: a program that still has it has created no output,
-/// and none creates two.
+/// A name is the name of a file; None is standard input or output. Creating an output uses the world up. So a program that still has its world has
+/// created no output, and no program creates two.
 ///
-/// A world counts its failures: each file that it refuses to open or create, and those of an input that it closes. So a program's report of a failure
-/// can be compared with the world's count.
+/// A world counts its failures: each file that it refuses to open or create, and the failures of each input that it closes. So what a program reports
+/// about failures can be compared with the count.
 pub trait World: Sized + Drop {
     type Input: Read + Drop;
 
     type Output: Output + Drop;
 
-    // The bytes that an input of this name gives, where they are known.
+    // The bytes that an input of this name gives, if they are known.
     ghost gives: { Self → Option (List ℕ) → Option (List ℕ) } = { λ _ _. None };
 
-    // Whether this is the name of a regular file, where that is known.
+    // Whether there is a regular file of this name, if that is known.
     ghost regular: { Self → List ℕ → Option Bool } = { λ _ _. None };
 
-    // Whether its outputs report their names and what was written to them.
+    // Whether its outputs report their names and the bytes written to them.
     ghost tells: { Self → Bool } = { λ _. false };
 
-    // What it was asked for so far, and how often and why it failed.
+    // The calls made so far, the number of failures, and the kind of error of the last failure.
     ghost seen: { Self → WorldView };
 
-    /// Opens the file of this name, or standard input.
+    /// Opens the file of this name for reading, or takes standard input. A refusal is counted as a failure of the world.
     fn open(&mut self, name: Option<&str>) -> io::Result<Self::Input>
         requires countable { (seen self.old).failures < u64.MAX }
         ensures given { IfOk result (λ input. Self.Input.remaining input ≡ gives self.old (option_map (λ n. n.now) name.entry)) }
         ensures asked { MatchResult result
             (λ _. HasGranted (opening (option_map (λ n. n.now) name.entry)) (seen self.old) (seen self.new))
             (λ cause. HasRefused (opening (option_map (λ n. n.now) name.entry)) (error_kind cause) (seen self.old) (seen self.new)) }
-        // Files give what they gave before. Standard input may have been read.
+        // A file gives the same bytes as before this call. Standard input may give fewer, since it may have been read.
         ensures again { is_some name.entry ≡ true → gives self.new ≡ gives self.old }
         ensures tells { tells self.new ≡ tells self.old };
 
-    /// Closes an input, adds its failures to the world's, and returns the cause of the last one, if it failed.
+    /// Closes an input, and adds its failures to those of the world. Returns the error of the input's last failure; None if it hasn't failed.
     fn close(&mut self, source: ReadSource<Self::Input>) -> Option<io::Error>
         requires countable { (seen self.old).failures + failures_of source ≤ u64.MAX }
         ensures cause { result ≡ cause_of source }
@@ -55,11 +55,13 @@ pub trait World: Sized + Drop {
         ensures again { gives self.new ≡ gives self.old }
         ensures tells { tells self.new ≡ tells self.old };
 
-    /// Whether there is a regular file of this name. Opening anything else may wait, and reading it may never end.
+    /// Whether there is a regular file of this name. A caller can check this first, since opening another kind of file may wait, and reading it may
+    /// never end.
     fn is_file(&self, name: &str) -> bool
         ensures { IfSome (regular self.now name.now) (λ is. result ≡ is) };
 
-    /// Creates or empties the file of this name, or takes standard output. Nothing has been written to it.
+    /// Creates the file of this name, or empties it if it exists; or takes standard output. Nothing has been written to the new output. A refusal is
+    /// counted as a failure of the world.
     fn create(self, name: Option<&str>) -> Result<Self::Output, Refused<Self>>
         requires countable { (seen self).failures < u64.MAX }
         ensures created { IfOk result (λ output. Self.Output.seen output ≡ fresh_output (told_if (tells self) (option_map (λ n. n.now) name.entry) [])) }
@@ -68,11 +70,11 @@ pub trait World: Sized + Drop {
             HasRefused (creating (option_map (λ n. n.now) name.entry)) (error_kind refused.cause) (seen self) (seen refused.world)) };
 }
 
-/// An output couldn't be created.
+/// A world refused to create an output.
 #[derive(Drop)]
 pub struct Refused<W> {
-    /// The world, in which nothing was created.
+    /// The world, in which no output was created.
     pub world: W,
-    /// The cause.
+    /// The error with which it refused.
     pub cause: io::Error,
 }
