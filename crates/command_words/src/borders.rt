@@ -1,11 +1,11 @@
-//! What the width of a border means.
+//! Reads the width of a border.
 ghost use Rattle.std.specs.Prelude.{◌≡◌, option_map};
 ghost use Rattle.command_words.specs.Borders as meaning;
 
 use lengths::{Grains, Paper, length_named};
 
-/// The width of a border, or no border if the width is 0 or isn't given. None if the text is not a length, or is
-/// below 0.
+/// Reads the width of a border: a number with its unit (`pt`, `cm`, `mm` or `in`), or a number of points. `Some(None)` is no border: the width isn't
+/// given or is 0. None if the text isn't a length or is below 0. The paper doesn't matter.
 pub fn border_named(paper: &Paper, width: Option<&str>) -> Option<Option<Grains>>
     ensures { result ≡ meaning.border_named paper.now (option_map (λ s. s.now) width.entry) }
 {

@@ -1,14 +1,15 @@
-//! A text with a caret below the place of a fault.
+//! Shows a text with a caret below the place of a fault. A place is counted in bytes, from 0.
 use crate::shell::is_hidden;
 use std::alloc::{AllocError, Global};
 
-/// The number of bytes of a long text that are shown before and after the place.
+/// The number of bytes of a text that are shown before the place of a fault.
 const SHOWN_BEFORE: usize = 50;
 
+/// The number of bytes that are shown from that place on.
 const SHOWN_BEHIND: usize = 20;
 
-/// Two lines after a line end: the text round the place, and a caret below it. Two dots are in place of what is cut off, and
-/// a question mark for a hidden character. Nothing if the text ends before the place.
+/// Two lines, each after a line end: the text around this place, and a caret below the place. If the text is cut off at an end, two dots stand there.
+/// A hidden character is shown as a question mark. The result is empty if the place is past the end of the text.
 pub fn caret_below(alloc: Global, text: &str, place: usize) -> Result<String, AllocError> {
     if place > text.len() {
         return Ok(String::new(alloc));
@@ -36,7 +37,7 @@ pub fn caret_below(alloc: Global, text: &str, place: usize) -> Result<String, Al
     format!(in alloc; "{above}{below}")
 }
 
-/// The place at which a range that begins at this byte can't go on.
+/// The place of a fault in the range that begins at byte `start` of this text: the text before it is the longest beginning that a range can have.
 pub fn range_place(text: &str, start: usize) -> usize {
     let Some((_, range)) = text.split_at_checked(start) else {
         return start;
@@ -49,7 +50,7 @@ pub fn range_place(text: &str, start: usize) -> usize {
     text.len().saturating_sub(left.len())
 }
 
-/// The text after the place, or the blank page, that it begins with.
+/// The rest of the text, after the page number, `last` or `blank` at its beginning, if there is one.
 fn behind_place(text: &str) -> &str {
     if let Some(behind) = text.strip_prefix("last") {
         return behind;
@@ -64,22 +65,22 @@ fn behind_place(text: &str) -> &str {
     digits.trim_start_matches(|letter: char| letter.is_ascii_digit())
 }
 
-/// Whether a text begins with a place and `left` follows it. A blank page isn't a place.
+/// Whether the text begins with a page that a range can begin with, and `left` is the rest. `blank` and a lone `_` aren't such pages.
 fn is_place(text: &str, left: &str) -> bool {
     left.len() < text.len() && !text.starts_with("blank") && !text.starts_with("_-")
 }
 
-/// Where an item of a specification is, counted from 0 over the whole text.
+/// The place of an item of a specification. Items are counted from 0 through all groups.
 pub fn item_place(text: &str, item: u32) -> usize {
     place_behind(text.as_bytes(), item, true)
 }
 
-/// Where a group of a specification is, counted from 0.
+/// The place of a group of a specification, counted from 0.
 pub fn group_place(text: &str, group: u32) -> usize {
     place_behind(text.as_bytes(), group, false)
 }
 
-/// The place after this number of items, or groups, and after the modulo.
+/// The place after the first `count` items (if `of_items`) or groups, and after the modulo.
 fn place_behind(text: &[u8], count: u32, of_items: bool) -> usize {
     let mut start = 0usize;
     let mut left = count;
@@ -102,7 +103,8 @@ fn place_behind(text: &[u8], count: u32, of_items: bool) -> usize {
     start
 }
 
-/// The place of the first number over 99,999 in a specification. Its sixth digit shows it; decimals and leading zeros don't count.
+/// The place of the first number in a specification whose integer part is greater than 99,999. It has six digits or more without
+/// leading zeros.
 pub fn large_place(text: &str) -> usize {
     let mut start = 0usize;
     let mut digits = 0u32;

@@ -1,4 +1,5 @@
-//! What both commands share: reading values that clap finds among the words, reading the width of a border, and writing words for a shell.
+//! Calls that the commands of both programs share. They read values that clap finds among the words of a command line, read the width of a border,
+//! and write words for a shell.
 #![tactic(auto)]
 
 mod borders;

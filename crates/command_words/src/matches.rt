@@ -1,4 +1,4 @@
-//! Values from what clap finds among the words.
+//! Reads the values that clap finds among the words of a command line.
 ghost use Rattle.std.specs.Prelude.{◌≡◌, IfOk, is_some, option_map, string_bytes};
 ghost use Rattle.clap.specs.Words.{first_of, first_value, found_of, one_of, rows_of};
 ghost use Rattle.command_words.specs.Matches.{has_true, number_named};
@@ -6,7 +6,7 @@ ghost use Rattle.command_words.specs.Matches.{has_true, number_named};
 use clap::ArgMatches;
 use std::alloc::{AllocError, Global};
 
-/// The value of an argument as text.
+/// The value of an argument, as text; None if the argument isn't given.
 pub fn text_of<'a>(matches: &ArgMatches<'a>, id: &str) -> Option<&'a str>
     ensures text { option_map (λ s. s.now) result ≡ first_of id.now (rows_of (found_of matches.now)) }
     ensures given { is_some result ≡ is_some (first_value (found_of matches.now) id.now) }
@@ -14,14 +14,14 @@ pub fn text_of<'a>(matches: &ArgMatches<'a>, id: &str) -> Option<&'a str>
     matches.get_str(id)
 }
 
-/// The whole number of an argument.
+/// The value of an argument that takes a whole number; None if the argument isn't given.
 pub fn number_of(matches: &ArgMatches<'_>, id: &str) -> Option<u32>
     ensures { result ≡ number_named (one_of id.now (rows_of (found_of matches.now))) }
 {
     matches.get_one::<u32>(id)
 }
 
-/// Whether a flag is among the words: its text is then `true`.
+/// Whether a flag is given. Clap then finds the text `true` for it.
 pub fn is_set(matches: &ArgMatches<'_>, id: &str) -> bool
     ensures { result ≡ has_true (first_of id.now (rows_of (found_of matches.now))) }
 {
@@ -37,7 +37,7 @@ fn is_true(text: Option<&str>) -> bool
     }
 }
 
-/// A copy of the text, which the request owns.
+/// A copy of this text, which the caller then owns. The only error is refused memory.
 pub fn owned(alloc: Global, text: Option<&str>) -> Result<Option<String>, AllocError>
     ensures { IfOk result (λ own. option_map string_bytes own ≡ option_map (λ s. s.now) text.entry) }
 {

@@ -1,4 +1,4 @@
-//! Words of a command line of pstops as they are written for a shell.
+//! Writes words of a `pstops` command line so that a shell reads them back.
 ghost use Rattle.std.specs.Prelude.{◌≡◌, ◌++◌, ◌<◌, OnOk, flat_map, option_map};
 ghost use Rattle.std.specs.Str.{chars};
 ghost use Rattle.rules.specs.Numbers.{number_text};
@@ -7,7 +7,7 @@ ghost use Rattle.command_words.specs.Shell as meaning;
 use lengths::{Grains, Number, print_number};
 use std::alloc::AllocError;
 
-/// Appends a text if the condition holds.
+/// Appends the text if the condition holds.
 pub fn append_if(said: bool, text: &[u8], out: &mut Vec<u8>) -> Result<(), AllocError>
     ensures { OnOk result (out.new.items ≡ out.old.items ++ meaning.text_if said text.now) }
 {
@@ -18,14 +18,15 @@ pub fn append_if(said: bool, text: &[u8], out: &mut Vec<u8>) -> Result<(), Alloc
     }
 }
 
-/// Whether a command could take a word for an option.
+/// Whether a word begins with a minus sign, so that a command may take it for an option.
 pub fn begins_with_minus(text: &str) -> bool
     ensures { result ≡ meaning.begins_with_minus text.now }
 {
     text.as_bytes().starts_with(b"-")
 }
 
-/// Appends a length, in the first unit in which it is a number with at most nine decimals.
+/// Appends a length with its unit. The unit is the first of pt, mm, in and cm in which the length is a number with at most nine decimals. Nothing is
+/// appended if there is none, or if the length is below 0 or 100,000 units or more.
 pub fn append_length(length: Grains, out: &mut Vec<u8>) -> Result<(), AllocError>
     ensures { OnOk result (out.new.items ≡ out.old.items ++ meaning.length_text length) }
 {
@@ -51,7 +52,8 @@ fn append_with_unit(number: Number, unit: &[u8], out: &mut Vec<u8>) -> Result<()
     out.extend_from_slice(unit)
 }
 
-/// A length as a number of units, where 10^-9 of a unit is this number of grains. None if there is no such number.
+/// A length as a number of units, of which 10^-9 are `grains` grains. None if this number would need more than nine decimals, or would be below 0, or
+/// 100,000 or more.
 fn in_units(length: Grains, grains: u128) -> Option<Number>
     requires { 0 < grains }
     ensures { result ≡ meaning.in_units length grains }
@@ -71,7 +73,7 @@ fn in_units(length: Grains, grains: u128) -> Option<Number>
     Number::new(billionths as i64)
 }
 
-/// Appends the option for the number of sides of a signature, if there are signatures.
+/// Appends the option `-s` with the number of sides of a signature, if one is given.
 pub fn append_sides(sides: Option<u32>, out: &mut Vec<u8>) -> Result<(), AllocError>
     ensures { OnOk result (out.new.items ≡ out.old.items ++ meaning.sides_option sides) }
 {
@@ -85,7 +87,7 @@ pub fn append_sides(sides: Option<u32>, out: &mut Vec<u8>) -> Result<(), AllocEr
     }
 }
 
-/// Appends the option for a border of this width, if there is one.
+/// Appends the option `-d` with the width of a border, if there is a border.
 pub fn append_border_option(border: Option<Grains>, out: &mut Vec<u8>) -> Result<(), AllocError>
     ensures { OnOk result (out.new.items ≡ out.old.items ++ meaning.border_option border) }
 {
@@ -98,7 +100,7 @@ pub fn append_border_option(border: Option<Grains>, out: &mut Vec<u8>) -> Result
     }
 }
 
-/// Appends the names of the files that are read and written; standard streams have none.
+/// Appends the names of the input file and the output file. A standard stream is left out, unless a name follows it.
 pub fn append_files(
     infile: Option<&str>,
     outfile: Option<&str>,
@@ -110,7 +112,7 @@ pub fn append_files(
     match (infile, outfile) {
         (None, None) => Ok(()),
         (Some(infile), None) => append_file(infile, out),
-        // pstops has no word for standard input but a file of the system's.
+        // If an output file follows, `pstops` needs a name for standard input.
         (None, Some(outfile)) => {
             append_file("/dev/stdin", out)?;
             append_file(outfile, out)
@@ -122,7 +124,8 @@ pub fn append_files(
     }
 }
 
-/// Appends a file's name in quotes, after a blank. A name that begins with a minus sign is written so that it isn't taken for an option.
+/// Appends a blank and the name of a file in single quotes. A name that begins with a minus sign gets `./` before it, so that it isn't taken for an
+/// option.
 fn append_file(name: &str, out: &mut Vec<u8>) -> Result<(), AllocError>
     ensures { OnOk result (out.new.items ≡ out.old.items ++ meaning.file_text name.now) }
 {
@@ -141,8 +144,8 @@ fn append_quoted(name: &str, out: &mut Vec<u8>) -> Result<(), AllocError>
     Ok(())
 }
 
-/// A quote ends what is quoted, is written by itself, and begins it again. So does a hidden character, which is written by its
-/// bytes in quotes after a dollar sign: `$'\033'`.
+/// Appends a character of a text in single quotes. A single quote ends the quoted text, is written with a backslash, and begins quoted text again. A
+/// hidden character also ends and begins it; between these its bytes are written as octal digits in `$'..'`, for example `$'\033'`.
 fn append_char(letter: char, out: &mut Vec<u8>) -> Result<(), AllocError>
     ensures { OnOk result (out.new.items ≡ out.old.items ++ meaning.quoted_char letter) }
 {
@@ -159,7 +162,7 @@ fn append_char(letter: char, out: &mut Vec<u8>) -> Result<(), AllocError>
     out.extend_from_slice(b"''")
 }
 
-/// Bytes by their octal digits, each after a backslash.
+/// Appends each byte as a backslash and three octal digits.
 fn append_octal(bytes: &[u8], out: &mut Vec<u8>) -> Result<(), AllocError>
     ensures { OnOk result (out.new.items ≡ out.old.items ++ flat_map meaning.octal_byte bytes.now) }
 {
@@ -175,8 +178,7 @@ fn append_octal(bytes: &[u8], out: &mut Vec<u8>) -> Result<(), AllocError>
     Ok(())
 }
 
-/// Whether a character isn't seen itself, and may change how others are: a control character, or one that says in which
-/// direction text goes.
+/// Whether a character is invisible and may change how other characters are shown: a control character, or one that sets the direction of text.
 pub fn is_hidden(letter: char) -> bool
     ensures { result ≡ meaning.is_hidden letter }
 {
