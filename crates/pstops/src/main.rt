@@ -1,4 +1,5 @@
-//! The program: it reads a document and writes its sheets. The command line names both files, or they are the standard streams.
+//! The `pstops` program: reads a PostScript document and writes its imposed sheets. The command line may name the input file and the output file; a
+//! file that it doesn't name is standard input or standard output.
 #![tactic(auto)]
 
 use pstops_cli::{CommandFault, Fault, fault_line, pstops};
@@ -22,7 +23,7 @@ fn main(rt: HostRuntime) -> ExitCode {
     ExitCode::from(tell(&mut rt.stderr(), line.as_slice(), status))
 }
 
-// The words, of which the first is the program's name. Words that are no UTF-8 text are a bad command line.
+// The words of the command line, of which the first is the program's name. Words that aren't UTF-8 text are refused as a wrong command line.
 fn words(rt: &(impl Env + AllocGlobal)) -> Result<Vec<String>, CommandFault> {
     match env::args(rt) {
         Ok(args) => Ok(args.collect(rt.alloc())?),
@@ -41,7 +42,7 @@ fn after_name(words: &[String]) -> &[String] {
 fn status_and_line(alloc: Global, fault: CommandFault) -> (u8, Vec<u8>) {
     match fault_line(alloc, &Fault::Command(fault)) {
         Ok(ending) => ending,
-        // Not even the line found memory.
+        // There was no memory even for the line.
         Err(_) => (3, Vec::new(alloc)),
     }
 }

@@ -1,4 +1,4 @@
-//! The request that the words after the program's name make.
+//! Reads the command line of `pstops`.
 ghost use Rattle.std.specs.Prelude.{◌≡◌, IfOk, IfErr, codes, is_some, map, true, string_bytes};
 ghost use Rattle.clap.specs.Words.{first_value, found_of, matches_of, one_of, rows_of, rule_of};
 ghost use Rattle.imposer.specs.Workers.{AreWorkers};
@@ -17,31 +17,31 @@ use command_words::{is_set, number_of, owned, text_of};
 use imposer::{Options, Workers};
 use std::alloc::{AllocError, Global};
 
-/// A command line's request.
+/// A request, made from a command line.
 #[derive(Debug, Drop)]
 pub struct Request {
     /// The page specification, as it was written.
     pub spec: String,
-    /// The input file; None for standard input.
+    /// The name of the input file; None for standard input.
     pub infile: Option<String>,
-    /// The output file; None for standard output.
+    /// The name of the output file; None for standard output.
     pub outfile: Option<String>,
-    /// The other options of a run.
+    /// The paper, the border, the signatures and the numbers of threads.
     pub options: Options,
-    /// Whether the report line is left out.
+    /// Whether the line that reports a finished run is left out.
     pub quiet: bool,
 }
 
 /// Why a command line is refused.
 #[derive(Clone, Copy, Debug, PartialEq, Eq)]
 pub enum CommandFault {
-    /// The command doesn't take the words.
+    /// The words don't form a command line: one is missing or unknown, or an option with a whole number has another value.
     BadWords,
-    /// The paper has an unknown name.
+    /// There is no paper with the given name.
     UnknownPaper,
-    /// The value of the option with this letter isn't a length that it takes.
+    /// The value of the option with this letter isn't a length, or isn't in its range.
     BadLength(char),
-    /// There was no memory for the request.
+    /// Memory for the request was refused.
     NoMemory,
 }
 
@@ -53,33 +53,32 @@ impl From<AllocError> for CommandFault {
     }
 }
 
-/// The request that the words after the program's name make: `[-q] [-s sides] [-p paper] [-w W] [-h H] [-d width] [-j preparers] [-k imposers] SPECS
-/// [INFILE [OUTFILE]]`. The options are those of pstops(1), `-s` of psbook(1), and `-j` and `-k`.
+/// Reads the words after the program's name as a request: `[-q] [-s sides] [-p paper] [-w W] [-h H] [-d width] [-j preparers] [-k imposers] SPECS
+/// [INFILE [OUTFILE]]`. `-s` is the option of psbook(1), `-j` and `-k` are this program's own, and the others are options of pstops(1).
 ///
-/// `-q` leaves the report line out. SPECS is a page specification, which isn't read here. `-s` asks for signatures of this many sides, a whole number
-/// from 4 to 1,000,000; that it is a multiple of four isn't tested here. `-p` names the paper, a4 by default; `-w` replaces its width and `-h` its
-/// height. `-d` asks for a border of this width round each page; a width of 0 is none. A length is a number and its unit, `pt`, `cm`, `mm` or `in`;
-/// without a unit it is in points. `-j` and `-k` are the numbers of threads that prepare pages and that impose sheets: whole numbers from 1 to 16, 2
-/// by default.
+/// `-q` leaves out the report line. SPECS is a page specification; it isn't checked here. `-s` puts pages into signatures of this number of sides, a
+/// whole number from 4 to 1,000,000; only a run checks that it is a multiple of four. `-p` names the paper, which is a4 by default; `-w` replaces its
+/// width, and `-h` its height. `-d` sets the width of a border round each page; 0 is no border. A length is a number followed by `pt`, `cm`, `mm` or
+/// `in`, or by nothing for points. `-j` and `-k` set the numbers of threads that prepare pages and that impose sheets: whole numbers from 1 to 16,
+/// and 2 by default.
 ///
-/// Words that the command doesn't take are `BadWords`, and so are other values of `-s`, `-j` and `-k`. Among accepted words an unknown paper comes
-/// first, as `UnknownPaper`. Then the values of `-w` and `-h`, which must be above zero, and of `-d`, which mustn't be negative, are `BadLength`, in
-/// whatever order the words are.
+/// If the words don't form such a command line, or a value of `-s`, `-j` or `-k` isn't in its range, the error is `BadWords`. Otherwise an unknown
+/// paper is reported first, as `UnknownPaper`. Then the first wrong value of `-w` and `-h`, which must be above 0, and of `-d`, which must not be
+/// below 0, is reported as `BadLength`. The order of the words doesn't matter.
 #[tactic(auto, using(crate::proofs::SimpleCommand::pstops_is_simple))]
 pub fn read_command(alloc: Global, words: &[String]) -> Result<Request, CommandFault>
     ensures taken { IfOk result (λ _. TakesWords (map string_bytes words.now)) }
     ensures read { IfOk result (Reads (matches_of pstops (map string_bytes words.now))) }
     ensures workers { IfOk result (λ request. AreWorkers request.options.workers) }
     ensures sides { IfOk result (λ request. AreInRange request.options.sides) }
-    // BadWords comes only if the command doesn't take the words, and another refusal only if a value is no paper or
-    // no length.
+    // The error is BadWords only if the words don't form a command line. It is UnknownPaper or BadLength only if a value isn't a paper or a length.
     ensures refused { IfErr result (RefusesWords (map string_bytes words.now)) }
 {
     let matches = parse(alloc, words)?;
     request_of(alloc, &matches)
 }
 
-/// The values that the command finds among the words.
+/// The values that clap finds among the words.
 fn parse<'a>(alloc: Global, words: &'a [String]) -> Result<ArgMatches<'a>, CommandFault>
     ensures taken { IfOk result (λ _. TakesWords (map string_bytes words.entry.now)) }
     ensures found { IfOk result (Finds (map string_bytes words.entry.now)) }
@@ -98,7 +97,7 @@ fn parse<'a>(alloc: Global, words: &'a [String]) -> Result<ArgMatches<'a>, Comma
     }
 }
 
-/// The request that the matches make.
+/// The request with these values.
 fn request_of(alloc: Global, matches: &ArgMatches<'_>) -> Result<Request, CommandFault>
     requires { is_some (first_value (found_of matches.now) (codes "specs")) ≡ true }
     ensures read { IfOk result (Reads (rows_of (found_of matches.now))) }
@@ -118,7 +117,7 @@ fn request_of(alloc: Global, matches: &ArgMatches<'_>) -> Result<Request, Comman
     })
 }
 
-/// The options that the matches name.
+/// The options of a run with these values.
 fn options_of(matches: &ArgMatches<'_>) -> Result<Options, CommandFault>
     ensures { result ≡ options_found (rows_of (found_of matches.now)) }
 {
@@ -132,7 +131,7 @@ fn options_of(matches: &ArgMatches<'_>) -> Result<Options, CommandFault>
     )
 }
 
-/// The workers that the matches name.
+/// The numbers of threads with these values.
 fn workers_of(matches: &ArgMatches<'_>) -> Workers
     ensures { result ≡ workers_found (rows_of (found_of matches.now)) }
 {
@@ -142,21 +141,21 @@ fn workers_of(matches: &ArgMatches<'_>) -> Workers
     }
 }
 
-/// The number of sides that `-s` names.
+/// The number of sides in the value of `-s`; None if the option isn't given.
 fn sides_option(matches: &ArgMatches<'_>) -> Option<u32>
     ensures { result ≡ sides_found (rows_of (found_of matches.now)) }
 {
     number_of(matches, "sides")
 }
 
-/// The number of workers that an argument names; 2 without the argument.
+/// The number of threads in the value of an option; 2 if the option isn't given.
 fn worker_count(matches: &ArgMatches<'_>, id: &str) -> u32
     ensures { result ≡ meaning.count_named (one_of id.now (rows_of (found_of matches.now))) }
 {
     number_of(matches, id).unwrap_or(2)
 }
 
-/// The command. Clap's own help and version options are switched off, so their letters are free.
+/// The rules of the command line, for clap. Clap's own options for help and version are switched off, so that their letters are free.
 fn pstops_command<'a>(alloc: Global) -> Result<Command<'a>, AllocError>
     ensures { IfOk result IsChain }
 {
@@ -168,7 +167,7 @@ fn pstops_command<'a>(alloc: Global) -> Result<Command<'a>, AllocError>
     bare.args(args)
 }
 
-/// The arguments of the command.
+/// The arguments that the command line may have.
 fn args<'a>(alloc: Global) -> Result<Vec<Arg<'a>>, AllocError>
     ensures { IfOk result (λ v. map rule_of v.items ≡ rules) }
 {
@@ -207,14 +206,14 @@ fn valued<'a>(alloc: Global, id: &'a str, short: char) -> Arg<'a>
     Arg::new(alloc, id).short(short).action(ArgAction::Set)
 }
 
-/// An option with a whole number from 1 to 16.
+/// An option whose value is a whole number from 1 to 16.
 fn worker_option<'a>(alloc: Global, id: &'a str, short: char) -> Arg<'a>
     ensures { rule_of result ≡ counted_rule id.entry.now short }
 {
     valued(alloc, id, short).value_parser(value_parser!(u32).range(1..=16))
 }
 
-/// An option with a whole number from 4 to 1,000,000.
+/// An option whose value is a whole number from 4 to 1,000,000.
 fn sided<'a>(alloc: Global, id: &'a str, short: char) -> Arg<'a>
     ensures { rule_of result ≡ ranged_rule 4 most_sides id.entry.now short }
 {

@@ -1,4 +1,4 @@
-//! The command of pstops: the request of its words, and the line and exit status of each outcome.
+//! The `pstops` command: reads its words as a request, and writes a line and an exit status for each outcome.
 #![tactic(auto)]
 
 mod command;

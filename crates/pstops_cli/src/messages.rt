@@ -1,4 +1,4 @@
-//! The line on standard error, and the exit status.
+//! The lines for standard error, and the exit statuses.
 ghost use Rattle.std.specs.Prelude.{◌≡◌, IfOk, string_bytes};
 ghost use Rattle.pstops_cli.specs.Messages.{command_message as text_of_command, document_message as text_of_document};
 ghost use Rattle.pstops_cli.specs.Messages.{fault_exit_status as status_of_fault, fault_message as text_of_fault};
@@ -14,23 +14,23 @@ use sheet_plan::PlanError;
 use std::alloc::{AllocError, Global};
 use world::ReadFault;
 
-/// Why the program ends without having written its output.
+/// Why the program ends before all of its output is written.
 #[derive(Debug, Drop)]
 pub enum Fault {
-    /// The command line is refused.
+    /// The command line was refused.
     Command(CommandFault),
     /// The input couldn't be opened or read.
     Read(ReadFault),
     /// The output couldn't be created.
     Create,
-    /// The run is refused or failed.
+    /// The run was refused, or failed.
     Run(RunError),
 }
 
-/// The exit status of a fault and its line for standard error, which names the program and ends with a line feed.
+/// The exit status for a fault, and the line for standard error. The line begins with the program's name and ends with a line feed.
 ///
-/// The status is 1 for a refused specification, document or plan, 2 for a bad command line or bad options, and 3 if
-/// memory, reading or writing failed.
+/// The status is 1 if the specification, the document or the plan is refused, and 2 for a wrong command line or wrong options. It is 3 if memory was
+/// refused or if reading or writing failed. The only error of this call is refused memory.
 pub fn fault_line(alloc: Global, fault: &Fault) -> Result<(u8, Vec<u8>), AllocError>
     ensures status { IfOk result (λ answer. answer.0 ≡ status_of_fault fault.now) }
     ensures line { IfOk result (λ answer. answer.1.items ≡ program_line (text_of_fault fault.now)) }
@@ -39,7 +39,7 @@ pub fn fault_line(alloc: Global, fault: &Fault) -> Result<(u8, Vec<u8>), AllocEr
     Ok((fault_exit_status(fault), line_of(alloc, text.as_str())?))
 }
 
-/// The report line of a finished run.
+/// The line that reports a finished run.
 pub(crate) fn report_line(alloc: Global, report: &Report) -> Result<Vec<u8>, AllocError>
     ensures { IfOk result (λ line. line.items ≡ program_line (text_of_report report.now)) }
 {

@@ -1,4 +1,4 @@
-//! The whole program, over a world of files and standard streams.
+//! The whole program, run in a world of files and standard streams.
 ghost use Rattle.std.specs.Prelude.{◌≡◌, ◌<◌, ◌⊎◌, IfOk, IfErr, map, option_map, string_bytes};
 ghost use Rattle.std.specs.IoError.{error_kind};
 ghost use Rattle.std.specs.declared.io.ErrorKind.TheVariants.{OutOfMemory};
@@ -27,15 +27,15 @@ use world::{ReadFault, ReadSource, Rest, World, created, read_input};
 pub struct ExitReport<W: World> {
     /// The exit status.
     pub status: u8,
-    /// The line for standard error, empty if there is none.
+    /// The line for standard error; empty if there is none.
     pub line: Vec<u8>,
-    /// The world if no output was created in it, or the output.
+    /// The output if one was created, or else the world.
     pub rest: Rest<W, W::Output>,
 }
 
-/// The program: it reads the words after its name, then its input whole, creates its output, runs, and flushes.
+/// Runs the program: reads the words after its name, reads the whole input, creates the output, writes the imposed sheets to it, and flushes it.
 ///
-/// The input is closed before the output is created, so both may be one file.
+/// The input is closed before the output is created. So both may be the same file.
 pub fn pstops<R: Threads + Wait + Sync, W: World>(
     rt: &R,
     alloc: Global,
@@ -43,10 +43,10 @@ pub fn pstops<R: Threads + Wait + Sync, W: World>(
     mut world: W,
 ) -> ExitReport<W>
     requires countable { (W.seen world).failures < u64.MAX }
-    // It stopped before anything was created; or one output was created, and the request that the words make was run.
+    // Either the program stopped before an output was created, or it created one output and ran the request that the words make.
     ensures ended { EndsPstops W.seen (map string_bytes words.now) (W.gives world) (W.tells world) world result.rest
         (shown W.Output.seen result.rest) (failures_in W.Output.seen result.rest) result.status result.line.items }
-    // Status 0 comes only if exactly the output was written.
+    // Status 0 is returned only if exactly the output was written.
     ensures finished { result.status ≡ 0 → CarriesOutWords (map string_bytes words.now) (W.gives world) (W.tells world)
         (shown W.Output.seen result.rest) }
 {
@@ -56,7 +56,7 @@ pub fn pstops<R: Threads + Wait + Sync, W: World>(
     }
 }
 
-/// The request that the words make, and its input.
+/// Reads the request from the words, and then its whole input.
 fn read<W: World>(
     alloc: Global,
     words: &[String],
@@ -78,7 +78,7 @@ fn read<W: World>(
     }
 }
 
-/// All bytes of the file of this name, or of standard input.
+/// Reads all bytes of the file of this name, or of standard input.
 fn input_of<W: World>(
     alloc: Global,
     name: Option<&str>,
@@ -104,23 +104,23 @@ fn input_of<W: World>(
     }
 }
 
-/// Ends with a fault.
+/// Ends the program with the status and the line for this fault.
 fn ended_with<W: World>(alloc: Global, fault: &Fault, rest: Rest<W, W::Output>) -> ExitReport<W>
     ensures said { IsSaid fault.now result.status result.line.items }
     ensures rest { result.rest ≡ rest }
 {
     let (status, line) = match fault_line(alloc, fault) {
         Ok(ending) => ending,
-        // Not even the line found memory.
+        // There was no memory even for the line.
         Err(_) => (3, Vec::new(alloc)),
     };
     ExitReport { status, line, rest }
 }
 
-/// The buffer's size: sheets that are smaller are written together.
+/// The size of the output's buffer, in bytes. Sheets that are smaller are written together.
 const WRITTEN_AT_ONCE: usize = 16_384;
 
-/// Creates the output, runs the request into it, and flushes it.
+/// Creates the output, runs the request, writes the sheets to the output, and flushes it.
 fn run_in<R: Threads + Wait + Sync, W: World>(
     rt: &R,
     alloc: Global,
@@ -144,14 +144,14 @@ fn run_in<R: Threads + Wait + Sync, W: World>(
     let (is_whole, output) = sink.finish();
     let rest = Rest::Output(output);
     if status == 0 && !is_whole {
-        // A failed flush is a failed write, whose line doesn't say how much was written.
+        // A failed flush is reported as a failed write, whose line doesn't tell how many bytes were written.
         let fault = Fault::Run(RunError::Write { written: 0 });
         return ended_with(alloc, &fault, rest);
     }
     ExitReport { status, line, rest }
 }
 
-/// The fault of an output that couldn't be created: out of memory, or the world refused it.
+/// The fault to report if an output couldn't be created: refused memory, or a refusal of the world.
 fn fault_of_creating(cause: &io::Error) -> Fault
     ensures { ((error_kind cause.now ≡ OutOfMemory) × (result ≡ faults.Run (runs.NoMemory 0)))
         ⊎ (¬ (error_kind cause.now ≡ OutOfMemory) × (result ≡ faults.Create)) }

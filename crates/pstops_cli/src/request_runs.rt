@@ -1,4 +1,4 @@
-//! The run of a request, and the line and status of its end.
+//! Runs a request, and makes the exit status and the line that tell how the run ended.
 ghost use Rattle.std.specs.Prelude.{◌≡◌, ◌<◌, ◌^◌, [], false, Option, Result, IfOk, OnErr, string_bytes};
 ghost use Rattle.std.specs.Io.KnownBytes.{Appends};
 ghost use Rattle.rules.specs.Output.{output};
@@ -15,10 +15,10 @@ use std::alloc::{AllocError, Global};
 use std::sync::Wait;
 use std::thread::Threads;
 
-/// Runs a request on an input, and returns the exit status and the line for standard error, which may be empty.
+/// Runs a request on the bytes of its input, and returns the exit status and the line for standard error, which may be empty.
 ///
-/// The status is 0 if the run finished; the line is then the report, unless the request is quiet. If there is no memory for the line, it is empty and
-/// the status is 3.
+/// If the run finished, the status is 0, and the line is the report, or empty if the request is quiet. If memory for the line is refused, the line is
+/// empty and the status is 3.
 pub fn run_request<R: Threads + Wait + Sync, S: Sink>(
     rt: &R,
     alloc: Global,
@@ -27,11 +27,11 @@ pub fn run_request<R: Threads + Wait + Sync, S: Sink>(
     sink: &mut S,
 ) -> (u8, Vec<u8>)
     requires countable { IsCountable (S.seen sink.old) }
-    // The run ended in some way, with all that a run promises of it, and that way has this status and this line.
+    // The run ended in one of the ways that `run` promises, and the status and the line are those of that end.
     ensures ended { (ended : Result ReportValue RunErrorValue)
         × EndsRun (asked_by request.now input.now) (S.seen sink.old) (S.seen sink.new) ended
         × IsLineOf request.now.quiet ended result.0 result.1.items }
-    // Status 0 comes only if exactly the output was written.
+    // Status 0 is returned only if exactly the output was written.
     ensures finished { result.0 ≡ 0 → Accepted (asked_by request.now input.now) (λ spec us.
         Appends (S.seen sink.old).bytes (S.seen sink.new).bytes
         (output (frame_of request.now.options) request.now.options.sides spec us)) }
@@ -51,7 +51,7 @@ pub fn run_request<R: Threads + Wait + Sync, S: Sink>(
     }
 }
 
-/// The exit status and the line of a run with this outcome.
+/// The exit status and the line for a run that ended like this.
 fn ending_of(
     alloc: Global,
     quiet: bool,
@@ -59,7 +59,7 @@ fn ending_of(
 ) -> Result<(u8, Vec<u8>), AllocError>
     ensures status { IfOk result (λ answer. answer.0 ≡ outcome_status ended) }
     ensures line { IfOk result (λ answer. answer.1.items ≡ outcome_line quiet ended) }
-    // No memory is asked for if nothing is said.
+    // If there is nothing to say, no memory is needed.
     ensures spoken { OnErr result (is_silent quiet ended ≡ false) }
 {
     match ended {

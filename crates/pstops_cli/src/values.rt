@@ -1,4 +1,4 @@
-//! The values of the options.
+//! Reads the values of the options.
 ghost use Rattle.std.specs.Prelude.{◌≡◌, option_map};
 ghost use Rattle.pstops_cli.specs.Values as meaning;
 
@@ -7,8 +7,8 @@ use command_words::border_named;
 use imposer::{Options, Workers};
 use lengths::{Paper, length_named, paper_by_name};
 
-/// The options with these values of `-p`, `-w`, `-h` and `-d`, with these sides of a signature and these workers. The first invalid value in this
-/// order is the fault.
+/// The options of a run with these values of `-p`, `-w`, `-h` and `-d`, this number of sides of a signature, and these numbers of threads. The error
+/// is the first wrong value, in this order.
 pub(crate) fn options_named(
     paper: Option<&str>,
     width: Option<&str>,
