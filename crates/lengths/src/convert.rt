@@ -1,4 +1,4 @@
-//! Lengths in units, in grains.
+//! Conversion of lengths from units to grains.
 ghost use Rattle.std.specs.Prelude.{◌≡◌, ◌+◌, ◌*◌, ◌^◌, ◌<◌, ◌*ℤ◌, nat_abs, IsTrue};
 ghost use Rattle.rules.specs.Numbers.{rounded as nearest};
 ghost use Rattle.rules.specs.Papers.{grains, is_side};
@@ -9,8 +9,8 @@ use super::number::Number;
 use super::paper::Paper;
 use super::unit::Unit;
 
-/// The length of this many units, in grains. Parts of a width or a height are rounded to the nearest grain, half away
-/// from zero; a 10^-9 of any other unit is a whole number of grains.
+/// The length of `number` units on this paper, in grains. Widths and heights of the paper are rounded to the nearest grain, half away from zero.
+/// Other units need no rounding, because 10^-9 of each is a whole number of grains.
 pub fn to_grains(number: Number, unit: Unit, paper: &Paper) -> Grains
     ensures { result ≡ grains paper.now number (length_unit unit) }
 {
@@ -25,7 +25,7 @@ pub fn to_grains(number: Number, unit: Unit, paper: &Paper) -> Grains
     }
 }
 
-/// The number times a side of a paper.
+/// `number` times the length of this side, rounded to the nearest grain, half away from zero.
 fn share_of_side(number: Number, side: Grains) -> Grains
     requires { IsTrue (is_side side) }
     ensures { result ≡ nearest (number *ℤ side) (10 ^ 9) }
@@ -34,7 +34,7 @@ fn share_of_side(number: Number, side: Grains) -> Grains
     Grains::of(rounded(product, 1_000_000_000))
 }
 
-/// The quotient, rounded to the nearest whole number, half away from zero.
+/// `value` divided by `divisor`, rounded to the nearest whole number, half away from zero.
 pub(crate) fn rounded(value: i128, divisor: u128) -> i128
     requires divisor { 0 < divisor }
     requires fits { 2 * nat_abs value + divisor < 2 ^ 127 }

@@ -1,11 +1,10 @@
-//! A length, kept exactly.
+//! Lengths, which are kept exactly.
 ghost use Rattle.std.specs.Prelude.{◌≡◌, ◌↔◌, ℤ, IsSome, IfSome};
 ghost use Rattle.lengths.specs.Ranges.{FitsGrains};
 
 use std::marker::Model;
 
-/// A whole number of grains, at most 10^23 in size; 127,000,000,000 grains are a point.
-/// Contracts see it as that whole number.
+/// A length: a whole number of grains, from -10^23 to 10^23. A point has 127,000,000,000 grains. Contracts see a `Grains` as that whole number.
 #[derive(Clone, Copy, Debug, PartialEq, Eq, Hash, PartialOrd, Ord)]
 pub struct Grains {
     count: i128,
@@ -22,10 +21,10 @@ impl Model for Grains {
 }
 
 impl Grains {
-    /// No length.
+    /// The length 0.
     pub const ZERO: Grains = Grains { count: 0 };
 
-    /// The length of this many grains, if that is in range.
+    /// The length of `count` grains. It is None if `count` is below -10^23 or above 10^23.
     pub fn new(count: i128) -> Option<Grains>
         ensures fits { IsSome result ↔ FitsGrains count }
         ensures value { IfSome result (λ g. g ≡ count) }
@@ -45,7 +44,7 @@ impl Grains {
         self.count
     }
 
-    /// The length of this many grains, which is known to be in range.
+    /// The length of `count` grains. The caller has to show that this is in range.
     pub(crate) fn of(count: i128) -> Grains
         requires { FitsGrains count }
         ensures { result ≡ count }

@@ -1,4 +1,4 @@
-//! Lengths as people write them.
+//! Lengths as users write them: a number and a unit.
 ghost use Rattle.std.specs.Prelude.{◌≡◌};
 ghost use Rattle.lengths.specs.Lengths.{length_named};
 
@@ -8,8 +8,8 @@ use super::paper::Paper;
 use super::read::read_number;
 use super::unit::unit_by_name;
 
-/// The length that the text names: a number up to 99,999.999999999 with its unit, `pt`, `cm`, `mm` or `in`; without
-/// a unit it is in points. No such length depends on the paper.
+/// The length that a text names: a number up to 99,999.999999999 and its unit, which is `pt`, `cm`, `mm` or `in`. Without a unit the number is in
+/// points. If the text has any other form, the result is None. The paper has no effect, because none of these units depends on it.
 pub fn length_named(paper: &Paper, text: &[u8]) -> Option<Grains>
     ensures { result ≡ length_named paper.now text.now }
 {

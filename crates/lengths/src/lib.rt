@@ -1,4 +1,4 @@
-//! Numbers, lengths, papers, and how they are read and printed in decimals.
+//! Exact numbers, lengths and papers, with functions that read and print them in decimals.
 #![tactic(auto)]
 
 mod convert;

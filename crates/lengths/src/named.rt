@@ -1,4 +1,4 @@
-//! Papers by their names.
+//! Papers by name.
 ghost use Rattle.std.specs.Prelude.{◌≡◌, ◌<◌, ◌≤◌, map, IsTrue, ◌↔◌};
 ghost use Rattle.std.specs.Str.{bytes_eq};
 ghost use Rattle.rules.specs.Papers.{paper_with_name, points, small};
@@ -6,7 +6,7 @@ ghost use Rattle.lengths.specs.Lengths.{a4};
 
 use super::paper::Paper;
 
-/// Each name with its width and height in points.
+/// The names of papers, each with its width and height in points.
 const PAPERS: [(&str, u32, u32); 8] = [
     ("a3", 842, 1191),
     ("a4", 595, 842),
@@ -18,7 +18,7 @@ const PAPERS: [(&str, u32, u32); 8] = [
     ("10x14", 720, 1008),
 ];
 
-/// The paper of this name. ASCII letters may be in either case.
+/// The paper with this name: a3, a4, a5, letter, legal, tabloid, statement or 10x14. Case makes no difference, and any other name gives None.
 pub fn paper_by_name(name: &str) -> Option<Paper>
     ensures { result ≡ paper_with_name name.now }
 {
@@ -30,7 +30,7 @@ pub fn paper_by_name(name: &str) -> Option<Paper>
     None
 }
 
-/// The paper that is used where none is given.
+/// The paper a4, which is used where no paper is given.
 pub fn a4() -> Paper
     ensures { result ≡ a4 }
 {

@@ -1,4 +1,4 @@
-//! A number as specifications write it, kept exactly.
+//! Numbers as page specifications write them, kept exactly.
 ghost use Rattle.std.specs.Prelude.{◌≡◌, ◌↔◌, ◌+◌, ◌*◌, ◌^◌, ◌<◌, ◌≤◌, ℤ, neg_ℤ, IsSome, IfSome};
 ghost use Rattle.rules.specs.Numbers.{greatest_whole, signed};
 ghost use Rattle.lengths.specs.Ranges.{FitsNumber};
@@ -6,11 +6,10 @@ ghost use Rattle.lengths.specs.Ranges.{FitsNumber};
 use std::marker::Model;
 use std::ops::Neg;
 
-/// The greatest number, in 10^-9.
+/// The greatest number, as a multiple of 10^-9.
 const GREATEST: u64 = 99_999_999_999_999;
 
-/// A whole number of 10^-9, from -99,999,999,999,999 to 99,999,999,999,999: an integer part of at most 99,999 and
-/// nine decimals. Contracts see it as that whole number.
+/// A number with nine decimals, from -99,999.999999999 to 99,999.999999999. Contracts see it as a multiple of 10^-9, so that 1 is 1,000,000,000.
 #[derive(Clone, Copy, Debug, PartialEq, Eq, Hash, PartialOrd, Ord)]
 pub struct Number {
     billionths: i64,
@@ -27,14 +26,14 @@ impl Model for Number {
 }
 
 impl Number {
-    /// Nothing: `0`.
+    /// The number 0.
     pub const ZERO: Number = Number { billionths: 0 };
-    /// One whole: `1`.
+    /// The number 1.
     pub const ONE: Number = Number {
         billionths: 1_000_000_000,
     };
 
-    /// This many 10^-9 as a number, if it is in range.
+    /// The number that is `billionths` times 10^-9. It is None if that is out of range.
     pub fn new(billionths: i64) -> Option<Number>
         ensures fits { IsSome result ↔ FitsNumber billionths }
         ensures value { IfSome result (λ n. n ≡ billionths) }
@@ -46,7 +45,7 @@ impl Number {
         }
     }
 
-    /// The number of 10^-9.
+    /// The number as a multiple of 10^-9.
     pub fn billionths(self) -> i64
         ensures value { result ≡ self }
         ensures in_range { FitsNumber self }
@@ -54,7 +53,7 @@ impl Number {
         self.billionths
     }
 
-    /// The number with this sign, integer part and nine decimals.
+    /// The number with this sign, this integer part, and these nine decimals, which are given as a multiple of 10^-9.
     pub(crate) fn of_parts(negative: bool, whole: u32, decimals: u32) -> Number
         requires whole { whole ≤ greatest_whole }
         requires decimals { decimals < 10 ^ 9 }

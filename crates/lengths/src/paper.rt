@@ -1,17 +1,17 @@
-//! A sheet of paper.
+//! Papers by their width and height.
 ghost use Rattle.std.specs.Prelude.{◌≡◌, ◌↔◌, ◌<◌, IsSome, IfSome, IsTrue};
 ghost use Rattle.rules.specs.Papers.{is_paper, is_side, points};
 
 use super::grains::Grains;
 use std::marker::Model;
 
-/// The grains of one point.
+/// The number of grains in a point.
 const GRAINS_OF_POINT: i128 = 127_000_000_000;
 
-/// The greatest length that a number of inches can name.
+/// The longest side of a paper, in grains. It is the greatest length that a number of inches can name.
 const LONGEST_SIDE: i128 = 914_399_999_999_990_856;
 
-/// A paper's width and height, each from 1 to 914,399,999,999,990,856 grains.
+/// A paper, by its width and height. Each side is from 1 to 914,399,999,999,990,856 grains long.
 #[derive(Clone, Copy, Debug, PartialEq, Eq, Hash)]
 pub struct Paper {
     pub width: Grains,
@@ -32,7 +32,7 @@ impl Model for Paper {
 }
 
 impl Paper {
-    /// The paper of this width and height, if both are in range.
+    /// The paper of this width and height. It is None if a side is shorter than 1 grain or longer than 914,399,999,999,990,856 grains.
     pub fn new(width: Grains, height: Grains) -> Option<Paper>
         ensures fits { IsSome result ↔ IsTrue (is_paper width height) }
         ensures sides { IfSome result (λ p. p ≡ record { width = width; height = height }) }
@@ -44,7 +44,7 @@ impl Paper {
         }
     }
 
-    /// A paper of this many points.
+    /// The paper that is `width` points wide and `height` points high.
     pub(crate) fn of_points(width: u32, height: u32) -> Paper
         requires width { (0 < width) × (width < 7_200_000) }
         requires height { (0 < height) × (height < 7_200_000) }
@@ -64,7 +64,7 @@ impl Paper {
         self.width
     }
 
-    /// The paper on its side: width and height are exchanged.
+    /// The paper with its width and height exchanged.
     pub fn turned(&self) -> Paper
         ensures { result ≡ record { width = self.now.height; height = self.now.width } }
     {
@@ -83,7 +83,7 @@ impl Paper {
     }
 }
 
-/// Whether a paper may have this side.
+/// Whether a paper may have a side of this length.
 fn may_be_side(side: Grains) -> bool
     ensures { result ≡ is_side side }
 {

@@ -1,4 +1,4 @@
-//! Numbers and lengths printed in decimals.
+//! Printing of numbers and lengths in decimals.
 ghost use Rattle.std.specs.Prelude.{◌≡◌, ◌+◌, ◌*◌, ◌/◌, ◌%◌, ◌^◌, ◌<◌, ◌≤◌, ◌++◌, ℕ, ℤ, FitsSigned, nat_abs, drop};
 ghost use Rattle.std.specs.Prelude.{decimal, length, [], ◌∷◌, if◌then◌else◌, OnOk, OnErr, vec_len, vec_capacity};
 ghost use Rattle.rules.specs.Bytes.{minus_sign};
@@ -11,8 +11,7 @@ use super::number::Number;
 use itoa::Buffer;
 use std::alloc::AllocError;
 
-/// Appends a length in points, rounded to five decimals, half away from zero. If memory is refused, nothing is
-/// appended.
+/// Appends a length in points, rounded to five decimals, half away from zero. If memory is refused, nothing is appended.
 pub fn print_points(grains: Grains, out: &mut Vec<u8>) -> Result<(), AllocError>
     ensures appended { OnOk result (out.new.items ≡ out.old.items ++ points_text grains) }
     ensures unchanged { OnErr result (out.new.items ≡ out.old.items) }
@@ -22,7 +21,7 @@ pub fn print_points(grains: Grains, out: &mut Vec<u8>) -> Result<(), AllocError>
     print_grains(grains.get(), out)
 }
 
-/// Appends a number of grains in points, rounded likewise: a length, or the difference of two. If memory is refused,
+/// Appends a number of grains in points, rounded as by `print_points`. The number may be a length, or the difference of two. If memory is refused,
 /// nothing is appended.
 pub fn print_grains(grains: i128, out: &mut Vec<u8>) -> Result<(), AllocError>
     requires { nat_abs grains ≤ 2 * 10 ^ 23 }
@@ -34,7 +33,7 @@ pub fn print_grains(grains: i128, out: &mut Vec<u8>) -> Result<(), AllocError>
     append_decimal(rounded(grains, 1_270_000) as i64, 5, out)
 }
 
-/// Appends a number in full. If memory is refused, nothing is appended.
+/// Appends a number with all of its decimals, without zeros at the end. If memory is refused, nothing is appended.
 pub fn print_scale(number: Number, out: &mut Vec<u8>) -> Result<(), AllocError>
     ensures appended { OnOk result (out.new.items ≡ out.old.items ++ scale_text number) }
     ensures unchanged { OnErr result (out.new.items ≡ out.old.items) }
@@ -44,8 +43,8 @@ pub fn print_scale(number: Number, out: &mut Vec<u8>) -> Result<(), AllocError>
     append_decimal(number.billionths(), 9, out)
 }
 
-/// Appends a number as a page specification writes it: in full, but with no `0` before a dot. If memory is refused,
-/// nothing is appended.
+/// Appends a number as a page specification writes it: as by `print_scale`, but without a `0` before the dot. If memory is refused, nothing is
+/// appended.
 pub fn print_number(number: Number, out: &mut Vec<u8>) -> Result<(), AllocError>
     ensures appended { OnOk result (out.new.items ≡ out.old.items ++ number_text number) }
     ensures unchanged { OnErr result (out.new.items ≡ out.old.items) }
@@ -69,7 +68,7 @@ pub fn print_number(number: Number, out: &mut Vec<u8>) -> Result<(), AllocError>
     )
 }
 
-/// Appends a whole number of 10^-places.
+/// Appends `value` times 10^-`places` in decimals.
 fn append_decimal(value: i64, places: u32, out: &mut Vec<u8>) -> Result<(), AllocError>
     requires { places ≤ 9 }
     ensures appended { OnOk result (out.new.items ≡ out.old.items ++ printed places value) }
@@ -89,7 +88,7 @@ fn append_decimal(value: i64, places: u32, out: &mut Vec<u8>) -> Result<(), Allo
     )
 }
 
-/// The decimals of a part, in units of 10^-places. Whole numbers, by far the most frequent, are tested for first.
+/// The decimals of a fraction, which is `part` times 10^-`places`. Whole numbers are by far the most frequent, and are tested for first.
 fn decimals_of_part(digits: &mut Buffer, places: u32, part: u64) -> &[u8]
     requires places { places ≤ 9 }
     requires part { part < 10 ^ places }
@@ -102,7 +101,7 @@ fn decimals_of_part(digits: &mut Buffer, places: u32, part: u64) -> &[u8]
     decimals_behind_one(digits.format(10u64.pow(places) + part).as_bytes())
 }
 
-/// The digits of a whole part; none if it is 0 and decimals follow.
+/// The digits of the integer part `whole`, or no digits if it is 0 and decimals follow.
 fn unless_dot_follows<'a>(whole: u64, digits: &'a [u8], decimals: &[u8]) -> &'a [u8]
     requires { digits.now ≡ decimal whole }
     ensures value { result.now ≡ whole_text whole decimals.now }
@@ -115,8 +114,8 @@ fn unless_dot_follows<'a>(whole: u64, digits: &'a [u8], decimals: &[u8]) -> &'a 
     }
 }
 
-/// The decimals of a part. The part comes with a one in front, which keeps its leading zeros; zeros at the end are
-/// dropped.
+/// The decimals of a fraction, without zeros at the end. The fraction's digits come with a 1 in front, because a number with leading zeros would lose
+/// them when it is printed.
 fn decimals_behind_one(one_and_part: &[u8]) -> &[u8]
     ensures value { result.now ≡ without_last_zeros (drop 1 one_and_part.now) }
     ensures no_longer { length result.now ≤ length one_and_part.now }
@@ -139,7 +138,7 @@ fn strip_zeros(digits: &[u8]) -> &[u8]
     rest
 }
 
-/// Appends a minus if the number is negative, its whole part, and, if there are decimals, a dot and the decimals.
+/// Appends a minus if the number is negative, then its integer part, then a dot and the decimals if there are any.
 fn append_decimals(
     negative: bool,
     whole: &[u8],

@@ -1,4 +1,4 @@
-//! Reading numbers off the front of a text.
+//! Reading of numbers at the start of a text.
 ghost use Rattle.std.specs.Prelude.{◌≡◌, ◌≢◌, ◌+◌, ◌*◌, ◌^◌, ◌<◌, ◌≤◌, min, [], ◌++◌, length, take, drop, replicate};
 ghost use Rattle.std.specs.Prelude.{slice_index, IfOk, IfErr, MatchOption};
 ghost use Rattle.std.specs.Char.{is_ascii_digit};
@@ -13,7 +13,7 @@ ghost use Rattle.lengths.specs.Refusals.{outcome_of, IsRefused};
 use super::number::Number;
 use thiserror::Error;
 
-/// The least integer part that is too large.
+/// The least integer part that is too large for a number.
 const LEAST_LARGE: u32 = 100_000;
 
 /// Why no number was read.
@@ -22,19 +22,20 @@ pub enum NumberError {
     /// The text doesn't begin with a number.
     #[error("not a number")]
     NotANumber,
-    /// The integer part is over 99,999. Has the length of the number in bytes.
+    /// The integer part is over 99,999. The value is the length of the number in bytes.
     #[error("number over 99,999")]
     TooLarge(usize),
 }
 
-/// The longest number that the text begins with, and its length in bytes.
+/// The longest number at the start of a text, and its length in bytes.
 ///
-/// As in the page specifications of pstops, a number is digits with an optional sign before them and an optional
-/// dot before, among or after them. Decimals after the ninth are read and ignored; there is no exponent.
+/// As in the page specifications of pstops, a number is digits with an optional sign before them and an optional dot before, among or after them.
+/// Decimals after the ninth are read, but have no effect. There is no exponent. A text is refused if it doesn't begin with a number, or if the
+/// integer part of the number is over 99,999.
 pub fn read_number(bytes: &[u8]) -> Result<(Number, usize), NumberError>
     ensures longest { IsNumberRead bytes.now (outcome_of result) }
 
-    // The same, by the function that reads a number off the front.
+    // The same result, stated with the definition that reads a number at the start of a text.
     ensures found { IfOk result (λ x.
         (x.1 ≤ length bytes.now) × (number_at bytes.now ≡ Some (x.0, drop x.1 bytes.now))) }
     ensures none { IfErr result (IsRefused bytes.now) }
@@ -42,7 +43,8 @@ pub fn read_number(bytes: &[u8]) -> Result<(Number, usize), NumberError>
     scan_number(bytes)
 }
 
-/// The digits at the front as a value, 100,000 if it is larger, and what follows them.
+/// The value of the digits at the start of a text, or 100,000 if it is larger, and the text after them. It is None if the text doesn't begin with a
+/// digit.
 pub fn read_digits(bytes: &[u8]) -> Option<(u32, &[u8])>
     ensures { let front = digits bytes.now in MatchOption result (front ≡ []) (λ x.
         (front ≢ []) × (x.0 ≡ min least_large (number_of front)) × (x.1.now ≡ past_digits bytes.now)) }
@@ -54,7 +56,7 @@ pub fn read_digits(bytes: &[u8]) -> Option<(u32, &[u8])>
     Some((capped(front), rest))
 }
 
-/// The number at the start and its length, by the function that reads a number off the front.
+/// The number at the start of a text and its length in bytes, as the definition `number_at` gives them.
 fn scan_number(bytes: &[u8]) -> Result<(Number, usize), NumberError>
     ensures found { IfOk result (λ x. number_at bytes.now ≡ Some (x.0, drop x.1 bytes.now)) }
     ensures within { IfOk result (λ x. x.1 ≤ length bytes.now) }
@@ -75,7 +77,7 @@ fn scan_number(bytes: &[u8]) -> Result<(Number, usize), NumberError>
     Ok((Number::of_parts(negative, points, nine(decimals)), len))
 }
 
-/// Whether there is a minus, and what follows the sign, if there is one.
+/// Whether a text begins with a minus, and the text after its sign. A text without a sign stays whole.
 fn split_sign(bytes: &[u8]) -> (bool, &[u8])
     ensures sign { result.0 ≡ is_minus bytes.now }
     ensures rest { result.1.now ≡ unsigned bytes.now }
@@ -87,7 +89,7 @@ fn split_sign(bytes: &[u8]) -> (bool, &[u8])
     }
 }
 
-/// The digits after a dot, if there is one, and what follows them.
+/// The digits after a dot at the start of a text, and the text after them. Without a dot there are none.
 fn split_decimals(bytes: &[u8]) -> (&[u8], &[u8])
     ensures front { result.0.now ≡ decimals_at bytes.now }
     ensures rest { result.1.now ≡ past_decimals bytes.now }
@@ -98,7 +100,7 @@ fn split_decimals(bytes: &[u8]) -> (&[u8], &[u8])
     }
 }
 
-/// The digits at the front, and what follows them.
+/// The digits at the start of a text, and the text after them.
 fn split_digits(bytes: &[u8]) -> (&[u8], &[u8])
     ensures front { result.0.now ≡ digits bytes.now }
     ensures rest { result.1.now ≡ past_digits bytes.now }
@@ -106,7 +108,7 @@ fn split_digits(bytes: &[u8]) -> (&[u8], &[u8])
     bytes.split_at(digits_len(bytes))
 }
 
-/// The number of digits at the front.
+/// The number of digits at the start of a text.
 fn digits_len(bytes: &[u8]) -> usize
     ensures within { result ≤ length bytes.now }
     ensures front { take result bytes.now ≡ digits bytes.now }
@@ -132,7 +134,7 @@ fn capped(digits: &[u8]) -> u32
     n
 }
 
-/// The first nine decimals, as a whole number of 10^-9.
+/// The first nine decimals as a multiple of 10^-9. Missing decimals are 0.
 fn nine(decimals: &[u8]) -> u32
     requires { AllPass is_ascii_digit decimals.now }
     ensures value { result ≡ decimals_value 9 decimals.now }
@@ -145,7 +147,7 @@ fn nine(decimals: &[u8]) -> u32
     n
 }
 
-/// The decimal at this place, which is 0 after the last.
+/// The decimal with index `i`, or 0 if there are fewer decimals.
 fn decimal_at(decimals: &[u8], i: usize) -> u32
     requires digits { AllPass is_ascii_digit decimals.now }
     requires place { i < 9 }

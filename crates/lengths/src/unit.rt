@@ -1,9 +1,9 @@
-//! The units that a length is written in.
+//! Units of length.
 ghost use Rattle.std.specs.Prelude.{◌≡◌, option_map};
 ghost use Rattle.lengths.specs.Lengths.{unit_named};
 ghost use Rattle.lengths.specs.Units.{length_unit};
 
-/// A unit of length, as a page specification names it. An inch is 72 points, or 2.54 cm, or 25.4 mm.
+/// A unit of length in a page specification. An inch is 72 points, 2.54 cm or 25.4 mm.
 #[derive(Clone, Copy, Debug, PartialEq, Eq, Hash)]
 pub enum Unit {
     /// Points.
@@ -14,13 +14,13 @@ pub enum Unit {
     Mm,
     /// Inches.
     In,
-    /// Widths of the paper.
+    /// The width of the paper.
     W,
-    /// Heights of the paper.
+    /// The height of the paper.
     H,
 }
 
-/// The unit of this name: `pt`, `cm`, `mm` or `in`, or points if there is no name.
+/// The unit with this name, which is `pt`, `cm`, `mm` or `in`. An empty name means points, and any other name gives None.
 pub fn unit_by_name(name: &[u8]) -> Option<Unit>
     ensures { option_map length_unit result ≡ unit_named name.now }
 {

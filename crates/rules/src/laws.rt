@@ -1,4 +1,4 @@
-//! Laws of the definitions. The functions do nothing.
+//! Laws of the definitions. Each function states one law in its `ensures`, and has an empty body.
 ghost use Rattle.rules.specs.Admissible.{OneAnswer, OneReading};
 ghost use Rattle.rules.specs.Numbers.{NumberIsPrinted, NumberWithoutZero, PrintedIsPrinted};
 ghost use Rattle.rules.specs.Output.{BorderOnEdge};
@@ -13,17 +13,18 @@ ghost use Rattle.rules.specs.Rows.{PartsOfRow, PartsByNumber, SheetsOfAll, Signa
 ghost use Rattle.rules.specs.Ranges.{RangesAreRead, RangesOfAll};
 ghost use Rattle.rules.specs.Leaves.{ReadInOrder, RowIsRead, SheetsAreFaces};
 
-/// The printed text of a number is the only text of the printed form with that value.
+/// The printed text of a number is the only text that has the printed form and this value. This holds for numbers below 10^64 with up to 63 decimals.
 pub fn printed_is_printed()
     ensures { PrintedIsPrinted }
 {}
 
-/// The printed text of a number in a specification is the only text of its printed form with that value.
+/// The text of a number in a specification is the only text that has the specification's form of numbers and this value. This holds for numbers below
+/// 10^64.
 pub fn number_is_printed()
     ensures { NumberIsPrinted }
 {}
 
-/// The text of a number in a specification is that of a scale without the 0 before a dot.
+/// A specification writes a number as a scale is printed, but without a 0 directly before the dot.
 pub fn number_without_zero()
     ensures { NumberWithoutZero }
 {}
@@ -33,122 +34,122 @@ pub fn one_reading()
     ensures { OneReading }
 {}
 
-/// A text is taken as one specification or refused with one fault, never both and never two.
+/// A text has at most one answer, which is a specification or a fault. So no text is both accepted and refused, or refused for two faults.
 pub fn one_answer()
     ensures { OneAnswer }
 {}
 
-/// There is a sheet for each group in each block.
+/// A specification makes one sheet for each of its groups in each block of pages.
 pub fn sheet_count()
     ensures { SheetCount }
 {}
 
-/// Without signatures the sheets are those of the pages in order.
+/// Without signatures, the sheets of a specification are made from the pages in their order.
 pub fn without_sides()
     ensures { WithoutSides }
 {}
 
-/// Signatures are filled up.
+/// Signatures are whole, because blanks fill up the last one.
 pub fn whole_signatures()
     ensures { WholeSignatures }
 {}
 
-/// The order of a signature is a permutation of its positions.
+/// The printing order of a signature is a permutation: each position has one page of the signature, and each page has one position.
 pub fn is_permutation()
     ensures { IsPermutation }
 {}
 
-/// Each page is in exactly one entry of the row of signatures.
+/// If pages are put into signatures, each page is in exactly one entry of the row.
 pub fn each_page_once()
     ensures { EachPageOnce }
 {}
 
-/// A matrix sends each whole point where its item puts it.
+/// The matrix of an item sends each whole point of a page to where the item places it.
 pub fn matrix_puts()
     ensures { MatrixPuts }
 {}
 
-/// Without an inset a border is drawn along the path that clips the page.
+/// A border without an inset is drawn along the path that clips the page.
 pub fn border_on_edge()
     ensures { BorderOnEdge }
 {}
 
-/// A text is cut into its units, and only into these.
+/// A text is cut into exactly the units (lines and blocks of data) that the rules define.
 pub fn cut_is_units()
     ensures { CutIsUnits }
 {}
 
-/// A text is refused for its first faulty block, and for nothing else.
+/// Cutting a text fails exactly if the text has a faulty block of data. The block that is named is the first faulty one.
 pub fn cut_faults()
     ensures { CutFaults }
 {}
 
-/// The units of a text, one after the other, are the text.
+/// If the units of a text are joined in order, they are the text.
 pub fn units_make_text()
     ensures { UnitsMakeText }
 {}
 
-/// Preamble, pages and trailer, one after the other, are the text.
+/// If the preamble, the pages and the trailer of a document are joined in order, they are its text.
 pub fn parts_make_text()
     ensures { PartsMakeText }
 {}
 
-/// With no dress and one paper, the output of the sheets of a specification is its output.
+/// Sheets that are made from a specification, with one paper and no added lines, have the same output as the specification.
 pub fn made_is_output()
     ensures { MadeIsOutput }
 {}
 
-/// The output of sheets that carry the lines of their dress is that of the sheets with their dress.
+/// Sheets that already carry the lines of their dress have the same output as sheets to which the dress is added.
 pub fn dressed_is_made()
     ensures { DressedIsMade }
 {}
 
-/// Odd and even entries, interleaved, are the row; a row reversed twice is the row.
+/// If the entries in odd and in even places of a row are interleaved, they are the row. A row that is reversed twice is the row.
 pub fn parts_of_row()
     ensures { PartsOfRow }
 {}
 
-/// Of all pages, those in odd places are those with odd numbers.
+/// In the row of all pages, odd places have the pages with odd numbers, and even places those with even numbers.
 pub fn parts_by_number()
     ensures { PartsByNumber }
 {}
 
-/// The row of all pages in signatures is that of the rules.
+/// If the row of all pages is put into signatures, it is the row that the rules define for signatures of these pages.
 pub fn signatures_of_all()
     ensures { SignaturesOfAll }
 {}
 
-/// The sheets of a specification are those of the row of all pages.
+/// A specification makes the same sheets from a number of pages as from the row of all these pages, in signatures or not.
 pub fn sheets_of_all()
     ensures { SheetsOfAll }
 {}
 
-/// Signatures that are chosen by the number of entries have at most eight leaves and few blanks.
+/// Signatures whose size is chosen automatically have at most eight leaves each. Fewer than four blanks for each signature fill them up.
 pub fn auto_signatures()
     ensures { AutoSignatures }
 {}
 
-/// Reading a text gives the ranges that it means.
+/// Reading a text of ranges gives exactly the ranges that the text means.
 pub fn ranges_are_read()
     ensures { RangesAreRead }
 {}
 
-/// The pages that `1-`, `last-1` and `_k` name.
+/// `1-` names all pages in order, `last-1` names all pages backwards, and `_k` names the k-th page from the end.
 pub fn ranges_of_all()
     ensures { RangesOfAll }
 {}
 
-/// Sheets of two entries each are the faces of leaves.
+/// If a specification puts two entries on each sheet, side by side, its sheets are the printed faces of leaves.
 pub fn sheets_are_faces()
     ensures { SheetsAreFaces }
 {}
 
-/// A signature that was folded is read in order.
+/// If a signature is folded, its pages are read in order.
 pub fn read_in_order()
     ensures { ReadInOrder }
 {}
 
-/// A row on leaves that were folded is read in order.
+/// If a row is put into signatures and on leaves, and the leaves are folded, the row is read in its order.
 pub fn row_is_read()
     ensures { RowIsRead }
 {}
