@@ -1,4 +1,4 @@
-//! The checks on the meaning of a text, each over all items or all groups, in order.
+//! Checks of what a text means. Each goes over all items or all groups, in order.
 ghost use Rattle.std.specs.Prelude.{◌≡◌, ◌<◌, ◌^◌, ◌||◌, length, position, nat_lt, nat_le, option_map, if◌then◌else◌};
 ghost use Rattle.std.specs.Prelude.{Some};
 ghost use Rattle.std.specs.Option.{ForSome};
@@ -12,9 +12,9 @@ use crate::parsed::ParsedItem;
 
 /// The most items that a group may have.
 const MOST_SLOTS: usize = 4_096;
-/// The most groups.
+/// The most groups that a specification may have.
 const MOST_GROUPS: usize = 10_000;
-/// The greatest modulo, page number and integer part.
+/// The greatest modulo, the greatest page number, and the greatest integer part of a number.
 const MOST: u32 = 99_999;
 
 /// The first check that fails, at the lowest item or group. The groups are given by their lengths.
@@ -36,7 +36,7 @@ pub(crate) fn first_fault(modulo: u32, items: &[ParsedItem], lengths: &[usize]) 
         .or(fault_if(MOST_GROUPS < lengths.len(), SpecError::TooManyGroups))
 }
 
-/// This fault, if the check fails.
+/// `fault` if `fails` is true, or else None.
 fn fault_if(fails: bool, fault: SpecError) -> Option<SpecError>
     ensures { result ≡ (if fails then Some fault else None) }
 {
@@ -87,7 +87,7 @@ fn too_many_slots(lengths: &[usize]) -> Option<usize>
     lengths.iter().position(|n| MOST_SLOTS < *n)
 }
 
-/// The place of an item or a group in the type of a refusal.
+/// The index of an item or a group, in the type that a `SpecError` has for it.
 fn as_index(place: Option<usize>) -> Option<u32>
     requires { ForSome place (λ i. i < 2 ^ 32) }
     ensures { result ≡ place }

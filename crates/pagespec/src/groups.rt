@@ -1,4 +1,4 @@
-//! Reading the items and groups of a text.
+//! Reading of the items and groups of a text.
 ghost use Rattle.std.specs.Prelude.{◌≡◌, ◌∷◌, [], min, IfOk, IfErr, MatchResult};
 ghost use Rattle.rules.specs.Specification.{IsItem, IsBareItem, AreGroups};
 ghost use Rattle.pagespec.specs.Places.{StuckIn, StuckAfter};
@@ -9,21 +9,21 @@ use crate::parsed::{ParsedItem, read_item, read_modifiers, split_minus};
 use crate::scan::{ParseStop, Rest, read_byte};
 use std::alloc::Global;
 
-/// The items of all groups in one row, in the order of the text, and the number of items of each group.
+/// The items of all groups in one list, in the order of the text, and the number of items in each group.
 #[derive(Drop)]
 pub(crate) struct ParsedGroups {
     pub items: Vec<ParsedItem>,
     pub lengths: Vec<usize>,
 }
 
-/// Why reading stopped early.
+/// Why reading stopped before the end of a text.
 #[derive(Clone, Copy)]
 pub(crate) enum Stop {
     Stuck(ParseStop),
     NoMemory,
 }
 
-/// All groups of a text that has no modulo before them; or its only item, whose page number is left out.
+/// Reads all groups of a text after its modulo. If the text has only one item, its page number may be left out.
 pub(crate) fn read_all_groups(alloc: Global, bytes: &[u8]) -> Result<ParsedGroups, Stop>
     ensures { MatchResult result (ParsesTo (all_groups_at bytes.now)) (IsStop AreGroups all_groups_at bytes.now) }
 {
@@ -38,7 +38,7 @@ pub(crate) fn read_all_groups(alloc: Global, bytes: &[u8]) -> Result<ParsedGroup
     }
 }
 
-/// The place that is further on in the text.
+/// The stop that is further on in the text.
 fn later_stop(one: ParseStop, other: ParseStop) -> ParseStop
     ensures { result.left ≡ min one.left other.left }
 {
@@ -47,7 +47,7 @@ fn later_stop(one: ParseStop, other: ParseStop) -> ParseStop
     }
 }
 
-/// The groups that are the whole text.
+/// Reads the groups of a text that has nothing after them.
 fn read_groups_to_end(alloc: Global, bytes: &[u8]) -> Result<ParsedGroups, Stop>
     ensures { MatchResult result (ParsesTo (whole_groups_at bytes.now)) (IsStop AreWholeGroups whole_groups_at bytes.now) }
 {
@@ -59,7 +59,7 @@ fn read_groups_to_end(alloc: Global, bytes: &[u8]) -> Result<ParsedGroups, Stop>
     }
 }
 
-/// One group of this item alone.
+/// A single group that has only this item.
 fn one_item(alloc: Global, item: ParsedItem) -> Result<ParsedGroups, Stop>
     ensures alone { IfOk result (λ k. (k.items.items ≡ item ∷ []) × (k.lengths.items ≡ 1 ∷ [])) }
     ensures stop { IfErr result (λ e. e ≡ Stop.NoMemory) }
@@ -74,7 +74,7 @@ fn one_item(alloc: Global, item: ParsedItem) -> Result<ParsedGroups, Stop>
     }
 }
 
-/// An item without its page number, which is 0, as the whole text.
+/// Reads a text that is one item without its page number, which is then 0.
 fn read_bare_item(bytes: &[u8]) -> Result<ParsedItem, ParseStop>
     ensures { MatchResult result (BareRead bytes.now) (λ stuck. StuckIn IsBareItem bare_at bytes.now stuck.left) }
 {
@@ -93,7 +93,7 @@ fn read_bare_item(bytes: &[u8]) -> Result<ParsedItem, ParseStop>
     })
 }
 
-/// The groups at the front, and what is left after them.
+/// Reads the groups at the start of a text, and returns the text after them too.
 fn read_groups(alloc: Global, bytes: &[u8]) -> Result<(ParsedGroups, Rest<'_>), Stop>
     ensures { MatchResult result (λ x. GroupsRead bytes.now x.0 x.1.text.now
         × StuckAfter AreWholeGroups groups_at bytes.now x.1.text.now x.1.stuck.left)
@@ -116,7 +116,7 @@ fn read_groups(alloc: Global, bytes: &[u8]) -> Result<(ParsedGroups, Rest<'_>), 
     Err(Stop::Stuck(ParseStop { left: 0 }))
 }
 
-/// Adds the items of the group at the front to the row; gives their number, and what is left after them.
+/// Reads the group at the start of a text and appends its items to `items`. Returns the number of its items and the text after it.
 fn read_group<'t>(bytes: &'t [u8], items: &mut Vec<ParsedItem>) -> Result<(usize, Rest<'t>), Stop>
     ensures { MatchResult result (λ x. GroupRead bytes.now items.old.items items.new.items x.0 x.1.text.now
         × StuckAfter IsGroup group_at bytes.now x.1.text.now x.1.stuck.left)
@@ -133,7 +133,7 @@ fn read_group<'t>(bytes: &'t [u8], items: &mut Vec<ParsedItem>) -> Result<(usize
     Err(Stop::Stuck(ParseStop { left: 0 }))
 }
 
-/// Adds the item at the front to the row; gives what is left after it.
+/// Reads the item at the start of a text and appends it to `items`. Returns the text after it.
 fn append_item<'t>(bytes: &'t [u8], items: &mut Vec<ParsedItem>) -> Result<Rest<'t>, Stop>
     ensures { MatchResult result (λ x. ItemAppended bytes.now items.old.items items.new.items x.text.now
         × StuckAfter IsItem item_at bytes.now x.text.now x.stuck.left)

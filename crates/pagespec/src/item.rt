@@ -1,7 +1,7 @@
-//! One item of a specification: which page of a block it takes, and how the page is placed.
+//! The items of a specification. An item says which page of a block is taken, and how the page is placed.
 use lengths::{Number, Unit};
 
-/// A length as it is written: a number with its unit. A width or a height of the paper is a unit too.
+/// A length as it is written: a number with its unit. The width and the height of the paper are units too.
 #[derive(Clone, Copy, Debug, PartialEq, Eq)]
 pub struct Measure {
     pub number: Number,
@@ -9,7 +9,7 @@ pub struct Measure {
 }
 
 impl Measure {
-    /// Nothing, in points.
+    /// The length 0 pt.
     pub const ZERO: Measure = Measure {
         number: Number::ZERO,
         unit: Unit::Pt,
@@ -25,17 +25,17 @@ pub enum Turn {
     Right,
 }
 
-/// The result of an item of a specification (pstops manual, page specifications). The page is scaled first, then
-/// turned, then moved by the offset, to the right and up.
+/// The meaning of an item in a specification (pstops manual, page specifications). The page is scaled, then turned, then moved to the right and up by
+/// the offset.
 #[derive(Clone, Copy, Debug, PartialEq, Eq)]
 pub struct Item {
     /// The page's number in its block, counted from 0.
     pub page: u32,
-    /// Blocks are counted from the end.
+    /// Whether the block is counted from the end, which is written as a minus before the page number.
     pub from_end: bool,
     pub turn: Turn,
-    /// Greater than zero; 1 if no scale is written.
+    /// The scale, which is greater than zero. It is 1 if none is written.
     pub scale: Number,
-    /// Both are 0 pt if no offset is written.
+    /// The offset to the right and up. Both lengths are 0 pt if none is written.
     pub offset: (Measure, Measure),
 }

@@ -1,6 +1,5 @@
-//! Page specifications, as pstops takes them: which pages are on a sheet, in which order, and how they are turned,
-//! scaled and moved. A text is read once, refused with a named error if it isn't admissible, and written again in
-//! its canonical form.
+//! Page specifications of pstops. A specification says which pages are on a sheet, in which order, and how they are turned, scaled and moved. A text
+//! is read once. If it isn't admissible, it is refused with a named error. A specification can be written in its canonical form.
 #![tactic(auto)]
 
 mod check;

@@ -1,4 +1,4 @@
-//! An item as it is parsed: enough to find every fault, and the item itself if it has none.
+//! Items as they are parsed. A parsed item has enough to find every fault, and to make the item itself if there is no fault.
 ghost use Rattle.std.specs.Prelude.{◌≡◌, ◌∷◌, ◌++◌, [], List, Some, length, MatchResult, not, int_le, pos};
 ghost use Rattle.rules.specs.Specification.{IsItem, Modifier as WrittenModifier};
 ghost use Rattle.pagespec.specs.Places.{StuckIn, StuckAfter, AreSomeModifiers};
@@ -10,24 +10,24 @@ use crate::item::Measure;
 use crate::scan::{Modifier, ParseStop, Rest, read_modifier, rest_at};
 use lengths::{Number, read_digits};
 
-/// The result of an item's modifiers, as far as they were read.
+/// The meaning of an item's modifiers, as far as they were read.
 #[derive(Clone, Copy)]
 pub(crate) struct Modifiers {
-    /// Quarters to the left, modulo a full turn.
+    /// The number of quarter turns to the left, modulo 4.
     pub quarters: u8,
-    /// The first scale and the first offset.
+    /// The first scale and the first offset that are written.
     pub scale: Option<Number>,
     pub offset: Option<(Measure, Measure)>,
-    /// A number was too large; then only this and the turn are known.
+    /// Whether a number was too large. If so, only this field and the turns are known.
     pub too_large: bool,
-    /// Some scale isn't above zero.
+    /// Whether a scale isn't greater than zero.
     pub scale_zero: bool,
-    /// There is a second scale or a second offset.
+    /// Whether there is a second scale or a second offset.
     pub repeated: bool,
 }
 
 impl Modifiers {
-    /// The result of no modifiers.
+    /// The meaning of an item without modifiers.
     const NONE: Modifiers = Modifiers {
         quarters: 0,
         scale: None,
@@ -37,7 +37,7 @@ impl Modifiers {
         repeated: false,
     };
 
-    /// The result with one modifier more after them.
+    /// These modifiers, followed by one more.
     fn and(self, modifier: Modifier) -> Modifiers
         ensures { (ms : List WrittenModifier) (m : WrittenModifier)
             → Summarizes ms self → StandsFor modifier m → Summarizes (ms ++ m ∷ []) result }
@@ -81,7 +81,7 @@ pub(crate) struct ParsedItem {
     pub modifiers: Modifiers,
 }
 
-/// The item at the front, and what is left after it.
+/// Reads the item at the start of a text, and returns the text after it too.
 pub(crate) fn read_item(bytes: &[u8]) -> Result<(ParsedItem, Rest<'_>), ParseStop>
     ensures { MatchResult result (λ x. ItemRead bytes.now x.0 x.1.text.now
         × StuckAfter IsItem item_at bytes.now x.1.text.now x.1.stuck.left)
@@ -102,7 +102,7 @@ pub(crate) fn read_item(bytes: &[u8]) -> Result<(ParsedItem, Rest<'_>), ParseSto
     }
 }
 
-/// Whether there is a minus, and what follows it.
+/// Whether a text begins with a minus, and the text after that minus. A text without one stays whole.
 pub(crate) fn split_minus(bytes: &[u8]) -> (bool, &[u8])
     ensures minus { result.0 ≡ is_minus_first bytes.now }
     ensures rest { result.1.now ≡ past_minus bytes.now }
@@ -113,7 +113,7 @@ pub(crate) fn split_minus(bytes: &[u8]) -> (bool, &[u8])
     }
 }
 
-/// The result of the modifiers at the front, and what is left after them.
+/// Reads the modifiers at the start of a text, and returns the text after them too.
 pub(crate) fn read_modifiers(bytes: &[u8]) -> (Modifiers, Rest<'_>)
     ensures read { ModifiersRead bytes.now result.0 result.1.text.now }
     ensures stuck { StuckAfter AreSomeModifiers (λ t. Some (modifiers_at (length t) t))

@@ -1,4 +1,4 @@
-//! Reading a specification.
+//! Reading of specifications.
 ghost use Rattle.std.specs.Prelude.{◌≡◌, ◌≤◌, length, IfOk, IfErr, MatchResult};
 ghost use Rattle.rules.specs.Specification.{IsSpec};
 ghost use Rattle.rules.specs.Admissible.{Takes, most_slots};
@@ -19,12 +19,10 @@ use std::alloc::Global;
 /// The most bytes that a text may have.
 const MOST_BYTES: usize = 65_536;
 
-/// The specification that a text means (pstops manual, page specifications). A modulo that isn't written is 1; if
-/// the whole text is one item, its page number may be left out and is 0. Only the value of a number counts, however
-/// long it is.
+/// The specification that a text means (pstops manual, page specifications). A modulo that isn't written is 1. If the whole text is one item, its
+/// page number may be left out and is then 0. Only the value of a number counts, so it may have any number of leading zeros.
 ///
-/// Each check goes over the whole text. The first one that fails is named, with the lowest item or group at fault.
-/// The text is read only once.
+/// Each check covers the whole text. The first check that fails is reported, with the lowest item or group at fault. The text is read only once.
 pub fn read_spec(alloc: Global, text: &str) -> Result<Spec, SpecError>
     ensures taken { IfOk result (λ spec. Takes most_slots text.now spec) }
     ensures refused { IfErr result (IsRefusal text.now) }
@@ -51,7 +49,7 @@ pub fn read_spec(alloc: Global, text: &str) -> Result<Spec, SpecError>
     }
 }
 
-/// The modulo of a text, or 100,000 if it is larger, and its groups.
+/// The modulo of a text (100,000 if it is larger), and its groups.
 fn read_written(alloc: Global, bytes: &[u8]) -> Result<(u32, ParsedGroups), Stop>
     ensures { MatchResult result (λ x. WrittenRead bytes.now x.0 x.1) (IsStop IsSpec spec_at bytes.now) }
 {
@@ -60,7 +58,7 @@ fn read_written(alloc: Global, bytes: &[u8]) -> Result<(u32, ParsedGroups), Stop
     Ok((modulo, parsed))
 }
 
-/// The value of the digits before a colon, or 100,000 if it is larger, and what follows the colon.
+/// The modulo, which comes before a colon (100,000 if it is larger), and the text after the colon. If no modulo is written, it is 1.
 fn split_modulo(bytes: &[u8]) -> (u32, &[u8])
     ensures { ModuloRead bytes.now (past_modulo bytes.now) result.0 result.1.now }
 {

@@ -1,4 +1,4 @@
-//! Reading units, measures and modifiers off the front of a text.
+//! Reading of units, measures and modifiers at the start of a text.
 ghost use Rattle.std.specs.Prelude.{◌≡◌, ◌<◌, ◌∷◌, ℕ, length, Some, None, MatchResult, MatchOption};
 ghost use Rattle.rules.specs.Bytes.{at_sign, opening_parenthesis};
 ghost use Rattle.rules.specs.Numbers.{IsNumber};
@@ -13,32 +13,32 @@ ghost use Rattle.pagespec.specs.Views.{MeasureRead, ModifierRead, IsMeasureOf, S
 use crate::item::Measure;
 use lengths::{Number, NumberError, Unit, read_number};
 
-/// The place where a reader can't continue: in no text of the grammar does the next byte come here.
+/// A place in a text where reading can't go on, because no text of the grammar has the next byte there.
 #[derive(Clone, Copy)]
 pub(crate) struct ParseStop {
-    /// The number of bytes that are left there.
+    /// The number of bytes from this place to the end of the text.
     pub left: usize,
 }
 
-/// The text that is left after something was read.
+/// The text that is left after its start was read.
 #[derive(Clone, Copy)]
 pub(crate) struct Rest<'t> {
     pub text: &'t [u8],
-    /// Where a longer reading was stuck: at a byte of `text`, or at its end.
+    /// The place where reading more failed. It is at a byte of `text` or at its end.
     pub stuck: ParseStop,
 }
 
-/// A modifier as it is written. Of a number over 99,999 only its presence is kept.
+/// A modifier as it is written. If a number in it is over 99,999, its value isn't kept.
 #[derive(Clone, Copy)]
 pub(crate) enum Modifier {
-    /// This many quarters to the left.
+    /// A turn to the left by this number of quarters.
     Turn(u8),
     Scale(Number),
     Offset(Measure, Measure),
     TooLarge,
 }
 
-/// The modifier at the front, and what follows it.
+/// The modifier at the start of a text, and the text after it.
 pub(crate) fn read_modifier(bytes: &[u8]) -> Result<(Modifier, &[u8]), ParseStop>
     ensures { MatchResult result (λ x. ModifierRead bytes.now x.0 x.1.now)
         (λ stuck. StuckIn IsModifier modifier_at bytes.now stuck.left) }
@@ -62,7 +62,7 @@ pub(crate) fn read_modifier(bytes: &[u8]) -> Result<(Modifier, &[u8]), ParseStop
     }
 }
 
-/// The quarter turns of a letter; 0 if it is no turn.
+/// The number of quarter turns to the left that a letter means. It is 0 if the letter isn't a turn.
 fn quarters_of(letter: u8) -> u8
     ensures value { result ≡ quarters_of letter }
     ensures few { result < 4 }
@@ -75,7 +75,7 @@ fn quarters_of(letter: u8) -> u8
     }
 }
 
-/// A scale after its sign.
+/// Reads a scale whose `@` was read before.
 fn read_scale(bytes: &[u8]) -> Result<(Modifier, &[u8]), ParseStop>
     ensures { MatchResult result
         (λ x. (m : WrittenModifier) × (scale_at bytes.now ≡ Some (m, x.1.now)) × StandsFor x.0 m)
@@ -88,7 +88,7 @@ fn read_scale(bytes: &[u8]) -> Result<(Modifier, &[u8]), ParseStop>
     }
 }
 
-/// An offset after its opening parenthesis.
+/// Reads an offset whose opening parenthesis was read before.
 fn read_offset(bytes: &[u8]) -> Result<(Modifier, &[u8]), ParseStop>
     ensures { MatchResult result
         (λ x. (m : WrittenModifier) × (offset_at bytes.now ≡ Some (m, x.1.now)) × StandsFor x.0 m)
@@ -112,7 +112,7 @@ fn read_offset(bytes: &[u8]) -> Result<(Modifier, &[u8]), ParseStop>
     }
 }
 
-/// An offset of these two measures.
+/// The modifier for an offset by `x` and `y`. A measure is None if its number is too large.
 fn offset_of(x: Option<Measure>, y: Option<Measure>) -> Modifier
     ensures { (a b : WrittenMeasure) → IsMeasureOf x a → IsMeasureOf y b → StandsFor result (Moved a b) }
 {
@@ -122,7 +122,7 @@ fn offset_of(x: Option<Measure>, y: Option<Measure>) -> Modifier
     }
 }
 
-/// A number and a unit; None if the number is too large.
+/// Reads a number and its unit. The measure is None if the number is too large.
 fn read_measure(bytes: &[u8]) -> Result<(Option<Measure>, Rest<'_>), ParseStop>
     ensures { MatchResult result (λ x. MeasureRead bytes.now x.0 x.1.text.now
         × StuckAfter IsMeasure measure_at bytes.now x.1.text.now x.1.stuck.left)
@@ -141,8 +141,8 @@ fn read_measure(bytes: &[u8]) -> Result<(Option<Measure>, Rest<'_>), ParseStop>
     }
 }
 
-/// The unit at the front, which is points if there is none. If a unit has two letters, the text may end after the
-/// first.
+/// The unit at the start of a text, or points if there is none. If the text begins with the first letter of a two-letter unit, reading fails only
+/// after this letter.
 fn read_unit(bytes: &[u8]) -> (Unit, Rest<'_>)
     ensures unit { (unit_at bytes.now).0 ≡ length_unit result.0 }
     ensures rest { (unit_at bytes.now).1 ≡ result.1.text.now }
@@ -154,7 +154,7 @@ fn read_unit(bytes: &[u8]) -> (Unit, Rest<'_>)
     (unit, Rest { text, stuck })
 }
 
-/// The unit at the front, which is points if there is none, and what follows it.
+/// The unit at the start of a text, or points if there is none, and the text after it.
 fn split_unit(bytes: &[u8]) -> (Unit, &[u8])
     ensures unit { (unit_at bytes.now).0 ≡ length_unit result.0 }
     ensures rest { (unit_at bytes.now).1 ≡ result.1.now }
@@ -170,7 +170,7 @@ fn split_unit(bytes: &[u8]) -> (Unit, &[u8])
     }
 }
 
-/// The text after the first letter of a unit of two letters, if it begins with one.
+/// The text after the first letter of a two-letter unit. A text that doesn't begin with such a letter stays whole.
 fn past_letter(bytes: &[u8]) -> &[u8]
     ensures { result.now ≡ past_letter bytes.now }
 {
@@ -180,7 +180,7 @@ fn past_letter(bytes: &[u8]) -> &[u8]
     }
 }
 
-/// This rest, if nothing more could be read of it.
+/// A rest whose text can't be read any further: the place where reading failed is its start.
 pub(crate) fn rest_at(text: &[u8]) -> Rest<'_>
     ensures text { result.text.now ≡ text.now }
     ensures left { result.stuck.left ≡ length text.now }
@@ -191,7 +191,7 @@ pub(crate) fn rest_at(text: &[u8]) -> Rest<'_>
     }
 }
 
-/// The text after this byte, if it begins with it.
+/// The text after its first byte, if that is `byte`.
 pub(crate) fn read_byte(byte: u8, bytes: &[u8]) -> Option<&[u8]>
     ensures { MatchOption result (byte_at byte bytes.now ≡ None) (λ rest. byte_at byte bytes.now ≡ Some rest.now) }
 {
@@ -201,7 +201,7 @@ pub(crate) fn read_byte(byte: u8, bytes: &[u8]) -> Option<&[u8]>
     }
 }
 
-/// The place after a sign and a dot, if the text doesn't begin with a number.
+/// The place after a sign and a dot, at which reading fails if the text doesn't begin with a number.
 fn stop_in_number(bytes: &[u8]) -> ParseStop
     requires { number_at bytes.now ≡ None }
     ensures { StuckIn IsNumber number_at bytes.now result.left }
@@ -215,7 +215,7 @@ fn stop_in_number(bytes: &[u8]) -> ParseStop
     }
 }
 
-/// The text after a sign, if it begins with one.
+/// The text after its sign. A text that doesn't begin with a sign stays whole.
 fn past_sign(bytes: &[u8]) -> &[u8]
     ensures { result.now ≡ unsigned bytes.now }
 {

@@ -1,4 +1,4 @@
-//! The result of the items of a text, if they have no fault.
+//! The meaning of the items of a text that have no fault.
 ghost use Rattle.std.specs.Prelude.{◌≡◌, map, IfOk, unwrap_or};
 ghost use Rattle.rules.specs.Specification as rules;
 ghost use Rattle.pagespec.specs.Items.{item_of, turn_of, groups_of, measure_of};
@@ -9,7 +9,7 @@ use crate::parsed::ParsedItem;
 use lengths::Number;
 use std::alloc::{AllocError, Global};
 
-/// The groups of these lengths that the items form.
+/// The groups that the parsed items form. `lengths` has the number of items in each group.
 pub(crate) fn settled_groups(
     alloc: Global,
     parsed: &[ParsedItem],
@@ -28,7 +28,7 @@ pub(crate) fn settled_groups(
     Ok(groups)
 }
 
-/// One group of these items.
+/// One group that has these items.
 fn settled_group(alloc: Global, parsed: &[ParsedItem]) -> Result<Vec<Item>, AllocError>
     ensures { IfOk result (λ group. map item_of group.items ≡ map item_of_parsed parsed.now) }
 {
@@ -39,7 +39,7 @@ fn settled_group(alloc: Global, parsed: &[ParsedItem]) -> Result<Vec<Item>, Allo
     Ok(group)
 }
 
-/// The result of an item: the scale is 1 and the offset 0 pt and 0 pt if none is written.
+/// The meaning of an item. If no scale is written it is 1, and if no offset is written both of its lengths are 0 pt.
 fn settled_item(parsed: ParsedItem) -> Item
     ensures { item_of result ≡ item_of_parsed parsed }
 {
@@ -52,7 +52,7 @@ fn settled_item(parsed: ParsedItem) -> Item
     }
 }
 
-/// The turn by this many quarters to the left.
+/// The turn to the left by this number of quarters.
 fn turn_by(quarters: u8) -> Turn
     ensures { turn_of result ≡ rules.quarter_turn quarters }
 {
@@ -64,7 +64,7 @@ fn turn_by(quarters: u8) -> Turn
     }
 }
 
-/// This offset, or 0 pt and 0 pt.
+/// This offset, or one of 0 pt and 0 pt if there is none.
 fn offset_or_none(offset: Option<(Measure, Measure)>) -> (Measure, Measure)
     ensures { offset_of_parsed offset ≡ (measure_of result.0, measure_of result.1) }
 {

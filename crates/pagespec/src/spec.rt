@@ -1,4 +1,4 @@
-//! An admissible specification.
+//! Admissible specifications.
 ghost use Rattle.std.specs.Prelude.{◌≡◌};
 ghost use Rattle.rules.specs.Admissible.{IsAdmissible, most_slots};
 ghost use Rattle.pagespec.specs.Items.{groups_of};
@@ -7,8 +7,8 @@ ghost use Rattle.pagespec.specs.Made.{IsWritable};
 use crate::item::Item;
 use std::marker::Model;
 
-/// A specification that passed every check: the modulo, and for each sheet of a block the items on it. A contract
-/// sees it as the result of its text. An invariant of its type says that some text has this result.
+/// A specification that passed every check. It has the modulo and, for each sheet of a block, the items on that sheet. Contracts see it as the
+/// meaning of a text. The invariant of this type says that there is a text with this meaning.
 #[derive(Debug, Drop)]
 pub struct Spec {
     modulo: u32,
@@ -30,7 +30,7 @@ impl Model for Spec {
 }
 
 impl Spec {
-    /// The specification of this modulo and these groups.
+    /// The specification with this modulo and these groups.
     pub(crate) fn new(modulo: u32, groups: Vec<Vec<Item>>) -> Spec
         requires { IsAdmissible most_slots (record { modulo = modulo; groups = groups_of groups.items }) }
         ensures { result ≡ record { modulo = modulo; groups = groups_of groups.items } }
@@ -38,8 +38,8 @@ impl Spec {
         Spec { modulo, groups }
     }
 
-    /// The specification of this modulo and these groups, for programs that make one instead of reading it. The
-    /// caller has to show that it passes every check.
+    /// The specification with this modulo and these groups, for a program that makes one without reading it. The caller has to show that it passes
+    /// every check.
     pub fn of_groups(modulo: u32, groups: Vec<Vec<Item>>) -> Spec
         requires { IsWritable most_slots (record { modulo = modulo; groups = groups_of groups.items }) }
         ensures { result ≡ record { modulo = modulo; groups = groups_of groups.items } }
@@ -47,7 +47,7 @@ impl Spec {
         Spec::new(modulo, groups)
     }
 
-    /// The number of pages of a block, at least 1.
+    /// The number of pages in a block, at least 1.
     pub fn modulo(&self) -> u32
         ensures value { result ≡ self.now.modulo }
         ensures admissible { IsAdmissible most_slots self.now }
@@ -55,7 +55,7 @@ impl Spec {
         self.modulo
     }
 
-    /// The groups in order. Each is one sheet of every block; its items are in the order in which they are drawn.
+    /// The groups, in order. Each group is one sheet of every block. Its items are in the order in which they are drawn.
     pub fn groups(&self) -> &[Vec<Item>]
         ensures items { groups_of result.now ≡ self.now.groups }
         ensures admissible { IsAdmissible most_slots self.now }

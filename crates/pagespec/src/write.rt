@@ -1,4 +1,4 @@
-//! Writing a specification in its canonical form.
+//! Writing of a specification in its canonical form.
 ghost use Rattle.std.specs.Prelude.{◌≡◌, ◌&&◌, ◌∷◌, ◌++◌, [], ◌≤◌, decimal, map, flat_map, IfOk, OnOk, string_bytes};
 ghost use Rattle.std.specs.Str.{IsAscii};
 ghost use Rattle.rules.specs.Bytes.{comma, plus_sign};
@@ -13,9 +13,8 @@ use itoa::Buffer;
 use lengths::{Number, Unit, print_number};
 use std::alloc::{AllocError, Global};
 
-/// The canonical text of a specification. `read_spec` takes it and reads it as the same specification. It has the
-/// modulo if that isn't 1, page numbers without leading zeros, one letter for a turn, and no scale, offset or unit
-/// that changes nothing.
+/// The canonical text of a specification, from which `read_spec` reads the same specification. The text leaves out a modulo of 1, leading zeros of
+/// page numbers, and any scale, offset or unit that has no effect. A turn is one letter.
 pub fn write_spec(alloc: Global, spec: &Spec) -> Result<String, AllocError>
     ensures canonical { IfOk result (λ text. string_bytes text ≡ rules.canonical spec.now) }
     ensures taken { IfOk result (λ text. Takes most_slots (string_bytes text) spec.now) }
@@ -26,7 +25,7 @@ pub fn write_spec(alloc: Global, spec: &Spec) -> Result<String, AllocError>
     Ok(ascii_text(out))
 }
 
-/// The modulo and its colon, if it isn't 1.
+/// Appends the modulo and a colon, unless the modulo is 1.
 fn append_modulo(modulo: u32, out: &mut Vec<u8>) -> Result<(), AllocError>
     ensures { OnOk result (out.new.items ≡ out.old.items ++ rules.modulo_text modulo) }
 {
@@ -37,7 +36,7 @@ fn append_modulo(modulo: u32, out: &mut Vec<u8>) -> Result<(), AllocError>
     append_bytes(out, b":")
 }
 
-/// The groups with commas between them.
+/// Appends the groups, separated by commas.
 fn append_groups(groups: &[Vec<Item>], out: &mut Vec<u8>) -> Result<(), AllocError>
     ensures { OnOk result (out.new.items ≡ out.old.items ++ groups_text (groups_of groups.now)) }
 {
@@ -50,7 +49,7 @@ fn append_groups(groups: &[Vec<Item>], out: &mut Vec<u8>) -> Result<(), AllocErr
     }
 }
 
-/// Groups with a comma before each.
+/// Appends groups, each after a comma.
 fn append_more_groups(groups: &[Vec<Item>], out: &mut Vec<u8>) -> Result<(), AllocError>
     ensures { OnOk result (out.new.items ≡
         out.old.items ++ flat_map (λ g. comma ∷ group_text g) (groups_of groups.now)) }
@@ -62,7 +61,7 @@ fn append_more_groups(groups: &[Vec<Item>], out: &mut Vec<u8>) -> Result<(), All
     Ok(())
 }
 
-/// The items of a group with plus signs between them.
+/// Appends the items of a group, separated by plus signs.
 fn append_group(group: &[Item], out: &mut Vec<u8>) -> Result<(), AllocError>
     ensures { OnOk result (out.new.items ≡ out.old.items ++ group_text (map item_of group.now)) }
 {
@@ -75,7 +74,7 @@ fn append_group(group: &[Item], out: &mut Vec<u8>) -> Result<(), AllocError>
     }
 }
 
-/// Items with a plus sign before each.
+/// Appends items, each after a plus sign.
 fn append_more_items(items: &[Item], out: &mut Vec<u8>) -> Result<(), AllocError>
     ensures { OnOk result (out.new.items ≡
         out.old.items ++ flat_map (λ i. plus_sign ∷ rules.item_text i) (map item_of items.now)) }
@@ -97,7 +96,7 @@ fn append_item(item: &Item, out: &mut Vec<u8>) -> Result<(), AllocError>
     append_offset(&item.offset.0, &item.offset.1, out)
 }
 
-/// A minus before a page that is counted from the end.
+/// A minus if the page's block is counted from the end, or else an empty text.
 fn minus(from_end: bool) -> &'static [u8]
     ensures { result.now ≡ rules.minus_text from_end }
 {
@@ -115,7 +114,7 @@ fn turn_letter(turn: Turn) -> &'static [u8]
     }
 }
 
-/// The scale after its sign, if it isn't 1.
+/// Appends `@` and the scale, unless the scale is 1.
 fn append_scale_modifier(scale: Number, out: &mut Vec<u8>) -> Result<(), AllocError>
     ensures { OnOk result (out.new.items ≡ out.old.items ++ rules.scale_part scale) }
 {
@@ -126,7 +125,7 @@ fn append_scale_modifier(scale: Number, out: &mut Vec<u8>) -> Result<(), AllocEr
     print_number(scale, out)
 }
 
-/// The offset in parentheses, if it isn't 0 pt and 0 pt.
+/// Appends the offset in parentheses, unless it is 0 pt and 0 pt.
 fn append_offset(x: &Measure, y: &Measure, out: &mut Vec<u8>) -> Result<(), AllocError>
     ensures { OnOk result (out.new.items ≡ out.old.items ++ rules.offset_part (measure_of x.now) (measure_of y.now)) }
 {
@@ -161,7 +160,7 @@ fn is_points(unit: Unit) -> bool
     }
 }
 
-/// A number and its unit, unless that is points.
+/// Appends a number and its unit. Points are left out.
 fn append_measure(measure: &Measure, out: &mut Vec<u8>) -> Result<(), AllocError>
     ensures { OnOk result (out.new.items ≡ out.old.items ++ rules.measure_text (measure_of measure.now)) }
 {
@@ -182,7 +181,7 @@ fn unit_name(unit: Unit) -> &'static [u8]
     }
 }
 
-/// A number that isn't below zero, in decimal.
+/// Appends a number in decimal, which can't be negative.
 fn append_count(count: u32, out: &mut Vec<u8>) -> Result<(), AllocError>
     ensures { OnOk result (out.new.items ≡ out.old.items ++ decimal count) }
 {
@@ -196,7 +195,7 @@ fn append_bytes(out: &mut Vec<u8>, text: &[u8]) -> Result<(), AllocError>
     out.extend_from_slice(text)
 }
 
-/// These bytes as a text.
+/// These bytes as a string. The caller has to show that they are ASCII.
 fn ascii_text(bytes: Vec<u8>) -> String
     requires { IsAscii bytes.items }
     ensures { string_bytes result ≡ bytes.items }

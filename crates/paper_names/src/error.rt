@@ -1,12 +1,12 @@
-//! Why a text means no paper.
+//! Why a text names no paper.
 
-/// Why a text means no paper.
+/// Why a text names no paper.
 #[derive(Clone, Copy, Debug, PartialEq, Eq)]
 pub enum PaperError {
-    /// It is no name, and no width and height with an `x` between them.
+    /// The text is neither a known name nor a width and a height with an `x` between them.
     Unknown,
     /// No unit follows the height.
     NoUnit,
-    /// A side is zero, negative or too long.
+    /// A side is zero or negative, or longer than a side of a paper may be.
     NoSuchSize,
 }

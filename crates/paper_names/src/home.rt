@@ -1,12 +1,13 @@
-//! The paper at home.
+//! The system's default paper.
 ghost use Rattle.std.specs.Prelude.{◌≡◌, ◌≤◌, false, length};
 ghost use Rattle.paper_names.specs.Home as meaning;
 
 use crate::names::paper_by_name;
 use lengths::{Paper, a4};
 
-/// The paper that is usual where the program runs: that of the variable `PAPERSIZE`, else that of the first word of `/etc/papersize` outside of
-/// comments, else a4. A text that names no paper doesn't count. A missing one is empty.
+/// The system's default paper. It is the one that the variable `PAPERSIZE` names, or else the one that the first word outside comments in
+/// `/etc/papersize` names, or else a4. A text that names no paper is passed over. If the variable or the file is missing, the caller passes an empty
+/// text.
 pub fn default_paper(variable: &[u8], file: &[u8]) -> Paper
     ensures { result ≡ meaning.default_paper variable.now file.now }
 {
@@ -19,14 +20,14 @@ pub fn default_paper(variable: &[u8], file: &[u8]) -> Paper
     }
 }
 
-/// The first word outside of comments; it may be empty.
+/// The first word of a text outside comments. It is empty if there is none.
 fn first_word(text: &[u8]) -> &[u8]
     ensures { result.now ≡ meaning.first_word text.now }
 {
     word_at(from_word(text))
 }
 
-/// The text from its first word on.
+/// The rest of a text, from its first word outside comments on.
 fn from_word(text: &[u8]) -> &[u8]
     ensures { result.now ≡ meaning.from_word false text.now }
 {
@@ -42,7 +43,7 @@ fn from_word(text: &[u8]) -> &[u8]
     rest
 }
 
-/// Whether the byte after this one is in a comment.
+/// Whether the next byte is in a comment. `comment` says whether `byte` itself is in one.
 fn is_comment_after(comment: bool, byte: u8) -> bool
     ensures { result ≡ meaning.is_comment_after comment byte }
 {
@@ -56,7 +57,7 @@ fn is_of_word(byte: u8) -> bool
     !(byte.is_ascii_whitespace() || byte == b'#')
 }
 
-/// The word that the text begins with.
+/// The word at the start of a text. It is empty if the text doesn't begin with a word.
 fn word_at(text: &[u8]) -> &[u8]
     ensures { result.now ≡ meaning.word_at text.now }
 {
@@ -64,7 +65,7 @@ fn word_at(text: &[u8]) -> &[u8]
     word
 }
 
-/// The length of this word.
+/// The length in bytes of the word at the start of a text.
 fn word_len(text: &[u8]) -> usize
     ensures value { result ≡ meaning.word_len text.now }
     ensures within { result ≤ length text.now }

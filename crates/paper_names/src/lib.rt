@@ -1,4 +1,4 @@
-//! Papers as people name them: by a name, by a size, and the one that is usual at home.
+//! Papers as users name them: by name or by size. A user who names none gets the system's default paper.
 #![tactic(auto)]
 
 mod error;

@@ -1,4 +1,4 @@
-//! Papers by their names.
+//! Papers by name.
 ghost use Rattle.std.specs.Prelude.{◌≡◌, ◌<◌, ◌∷◌, [], map, option_map, MatchOption, Some, true};
 ghost use Rattle.std.specs.List.{list_all};
 ghost use Rattle.std.specs.Char.{to_ascii_lowercase};
@@ -9,7 +9,7 @@ ghost use Rattle.paper_names.specs.Names.{entry, is_word, letters, listed, paper
 
 use lengths::{Grains, Paper};
 
-/// The names, with width and height in points.
+/// The names of papers, each with its width and height in points.
 const PAPERS: [(&str, u32, u32); 34] = [
     ("a0", 2384, 3370),
     ("a1", 1684, 2384),
@@ -47,11 +47,11 @@ const PAPERS: [(&str, u32, u32); 34] = [
     ("10x14", 720, 1008),
 ];
 
-/// The grains of one point.
+/// The number of grains in a point.
 const GRAINS_OF_POINT: i128 = 127_000_000_000;
 
-/// The paper of this name, one of the table. Capitals don't matter, nor do blanks, minuses and underscores, nor `din`, `iso` or `us` in front.
-/// `landscape` or `quer` at the end turns the paper on its side.
+/// The paper of the table with this name. Capitals, blanks, minuses and underscores make no difference, and `din`, `iso` or `us` may come first.
+/// `landscape` or `quer` at the end exchanges width and height. Any other name gives None.
 pub fn paper_by_name(name: &[u8]) -> Option<Paper>
     ensures { result ≡ paper_named name.now }
 {
@@ -61,7 +61,7 @@ pub fn paper_by_name(name: &[u8]) -> Option<Paper>
     }
 }
 
-/// The names of the table, with a comma between two.
+/// The names in the table, separated by commas.
 #[tactic(auto, unfolding(crate::specs::Names::papers))]
 pub fn name_list() -> &'static str
     ensures { result.now ≡ listed papers }
@@ -70,7 +70,7 @@ pub fn name_list() -> &'static str
     letter, legal, tabloid, ledger, statement, executive, folio, quarto, 10x14"
 }
 
-/// The paper of the table with this name, upright.
+/// The paper of the table with this name. A word at the end that exchanges width and height isn't looked for.
 #[tactic(auto, unfolding(crate::specs::Names::papers))]
 pub(crate) fn upright_paper(name: &[u8]) -> Option<Paper>
     ensures { result ≡ meaning.upright_named name.now }
@@ -78,7 +78,7 @@ pub(crate) fn upright_paper(name: &[u8]) -> Option<Paper>
     paper_in(&PAPERS, behind_maker(name))
 }
 
-/// The paper of the first of these rows with this name.
+/// The paper of the first row with this name.
 fn paper_in(rows: &[(&str, u32, u32)], name: &[u8]) -> Option<Paper>
     requires sides { list_all sides_fit rows.now ≡ true }
     ensures { result ≡ paper_among (map entry rows.now) (letters name.now) }
@@ -92,7 +92,7 @@ fn paper_in(rows: &[(&str, u32, u32)], name: &[u8]) -> Option<Paper>
     None
 }
 
-/// Whether a text is this name or word, which has no capitals.
+/// Whether a text is the name or word `known`, which has no capitals. Capitals in the text, and bytes between its letters, make no difference.
 pub(crate) fn is_named(text: &[u8], known: &[u8]) -> bool
     ensures { result ≡ is_word known.now text.now }
 {
@@ -102,7 +102,7 @@ pub(crate) fn is_named(text: &[u8], known: &[u8]) -> bool
     }
 }
 
-/// Whether a text consists of bytes that may come between letters.
+/// Whether a text has only bytes that may come between the letters of a name.
 fn has_no_letter(text: &[u8]) -> bool
     ensures { result ≡ is_empty (letters text.now) }
 {
@@ -112,7 +112,7 @@ fn has_no_letter(text: &[u8]) -> bool
     }
 }
 
-/// The name without the word for the makers of a paper at its start, if there is one.
+/// The name without the `din`, `iso` or `us` that it begins with, or the whole name if it begins with none of them.
 fn behind_maker(name: &[u8]) -> &[u8]
     ensures { letters result.now ≡ meaning.behind_maker (letters name.now) }
 {
@@ -128,7 +128,7 @@ fn behind_maker(name: &[u8]) -> &[u8]
     }
 }
 
-/// The text after this word, which has no capitals, if it begins with it.
+/// The text after `word`, if the text begins with it. `word` has no capitals.
 fn after_word<'t>(text: &'t [u8], word: &[u8]) -> Option<&'t [u8]>
     ensures { option_map (λ rest. letters rest.now) result ≡ meaning.after_word word.now (letters text.now) }
 {
@@ -168,7 +168,7 @@ fn is_between(byte: u8) -> bool
     (byte == b' ' || byte == b'\t') || (byte == b'-' || byte == b'_')
 }
 
-/// The text before the word that turns a paper on its side, if it ends with one.
+/// The text before the word at its end that exchanges width and height. It is None if the text doesn't end with such a word.
 pub(crate) fn upright_part(text: &[u8]) -> Option<&[u8]>
     ensures { option_map (λ front. front.now) result ≡ meaning.upright_part text.now }
 {
@@ -178,7 +178,7 @@ pub(crate) fn upright_part(text: &[u8]) -> Option<&[u8]>
     }
 }
 
-/// The text before this ending.
+/// The text before `ending`, if the text ends with it, in capitals or not.
 fn before_ending<'t>(text: &'t [u8], ending: &[u8]) -> Option<&'t [u8]>
     requires { map to_ascii_lowercase ending.now ≡ ending.now }
     ensures { option_map (λ front. front.now) result ≡ meaning.before_ending ending.now text.now }
@@ -191,14 +191,14 @@ fn before_ending<'t>(text: &'t [u8], ending: &[u8]) -> Option<&'t [u8]>
     }
 }
 
-/// The paper on its side.
+/// The paper with its width and height exchanged, if there is a paper.
 fn turned_paper(paper: Option<Paper>) -> Option<Paper>
     ensures { result ≡ option_map turned paper }
 {
     Some(paper?.turned())
 }
 
-/// A paper of this many points.
+/// The paper that is `width` points wide and `height` points high.
 fn paper_of_points(width: u32, height: u32) -> Option<Paper>
     requires width { (0 < width) × (width < 7_200_000) }
     requires height { (0 < height) × (height < 7_200_000) }

@@ -1,4 +1,4 @@
-//! Papers by names and sizes.
+//! Papers by name or size.
 ghost use Rattle.std.specs.Prelude.{◌≡◌, ◌≤◌, length, option_and_then, option_map};
 ghost use Rattle.std.specs.List.{prefix_len};
 ghost use Rattle.rules.specs.Units.{is_blank};
@@ -10,18 +10,19 @@ use crate::error::PaperError;
 use crate::names::{is_named, upright_paper, upright_part};
 use lengths::{Grains, Number, Paper, Unit, a4, read_number, to_grains};
 
-/// A number, and the unit after it, if there is one.
+/// A side as a text has it: a number, and its unit if the text has one.
 #[derive(Clone, Copy, Debug, PartialEq, Eq)]
 struct Side {
     number: Number,
     unit: Option<Unit>,
 }
 
-/// The paper that a text means: the one with this name (`paper_by_name`), or with the width and height at its end, with an `x` between them.
-/// `landscape` or `quer` after it exchanges the sides.
+/// The paper that a text means. It is the paper with this name (see `paper_by_name`), or the one with the width and height at the end of the text,
+/// which have an `x` between them. `landscape` or `quer` after that exchanges width and height.
 ///
-/// A side is a number up to 99,999.999999999 with `pt`, `cm`, `mm`, `in`, `inch` or `"` after it. A unit after the height alone holds for both, as in
-/// `210x297mm`. `X`, `*` and `×` may replace the `x`. A name and an underscore may come first and are passed over: `iso_a4_210x297mm`.
+/// A side is a number up to 99,999.999999999 with `pt`, `cm`, `mm`, `in`, `inch` or `"` after it. If only the height has a unit, it holds for the
+/// width too, as in `210x297mm`. `X`, `*` and `×` may replace the `x`. A name and an underscore before the size are passed over, as in
+/// `iso_a4_210x297mm`. If a text means no paper, the error says why.
 pub fn read_paper(text: &[u8]) -> Result<Paper, PaperError>
     ensures { result ≡ meaning.paper_of text.now }
 {
@@ -31,7 +32,7 @@ pub fn read_paper(text: &[u8]) -> Result<Paper, PaperError>
     }
 }
 
-/// The paper of a text without the word that turns it on its side.
+/// The paper that a text means, if the text doesn't end with a word that exchanges width and height.
 fn read_upright(text: &[u8]) -> Result<Paper, PaperError>
     ensures { result ≡ meaning.upright_paper text.now }
 {
@@ -41,7 +42,7 @@ fn read_upright(text: &[u8]) -> Result<Paper, PaperError>
     }
 }
 
-/// The paper on its side.
+/// The paper with its width and height exchanged, or the same error.
 fn on_its_side(paper: Result<Paper, PaperError>) -> Result<Paper, PaperError>
     ensures { result ≡ meaning.on_its_side paper }
 {
@@ -51,7 +52,7 @@ fn on_its_side(paper: Result<Paper, PaperError>) -> Result<Paper, PaperError>
     }
 }
 
-/// The text after the last underscore, unless it ends there; else the whole text.
+/// The text after its last underscore, where an underscore at the end doesn't count. Without an underscore it is the whole text.
 fn last_part(text: &[u8]) -> &[u8]
     ensures { result.now ≡ meaning.last_part text.now text.now }
 {
@@ -66,7 +67,7 @@ fn last_part(text: &[u8]) -> &[u8]
     part
 }
 
-/// The paper of a width and a height, with a sign between them.
+/// The paper whose width and height a text has, with an `x` or another sign between them.
 fn size_of(text: &[u8]) -> Result<Paper, PaperError>
     ensures { result ≡ meaning.size_of text.now }
 {
@@ -74,7 +75,7 @@ fn size_of(text: &[u8]) -> Result<Paper, PaperError>
     size_of_both(side_of(width), side_behind(rest))
 }
 
-/// The place of the first sign between two sides, or the end.
+/// The index of the first sign that may be between a width and a height, or the length of the text if there is none.
 fn x_at(text: &[u8]) -> usize
     ensures value { result ≡ meaning.x_at text.now }
     ensures within { result ≤ length text.now }
@@ -84,7 +85,7 @@ fn x_at(text: &[u8]) -> usize
         .count()
 }
 
-/// The side after the sign at the start of a text.
+/// The side that follows the sign at the start of a text.
 fn side_behind(text: &[u8]) -> Option<Side>
     ensures { option_map (λ s. (s.number, option_map length_unit s.unit)) result
         ≡ option_and_then meaning.side_of (meaning.behind_cross text.now) }
@@ -92,7 +93,7 @@ fn side_behind(text: &[u8]) -> Option<Side>
     side_of(behind_cross(text)?)
 }
 
-/// The text after the sign at its start.
+/// The text after the `x`, `X`, `*` or `×` at its start. It is None if the text doesn't begin with one of these signs.
 fn behind_cross(text: &[u8]) -> Option<&[u8]>
     ensures { option_map (λ rest. rest.now) result ≡ meaning.behind_cross text.now }
 {
@@ -104,7 +105,7 @@ fn behind_cross(text: &[u8]) -> Option<&[u8]>
     }
 }
 
-/// The text after the second byte of a multiplication sign, if it begins with one.
+/// The text after the second byte of a `×`, which has two bytes in UTF-8. It is None if the text doesn't begin with that byte.
 fn behind_second(text: &[u8]) -> Option<&[u8]>
     ensures { option_map (λ rest. rest.now) result ≡ meaning.behind_second text.now }
 {
@@ -112,7 +113,7 @@ fn behind_second(text: &[u8]) -> Option<&[u8]>
     if *second == 0x97 { Some(rest) } else { None }
 }
 
-/// The side that a text names.
+/// The side that a text means, or None if it means no side.
 fn side_of(text: &[u8]) -> Option<Side>
     ensures { option_map (λ s. (s.number, option_map length_unit s.unit)) result ≡ meaning.side_of text.now }
 {
@@ -129,7 +130,7 @@ fn side_of(text: &[u8]) -> Option<Side>
     })
 }
 
-/// The number of blanks at the front.
+/// The number of blanks at the start of a text.
 fn blanks_at(text: &[u8]) -> usize
     ensures value { result ≡ prefix_len is_blank text.now }
     ensures within { result ≤ length text.now }
@@ -139,7 +140,7 @@ fn blanks_at(text: &[u8]) -> usize
         .count()
 }
 
-/// The unit of this name.
+/// The unit with this name: `pt`, `cm`, `mm`, `in`, `inch` or `"`.
 fn unit_of(name: &[u8]) -> Option<Unit>
     ensures { option_map length_unit result ≡ meaning.unit_of name.now }
 {
@@ -162,7 +163,7 @@ fn is_inch(name: &[u8]) -> bool
     is_named(name, b"in") || (is_named(name, b"inch") || is_named(name, b"\""))
 }
 
-/// The paper of two sides, if both are there.
+/// The paper of two sides, if both could be read. A width without a unit has that of the height.
 fn size_of_both(width: Option<Side>, height: Option<Side>) -> Result<Paper, PaperError>
     ensures { result ≡ meaning.size_of_both
         (option_map (λ s. (s.number, option_map length_unit s.unit)) width)
@@ -185,7 +186,7 @@ fn size_of_sides(width: Side, height: Side) -> Result<Paper, PaperError>
     }
 }
 
-/// The paper of these numbers of units. No unit depends on a paper.
+/// The paper whose width is a number of units `u` and whose height is a number of units `v`. None of these units depends on a paper.
 fn in_units(width: Number, u: Unit, height: Number, v: Unit) -> Result<Paper, PaperError>
     ensures { result ≡ meaning.in_units width (length_unit u) height (length_unit v) }
 {
