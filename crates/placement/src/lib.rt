@@ -1,4 +1,4 @@
-//! Where the page of an item is on its sheet: the matrix that puts it there, and the texts before and after it.
+//! The placement of a page on its sheet: the matrix that puts the page there, and the texts before and after the page.
 #![tactic(auto)]
 
 pub mod laws;

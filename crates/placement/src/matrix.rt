@@ -6,8 +6,8 @@ ghost use Rattle.rules.specs.Placement.{put, applied, matrix_of};
 
 use lengths::{Grains, Number};
 
-/// The matrix `[a b c d tx ty]` of PostScript (Language Reference, coordinate systems and transformations): it sends
-/// the point (x, y) to (a x + c y + tx, b x + d y + ty). The shift is kept in grains.
+/// The matrix `[a b c d tx ty]` of PostScript (Language Reference, coordinate systems and transformations). It sends the point (x, y) to (a x + c y +
+/// tx, b x + d y + ty). The shift (tx, ty) is kept in grains.
 #[derive(Clone, Copy, Debug, PartialEq, Eq)]
 pub struct Matrix {
     pub a: Number,
@@ -21,7 +21,7 @@ pub struct Matrix {
 impl Matrix {
     ghost use Rattle.placement.specs.Matrices.{matrix_value, point};
 
-    /// Where the matrix sends a whole point, in grains.
+    /// The place, in grains, to which the matrix sends a point. `x` and `y` are whole numbers of points.
     pub fn apply(&self, x: i32, y: i32) -> (i128, i128)
         ensures sent { point result.0 result.1 ≡ applied (matrix_value self.now) (point x y) }
 
@@ -36,14 +36,14 @@ impl Matrix {
     }
 }
 
-/// One coordinate of the point that a matrix sends (x, y) to, in grains.
+/// One coordinate, in grains, of the place to which a matrix sends the point (x, y).
 fn sent(first: Number, x: i32, second: Number, y: i32, shift: Grains) -> i128
     ensures { result ≡ shift +ℤ pos 127 *ℤ (first *ℤ x +ℤ second *ℤ y) }
 {
     shift.get() + 127 * (times(first, x) + times(second, y))
 }
 
-/// A number of 10^-9 times a whole number.
+/// A number times a whole number, as a multiple of 10^-9.
 fn times(number: Number, factor: i32) -> i128
     ensures value { result ≡ number *ℤ factor }
     ensures in_range { nat_abs result ≤ 10 ^ 24 }

@@ -1,4 +1,4 @@
-//! The texts around a placed page. Each is appended whole or not at all.
+//! The texts around a placed page. Each text is appended as a whole or not at all.
 ghost use Rattle.std.specs.Prelude.{◌≡◌, ◌+◌, ◌<◌, ◌≤◌, ◌++◌, ◌-ℤ◌, length, OnOk, OnErr, vec_len};
 ghost use Rattle.std.specs.Prelude.{vec_capacity, take};
 ghost use Rattle.rules.specs.Numbers.{scale_text, points_text};
@@ -17,7 +17,7 @@ use pagespec::Item;
 use std::alloc::AllocError;
 use std::marker::Model;
 
-/// A coordinate of a path, in grains: a length, or the difference of two.
+/// A coordinate of a path, in grains. It is a length or the difference of two lengths.
 #[derive(Clone, Copy)]
 struct Coordinate {
     grains: i128,
@@ -44,7 +44,7 @@ impl Coordinate {
         }
     }
 
-    /// The difference of two lengths.
+    /// The length `to` minus the length `from`.
     fn between(from: Grains, to: Grains) -> Coordinate
         ensures { result ≡ to -ℤ from }
     {
@@ -54,8 +54,8 @@ impl Coordinate {
     }
 }
 
-/// Appends the six numbers of a matrix in brackets: the first four in full, the shift in points, rounded to five
-/// decimals. If memory is refused, nothing is appended.
+/// Appends the six numbers of a matrix in brackets. The first four numbers aren't rounded. The shift is in points, rounded to five decimals. If
+/// memory is refused, nothing is appended.
 pub fn matrix_text(matrix: &Matrix, out: &mut Vec<u8>) -> Result<(), AllocError>
     ensures appended { OnOk result (out.new.items ≡ out.old.items ++ text_of (matrix_value matrix.now)) }
     ensures unchanged { OnErr result (out.new.items ≡ out.old.items) }
@@ -67,9 +67,9 @@ pub fn matrix_text(matrix: &Matrix, out: &mut Vec<u8>) -> Result<(), AllocError>
     undo_if_refused(appended, len, out)
 }
 
-/// Appends what comes before a page placed by this item: its `save`, a `showpage` that does nothing, the matrix,
-/// and a clip to the paper, which is placed with the page. If a border is asked for, a line that draws one of this
-/// width along the paper's edges follows. If memory is refused, nothing is appended.
+/// Appends the text before a page that is placed by this item. It has a `save`, a `showpage` that does nothing, the matrix, and a clip to the page's
+/// paper, which is placed with the page. If `border` has a line width, a line follows that draws a border along the edges of this paper. If memory is
+/// refused, nothing is appended.
 pub fn opening_text(
     item: &Item,
     paper: &Paper,
@@ -85,7 +85,8 @@ pub fn opening_text(
     opening_within(item, paper, border, Grains::ZERO, out)
 }
 
-/// The same, with a border this far within each edge. The clip is still to the whole paper.
+/// Appends the text of `opening_text` with a border that is `inset` away from each edge, inside the paper. The clip is still to the whole paper. If
+/// memory is refused, nothing is appended.
 pub fn opening_within(
     item: &Item,
     paper: &Paper,
@@ -105,7 +106,7 @@ pub fn opening_within(
     undo_if_refused(appended, len, out)
 }
 
-/// Appends what comes after a placed page: the `restore` of its `save`. If memory is refused, nothing is appended.
+/// Appends the text after a placed page, which restores what its `save` kept. If memory is refused, nothing is appended.
 pub fn closing_text(out: &mut Vec<u8>) -> Result<(), AllocError>
     ensures appended { OnOk result (out.new.items ≡ out.old.items ++ closing) }
     ensures unchanged { OnErr result (out.new.items ≡ out.old.items) }
@@ -115,7 +116,7 @@ pub fn closing_text(out: &mut Vec<u8>) -> Result<(), AllocError>
     out.extend_from_slice(b"ImposeSave restore\n")
 }
 
-/// Removes what is after this length, if an append was refused.
+/// Shortens `out` to the length `len` if an append was refused.
 fn undo_if_refused(
     appended: Result<(), AllocError>,
     len: usize,
@@ -152,7 +153,7 @@ fn append_opening(
     append_border(paper, border, inset, out)
 }
 
-/// The `save`, the `showpage` that does nothing, and the matrix.
+/// Appends the `save`, the `showpage` that does nothing, and the matrix.
 #[tactic(auto, using(crate::proofs::Keeping::keeps_more))]
 fn append_placing(item: &Item, paper: &Paper, out: &mut Vec<u8>) -> Result<(), AllocError>
     ensures appended { OnOk result (out.new.items ≡ out.old.items ++ placing_text paper.now (item_of item.now)) }
@@ -180,7 +181,7 @@ fn append_matrix(matrix: &Matrix, out: &mut Vec<u8>) -> Result<(), AllocError>
     append_plain_text(b"]", out)
 }
 
-/// The opening bracket and the first four numbers.
+/// Appends the opening bracket and the first four numbers of a matrix.
 #[tactic(auto, using(crate::proofs::Keeping::keeps_more))]
 fn append_scales(matrix: &Matrix, out: &mut Vec<u8>) -> Result<(), AllocError>
     ensures appended { OnOk result (out.new.items ≡ out.old.items ++ scales_text (matrix_value matrix.now)) }
@@ -194,7 +195,7 @@ fn append_scales(matrix: &Matrix, out: &mut Vec<u8>) -> Result<(), AllocError>
     append_scale(b" ", matrix.d, out)
 }
 
-/// Appends the line that draws a border this far within the paper's edges, if a border is asked for.
+/// Appends the line that draws a border at the distance `inset` inside the paper's edges, if `border` has a line width.
 #[tactic(auto, using(crate::proofs::Keeping::keeps_more))]
 fn append_border(
     paper: &Paper,
@@ -216,7 +217,7 @@ fn append_border(
     append_plain_text(b" stroke grestore\n", out)
 }
 
-/// Appends the path this far within the paper's edges.
+/// Appends the path at the distance `inset` inside the paper's edges.
 #[tactic(auto, using(crate::proofs::Keeping::keeps_more))]
 fn append_inner(paper: &Paper, inset: Grains, out: &mut Vec<u8>) -> Result<(), AllocError>
     ensures appended { OnOk result (out.new.items ≡ out.old.items
@@ -231,7 +232,7 @@ fn append_inner(paper: &Paper, inset: Grains, out: &mut Vec<u8>) -> Result<(), A
     append_path(low, right, top, out)
 }
 
-/// The path around the paper.
+/// Appends the path along the paper's edges.
 #[tactic(auto, using(crate::proofs::Keeping::keeps_more))]
 fn append_edge(paper: &Paper, out: &mut Vec<u8>) -> Result<(), AllocError>
     ensures appended { OnOk result (out.new.items ≡ out.old.items ++ edge_text paper.now) }
@@ -244,7 +245,7 @@ fn append_edge(paper: &Paper, out: &mut Vec<u8>) -> Result<(), AllocError>
     append_path(low, right, top, out)
 }
 
-/// The path around a rectangle.
+/// Appends the path around a rectangle. Its left and lower edges are both at `low`.
 #[tactic(auto, using(crate::proofs::Keeping::keeps_more))]
 fn append_path(
     low: Coordinate,
@@ -263,7 +264,7 @@ fn append_path(
     append_plain_text(b" lineto closepath", out)
 }
 
-/// A text followed by a corner of a path.
+/// Appends a text and, after it, a corner of a path.
 #[tactic(auto, using(crate::proofs::Keeping::keeps_more))]
 fn append_corner(
     text: &[u8],
@@ -279,7 +280,7 @@ fn append_corner(
     append_coordinate(b" ", y, out)
 }
 
-/// A text followed by a number in full.
+/// Appends a text and, after it, a number with all of its decimals.
 #[tactic(auto, using(crate::proofs::Keeping::keeps_more))]
 fn append_scale(text: &[u8], scale: Number, out: &mut Vec<u8>) -> Result<(), AllocError>
     ensures appended { OnOk result (out.new.items ≡ out.old.items ++ (text.now ++ scale_text scale)) }
@@ -290,7 +291,7 @@ fn append_scale(text: &[u8], scale: Number, out: &mut Vec<u8>) -> Result<(), All
     print_scale(scale, out)
 }
 
-/// A text followed by a length in points.
+/// Appends a text and, after it, a length in points.
 #[tactic(auto, using(crate::proofs::Keeping::keeps_more))]
 fn append_length(text: &[u8], grains: Grains, out: &mut Vec<u8>) -> Result<(), AllocError>
     ensures appended { OnOk result (out.new.items ≡ out.old.items ++ (text.now ++ points_text grains)) }
@@ -301,7 +302,7 @@ fn append_length(text: &[u8], grains: Grains, out: &mut Vec<u8>) -> Result<(), A
     print_points(grains, out)
 }
 
-/// A text followed by a coordinate in points.
+/// Appends a text and, after it, a coordinate in points.
 #[tactic(auto, using(crate::proofs::Keeping::keeps_more))]
 fn append_coordinate(text: &[u8], x: Coordinate, out: &mut Vec<u8>) -> Result<(), AllocError>
     ensures appended { OnOk result (out.new.items ≡ out.old.items ++ (text.now ++ points_text x)) }
@@ -312,7 +313,7 @@ fn append_coordinate(text: &[u8], x: Coordinate, out: &mut Vec<u8>) -> Result<()
     print_grains(x.grains, out)
 }
 
-/// A text.
+/// Appends a text.
 fn append_plain_text(text: &[u8], out: &mut Vec<u8>) -> Result<(), AllocError>
     ensures appended { OnOk result (out.new.items ≡ out.old.items ++ text.now) }
     ensures full { OnErr result (vec_capacity out.old < vec_len out.old + length text.now) }

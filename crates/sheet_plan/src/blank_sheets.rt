@@ -1,4 +1,4 @@
-//! The sheets that have no page.
+//! The sheets without pages.
 ghost use Rattle.std.specs.Prelude.{◌≡◌, ◌<◌, length, IfOk};
 ghost use Rattle.rules.specs.Sheets.{layout};
 ghost use Rattle.sheet_plan.specs.Places.{is_blank_sheet, born_complete};
@@ -7,7 +7,7 @@ ghost use Rattle.sheet_plan.specs.Sources.{plan_from, IsPlannable};
 use crate::source::PlanSource;
 use std::alloc::{AllocError, Global};
 
-/// The sheets whose slots are all blank, ascending.
+/// The sheets whose slots are all blank, in ascending order.
 pub(crate) fn blank_sheets_in(alloc: Global, source: &PlanSource) -> Result<Vec<u32>, AllocError>
     requires { IsPlannable source.now }
     ensures { IfOk result (λ v. v.items ≡ born_complete (layout (plan_from source.now))) }
@@ -21,7 +21,7 @@ pub(crate) fn blank_sheets_in(alloc: Global, source: &PlanSource) -> Result<Vec<
     Ok(blank_sheets)
 }
 
-/// Tests that no slot of a sheet has a page.
+/// Whether no slot of a sheet has a page.
 fn is_blank_sheet(source: &PlanSource, sheet: u32) -> bool
     requires plannable { IsPlannable source.now }
     requires sheet { sheet < length (plan_from source.now).sheets }

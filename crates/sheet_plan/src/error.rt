@@ -1,8 +1,8 @@
 //! Why a plan is refused.
 use thiserror::Error;
 
-/// Why a specification can't be planned on a number of pages. The limits are tested in this order, before any memory is
-/// asked for.
+/// Why the sheets of a specification can't be planned for a number of pages. The limits are tested in the order of this enum, before any memory is
+/// requested.
 #[derive(Clone, Copy, Debug, PartialEq, Eq, Error)]
 pub enum PlanError {
     /// There are over 1,000,000 pages.
@@ -19,8 +19,8 @@ pub enum PlanError {
     NoMemory,
 }
 
-/// Why sheets that were made can't be planned on a number of pages. The faults are looked for in this order, before any
-/// memory is asked for; a sheet is counted from 0.
+/// Why sheets that a caller made can't be planned for a number of pages. The faults are looked for in the order of this enum, before any memory is
+/// requested. Sheets are counted from 0.
 #[derive(Clone, Copy, Debug, PartialEq, Eq, Error)]
 pub enum MadeError {
     /// There are over 1,000,000 pages.
@@ -29,13 +29,13 @@ pub enum MadeError {
     /// There are over 1,000,000 sheets.
     #[error("sheets: too many sheets")]
     TooManySheets,
-    /// This sheet has no slot, or over 4,096.
+    /// This sheet has no slots, or over 4,096.
     #[error("sheets: no places or too many on sheet {0}")]
     SlotsOutOfRange(u32),
     /// The sheets have over 4,000,000 slots in all, including blank ones.
     #[error("sheets: too many places")]
     TooManyPlaces,
-    /// This sheet has a page that the document lacks.
+    /// This sheet has a page that isn't in the document.
     #[error("sheets: no such page on sheet {0}")]
     NoSuchPage(u32),
     /// There was not enough memory.

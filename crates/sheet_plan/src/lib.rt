@@ -1,4 +1,4 @@
-//! Plans: which pages are on which sheets, and where on them, for a page specification and a number of pages.
+//! Plans. A plan says which page is in which slot of which sheet, for a page specification and a number of pages, or for sheets that a caller made.
 #![tactic(auto)]
 
 mod blank_sheets;

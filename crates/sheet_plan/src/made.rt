@@ -1,4 +1,4 @@
-//! Sheets that are made in any way, and how they are kept.
+//! Sheets that a caller makes, and how they are kept.
 ghost use Rattle.std.specs.Prelude.{◌≡◌, ◌≢◌, ◌+◌, ◌<◌, ◌≤◌, ◌++◌, ◌∷◌, [], length, map, sum_by, All, OnOk, OnErr, IfOk};
 ghost use Rattle.std.specs.Prelude.{ℕ, ◌↔◌, IfSome, IsNone, IsTrue, Some, slice_get};
 ghost use Rattle.rules.specs.MadePlans.{slot_count};
@@ -12,10 +12,10 @@ use pagespec::{Item, Measure, Turn};
 use std::alloc::{AllocError, Global};
 use std::marker::Model;
 
-/// The number of placings that are looked at before a new one is kept.
+/// The number of placings, from the first one on, that are compared with a new one before it is kept.
 const FEW: u32 = 64;
 
-/// The item of a blank slot, which places nothing.
+/// The item of a blank slot. It places nothing.
 const NOTHING: Item = Item {
     page: 0,
     from_end: false,
@@ -24,15 +24,15 @@ const NOTHING: Item = Item {
     offset: (Measure::ZERO, Measure::ZERO),
 };
 
-/// A place of a sheet: blank, or a page of the document with its item and its paper. The item's own page number has
-/// no meaning here. The paper clips the page and gives it its border.
+/// A slot of a sheet. It is blank, or has a page of the document with its item and its paper. The page number in the item has no meaning here. The
+/// page is clipped to the edges of this paper, and a border follows these edges.
 #[derive(Clone, Copy)]
 pub enum MadeSlot {
     Blank,
     Placed { page: u32, item: Item, paper: Paper },
 }
 
-/// A page in a place of a sheet.
+/// A page in a slot of a sheet, with its item and its paper.
 #[derive(Clone, Copy)]
 pub struct PlacedSlot<'m> {
     pub page: u32,
@@ -40,29 +40,28 @@ pub struct PlacedSlot<'m> {
     pub paper: &'m Paper,
 }
 
-/// How a page is placed on a sheet. Sheets repeat placings, so each is kept once.
+/// How a page is placed on a sheet. Sheets often have the same placings, so these are kept apart from the slots.
 #[derive(Clone, Copy, PartialEq, Eq)]
 pub struct Placing {
     pub item: Item,
     pub paper: Paper,
 }
 
-/// A slot: its page, and the number of its placing, counted from 1; 0 is a blank.
+/// A slot as it is kept: its page, and the number of its placing, counted from 1. The number 0 means a blank slot.
 #[derive(Clone, Copy)]
 pub struct KeptSlot {
     pub page: u32,
     pub placing: u32,
 }
 
-/// Where the slots of a sheet end, and the place of its paper among the placings.
+/// A sheet as it is kept: the index at which its slots end, and the index of the placing that has its paper.
 #[derive(Clone, Copy)]
 pub struct KeptSheet {
     pub end: u32,
     pub paper: u32,
 }
 
-/// Sheets with their slots, each sheet with its own paper. They take 8 bytes a slot and 8 bytes a sheet, and memory
-/// for each different placing.
+/// Sheets with their slots, each sheet with its own paper. They take 8 bytes for each slot, 8 bytes for each sheet, and memory for the placings.
 #[derive(Drop)]
 pub struct MadeSheets {
     sheets: Vec<KeptSheet>,
@@ -87,7 +86,7 @@ impl Model for MadeSheets {
 }
 
 impl MadeSheets {
-    /// No sheets yet. It takes no memory.
+    /// No sheets. This takes no memory.
     pub fn new(alloc: Global) -> MadeSheets
         ensures { result ≡ [] }
     {
@@ -99,7 +98,7 @@ impl MadeSheets {
         }
     }
 
-    /// The same, with room for this many sheets and slots.
+    /// No sheets, with memory reserved for this number of sheets and slots.
     pub fn with_room(alloc: Global, sheets: usize, slots: usize) -> Result<MadeSheets, AllocError>
         ensures { IfOk result (λ made. made ≡ []) }
     {
@@ -138,7 +137,7 @@ impl MadeSheets {
         sheets.len()
     }
 
-    /// The number of slots in all.
+    /// The number of slots on all sheets.
     pub fn places(&self) -> u32
         ensures { result ≡ sum_by slot_count self.now }
     {
@@ -146,7 +145,7 @@ impl MadeSheets {
         last_end(sheets)
     }
 
-    /// The number of slots of a sheet.
+    /// The number of slots on a sheet.
     pub fn slots(&self, sheet: u32) -> u32
         requires { sheet < length self.now }
         ensures { result ≡ length (slots_at self.now sheet) }
@@ -169,7 +168,7 @@ impl MadeSheets {
         &placing.paper
     }
 
-    /// The page in a slot with its placing; None is a blank.
+    /// The page in a slot and how it is placed, or None if the slot is blank.
     pub fn placed(&self, sheet: u32, slot: u32) -> Option<PlacedSlot<'_>>
         requires sheet { sheet < length self.now }
         requires slot { slot < length (slots_at self.now sheet) }
@@ -200,7 +199,7 @@ impl MadeSheets {
     }
 }
 
-/// Where the slots of the last sheet end.
+/// The index at which the slots of the last sheet end.
 fn last_end(sheets: &[KeptSheet]) -> u32
     ensures { result ≡ slots_end 0 sheets.now }
 {
@@ -210,7 +209,7 @@ fn last_end(sheets: &[KeptSheet]) -> u32
     }
 }
 
-/// Where the slots of a sheet begin.
+/// The index at which the slots of a sheet begin.
 fn start_at(sheets: &[KeptSheet], sheet: u32) -> u32
     requires { sheet < length sheets.now }
     ensures { result ≡ slots_start 0 sheets.now sheet }
@@ -222,7 +221,7 @@ fn start_at(sheets: &[KeptSheet], sheet: u32) -> u32
     before.end
 }
 
-/// This sheet. A function of its own, which gives a proof a name for the value, like the next two.
+/// The sheet with index k. This is a function of its own because it gives proofs a name for the value, as do the next two.
 fn sheet_at(sheets: &[KeptSheet], k: u32) -> KeptSheet
     requires { k < length sheets.now }
     ensures { slice_get sheets.now k ≡ Some result }
@@ -244,7 +243,7 @@ fn placing_at(placings: &[Placing], k: u32) -> &Placing
     &placings[k as usize]
 }
 
-/// A count in four bytes.
+/// The count as a `u32`. It is refused if it is too large for that type.
 fn count_in_u32(count: usize) -> Result<u32, AllocError>
     ensures value { IfOk result (λ n. n ≡ count) }
     ensures many { OnErr result (u32.MAX < count) }
@@ -255,7 +254,7 @@ fn count_in_u32(count: usize) -> Result<u32, AllocError>
     }
 }
 
-/// Adds slots, and their placings unless these are kept already.
+/// Adds slots, and their placings unless these are found among those that are kept.
 fn keep_slots(
     placings: &mut Vec<Placing>,
     slots: &mut Vec<KeptSlot>,
@@ -271,7 +270,7 @@ fn keep_slots(
     Ok(())
 }
 
-/// Adds a slot.
+/// Adds a slot, and its placing unless that is found among those that are kept.
 #[tactic(auto, using(crate::proofs::Stored::grown_placings))]
 fn keep_slot(
     placings: &mut Vec<Placing>,
@@ -304,7 +303,8 @@ fn keep_slot(
     Ok(())
 }
 
-/// The place after that of the last slot's placing: sheets with the same layout take placings one after the other.
+/// The index after that of the last slot's placing. Sheets with the same layout use placings one after the other, so the next slot often has this
+/// one.
 fn number_behind(slots: &[KeptSlot]) -> u32 {
     match slots.last() {
         Some(slot) => slot.placing,
@@ -312,7 +312,7 @@ fn number_behind(slots: &[KeptSlot]) -> u32 {
     }
 }
 
-/// The place of a placing, which is added if it isn't found nearby. One of the first is found.
+/// The index of a placing, which is added if it is neither at index `near` nor among the first 64.
 fn keep_placing(
     placings: &mut Vec<Placing>,
     near: u32,
@@ -331,7 +331,7 @@ fn keep_placing(
     Ok(place)
 }
 
-/// The place of a placing, if it is near or among the first.
+/// The index of a placing, if it is at index `near` or among the first 64.
 fn find_placing(placings: &[Placing], near: u32, placing: &Placing) -> Option<u32>
     ensures found { IfSome result (λ k. slice_get placings.now k ≡ Some placing.now) }
     ensures not_near { IsNone result → slice_get placings.now near ≢ Some placing.now }
@@ -348,7 +348,7 @@ fn find_placing(placings: &[Placing], near: u32, placing: &Placing) -> Option<u3
     None
 }
 
-/// Whether this place has the placing.
+/// Whether the placing is at this index.
 fn is_at(placings: &[Placing], place: u32, placing: &Placing) -> bool
     ensures { IsTrue result ↔ slice_get placings.now place ≡ Some placing.now }
 {
@@ -358,7 +358,7 @@ fn is_at(placings: &[Placing], place: u32, placing: &Placing) -> bool
     is_same_measure(placing_at(placings, place), placing)
 }
 
-/// Whether both have the same parts.
+/// Whether both placings are equal in every field.
 fn is_same_measure(one: &Placing, other: &Placing) -> bool
     ensures { IsTrue result ↔ one.now ≡ other.now }
 {

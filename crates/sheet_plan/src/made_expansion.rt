@@ -1,4 +1,4 @@
-//! Made sheets as the sheets of a plan.
+//! Plans of sheets that a caller made.
 ghost use Rattle.std.specs.Prelude.{◌≡◌, ◌≢◌, ◌<◌, ◌≤◌, length, not, position, Some, Ok, Err, OnOk, IfOk, IfErr, slice_get};
 ghost use Rattle.std.specs.List.{list_any};
 ghost use Rattle.rules.specs.Run.{most_sheets};
@@ -21,7 +21,8 @@ const MOST_SLOTS: u32 = 4_096;
 const MOST_PLACES: u32 = 4_000_000;
 
 impl<'s> PlanSource<'s> {
-    /// Sheets that were made. Tests the limits of a plan, and that the document has each page.
+    /// The source of a plan for sheets that a caller made. It is refused if the sheets exceed the limits of a plan, or have a page that isn't in the
+    /// document.
     pub fn of_sheets(pages: u32, made: &'s MadeSheets) -> Result<PlanSource<'s>, MadeError>
         ensures value { IfOk result (λ s. plan_from s ≡ made_plan pages made.now) }
         ensures plannable { IfOk result IsPlannable }
@@ -48,7 +49,7 @@ impl<'s> PlanSource<'s> {
     }
 }
 
-/// The first sheet without slots, or with too many.
+/// The first sheet that has no slots, or over 4,096.
 fn first_uneven(made: &MadeSheets) -> Option<u32>
     requires { length made.now ≤ most_sheets }
     ensures { result ≡ position (λ sheet. not (is_slot_count (slot_count sheet))) made.now }
@@ -61,7 +62,7 @@ fn first_uneven(made: &MadeSheets) -> Option<u32>
     None
 }
 
-/// Whether a sheet has no slots, or too many.
+/// Whether a sheet has no slots, or over 4,096.
 fn is_uneven(made: &MadeSheets, sheet: u32) -> bool
     requires { sheet < length made.now }
     ensures { result ≡ not (is_slot_count (length (slots_at made.now sheet))) }
@@ -70,14 +71,14 @@ fn is_uneven(made: &MadeSheets, sheet: u32) -> bool
     !is_slot_count(slots)
 }
 
-/// Whether a sheet may have this many slots.
+/// Whether a sheet may have this number of slots.
 fn is_slot_count(slots: u32) -> bool
     ensures { result ≡ is_slot_count slots }
 {
     1 <= slots && slots <= MOST_SLOTS
 }
 
-/// The first sheet with a page that the document lacks.
+/// The first sheet that has a page which isn't in the document.
 fn first_missing(pages: u32, made: &MadeSheets) -> Option<u32>
     requires { length made.now ≤ most_sheets }
     ensures { result ≡ position (λ sheet. list_any (lacks_page pages) sheet.slots) made.now }
@@ -90,7 +91,7 @@ fn first_missing(pages: u32, made: &MadeSheets) -> Option<u32>
     None
 }
 
-/// Whether this sheet has a page that the document lacks.
+/// Whether this sheet has a page that isn't in the document.
 fn is_page_missing(pages: u32, made: &MadeSheets, sheet: u32) -> bool
     requires { sheet < length made.now }
     ensures { result ≡ list_any (lacks_page pages) (slots_at made.now sheet) }
@@ -103,7 +104,7 @@ fn is_page_missing(pages: u32, made: &MadeSheets, sheet: u32) -> bool
     false
 }
 
-/// Whether this slot has a page that the document lacks.
+/// Whether this slot has a page that isn't in the document.
 fn is_missing_in(pages: u32, made: &MadeSheets, sheet: u32, slot: u32) -> bool
     requires sheet { sheet < length made.now }
     requires slot { slot < length (slots_at made.now sheet) }

@@ -1,4 +1,4 @@
-//! The pages on the sheets, listed sheet by sheet and slot by slot.
+//! The pages on the sheets, listed by sheet and then by slot.
 ghost use Rattle.std.specs.Prelude.{◌≡◌, ◌<◌, ◌++◌, length, OnOk, IfOk};
 ghost use Rattle.rules.specs.Sheets.{layout};
 ghost use Rattle.sheet_plan.specs.Plans.{pages_on};
@@ -8,7 +8,7 @@ ghost use Rattle.sheet_plan.specs.Sources.{plan_from, IsPlannable};
 use crate::source::PlanSource;
 use std::alloc::{AllocError, Global};
 
-/// A page in a slot of a sheet.
+/// A page, with the sheet and the slot that it is in.
 #[derive(Clone, Copy)]
 pub struct PlacedPage {
     pub page: u32,
@@ -16,7 +16,7 @@ pub struct PlacedPage {
     pub slot: u16,
 }
 
-/// All placed pages.
+/// All placed pages, by sheet and then by slot.
 pub(crate) fn placed_pages(
     alloc: Global,
     source: &PlanSource,
@@ -31,7 +31,7 @@ pub(crate) fn placed_pages(
     Ok(placed)
 }
 
-/// Adds the placed pages of a sheet.
+/// Adds the pages that are placed on a sheet.
 fn list_sheet(
     source: &PlanSource,
     sheet: u32,

@@ -1,4 +1,4 @@
-//! The plan of a specification on a number of pages.
+//! The plan of the sheets for a number of pages.
 ghost use Rattle.std.specs.Prelude.{◌≡◌, ℕ, ◌+◌, ◌*◌, ◌<◌, ◌≤◌, ◌⊎◌, if◌then◌else◌, length, map, Ok, OnOk, IfOk, IfErr};
 ghost use Rattle.std.specs.Prelude.{Some, slice_get};
 ghost use Rattle.std.specs.Int.{bit_at};
@@ -30,14 +30,14 @@ use std::alloc::{AllocError, Global};
 use std::fmt;
 use std::marker::Model;
 
-/// Which page is in which slot of which sheet, and by which item; and, the other way round, where each page is.
-/// Pages, sheets and slots are counted from 0. With n pages, modulo m and G groups there are `M = m * ceil(n / m)`
-/// places and `G * M / m` sheets. Sheet `b * G + g` is group g in block b. An item with number p names place `b * m
-/// + p`, and with a minus place `M - (b + 1) * m + p`. A place at or above n is blank.
+/// A plan says which page is in which slot of which sheet, and by which item it is placed. It also has the slots that each page is in. Pages, sheets
+/// and slots are counted from 0.
 ///
-/// In signatures of s sides the pages are first put into psbook's order. The row then has `s * ceil(n / s)`
-/// entries, and those for page n and above are blank. This row replaces the n pages: M is counted over it, and a
-/// place is one of its entries.
+/// With n pages, modulo m and G groups there are `M = m * ceil(n / m)` places and `G * M / m` sheets. Sheet `b * G + g` is group g in block b. An
+/// item with page number p names place `b * m + p`. With a minus it names place `M - (b + 1) * m + p`. A place at or above n is blank.
+///
+/// In signatures of s sides the pages are first put into psbook's order. The row then has `s * ceil(n / s)` entries, and those for page n and above
+/// are blank. This row replaces the n pages: M is computed from its length, and a place is one of its entries.
 #[derive(Drop)]
 pub struct Plan<'s> {
     source: PlanSource<'s>,
@@ -65,8 +65,7 @@ impl<'s> Model for Plan<'s> {
 }
 
 impl<'s> Plan<'s> {
-    /// Plans the sheets of a specification. The limits are tested in the order of `PlanError`, before any memory is
-    /// asked for.
+    /// Plans the sheets of a specification. The limits are tested in the order of `PlanError`, before any memory is requested.
     pub fn new(alloc: Global, spec: &'s Spec, pages: u32) -> Result<Plan<'s>, PlanError>
         ensures planned { IfOk result (λ plan. plan ≡ planned spec.now pages) }
         ensures accepted { OnOk result (plan_of spec.now pages ≡ Ok (sheets spec.now pages)) }
@@ -75,8 +74,8 @@ impl<'s> Plan<'s> {
         Plan::over(alloc, spec, Row { pages, sides: None })
     }
 
-    /// The same for pages in signatures of this many sides each, a positive multiple of four. The limit of pages is
-    /// tested on the length of the row, in which the last signature is filled up.
+    /// Plans the sheets of a specification for pages in signatures. Each signature has `sides` sides, a positive multiple of four. The limit of pages
+    /// is tested on the length of the row, in which the last signature is filled up with blanks.
     pub fn with_signatures(
         alloc: Global,
         spec: &'s Spec,
@@ -99,8 +98,8 @@ impl<'s> Plan<'s> {
         )
     }
 
-    /// Plans sheets that were made, on this many pages. The faults are looked for in the order of `MadeError`,
-    /// before any memory is asked for.
+    /// Plans sheets that a caller made, for this number of pages. The faults are looked for in the order of `MadeError`, before any memory is
+    /// requested.
     pub fn of_sheets(
         alloc: Global,
         pages: u32,
@@ -120,7 +119,7 @@ impl<'s> Plan<'s> {
         })
     }
 
-    /// Plans the sheets on a row of pages.
+    /// Plans the sheets of a specification for a row of pages.
     fn over(alloc: Global, spec: &'s Spec, row: Row) -> Result<Plan<'s>, PlanError>
         requires { AreSidesIfGiven row.sides }
         ensures planned { IfOk result (λ plan. plan ≡ planned_in row.sides spec.now row.pages) }
@@ -154,7 +153,7 @@ impl<'s> Plan<'s> {
         self.source.sheets()
     }
 
-    /// The number of slots of a sheet, including blank ones: 1 to 4,096.
+    /// The number of slots on a sheet, including blank ones. It is from 1 to 4,096.
     pub fn slots(&self, sheet: u32) -> u16
         requires { sheet < length self.now.sheets }
         ensures value { result ≡ length (pages_on self.now sheet) }
@@ -164,7 +163,7 @@ impl<'s> Plan<'s> {
         self.source.slots(sheet)
     }
 
-    /// The page in a slot; None is a blank.
+    /// The page in a slot, or None if the slot is blank.
     pub fn page_of(&self, sheet: u32, slot: u16) -> Option<u32>
         requires sheet { sheet < length self.now.sheets }
         requires slot { slot < length (pages_on self.now sheet) }
@@ -173,7 +172,7 @@ impl<'s> Plan<'s> {
         self.source.page_of(sheet, slot)
     }
 
-    /// The item of a slot.
+    /// The item by which the page in a slot is placed.
     pub fn item_of(&self, sheet: u32, slot: u16) -> &'s Item
         requires sheet { sheet < length self.now.sheets }
         requires slot { slot < length (pages_on self.now sheet) }
@@ -182,8 +181,8 @@ impl<'s> Plan<'s> {
         self.source.item_of(sheet, slot)
     }
 
-    /// The slots of a slot group that aren't blank: bit j is set for slot `64 * group + j`. A sheet has a slot
-    /// group for each 64 slots, and one for the rest; so a sheet of up to 64 slots has only group 0.
+    /// The slots of a slot group that have a page: bit j is set if slot `64 * group + j` has one. Every 64 slots of a sheet form a slot group, and
+    /// any slots left over form the last one. So a sheet of up to 64 slots has only group 0.
     pub fn missing_at_start(&self, sheet: u32, group: u8) -> u64
         requires sheet { sheet < length self.now.sheets }
         requires group { group < slot_groups self.now sheet }
@@ -201,7 +200,7 @@ impl<'s> Plan<'s> {
         missing
     }
 
-    /// All places of a page, sheet and slot, ascending by sheet, then slot.
+    /// All places of a page, each with its sheet and its slot. They ascend by sheet, then by slot.
     pub fn slots_of_page(&self, page: u32) -> &[(u32, u16)]
         requires { page < self.now.pages }
         ensures value { result.now ≡ places_of (layout self.now) page }
@@ -210,7 +209,7 @@ impl<'s> Plan<'s> {
         self.index.of_page(page)
     }
 
-    /// The sheets whose slots are all blank, ascending.
+    /// The sheets whose slots are all blank, in ascending order.
     pub fn born_complete(&self) -> &[u32]
         ensures value { result.now ≡ born_complete (layout self.now) }
         ensures exact { AreWithoutPages (layout self.now) result.now }
@@ -219,7 +218,7 @@ impl<'s> Plan<'s> {
     }
 }
 
-/// The places of each page, and the sheets without pages.
+/// The places of each page, and the sheets that have no pages.
 fn listed(alloc: Global, source: &PlanSource) -> Result<(PageIndex, Vec<u32>), AllocError>
     requires { IsPlannable source.now }
     ensures index { IfOk result (λ x.

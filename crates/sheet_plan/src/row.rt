@@ -1,18 +1,17 @@
-//! The row of pages that a specification is laid out on.
+//! The row of pages that a specification is used on.
 ghost use Rattle.std.specs.Prelude.{◌≡◌, ◌+◌, ◌*◌, ◌/◌, ◌%◌, ◌^◌, ◌<◌, ◌↔◌, IsTrue, Some};
 ghost use Rattle.rules.specs.Signatures.{AreSides, AreSidesIfGiven, entry_in, row_len, page_in_signature as page_in};
 
 const MOST_SIDES: u32 = 1_000_000;
 
-/// Tests that a signature may have this many sides: a positive multiple of four, as each leaf has four, and at most
-/// 1,000,000.
+/// Whether a signature may have this number of sides. It has to be a positive multiple of four, because each leaf has four, and at most 1,000,000.
 pub fn are_sides(sides: u32) -> bool
     ensures { IsTrue result ↔ AreSides sides }
 {
     sides > 0 && sides % 4 == 0 && sides <= MOST_SIDES
 }
 
-/// Pages in order, or in signatures of this many sides, the last of which is filled up with blanks.
+/// Pages in order, or in signatures with `sides` sides each. The last signature is filled up with blanks.
 #[derive(Clone, Copy)]
 pub struct Row {
     pub pages: u32,
@@ -31,7 +30,7 @@ impl Row {
         }
     }
 
-    /// The page at an entry; None is a blank, and so is everything after the end of the row.
+    /// The page at an entry. It is None if the entry is blank or comes after the end of the row.
     pub fn page_at(self, entry: u32) -> Option<u32>
         requires sides { AreSidesIfGiven self.sides }
         requires few { entry < 2 ^ 31 }
@@ -45,7 +44,7 @@ impl Row {
     }
 }
 
-/// The number of entries of whole signatures.
+/// The number of entries of the signatures, with the last one filled up.
 fn filled_len(pages: u32, sides: u32) -> u64
     requires { AreSides sides }
     ensures { result ≡ row_len (Some sides) pages }
@@ -53,8 +52,7 @@ fn filled_len(pages: u32, sides: u32) -> u64
     u64::from(pages.div_ceil(sides)) * u64::from(sides)
 }
 
-/// The page that an entry of the row of signatures names; entries after the last page name no page that the
-/// document has.
+/// The page that an entry of the row of signatures names. If the number of this page isn't below the number of pages, the entry is blank.
 fn page_of_entry(sides: u32, entry: u32) -> u32
     requires sides { AreSides sides }
     requires few { entry < 2 ^ 31 }
@@ -64,7 +62,7 @@ fn page_of_entry(sides: u32, entry: u32) -> u32
     entry - position + page_in_signature(sides, position)
 }
 
-/// The page at a position of a signature, as psbook orders them.
+/// The page at a position of a signature in psbook's order. Both are counted from 0 in the signature.
 pub fn page_in_signature(sides: u32, position: u32) -> u32
     requires sides { AreSides sides }
     requires position { position < sides }

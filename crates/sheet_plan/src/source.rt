@@ -1,4 +1,4 @@
-//! The sheets of a plan. The sheets of a specification are not stored: each slot is computed.
+//! The source of a plan's sheets. The sheets of a specification aren't stored: each slot is computed when it is needed.
 ghost use Rattle.std.specs.Prelude.{◌≡◌, ◌<◌, ◌≤◌, ◌⊎◌, length, Some, slice_get};
 ghost use Rattle.rules.specs.Admissible.{most_slots};
 ghost use Rattle.pagespec.specs.Items.{item_of};
@@ -11,7 +11,7 @@ use crate::row::Row;
 use crate::spec_expansion::{item_at, item_place};
 use pagespec::Item;
 
-/// A specification over a row of pages, or sheets that were made, over this many pages.
+/// The source of a plan's sheets: a specification on a row of pages, or sheets that a caller made for a number of pages.
 #[derive(Drop)]
 pub enum PlanSource<'s> {
     Spec {

@@ -1,4 +1,5 @@
-//! A specification expanded over a row of pages, from either end. The sheets are not stored: each slot is computed.
+//! The expansion of a specification on a row of pages, whose blocks are counted from either end. The sheets aren't stored: each slot is computed when
+//! it is needed.
 ghost use Rattle.std.specs.Prelude.{◌≡◌, ◌≢◌, ℕ, ◌+◌, ◌-◌, ◌*◌, ◌^◌, ◌<◌, ◌≤◌, length, Some, Ok, Err, OnOk, IfOk, IfErr};
 ghost use Rattle.std.specs.Prelude.{slice_get, slice_index_or, sum_by, [], ◌%◌};
 ghost use Rattle.rules.specs.Admissible.{most_groups};
@@ -21,7 +22,7 @@ const MOST_SHEETS: u64 = 1_000_000;
 
 const MOST_PLACES: u64 = 4_000_000;
 
-/// The number of slots of one block.
+/// The number of slots on all sheets of a block.
 fn slots_in_block(groups: &[Vec<Item>]) -> u64
     requires { sum_by length (groups_of groups.now) < 2 ^ 64 }
     ensures { result ≡ sum_by length (groups_of groups.now) }
@@ -33,7 +34,7 @@ fn slots_in_block(groups: &[Vec<Item>]) -> u64
     slots
 }
 
-/// The item of a slot: a group has one sheet in each block.
+/// The item of a slot. Each group has one sheet in each block.
 pub(crate) fn item_at<'s>(groups: &'s [Vec<Item>], sheet: u32, slot: u16) -> &'s Item
     requires some { 0 < length groups.now }
     requires few { length groups.now ≤ most_groups }
@@ -45,7 +46,7 @@ pub(crate) fn item_at<'s>(groups: &'s [Vec<Item>], sheet: u32, slot: u16) -> &'s
     &group[slot as usize]
 }
 
-/// The place that an item names in a block.
+/// The place in the row that an item names in a block.
 pub(crate) fn item_place(modulo: u32, blocks: u32, block: u32, item: &Item) -> u32
     requires fits { modulo * blocks < 2 ^ 32 }
     requires block { block < blocks }
@@ -60,7 +61,7 @@ pub(crate) fn item_place(modulo: u32, blocks: u32, block: u32, item: &Item) -> u
 }
 
 impl<'s> PlanSource<'s> {
-    /// The sheets of a specification. Tests the limits of a plan.
+    /// The source of a plan for the sheets of a specification. It is refused if the sheets exceed the limits of a plan.
     pub fn of_spec(spec: &'s Spec, row: Row) -> Result<PlanSource<'s>, PlanError>
         requires { AreSidesIfGiven row.sides }
         ensures value { IfOk result (λ s. plan_from s ≡ planned_in row.sides spec.now row.pages) }
