@@ -1,30 +1,31 @@
-//! The form of a sheet: cells, margins, gaps, order, scale.
+//! The form of a sheet: its cells, margins, gaps, order and scale.
 ghost use Rattle.std.specs.Prelude.{◌≡◌};
 ghost use Rattle.layouts.specs.Grids.{cells_per_sheet, nothing_free, plain as plain_of, plain_binding};
 
 use super::arranging::leaf_order;
 use lengths::{Grains, Number, Paper};
 
-/// The paper of the pages, and that of the sheets.
+/// The paper of the pages, and the paper of the sheets.
 #[derive(Clone, Copy, Debug, PartialEq, Eq)]
 pub struct Papers {
     pub page: Paper,
     pub sheet: Paper,
 }
 
-/// The number of cells of a sheet.
+/// The cells of a sheet.
 #[derive(Clone, Copy, Debug, PartialEq, Eq)]
 pub enum Cells {
-    /// At least this number, in the grid that takes the largest pages; among equals in the one with the fewest cells, then with upright pages, then
-    /// with the fewest columns. A sheet has this number of pages, and the cells left over come last.
+    /// At least this number of cells, in the grid that takes the largest pages. Among grids with equally large pages, it is the one with the fewest
+    /// cells, then one with upright pages, then the one with the fewest columns. A sheet has this number of pages. If the grid has more cells, the
+    /// last ones stay empty.
     AtLeast(u32),
-    /// Columns and rows, as one reads the sheet. Pages are upright unless turned ones are larger. The two are compared in exact parts of the sheet,
-    /// in whole 10^-9.
+    /// These columns and rows, as one reads the sheet. Pages are upright unless turned ones are larger. For this comparison the sheet is divided
+    /// exactly, without rounding, and scales are whole multiples of 10^-9.
     Exactly { columns: u32, rows: u32 },
 }
 
 impl Cells {
-    /// The number of pages of a sheet.
+    /// The number of pages on a sheet.
     pub fn count(self) -> u64
         ensures { result ≡ cells_per_sheet self }
     {
@@ -42,7 +43,8 @@ pub enum FillOrder {
     Columns,
 }
 
-/// How the text of the pages lies: upright, or on its side, so that one turns them to the left or right to read it.
+/// How the text of the pages lies on the sheet: upright, or on its side. Text on its side is read by turning the sheet to the left (`Left`) or to the
+/// right (`Right`).
 #[derive(Clone, Copy, Debug, PartialEq, Eq)]
 pub enum Turned {
     Upright,
@@ -50,7 +52,7 @@ pub enum Turned {
     Right,
 }
 
-/// The order in which pages fill the cells, as one reads the sheet: from the top down, and from the left or from the right.
+/// The order in which pages fill the cells of a sheet that is held for reading. It runs from the top down, and from the left or from the right.
 #[derive(Clone, Copy, Debug, PartialEq, Eq)]
 pub struct Order {
     pub run: FillOrder,
@@ -58,20 +60,21 @@ pub struct Order {
     pub turned: Turned,
 }
 
-/// The margins and gaps of a sheet, before one turns it to read it, and the trim of its pages. Margins and gaps are rounded up to whole 10^-5 of a
-/// point, and the trim down.
+/// The margins and gaps of a sheet, as the sheet lies before one turns it to read it, and the trim of its pages. Margins and gaps are rounded up to
+/// whole 10^-5 of a point, and the trim is rounded down.
 #[derive(Clone, Copy, Debug, PartialEq, Eq)]
 pub struct Free {
-    /// Along the edges of the sheet.
+    /// The margins along the four edges of the sheet.
     pub left: Grains,
     pub right: Grains,
     pub bottom: Grains,
     pub top: Grains,
-    /// Between cells that are side by side.
+    /// The gap between cells that are side by side.
     pub across: Grains,
-    /// Between cells that are one above another. On a leaf this is at the fold, half of it on each side.
+    /// The gap between cells that are one above another. On a leaf it is at the fold, with half of it on each side of the fold.
     pub up: Grains,
-    /// Each page counts as smaller by this length along each of its sides. What is drawn there may reach over its neighbours.
+    /// The length that doesn't count along each side of a page, when pages are fitted into cells. What is drawn there may overlap the neighbouring
+    /// pages.
     pub trim: Grains,
 }
 
@@ -81,22 +84,22 @@ pub struct Arrangement {
     pub cells: Cells,
     pub free: Free,
     pub order: Order,
-    /// The scale of the pages; without it they are as large as possible.
+    /// The scale of the pages. If it is None, pages are as large as possible.
     pub scale: Option<Number>,
 }
 
-/// The form of a booklet's leaves. Opposite margins are alike.
+/// The form of a booklet's leaves. Opposite margins have to be equal.
 #[derive(Clone, Copy, Debug, PartialEq, Eq)]
 pub struct Binding {
     pub free: Free,
-    /// The booklet is bound at the right.
+    /// Whether the booklet is bound at the right.
     pub right_to_left: bool,
-    /// For printers that flip a sheet on its long edge: the backs are rotated by 180 degrees.
+    /// Whether the backs are rotated by 180 degrees, for printers that flip a sheet on its long edge.
     pub long_edge: bool,
 }
 
 impl Free {
-    /// No margins, no gaps, no trim.
+    /// No margins, no gaps and no trim.
     pub fn none() -> Free
         ensures { result ≡ nothing_free }
     {
@@ -113,7 +116,7 @@ impl Free {
 }
 
 impl Arrangement {
-    /// These cells, and nothing else asked for.
+    /// The arrangement with these cells, and with pages in rows from the left. It has no margins, gaps or trim, and no scale is requested.
     pub fn plain(cells: Cells) -> Arrangement
         ensures { result ≡ plain_of cells }
     {
@@ -127,7 +130,7 @@ impl Arrangement {
 }
 
 impl Binding {
-    /// A binding at the left without margins, for a printer that flips sheets on this edge.
+    /// The binding at the left, without margins. `long_edge` says whether the printer flips sheets on their long edge.
     pub fn plain(long_edge: bool) -> Binding
         ensures { result ≡ plain_binding long_edge }
     {

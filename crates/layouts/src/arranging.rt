@@ -1,4 +1,4 @@
-//! Pages in cells and on leaves, as requested.
+//! Pages in cells and on leaves, as a caller requests them.
 ghost use Rattle.std.specs.Prelude.{◌≡◌, ◌≤◌, IfOk, IfErr, OnOk, Some, None, IsTrue, map, ◌∷◌, []};
 ghost use Rattle.std.specs.List.{range_with_len};
 ghost use Rattle.rules.specs.Papers.{is_paper};
@@ -23,12 +23,13 @@ use lengths::{Number, Paper};
 use pagespec::{Item, Spec};
 use std::alloc::{AllocError, Global};
 
-/// The most pages of a sheet.
+/// The most pages that a sheet may have.
 pub const MOST_ON_SHEET: u64 = 1_024;
 
-/// Pages on each sheet as requested, each in the middle of its cell. There are as many pages as cells, or the requested number in a grid of at least
-/// as many cells. Pages keep margins and gaps, and are as large as possible unless a scale is requested. One page on a sheet of its own paper is left
-/// as it is if nothing else is requested.
+/// The specification that arranges pages on each sheet as requested, with each page in the middle of its cell. A sheet has a page for each cell, or
+/// the requested number of pages in a grid with at least that number of cells. Pages keep the margins and gaps, and are as large as possible unless a
+/// scale is requested. A single page on a sheet of its own paper is left as it is if nothing else is requested. If pages can't be arranged in this
+/// way, the error says why.
 pub fn arrange(
     alloc: Global,
     papers: &Papers,
@@ -52,8 +53,9 @@ pub fn arrange(
     }
 }
 
-/// Two pages side by side on each side of a sheet, with the fold parallel to its shorter edge, for a row of pages in signature order. Half of the gap
-/// is kept free on each side of the fold. For printers that flip a sheet on its long edge the backs are rotated by 180 degrees.
+/// The specification of a booklet, for a row of pages in signature order. Each side of a sheet has two pages side by side, and the fold is parallel
+/// to the sheet's shorter edge. Half of the gap is kept free on each side of the fold. For printers that flip a sheet on its long edge, the backs are
+/// rotated by 180 degrees. If pages don't fit on the leaves, the error says why.
 pub fn bind(alloc: Global, papers: &Papers, binding: &Binding) -> Result<Spec, ArrangementError>
     ensures page { IsPaper papers.now.page }
     ensures sheet { IsPaper papers.now.sheet }
@@ -79,7 +81,7 @@ pub fn bind(alloc: Global, papers: &Papers, binding: &Binding) -> Result<Spec, A
     }
 }
 
-/// One side of a sheet: this many pages, each in a cell that it fits.
+/// One side of a sheet: the first `n` pages, each fitted into its cell.
 fn one_side(
     alloc: Global,
     setting: &Setting,
@@ -97,7 +99,7 @@ fn one_side(
     Ok(groups)
 }
 
-/// The two sides of a leaf, the second rotated by 180 degrees.
+/// The two sides of a leaf. The second side is rotated by 180 degrees.
 fn leaf(alloc: Global, setting: &Setting, page_paper: &Paper) -> Result<Vec<Vec<Item>>, AllocError>
     requires cells { 2 ≤ size setting.now.grid }
     requires possible { why_not_fitted setting.now page_paper.now ≡ None }
@@ -114,7 +116,7 @@ fn leaf(alloc: Global, setting: &Setting, page_paper: &Paper) -> Result<Vec<Vec<
     Ok(groups)
 }
 
-/// This many pages, each in a cell that it fits.
+/// The first `n` pages, each fitted into its cell.
 fn fronts(
     alloc: Global,
     setting: &Setting,
@@ -136,7 +138,7 @@ fn fronts(
     Ok(items)
 }
 
-/// The two pages of a back, on a sheet that is rotated by 180 degrees.
+/// The two pages on the back of a leaf that is rotated by 180 degrees.
 fn backs(alloc: Global, setting: &Setting, page_paper: &Paper) -> Result<Vec<Item>, AllocError>
     requires cells { 2 ≤ size setting.now.grid }
     requires scaled { why_no_scale_on setting.now page_paper.now ≡ None }
@@ -167,7 +169,7 @@ pub(crate) fn leaf_order(right_to_left: bool) -> Order
     }
 }
 
-/// The sheet with its margins and gaps, or why it is refused.
+/// The sheet with its margins and gaps, or the reason why it is refused.
 pub(crate) fn sheet_in(papers: &Papers, free: &Free) -> Result<Room, ArrangementError>
     ensures page { IsTrue (is_paper papers.now.page.width papers.now.page.height) }
     ensures sheet { IsTrue (is_paper papers.now.sheet.width papers.now.sheet.height) }
@@ -192,7 +194,7 @@ pub(crate) fn sheet_in(papers: &Papers, free: &Free) -> Result<Room, Arrangement
     Ok(room)
 }
 
-/// Whether the margins leave some of the sheet, for pages of any size. A length out of range is a fault of its own.
+/// Checks that the margins leave some of the sheet for pages, whatever their size. A length out of range is reported as a fault of its own.
 pub fn check_room(sheet: &Paper, free: &Free) -> Result<(), ArrangementError>
     ensures possible { OnOk result (why_no_room sheet.now free.now ≡ None) }
     ensures refused { IfErr result (λ error. why_no_room sheet.now free.now ≡ Some error) }
@@ -210,7 +212,7 @@ pub fn check_room(sheet: &Paper, free: &Free) -> Result<(), ArrangementError>
     }
 }
 
-/// The scale of pages in cells that allow this one at most, or why there is none.
+/// The scale of pages, in 10^-9, in cells that allow at most the scale `largest`. If pages can't have it, the result is the reason why.
 pub(crate) fn scale_found(
     room: &Room,
     asked: Option<Number>,
@@ -236,7 +238,7 @@ pub(crate) fn scale_found(
     Ok(scale as u64)
 }
 
-/// The scale that is asked for, in 10^-9, or else the largest one.
+/// The requested scale, in 10^-9, or the largest one if none is requested.
 fn scale_asked(asked: Option<Number>, largest: u128) -> u128
     ensures { result ≡ scale_for asked largest }
 {
@@ -261,7 +263,7 @@ pub(crate) fn leaves_page_visible(page: &Paper, room: &Room) -> bool
     trimmed < extent(page.width()) && trimmed < extent(page.height())
 }
 
-/// Whether one page on a sheet of its own paper is asked for, and nothing else.
+/// Whether the request is for one page on a sheet of its own paper, and for nothing else.
 pub(crate) fn is_identity(papers: &Papers, room: &Room, arrangement: &Arrangement) -> bool
     requires { room.now ≡ room_of papers.now.sheet arrangement.now.free }
     ensures { result ≡ is_page_itself papers.now.page papers.now.sheet arrangement.now }
@@ -272,7 +274,7 @@ pub(crate) fn is_identity(papers: &Papers, room: &Room, arrangement: &Arrangemen
         && arrangement.scale.is_none()
 }
 
-/// Whether offsets in points reach across the paper.
+/// Whether offsets in points can reach across the paper. They can if both sides are below 100,000 points.
 pub fn fits_offsets(paper: &Paper) -> bool
     ensures value { result ≡ is_paper_reached paper.now }
     ensures in_range { IsTrue (is_paper paper.now.width paper.now.height) }
@@ -281,7 +283,7 @@ pub fn fits_offsets(paper: &Paper) -> bool
     width < OUT_OF_REACH && height < OUT_OF_REACH
 }
 
-/// Whether the papers have the same sides.
+/// Whether the two papers have the same width and the same height.
 pub fn is_of_size(page: &Paper, sheet: &Paper) -> bool
     ensures value { result ≡ is_same page.now sheet.now }
     ensures page { IsPaper page.now }

@@ -10,7 +10,7 @@ use super::room::Room;
 use super::scale::exact_scale;
 use lengths::Paper;
 
-/// The grid that is asked for, or else the best one.
+/// The requested grid. If only a number of cells is requested, it is the best grid for that number.
 pub(crate) fn grid_of(page: &Paper, room: &Room, reading: Turned, cells: Cells) -> Grid
     requires shown { IsTrue (is_shown page.now room.now) }
     requires cells { IsTrue (is_count (cells_per_sheet cells)) }
@@ -27,8 +27,8 @@ pub(crate) fn grid_of(page: &Paper, room: &Room, reading: Turned, cells: Cells) 
     }
 }
 
-/// The grid of n cells or more, upright or turned, that takes the largest pages; among equals the one with the fewest cells, then an upright one,
-/// then the one with the fewest columns.
+/// The grid of at least n cells, with upright or turned pages, that takes the largest pages. Among grids with equally large pages, it is the one with
+/// the fewest cells, then one with upright pages, then the one with the fewest columns.
 fn best_grid(page: &Paper, room: &Room, n: u32) -> Grid
     requires shown { IsTrue (is_shown page.now room.now) }
     requires cells { (0 < n) × (n ≤ most_on_sheet) }
@@ -42,7 +42,8 @@ fn best_grid(page: &Paper, room: &Room, n: u32) -> Grid
     )
 }
 
-/// The best grid of n cells or more with pages of this turn; the first of several.
+/// The best grid of at least n cells whose pages are turned if `turned` is true, and else upright. If several grids are equally good, it is the one
+/// with the fewest columns.
 fn best_of(page: &Paper, room: &Room, turned: bool, n: u32) -> Grid
     requires shown { IsTrue (is_shown page.now room.now) }
     requires cells { (0 < n) × (n ≤ most_on_sheet) }
@@ -55,7 +56,8 @@ fn best_of(page: &Paper, room: &Room, turned: bool, n: u32) -> Grid
     best
 }
 
-/// The grid `one`, unless the other takes larger pages in exact parts of the sheet, or equally large ones in fewer cells.
+/// The better of two grids. This is `one`, unless `other` takes larger pages, or equally large pages in fewer cells. Pages are compared at the sizes
+/// that exact parts of the sheet allow.
 fn better(page: &Paper, room: &Room, one: Grid, other: Grid) -> Grid
     requires { IsTrue (is_shown page.now room.now) }
     ensures { result ≡ better_of page.now room.now one other }

@@ -1,4 +1,4 @@
-//! Where cells are on their sheet, and the gaps between them.
+//! The places of cells on their sheet, and of the gaps between them.
 ghost use Rattle.std.specs.Prelude.{◌≡◌, ◌*◌, ◌^◌, ◌<◌, ◌≤◌, ◌-ℤ◌, pos, nat_abs, IsTrue};
 ghost use Rattle.rules.specs.Papers.{is_side};
 ghost use Rattle.layouts.specs.Cells.{cells_across as across_of, cells_up as up_of, gap_at as gap_of, grains_in};
@@ -11,8 +11,8 @@ use super::scale::{HUNDRED_THOUSANDTH, cell_size, extent, kept_length, pitch, pi
 use lengths::Grains;
 use std::marker::Model;
 
-/// A cell on its sheet: its distances from the left and the lower edge, and its sides, in 10^-5 of a point. Contracts see it as the cell of the
-/// definitions.
+/// A cell on its sheet: its distances from the left and the lower edge, and its width and height, all in 10^-5 of a point. Contracts see it as the
+/// cell of the definitions.
 #[derive(Clone, Copy, Debug, PartialEq, Eq)]
 pub struct Cell {
     pub left: u64,
@@ -65,7 +65,7 @@ impl Room {
 }
 
 impl Grid {
-    /// The number of cells side by side, as the sheet lies.
+    /// The number of cells side by side, on the sheet as it lies before one turns it to read it.
     pub fn across(self) -> u32
         ensures value { result ≡ across_of self }
         ensures some { 0 < result }
@@ -73,7 +73,7 @@ impl Grid {
         if self.turned { self.rows } else { self.columns }
     }
 
-    /// The number of cells one above another, as the sheet lies.
+    /// The number of cells one above another, on the sheet as it lies before one turns it to read it.
     pub fn up(self) -> u32
         ensures value { result ≡ up_of self }
         ensures some { 0 < result }
@@ -82,7 +82,8 @@ impl Grid {
     }
 }
 
-/// The middle of the gap before a part of a side, as a distance. After the last part it is that of a further part.
+/// The middle of the gap before part `k` of a side, in grains from the start of the side. For `k` = `parts` it is the gap that a further part would
+/// have before it.
 pub fn gap_at(along: &Along, length: Grains, parts: u32, k: u32) -> Grains
     requires side { IsTrue (is_side length) }
     requires some { 0 < parts }
@@ -95,7 +96,7 @@ pub fn gap_at(along: &Along, length: Grains, parts: u32, k: u32) -> Grains
     grains(i128::from((HUNDRED_THOUSANDTH * before).saturating_sub(gap)))
 }
 
-/// A place on a side, measured from the other end.
+/// The distance of a place on a side from the other end of that side.
 pub fn from_far(length: Grains, place: Grains) -> Grains
     requires side { IsTrue (is_side length) }
     requires few { nat_abs place ≤ 12_700_000_000_000_000 }
@@ -104,7 +105,7 @@ pub fn from_far(length: Grains, place: Grains) -> Grains
     grains(length.get() - place.get())
 }
 
-/// A length of this many 10^-5 of a point.
+/// A length in grains, given in 10^-5 of a point.
 pub fn in_grains(length: u64) -> Grains
     requires { length ≤ 2 * 10 ^ 16 }
     ensures { result ≡ pos (grains_in length) }

@@ -1,4 +1,4 @@
-//! Rows and columns.
+//! Rows and columns of cells.
 ghost use Rattle.std.specs.Prelude.{◌≡◌, ◌*◌, ◌<◌, ◌≤◌};
 ghost use Rattle.layouts.specs.Cells.{size as size_of};
 ghost use Rattle.layouts.specs.Refusals.{most_on_sheet};
@@ -7,8 +7,8 @@ ghost use Rattle.layouts.specs.Grids.{grid, formed as formed_of, beside as besid
 use super::arrangement::Turned;
 use std::marker::Model;
 
-/// Rows and columns of a sheet, with the sheet held so that its pages are upright; at least one of each. The pages are upright, or turned to the
-/// left. Contracts see it as the grid of the definitions.
+/// The rows and columns of a sheet that is held so that its pages are upright. There is at least one of each. On the sheet as it lies, the pages are
+/// upright or turned to the left. Contracts see it as the grid of the definitions.
 #[derive(Clone, Copy, Debug, PartialEq, Eq)]
 pub struct Grid {
     pub rows: u32,
@@ -30,7 +30,7 @@ impl Model for Grid {
 }
 
 impl Grid {
-    /// The grid of at least n cells with this number of columns and no superfluous row.
+    /// The grid that has this number of columns, and as few rows as n cells need.
     pub fn of(turned: bool, n: u32, columns: u32) -> Grid
         requires some { 0 < columns }
         requires cells { 0 < n }
@@ -44,7 +44,7 @@ impl Grid {
         }
     }
 
-    /// The grid of these columns and rows, which are counted as one reads the sheet.
+    /// The grid that has this number of columns and rows, as one reads the sheet.
     pub fn formed(reading: Turned, turned: bool, columns: u32, rows: u32) -> Grid
         requires { (0 < columns) × (0 < rows) }
         ensures { result ≡ formed_of reading turned columns rows }
@@ -63,7 +63,7 @@ impl Grid {
         }
     }
 
-    /// Two cells side by side.
+    /// The grid of two cells side by side.
     pub fn beside(turned: bool) -> Grid
         ensures { result ≡ beside_of turned }
     {
@@ -74,7 +74,7 @@ impl Grid {
         }
     }
 
-    /// The number of its cells.
+    /// The number of cells in the grid.
     pub fn size(self) -> u64
         ensures value { result ≡ size_of self }
         ensures some { 0 < result }

@@ -20,7 +20,7 @@ use super::scale::{HUNDRED_THOUSANDTH, cell_size, extent, trimmed_side};
 use lengths::{Grains, Number, Paper, Unit};
 use pagespec::{Item, Measure, Turn};
 
-/// Pages of one paper and one scale, in 10^-9, in the cells of a grid.
+/// Pages in the cells of a grid. They all have one paper, and one scale, in 10^-9.
 #[derive(Drop)]
 pub(crate) struct GridLayout {
     pub page: Paper,
@@ -30,7 +30,7 @@ pub(crate) struct GridLayout {
     pub scale: u64,
 }
 
-/// A whole number of 10^-5 of a point.
+/// The length that is `n` times 10^-5 of a point.
 pub fn points_e5(n: i64) -> Measure
     requires { nat_abs n ≤ 9_999_999_999 }
     ensures { measure_of result ≡ in_points n }
@@ -44,7 +44,7 @@ pub fn points_e5(n: i64) -> Measure
     }
 }
 
-/// The distance from one place to another, in whole 10^-5 of a point.
+/// The distance from one place to another. Both places are in 10^-5 of a point.
 pub fn distance(from: i64, to: i64) -> Measure
     requires { nat_abs (to -ℤ from) ≤ 9_999_999_999 }
     ensures { measure_of result ≡ in_points (to -ℤ from) }
@@ -52,7 +52,7 @@ pub fn distance(from: i64, to: i64) -> Measure
     points_e5(to - from)
 }
 
-/// Half of the cell's side that a scaled side of the page leaves free, in 10^-5 of a point.
+/// Half of the length that a scaled side of a page leaves free in its cell, in 10^-5 of a point.
 pub fn slack(cell: u64, side: u64, scale: u64) -> u128
     ensures value { result ≡ slack_of cell side scale }
     ensures most { result ≤ cell }
@@ -61,7 +61,7 @@ pub fn slack(cell: u64, side: u64, scale: u64) -> u128
         / 2_540_000_000_000_000
 }
 
-/// The numbers of columns and rows, as one reads the sheet.
+/// The numbers of columns and rows of a grid, as one reads the sheet.
 pub fn read_sides(turned: Turned, grid: Grid) -> (u32, u32)
     ensures columns { result.0 ≡ read_columns_of turned grid }
     ensures rows { result.1 ≡ read_rows_of turned grid }
@@ -74,7 +74,7 @@ pub fn read_sides(turned: Turned, grid: Grid) -> (u32, u32)
     }
 }
 
-/// The row and column of page k, as one reads the sheet.
+/// The row and the column of page k, as one reads the sheet.
 fn place_as_read(order: &Order, grid: Grid, k: u32) -> (u32, u32)
     requires { k < size grid }
     ensures row { result.0 ≡ read_row order.now.run order.now.turned grid k }
@@ -95,7 +95,7 @@ fn place_as_read(order: &Order, grid: Grid, k: u32) -> (u32, u32)
     (row, column)
 }
 
-/// The row and column of page k, with the sheet held so that its pages are upright.
+/// The row and the column of page k, with the sheet held so that its pages are upright.
 fn place_as_held(order: &Order, grid: Grid, k: u32) -> (u32, u32)
     requires { k < size grid }
     ensures row { result.0 ≡ row_of order.now grid k }
@@ -112,7 +112,8 @@ fn place_as_held(order: &Order, grid: Grid, k: u32) -> (u32, u32)
 }
 
 impl GridLayout {
-    /// The corner of the page in this row and column, without what is trimmed.
+    /// Where the corner of the page in this row and column is, without the trim: its distances from the left and the lower edge of the sheet, in
+    /// 10^-5 of a point.
     fn corner(&self, row: u32, column: u32) -> (u64, u64)
         requires place { HasPlace self.now.page self.now.room self.now.grid self.now.scale }
         requires in_rows { row < self.now.grid.rows }
@@ -134,7 +135,8 @@ impl GridLayout {
         }
     }
 
-    /// Half of the cell's width and of its height that a page leaves free, with the sheet held so that the page is upright.
+    /// Half of the width and half of the height that a page leaves free in its cell, with the sheet held so that the page is upright. Both are in
+    /// 10^-5 of a point.
     fn slacks(&self) -> (u64, u64)
         ensures across { result.0 ≡ slack_x self.now.page self.now.room self.now.grid self.now.scale }
         ensures down { result.1 ≡ slack_y self.now.page self.now.room self.now.grid self.now.scale }
@@ -155,7 +157,7 @@ impl GridLayout {
         )
     }
 
-    /// The distances to the right and up by which page k is moved, in 10^-5 of a point.
+    /// How far page k is moved to the right, and how far up, in 10^-5 of a point.
     fn shift(&self, k: u32) -> (i64, i64)
         requires place { HasPlace self.now.page self.now.room self.now.grid self.now.scale }
         requires near { IsTrue (are_near self.now.room self.now.scale) }
@@ -175,7 +177,7 @@ impl GridLayout {
         moved_by(self.grid.turned, x, y, back)
     }
 
-    /// Page k in its cell.
+    /// The item that places page k in its cell.
     pub fn item_in(&self, k: u32) -> Item
         requires place { HasPlace self.now.page self.now.room self.now.grid self.now.scale }
         requires near { IsTrue (are_near self.now.room self.now.scale) }
@@ -198,7 +200,7 @@ impl GridLayout {
         }
     }
 
-    /// Page n + k of a block, at the place of page k on the sheet rotated by 180 degrees.
+    /// The item that places page n + k of a block where page k would be if the sheet were rotated by 180 degrees.
     pub fn back_in(&self, n: u32, k: u32) -> Item
         requires place { HasPlace self.now.page self.now.room self.now.grid self.now.scale }
         requires near { IsTrue (are_near self.now.room self.now.scale) }
@@ -225,8 +227,8 @@ impl GridLayout {
     }
 }
 
-/// The distance by which a page is moved so that its trimmed corner comes to this place. Turned pages are moved to the right, since their corner is
-/// at the right.
+/// How far a page is moved to the right, and how far up, so that the corner of its trimmed part comes to the place (x, y). `back` is the length of
+/// the trim on the sheet. Turned pages are moved to the right by that length, because their corner is at the right.
 fn moved_by(turned: bool, x: u64, y: u64, back: u64) -> (i64, i64)
     requires across { x + back < 10_000_000_000 }
     requires up { y + back < 10_000_000_000 }
@@ -237,7 +239,7 @@ fn moved_by(turned: bool, x: u64, y: u64, back: u64) -> (i64, i64)
     (if turned { x + back } else { x - back }, y - back)
 }
 
-/// The length on the sheet of what is trimmed along a side of the page, in 10^-5 of a point.
+/// The length that the trim along a side of a page has on the sheet, in 10^-5 of a point.
 fn trimmed(room: &Room, scale: u64) -> u64
     requires { IsTrue (are_near room.now scale) }
     ensures value { result ≡ trimmed_of room.now scale }
@@ -247,7 +249,7 @@ fn trimmed(room: &Room, scale: u64) -> u64
     (u128::from(scale) * u128::from(room.trim) / 1_000_000_000) as u64
 }
 
-/// A side in whole 10^-5 of a point.
+/// A side in whole 10^-5 of a point, rounded down.
 fn whole_parts(length: Grains) -> i64
     requires { IsTrue (is_side length) }
     ensures { result ≡ pos (whole_of (nat_abs length)) }
@@ -255,7 +257,7 @@ fn whole_parts(length: Grains) -> i64
     (extent(length) / HUNDRED_THOUSANDTH) as i64
 }
 
-/// Whether the corners of pages with this trim are within reach.
+/// Whether offsets can reach the corners of pages that have this trim.
 pub(crate) fn within_reach(room: &Room, scale: u128) -> bool
     requires { scale ≤ greatest_scale }
     ensures { result ≡ are_near room.now scale }
@@ -266,7 +268,7 @@ pub(crate) fn within_reach(room: &Room, scale: u128) -> bool
     width + back < 10_000_000_000 && height + back < 10_000_000_000
 }
 
-/// A number of 10^-9.
+/// The number that is `billionths` times 10^-9.
 pub fn scale_e9(billionths: u64) -> Number
     requires { billionths ≤ greatest_number }
     ensures { result ≡ pos billionths }
@@ -277,7 +279,7 @@ pub fn scale_e9(billionths: u64) -> Number
     }
 }
 
-/// A length in grains that is known to be in range.
+/// The length of `count` grains. The caller has to show that this is in range.
 pub fn grains(count: i128) -> Grains
     requires { FitsGrains count }
     ensures { result ≡ count }
@@ -288,7 +290,7 @@ pub fn grains(count: i128) -> Grains
     }
 }
 
-/// A page as it is, counted from 0.
+/// The item that leaves page k as it is. Pages are counted from 0.
 pub(crate) fn whole_page(k: u32) -> Item
     ensures { item_of result ≡ alone_of k }
 {

@@ -1,4 +1,4 @@
-//! Laws of the definitions. The functions do nothing.
+//! Laws of the definitions. Each function states one law in its `ensures`, and has an empty body.
 ghost use Rattle.layouts.specs.Refusals.{NothingIsLeftOfSheet};
 ghost use Rattle.layouts.specs.Placed.{StandsWherePut};
 ghost use Rattle.layouts.specs.Fitted.{FittedStands, FittedIsApart, FittedIsInOrder, ArrangedIsFitted, BoundIsFitted};
@@ -6,7 +6,7 @@ ghost use Rattle.layouts.specs.Laws.{GridIsInside, GridIsApart, GridIsInOrder, G
 ghost use Rattle.layouts.specs.Laws.{BestHasCells, BestIsBest, BestIsLarge};
 ghost use Rattle.layouts.specs.Laws.{BackIsInside, BackIsHalfTurn, PrintedAsItIs, LeafKeepsFold, RightToLeftIsMirror};
 
-/// A whole point of a page is sent to where its item places it.
+/// Each whole point of a page is on the sheet where its item puts it.
 pub fn stands_where_put()
     ensures { StandsWherePut }
 {}
@@ -26,7 +26,7 @@ pub fn pages_are_apart()
     ensures { GridIsApart }
 {}
 
-/// Each page lies in its cell; a trimmed one to 10^-5 of a point.
+/// Each page lies in its cell. If pages are trimmed, what counts of a page may reach past the cell by at most 10^-5 of a point.
 pub fn pages_are_in_cells()
     ensures { GridIsInCell }
 {}
@@ -36,7 +36,7 @@ pub fn pages_are_in_middle()
     ensures { GridIsInMiddle }
 {}
 
-/// If the margins leave nothing of a sheet, pages of any paper are refused.
+/// If the margins leave nothing of a sheet, pages of every paper are refused.
 pub fn nothing_is_left()
     ensures { NothingIsLeftOfSheet }
 {}
@@ -46,32 +46,33 @@ pub fn best_has_cells()
     ensures { BestHasCells }
 {}
 
-/// No grid of n cells or more is better than the chosen one: by a larger scale, then fewer cells, then upright pages, then fewer columns.
+/// No grid of at least n cells is better than the chosen one. Better means a larger scale, then fewer cells, then upright pages, then fewer columns.
 pub fn best_is_best()
     ensures { BestIsBest }
 {}
 
-/// No grid of n cells or more, upright or turned, allows a scale larger by 10^-6 or more.
+/// No grid of at least n cells, upright or turned, allows a scale that is larger by 10^-6 or more.
 pub fn best_is_large()
     ensures { BestIsLarge }
 {}
 
-/// On a sheet that is rotated by 180 degrees each page lies within the margins, if opposite ones are equal.
+/// If opposite margins are equal, each page on a sheet that is rotated by 180 degrees lies within the margins.
 pub fn back_is_inside()
     ensures { BackIsInside }
 {}
 
-/// A back is its front, rotated by 180 degrees about the sheet's centre.
+/// The back of a leaf is its front, rotated by 180 degrees about the centre of the sheet. For the centre, the sheet's sides are taken in whole 10^-5
+/// of a point.
 pub fn back_is_half_turn()
     ensures { BackIsHalfTurn }
 {}
 
-/// Nothing crosses the fold of a leaf with equal margins: pages keep half of the gap from it.
+/// Nothing crosses the fold of a leaf with equal margins, because pages keep half of the gap away from it.
 pub fn leaf_keeps_fold()
     ensures { LeafKeepsFold }
 {}
 
-/// Booklets bound at the right and at the left differ only in the places of their pages.
+/// A booklet that is bound at the right differs from one bound at the left only in the places of its pages.
 pub fn right_to_left_is_mirror()
     ensures { RightToLeftIsMirror }
 {}
@@ -81,7 +82,7 @@ pub fn fitted_stands()
     ensures { FittedStands }
 {}
 
-/// Two pages in cells, each fitted into its own by its paper, are at least the gap apart.
+/// Two pages in different cells, each fitted by its own paper, are at least the gap apart.
 pub fn fitted_is_apart()
     ensures { FittedIsApart }
 {}
@@ -101,7 +102,7 @@ pub fn bound_is_fitted()
     ensures { BoundIsFitted }
 {}
 
-/// The matrix that is written for a page in a cell is exactly the item's: no part of its shift is rounded.
+/// The matrix that is written for a page in a cell is exactly that of its item, because its shift needs no rounding.
 pub fn printed_as_it_is()
     ensures { PrintedAsItIs }
 {}

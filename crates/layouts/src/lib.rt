@@ -1,4 +1,4 @@
-//! Layouts: specifications that a program makes, for people who don't want to compute scales and offsets.
+//! Layouts. They are specifications that a program makes, so that users needn't compute scales and offsets.
 #![tactic(auto)]
 
 pub mod arrangement;

@@ -10,7 +10,7 @@ use lengths::{Grains, Paper};
 use std::marker::Model;
 
 /// A sheet: its paper, its margins, its gaps between cells side by side and one above another, and the length that is trimmed along each side of its
-/// pages, in 10^-5 of a point. Contracts see it as the room of the definitions.
+/// pages. Margins, gaps and trim are in 10^-5 of a point. Contracts see it as the room of the definitions.
 #[derive(Clone, Copy, Debug, PartialEq, Eq)]
 pub struct Room {
     pub paper: Paper,
@@ -57,8 +57,8 @@ impl Model for Room {
     } };
 }
 
-/// The margins and the gap along one side of a sheet (before its cells, after them, and between them), and the trim of its pages. Contracts see it as
-/// the definitions do.
+/// The margins and the gap along one side of a sheet, and the trim of its pages, in 10^-5 of a point. `before` is the margin before the cells, and
+/// `after` is the margin after them. Contracts see it as the definitions do.
 #[derive(Clone, Copy, Debug, PartialEq, Eq)]
 pub struct Along {
     pub before: u64,
@@ -82,7 +82,7 @@ impl Model for Along {
 }
 
 impl Room {
-    /// The sheet with these margins and gaps.
+    /// The sheet that has this paper, with these margins, gaps and trim.
     pub fn of(sheet: Paper, free: &Free) -> Room
         requires { IsTrue (may_be_lengths free.now) }
         ensures { result ≡ room_of sheet free.now }
@@ -99,7 +99,7 @@ impl Room {
         }
     }
 
-    /// The margins and the gap along its width.
+    /// The margins and the gap along the width of the sheet.
     pub fn along_width(&self) -> Along
         ensures { result ≡ along_width self.now }
     {
@@ -111,7 +111,7 @@ impl Room {
         }
     }
 
-    /// The margins and the gap along its height.
+    /// The margins and the gap along the height of the sheet.
     pub fn along_height(&self) -> Along
         ensures { result ≡ along_height self.now }
     {
@@ -123,7 +123,7 @@ impl Room {
         }
     }
 
-    /// The margins and gaps across and down, with the sheet held so that its pages are upright.
+    /// The margins and gaps in both directions, across first and then down, with the sheet held so that its pages are upright.
     pub fn as_read(&self, turned: bool) -> (Along, Along)
         ensures across { result.0 ≡ across_of turned self.now }
         ensures down { result.1 ≡ down_of turned self.now }

@@ -11,10 +11,10 @@ use super::grid::Grid;
 use super::room::{Along, Room};
 use lengths::{Grains, Paper};
 
-/// The grains of 10^-5 of a point.
+/// The number of grains in 10^-5 of a point.
 pub const HUNDRED_THOUSANDTH: u64 = 1_270_000;
 
-/// The least length that offsets can't reach, in grains: 100,000 points.
+/// The shortest length that offsets can't reach, in grains: 100,000 points.
 pub(crate) const OUT_OF_REACH: u64 = 12_700_000_000_000_000;
 
 /// A side of a paper, in grains.
@@ -27,7 +27,8 @@ pub fn extent(side: Grains) -> u64
     side.get() as u64
 }
 
-/// A margin or gap in 10^-5 of a point. If pages are trimmed it is one more, since the distance by which they are moved back is rounded.
+/// The length that is kept free for a margin or gap, in 10^-5 of a point. If pages are trimmed it is one unit longer, because the length by which
+/// pages are moved back for the trim is rounded.
 pub(crate) fn kept_length(trim: u64, length: u64) -> u64
     requires { length ≤ 10_000_000_000 }
     ensures value { result ≡ kept_of trim length }
@@ -36,7 +37,7 @@ pub(crate) fn kept_length(trim: u64, length: u64) -> u64
     if trim == 0 { length } else { length + 1 }
 }
 
-/// The part of a side between its margins, in grains.
+/// The part of a side that the margins leave free, in grains.
 pub(crate) fn left_free(along: &Along, side: u64) -> u64
     requires { side ≤ longest_side }
     ensures value { result ≡ left_free_of along.now side }
@@ -48,7 +49,7 @@ pub(crate) fn left_free(along: &Along, side: u64) -> u64
     )
 }
 
-/// The distance from the start of one cell to the start of the next, if a side is cut into this number of cells.
+/// The distance from the start of one cell to the start of the next, in 10^-5 of a point, if a side is divided into this number of cells.
 pub(crate) fn pitch(along: &Along, side: u64, parts: u32) -> u64
     requires some { 0 < parts }
     requires in_range { side ≤ longest_side }
@@ -83,7 +84,7 @@ pub(crate) fn pitches(room: &Room, grid: Grid) -> (u64, u64)
     }
 }
 
-/// The width and the height of a cell, in 10^-5 of a point; 0 if the gap leaves nothing.
+/// The width and the height of a cell, in 10^-5 of a point. They are 0 if the gap leaves nothing.
 pub fn cell_size(room: &Room, grid: Grid) -> (u64, u64)
     ensures width { result.0 ≡ wide room.now grid }
     ensures height { result.1 ≡ high room.now grid }
@@ -97,7 +98,7 @@ pub fn cell_size(room: &Room, grid: Grid) -> (u64, u64)
     )
 }
 
-/// A side of a page without the trim, in grains.
+/// A side of a page without the trim at both of its ends, in grains.
 pub(crate) fn trimmed_side(room: &Room, length: Grains) -> u64
     requires { IsTrue (is_side length) }
     ensures value { result ≡ counted_of room.now length }
@@ -126,7 +127,7 @@ pub(crate) fn scale_in(page: &Paper, room: &Room, grid: Grid) -> u128
     ))
 }
 
-/// The largest scale, in 10^-9, that this number of equal cells along a side allows.
+/// The largest scale, in 10^-9, of pages in this number of equal cells along a side.
 fn exact_along(along: &Along, side: u64, parts: u32, page: u64) -> u128
     requires some { 0 < parts }
     requires shown { 0 < page }
@@ -139,7 +140,7 @@ fn exact_along(along: &Along, side: u64, parts: u32, page: u64) -> u128
         / (u128::from(page) * u128::from(parts))
 }
 
-/// The largest scale, in 10^-9, at which pages fit into exact parts of the sheet, which aren't rounded as cells are.
+/// The largest scale, in 10^-9, at which pages fit into exact parts of the sheet. Unlike cells, these parts aren't rounded.
 pub(crate) fn exact_scale(page: &Paper, room: &Room, grid: Grid) -> u128
     requires { IsTrue (is_shown page.now room.now) }
     ensures { result ≡ exact_scale_of page.now room.now grid }
@@ -160,7 +161,7 @@ pub(crate) fn exact_scale(page: &Paper, room: &Room, grid: Grid) -> u128
     wide.min(exact_along(&above, down, grid.rows, trimmed_side(room, page.height())))
 }
 
-/// Whether pages can be written at this scale, in 10^-9.
+/// Whether a layout can have this scale, in 10^-9. It has to be above 0, and at most 99,999.
 pub fn is_scale(scale: u128) -> bool
     ensures { result ≡ may_be_scale scale }
 {

@@ -23,8 +23,8 @@ use super::scale::{cell_size, scale_in, trimmed_side};
 use lengths::{Number, Paper};
 use pagespec::Item;
 
-/// A sheet with cells into which pages are fitted, each by its own sides: the margins and gaps, the rows and columns, the order of the cells, and the
-/// scale if one is asked for.
+/// A sheet and the cells into which pages are fitted, each by the sides of its own paper. It has the margins and gaps, the rows and columns, the
+/// order of the cells, and the requested scale, if any.
 #[derive(Clone, Copy)]
 pub struct Setting {
     pub room: Room,
@@ -34,7 +34,7 @@ pub struct Setting {
 }
 
 impl Setting {
-    /// The setting of an arrangement. Its grid is chosen for pages of `papers`.
+    /// The setting for an arrangement. The grid is chosen for pages of the paper in `papers`. If such pages can't be arranged, the error says why.
     pub fn of(papers: &Papers, arrangement: &Arrangement) -> Result<Setting, ArrangementError>
         ensures page { IsPaper papers.now.page }
         ensures sheet { IsPaper papers.now.sheet }
@@ -73,7 +73,8 @@ impl Setting {
         Ok(setting)
     }
 
-    /// The two halves of a sheet with this binding, if pages of `papers` fit into them. Pages of all papers have the same fold.
+    /// The setting for a booklet, with the two halves of a sheet as its cells. It is refused if pages of the paper in `papers` don't fit into the
+    /// halves. The fold is at the same place for pages of every paper.
     pub fn of_binding(papers: &Papers, binding: &Binding) -> Result<Setting, ArrangementError>
         ensures page { IsPaper papers.now.page }
         ensures sheet { IsPaper papers.now.sheet }
@@ -103,7 +104,7 @@ impl Setting {
         })
     }
 
-    /// The scale of pages of this paper: the requested one, or else the largest; or why they can't have it.
+    /// The scale of pages that have this paper. It is the requested one, or else the largest that fits. If they can't have it, the error says why.
     pub fn scale(&self, page_paper: &Paper) -> Result<Number, ArrangementError>
         ensures value { IfOk result (λ scale. scale ≡ pos (scale_on self.now page_paper.now)) }
         ensures possible { OnOk result (why_no_scale_on self.now page_paper.now ≡ None) }
@@ -113,7 +114,7 @@ impl Setting {
         Ok(scale_e9(found))
     }
 
-    /// The room left by a page of this paper at each end of its cell's width, in 10^-5 of a point.
+    /// The length that a page of this paper leaves free at each end of its cell's width, in 10^-5 of a point.
     pub fn slack(&self, page_paper: &Paper) -> Result<u128, ArrangementError>
         ensures value { IfOk result (λ n. n
             ≡ slack_x page_paper.now self.now.room self.now.grid (scale_on self.now page_paper.now)) }
@@ -126,8 +127,8 @@ impl Setting {
         Ok(slack(width, counted, scale))
     }
 
-    /// A page of this paper in a cell, counted from 0. One page on a sheet of its own paper is left as it is if nothing else is requested and pages
-    /// are upright.
+    /// The item that places a page of this paper in a cell, counted from 0. A single page on a sheet of its own paper is left as it is if nothing
+    /// else is requested and pages are upright.
     pub fn item(&self, page_paper: &Paper, cell: u32) -> Result<Item, ArrangementError>
         requires { cell < size self.now.grid }
         ensures page { IsPaper page_paper.now }
@@ -151,8 +152,8 @@ impl Setting {
         Ok(layout.item_in(cell))
     }
 
-    /// A page of this paper in a cell, counted from 0, on a sheet that is rotated by 180 degrees. It is fitted into its cell even on a sheet of its
-    /// own paper.
+    /// The item that places a page of this paper in a cell, counted from 0, on a sheet that is rotated by 180 degrees. The page is fitted into its
+    /// cell even if the sheet has the page's own paper.
     pub fn back_item(&self, page_paper: &Paper, cell: u32) -> Result<Item, ArrangementError>
         requires { cell < size self.now.grid }
         ensures page { IsPaper page_paper.now }
@@ -190,7 +191,7 @@ impl Setting {
             && !self.grid.turned
     }
 
-    /// The scale of pages of this paper, in 10^-9.
+    /// The scale of pages that have this paper, in 10^-9, or the reason why they can't have one.
     fn scale_found(&self, page_paper: &Paper) -> Result<u64, ArrangementError>
         ensures page { IsPaper page_paper.now }
         ensures sheet { IsPaper self.now.room.paper }
