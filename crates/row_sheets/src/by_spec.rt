@@ -1,4 +1,4 @@
-//! The sheets of a specification on a row.
+//! Sheets that a specification makes from a row.
 ghost use Rattle.std.specs.Prelude.{◌≡◌, ◌++◌, ◌<◌, ◌≤◌, ◌^◌, IfErr, IfOk, OnOk, length, map, sum_by};
 ghost use Rattle.rules.specs.Run.{most_sheets};
 ghost use Rattle.rules.specs.Sheets.{blocks as blocks_of, place};
@@ -16,7 +16,7 @@ const MOST_SHEETS: u128 = 1_000_000;
 
 const MOST_PLACES: u128 = 4_000_000;
 
-/// A specification on a row of pages and blanks, with the paper of the sheets, and that of all pages.
+/// A specification and a row of pages and blanks, with the paper of the sheets and the one paper that all pages have.
 #[derive(Clone, Copy)]
 pub struct SpecOnRow<'s> {
     pub spec: &'s Spec,
@@ -25,8 +25,8 @@ pub struct SpecOnRow<'s> {
     pub page: Paper,
 }
 
-/// The sheets of a specification on a row: its items name entries of the row. If there would be more sheets or slots than a plan may have, they are
-/// refused before any memory is asked for.
+/// The sheets that a specification makes from a row. Its items name entries of the row, as they otherwise name pages. If there would be more sheets
+/// or slots than a plan may have, they are refused before any memory is requested.
 pub fn spec_sheets(alloc: Global, on: &SpecOnRow<'_>) -> Result<MadeSheets, MadeError>
     ensures made { IfOk result (λ made. made ≡ by_spec on.now.spec.now on.now.sheet on.now.page on.now.row.now) }
     ensures few { IfOk result AreFew }
@@ -44,7 +44,7 @@ pub fn spec_sheets(alloc: Global, on: &SpecOnRow<'_>) -> Result<MadeSheets, Made
     Ok(made)
 }
 
-/// The number of blocks that the row takes, if its sheets keep to the limits.
+/// The number of blocks that the row takes. The row is refused if there would be more sheets or slots than a plan may have.
 fn blocks_in(on: &SpecOnRow<'_>) -> Result<u32, MadeError>
     ensures value { IfOk result (λ n. n ≡ blocks_of on.now.spec.now.modulo (length on.now.row.now)) }
     ensures few { IfOk result (λ n. n ≤ most_sheets) }
@@ -63,7 +63,7 @@ fn blocks_in(on: &SpecOnRow<'_>) -> Result<u32, MadeError>
     Ok(blocks as u32)
 }
 
-/// The number of slots of one block.
+/// The number of slots on all sheets of a block.
 fn slots_per_block(groups: &[Vec<Item>]) -> u128
     requires { sum_by length (groups_of groups.now) < 2 ^ 64 }
     ensures { result ≡ sum_by length (groups_of groups.now) }
@@ -95,7 +95,7 @@ fn push_block(
     Ok(())
 }
 
-/// The slots of a group, in place of the earlier ones.
+/// Fills `slots` anew, with those of a group.
 fn fill_sheet(
     slots: &mut Vec<MadeSlot>,
     on: &SpecOnRow<'_>,
@@ -114,7 +114,7 @@ fn fill_sheet(
     Ok(())
 }
 
-/// The slot of an item.
+/// The slot of an item in a block.
 fn slot_for(on: &SpecOnRow<'_>, block: u32, item: &Item) -> MadeSlot
     requires few { blocks_of on.now.spec.now.modulo (length on.now.row.now) ≤ most_sheets }
     requires block { block < blocks_of on.now.spec.now.modulo (length on.now.row.now) }
@@ -130,7 +130,7 @@ fn slot_for(on: &SpecOnRow<'_>, block: u32, item: &Item) -> MadeSlot
     }
 }
 
-/// The place that an item names in a block.
+/// The index of the row's entry that an item names in a block.
 fn place_in_row(on: &SpecOnRow<'_>, block: u32, item: &Item) -> usize
     requires few { blocks_of on.now.spec.now.modulo (length on.now.row.now) ≤ most_sheets }
     requires block { block < blocks_of on.now.spec.now.modulo (length on.now.row.now) }

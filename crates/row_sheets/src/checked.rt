@@ -1,4 +1,4 @@
-//! Tests whether the pages of a row can be laid, without making a sheet.
+//! Checks of whether the pages of a row can be placed, without making a sheet.
 ghost use Rattle.std.specs.Prelude.{◌≡◌, ◌<◌, IfErr, None, OnOk, Some, ℕ};
 ghost use Rattle.rules.specs.Signatures.{entry_of};
 ghost use Rattle.layouts.specs.Cells.{size};
@@ -14,7 +14,8 @@ use layouts::{ArrangementError, Setting};
 use lengths::Paper;
 use rows::entry_at;
 
-/// Tests that each page of the row has a place in a cell. A page whose paper isn't known has the sheet's. The first page without a place is reported.
+/// Checks that each page of the row can be placed in a cell. A page whose paper isn't in `papers` has the paper of the sheet. The first page that
+/// can't be placed is reported.
 pub fn check_cells(
     setting: &Setting,
     papers: &[Paper],
@@ -47,8 +48,8 @@ fn check_cell(
     Ok(())
 }
 
-/// Tests that each page of the row has a place in a half of leaves that creep. A page whose paper isn't known has the sheet's. The first page without a
-/// place is reported.
+/// Checks that each page of the row can be placed in a half of its leaf, which creeps. A page whose paper isn't in `papers` has the paper of the
+/// sheet. The first page that can't be placed is reported.
 pub(crate) fn check_halves(
     setting: &Setting,
     papers: &[Paper],
@@ -93,7 +94,8 @@ fn check_half(
     Ok(())
 }
 
-/// Tests that each page of the row can be such a poster. A page whose paper isn't known has the sheets'. The first page that can't is reported.
+/// Checks that each page of the row can be a poster of this kind. A page whose paper isn't in `papers` has the paper of the sheets. The first page
+/// that can't be a poster is reported.
 pub fn check_posters(
     poster: &Poster,
     papers: &[Paper],

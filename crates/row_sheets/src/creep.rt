@@ -26,22 +26,22 @@ use std::alloc::Global;
 /// How far the leaves of a signature creep.
 #[derive(Clone, Copy, Debug, PartialEq, Eq)]
 pub struct Creep {
-    /// The distance by which pages of the innermost leaf are moved towards the fold, in 10^-5 of a point. The outermost leaf stays.
+    /// The distance by which pages on the innermost leaf are moved towards the fold, in 10^-5 of a point. Pages on the outermost leaf aren't moved.
     pub innermost: u64,
-    /// The number of leaves of a signature.
+    /// The number of leaves in a signature.
     pub leaves: u32,
 }
 
-/// A side of a leaf: whether it is rotated by 180 degrees, and the distance by which its pages are moved.
+/// A side of a leaf: whether it is rotated by 180 degrees, and the distance by which its pages are moved, in 10^-5 of a point.
 #[derive(Clone, Copy)]
 struct LeafSide {
     by_half: bool,
     creep: u64,
 }
 
-/// The sides of a booklet's leaves, fronts and backs in turn, for a row in signature order: two entries on each side. For printers that flip a sheet
-/// on its long edge the backs are rotated by 180 degrees. Each page is moved towards the fold as its leaf creeps. The first page that would cross the
-/// fold is reported. A page whose paper isn't known has the sheet's.
+/// The sides of a booklet's leaves, with each front followed by its back. The row is in signature order, and each side has two of its entries. For
+/// printers that flip a sheet on its long edge, the backs are rotated by 180 degrees. Each page is moved towards the fold by the creep of its leaf. A
+/// page whose paper isn't in `papers` has the paper of the sheet. The first page that would cross the fold is reported.
 pub fn creeping_booklet_sheets(
     alloc: Global,
     setting: &Setting,
@@ -65,8 +65,8 @@ pub fn creeping_booklet_sheets(
     }
 }
 
-/// Why the leaves aren't laid. The first page of the row that has no place in its half is reported; want of memory only if
-/// all have theirs.
+/// The reason why the leaves can't be made. It is that of the first page in the row that can't be placed in its half. If all pages can be placed,
+/// there is not enough memory.
 fn first_refusal(
     setting: &Setting,
     papers: &[Paper],
@@ -82,7 +82,7 @@ fn first_refusal(
     }
 }
 
-/// The sides of the leaves.
+/// The sides of the leaves, with each front followed by its back.
 fn sides_of_leaves(
     alloc: Global,
     setting: &Setting,
@@ -119,14 +119,14 @@ fn sides_of_leaves(
     Ok(made)
 }
 
-/// Whether this side is rotated by 180 degrees.
+/// Whether side `s` is rotated by 180 degrees. Fronts and backs are counted from 0.
 fn is_half_turned(turned_backs: bool, s: u32) -> bool
     ensures { result ≡ is_turned_on turned_backs s }
 {
     turned_backs && s % 2 == 1
 }
 
-/// The distance by which the pages of a side are moved.
+/// The distance by which the pages on side `s` are moved, in 10^-5 of a point.
 pub(crate) fn creep_on(creep: Creep, s: u64) -> u64
     ensures { result ≡ creep_on_side creep.innermost creep.leaves s }
 {
@@ -137,7 +137,8 @@ pub(crate) fn creep_on(creep: Creep, s: u64) -> u64
     (u128::from(leaf) * u128::from(creep.innermost) / u128::from(creep.leaves - 1)) as u64
 }
 
-/// The page in this half on the same side of the leaf before, if that leaf creeps as far.
+/// The page in this half on the same side of the leaf before. It is None if there is no such leaf, if that leaf creeps by another distance, or if the
+/// half is blank.
 fn half_before(made: &MadeSheets, creep: Creep, s: u32, cell: u32) -> Option<PlacedSlot<'_>>
     requires sheet { s ≤ length made.now }
     requires cell { 2 ≤ s → cell < length (slots_at made.now (s - 2)) }
@@ -150,7 +151,8 @@ fn half_before(made: &MadeSheets, creep: Creep, s: u32, cell: u32) -> Option<Pla
     made.placed(s - 2, cell)
 }
 
-/// An entry of a row in a half of a side. Its item is that of the leaf before, if the page has the same paper.
+/// The slot that has an entry of a row, in a half of a side. If the leaf before has a page of the same paper there, the entry takes that page's item,
+/// which saves computing one.
 fn creeping_slot(
     setting: &Setting,
     papers: &[Paper],
@@ -179,7 +181,7 @@ fn creeping_slot(
     Ok(MadeSlot::Placed { page, item, paper })
 }
 
-/// A page of this paper in a half of a side.
+/// The item that places a page of this paper in a half of a side, moved towards the fold.
 pub(crate) fn creeping_item(
     setting: &Setting,
     paper: &Paper,
@@ -199,7 +201,7 @@ pub(crate) fn creeping_item(
     Ok(moved_up(item, by))
 }
 
-/// A page of this paper in a half of a leaf that doesn't creep.
+/// The item that places a page of this paper in a half of a leaf that doesn't creep.
 fn half_item(
     setting: &Setting,
     paper: &Paper,
@@ -221,7 +223,7 @@ fn half_item(
     }
 }
 
-/// Tests that a page of this paper doesn't cross the fold if its leaf creeps this far.
+/// Checks that a page of this paper doesn't cross the fold if its leaf creeps by this distance, in 10^-5 of a point.
 fn check_fold(setting: &Setting, paper: &Paper, creep: u64) -> Result<(), ArrangementError>
     requires halves { AreHalves setting.now }
     ensures possible { OnOk result
@@ -239,14 +241,14 @@ fn check_fold(setting: &Setting, paper: &Paper, creep: u64) -> Result<(), Arrang
     }
 }
 
-/// Whether there is room at the fold for a leaf to creep this far.
+/// Whether a leaf that creeps by this distance has room for that at its fold.
 fn has_creep_room(slack: u128, gap: u64, creep: u64) -> bool
     ensures { result ≡ nat_le (2 * creep) (2 * slack + gap) }
 {
     2 * u128::from(creep).saturating_sub(slack) <= u128::from(gap)
 }
 
-/// The distance up by which a page is moved towards the fold.
+/// The distance by which a page is moved up to come nearer to the fold, in 10^-5 of a point. It is negative if the fold is below the page.
 fn towards_fold(right_to_left: bool, by_half: bool, cell: u32, creep: u64) -> i64
     requires { creep < 10_000_000_000 }
     ensures value { result ≡ up_to_fold right_to_left by_half cell creep }
@@ -258,7 +260,7 @@ fn towards_fold(right_to_left: bool, by_half: bool, cell: u32, creep: u64) -> i6
     if by_half { -up } else { up }
 }
 
-/// An item moved up by a length in 10^-5 of a point; its offset is in points.
+/// The item, moved up by a length in 10^-5 of a point. The offset of the item is in points.
 fn moved_up(item: Item, by: i64) -> Item
     requires by { nat_abs by < 10_000_000_000 }
     requires reach { nat_abs ((item_of item).y.number +ℤ (pos 10_000 *ℤ by)) ≤ greatest_number }
@@ -280,7 +282,7 @@ fn moved_up(item: Item, by: i64) -> Item
     }
 }
 
-/// A length in 10^-5 of a point, converted to 10^-9 of a point.
+/// A length in 10^-9 of a point, given in 10^-5 of a point.
 fn in_billionths(by: i64) -> i64
     requires { nat_abs by < 10_000_000_000 }
     ensures { result ≡ pos 10_000 *ℤ by }
@@ -288,7 +290,7 @@ fn in_billionths(by: i64) -> i64
     10_000 * by
 }
 
-/// The sum, which a number can have.
+/// The sum of `one` and `other`. The caller has to show that it is in the range of numbers.
 fn billionths_sum(one: i64, other: i64) -> i64
     requires { nat_abs (one +ℤ other) ≤ greatest_number }
     ensures { result ≡ one +ℤ other }

@@ -1,4 +1,4 @@
-//! Sheets whose cells are filled from a row.
+//! Sheets whose cells are filled with the entries of a row.
 ghost use Rattle.std.specs.Prelude.{◌≡◌, ◌<◌, ◌≤◌, ◌*◌, ◌-◌, IfOk, IfErr, IfSome, OnOk, Some, false, length, map, slice_get, true, ℕ};
 ghost use Rattle.std.specs.List.{range_with_len};
 ghost use Rattle.rules.specs.Sheets.{blocks};
@@ -34,7 +34,7 @@ enum CellKind {
     Zine,
 }
 
-/// A number of sheets, and the number of cells of each.
+/// The kind of the sheets, their number, and the number of cells on each.
 #[derive(Clone, Copy, Debug, PartialEq, Eq)]
 struct Shape {
     kind: CellKind,
@@ -42,7 +42,8 @@ struct Shape {
     cells: u32,
 }
 
-/// The row on sheets of this number of cells, from cell to cell and then from sheet to sheet. A page whose paper isn't known has the sheet's.
+/// The sheets of a grid with this number of cells. The row fills them cell by cell and sheet by sheet. A page whose paper isn't in `papers` has the
+/// paper of the sheet. The first page that can't be placed is reported.
 pub fn grid_sheets(
     alloc: Global,
     setting: &Setting,
@@ -60,7 +61,7 @@ pub fn grid_sheets(
     fill_cells(alloc, setting, papers, row, CellKind::Grid, cells)
 }
 
-/// Cards: each entry of the row fills all cells of a sheet.
+/// The sheets of cards: each entry of the row is in all cells of one sheet. The first page that can't be placed is reported.
 pub fn card_sheets(
     alloc: Global,
     setting: &Setting,
@@ -78,7 +79,8 @@ pub fn card_sheets(
     fill_cells(alloc, setting, papers, row, CellKind::Cards, cells)
 }
 
-/// A stack: if the pile of sheets is cut and its parts are laid on one another, the row runs on.
+/// The sheets of a stack. If the sheets are cut between the cells and the piles are laid on one another, the pages are in the order of the row. The
+/// first page that can't be placed is reported.
 pub fn stack_sheets(
     alloc: Global,
     setting: &Setting,
@@ -96,7 +98,8 @@ pub fn stack_sheets(
     fill_cells(alloc, setting, papers, row, CellKind::Stack, cells)
 }
 
-/// A stack of leaves that are printed on both sides: fronts and backs in turn. Each entry is on the back of the one before it, or on the next leaf.
+/// The sheets of a stack of leaves that are printed on both sides, with each front followed by its back. Each entry is on the back of the entry
+/// before it, or on the front of the next leaf. The first page that can't be placed is reported.
 pub fn leaf_sheets(
     alloc: Global,
     setting: &Setting,
@@ -114,7 +117,8 @@ pub fn leaf_sheets(
     }
 }
 
-/// A zine: eight entries on one side of each sheet, which is folded thrice and cut once. The first row of cells is rotated by 180 degrees.
+/// The sheets of zines. Each sheet has eight entries on one side, is folded three times and is cut once. The first row of cells is rotated by 180
+/// degrees. The first page that can't be placed is reported.
 pub fn zine_sheets(
     alloc: Global,
     setting: &Setting,
@@ -130,7 +134,7 @@ pub fn zine_sheets(
     fill_cells(alloc, setting, papers, row, CellKind::Zine, 8)
 }
 
-/// The row in this number of cells of each sheet.
+/// The sheets of this kind with this number of cells each, filled with the row.
 fn fill_cells(
     alloc: Global,
     setting: &Setting,
@@ -163,7 +167,8 @@ fn fill_cells(
     }
 }
 
-/// Why the cells aren't filled: for the first page of the row that doesn't fit, on whatever sheet it would be, or, if all fit, for want of memory.
+/// The reason why the cells can't be filled. It is that of the first page in the row that can't be placed, on whichever sheet it would be. If all
+/// pages can be placed, there is not enough memory.
 fn first_refusal(setting: &Setting, papers: &[Paper], row: &[Option<u32>]) -> ArrangementError
     requires { 0 < size setting.now.grid }
     ensures { IsRefusedFor (filling setting.now papers.now) row.now result }
@@ -194,7 +199,7 @@ fn sheets_for(kind: CellKind, cells: u32, row: &[Option<u32>]) -> Result<u32, Ar
     }
 }
 
-/// The number of blocks that the entries of a row take.
+/// The number of blocks of `entries` entries that a row takes.
 pub(crate) fn blocks_of(row: &[Option<u32>], entries: u64) -> Result<u32, ArrangementError>
     requires { 0 < entries }
     ensures value { IfOk result (λ n. n ≡ blocks entries (length row.now)) }
@@ -208,7 +213,7 @@ pub(crate) fn blocks_of(row: &[Option<u32>], entries: u64) -> Result<u32, Arrang
     }
 }
 
-/// The sheets of this shape.
+/// The sheets of this shape, filled with the row.
 fn filled(
     alloc: Global,
     setting: &Setting,
@@ -236,7 +241,7 @@ fn filled(
     Ok(made)
 }
 
-/// The slots of the next sheet, in place of the earlier ones.
+/// Fills `slots` anew, with those of the next sheet.
 fn fill_slots(
     slots: &mut Vec<MadeSlot>,
     made: &MadeSheets,
@@ -273,7 +278,7 @@ fn fill_slots(
     Ok(())
 }
 
-/// The page in a cell of the sheet before, if there is one.
+/// The page in this cell of the sheet before, or None if there is no such sheet or the cell is blank.
 fn placed_before(made: &MadeSheets, s: u32, cell: u32) -> Option<PlacedSlot<'_>>
     requires sheet { s ≤ length made.now }
     requires cell { 0 < s → cell < length (slots_at made.now (s - 1)) }
@@ -285,7 +290,7 @@ fn placed_before(made: &MadeSheets, s: u32, cell: u32) -> Option<PlacedSlot<'_>>
     made.placed(s - 1, cell)
 }
 
-/// The item of a page that was placed before, if it has this paper.
+/// The item of a page that was placed before, if that page has this paper.
 pub(crate) fn same_item(before: Option<PlacedSlot<'_>>, paper: &Paper) -> Option<Item>
     ensures { IfSome result (λ item. (page : ℕ) × (placed_of before.entry ≡ Placed page (item_of item) paper.now)) }
 {
@@ -297,7 +302,7 @@ pub(crate) fn same_item(before: Option<PlacedSlot<'_>>, paper: &Paper) -> Option
     }
 }
 
-/// An entry of a row in a cell that is filled in this way.
+/// The slot that has an entry of a row, in a cell of sheets of this kind.
 fn slot_by(
     setting: &Setting,
     papers: &[Paper],
@@ -322,7 +327,7 @@ fn slot_by(
     }
 }
 
-/// An entry of a row in a cell of a sheet that is rotated by 180 degrees.
+/// The slot that has an entry of a row, in a cell of a sheet that is rotated by 180 degrees.
 fn back_slot_in(
     setting: &Setting,
     papers: &[Paper],
@@ -343,7 +348,8 @@ fn back_slot_in(
     Ok(MadeSlot::Placed { page, item, paper })
 }
 
-/// An entry of a row in a cell. Its item is that of the page that was there before, if that has the same paper.
+/// The slot that has an entry of a row, in a cell. If the sheet before has a page of the same paper there, the entry takes that page's item, which
+/// saves computing one.
 fn slot_in(
     setting: &Setting,
     papers: &[Paper],
@@ -368,7 +374,7 @@ fn slot_in(
     Ok(MadeSlot::Placed { page, item, paper })
 }
 
-/// The entry of the row in this cell of this sheet.
+/// The index of the row's entry in cell `c` of sheet `s`.
 fn place(shape: Shape, setting: &Setting, s: u32, c: u32) -> u128
     ensures { result ≡ place_of shape setting.now s c }
 {
@@ -383,7 +389,7 @@ fn place(shape: Shape, setting: &Setting, s: u32, c: u32) -> u128
     }
 }
 
-/// The zine's entry, one of eight, in this cell of its sheet.
+/// The index of the zine's entry in this cell, among the eight entries of the sheet.
 fn zine_place(cell: u128) -> u128
     requires { cell < 4_294_967_296 }
     ensures { result ≡ place_in_zine cell }
@@ -391,7 +397,7 @@ fn zine_place(cell: u128) -> u128
     if cell < 4 { 4 - cell } else { (cell + 1) % 8 }
 }
 
-/// The cell itself on a front, and on a back the cell behind it.
+/// The cell `c` itself if sheet `s` is a front, or the cell behind it if the sheet is a back.
 fn cell_on_side(setting: &Setting, s: u32, c: u32) -> u64
     ensures { result ≡ cell_on setting.now s c }
 {
@@ -402,7 +408,7 @@ fn cell_on_side(setting: &Setting, s: u32, c: u32) -> u64
     }
 }
 
-/// The cell behind a cell.
+/// The cell that lies behind cell `c` on the other side of the leaf.
 fn cell_on_back(setting: &Setting, c: u32) -> u128
     ensures value { result ≡ behind_in setting.now c }
     ensures in_range { result < 18_446_744_073_709_551_616 }

@@ -1,4 +1,5 @@
-//! Sheets of rows: each entry on its own, in cells, on leaves, as posters, or by a specification.
+//! Sheets that are made from rows. Each entry is on a sheet of its own, in a cell, on a leaf, over the tiles of a poster, or where a specification
+//! puts it.
 #![tactic(auto)]
 
 mod by_spec;

@@ -1,4 +1,4 @@
-//! Posters: one page over several sheets.
+//! Posters, which show one page over several sheets.
 ghost use Rattle.std.specs.Prelude.{◌≡◌, ◌++◌, ◌+◌, ◌-◌, ◌*◌, ◌<◌, ◌≤◌, IfOk, IfErr, OnOk, Some, None};
 ghost use Rattle.pagespec.specs.Items.{item_of};
 ghost use Rattle.rules.specs.Numbers.{greatest_number};
@@ -16,39 +16,39 @@ use sheet_plan::{MadeSheets, MadeSlot};
 use std::alloc::Global;
 use thiserror::Error;
 
-/// Columns and rows of sheets of a paper.
+/// The columns and rows of the sheets of a poster. All of them have this paper.
 #[derive(Clone, Copy, Debug, PartialEq, Eq)]
 pub struct Poster {
     pub sheet: Paper,
     pub columns: u32,
     pub rows: u32,
-    /// The margin along the edges of each sheet, in 10^-5 of a point.
+    /// The margin along each edge of a sheet, in 10^-5 of a point.
     pub edge: u64,
     /// The overlap of neighbouring sheets, in 10^-5 of a point.
     pub overlap: u64,
 }
 
-/// Why there is no poster.
+/// Why a poster can't be made.
 #[derive(Clone, Copy, Debug, PartialEq, Eq, Error)]
 pub enum PosterError {
-    /// No sheet was asked for, or more than 1,024.
+    /// No sheet was requested, or more than 1,024.
     #[error("a poster has from 1 to 1,024 sheets")]
     TilesOutOfRange,
-    /// A side of the sheets' paper, or of the whole poster, has 100,000 points or more.
+    /// A side of the sheets' paper, or of the whole poster, is 100,000 points long or longer.
     #[error("a side of a poster or of its sheets is 100,000 points or more")]
     SideTooLong,
-    /// The margins leave no more of a sheet than the overlap.
+    /// What the margins leave of a sheet is no longer, or no wider, than the overlap.
     #[error("the margins leave no more of a sheet than the overlap")]
     NothingButOverlap,
     /// The scale of the page would be 0, or above 99,999.
     #[error("the page would be too small or too large: its scale must be from 0.000000001 to 99999")]
     ScaleOutOfRange,
-    /// A growth was refused.
+    /// There was not enough memory.
     #[error("out of memory")]
     NoMemory,
 }
 
-/// A page on the tiles: its scale, in 10^-9, its place on the first tile, and the distances between tiles, in 10^-5 of a point.
+/// How a page lies on the tiles: its scale, in 10^-9, its place on the first tile, and the distances from tile to tile, in 10^-5 of a point.
 #[derive(Clone, Copy, Debug, PartialEq, Eq)]
 struct PosterFit {
     scale: u64,
@@ -58,7 +58,7 @@ struct PosterFit {
     down: u64,
 }
 
-/// Whether pages of this paper can be such a poster.
+/// Checks that pages of this paper can be such a poster. The error says why they can't.
 pub fn check_poster(poster: &Poster, page_paper: &Paper) -> Result<(), PosterError>
     ensures tiles { OnOk result (poster.now.rows * poster.now.columns ≤ most_tiles) }
     ensures edge { OnOk result (poster.now.edge ≤ 10_000_000_000) }
@@ -70,7 +70,8 @@ pub fn check_poster(poster: &Poster, page_paper: &Paper) -> Result<(), PosterErr
     Ok(())
 }
 
-/// One page over the sheets of a poster, row by row from the head, each from the left: as large as they allow, and centred on all of them.
+/// The sheets of a poster of one page, row by row from the top, each row from the left. The page is as large as the sheets allow, and lies in the
+/// middle of all of them.
 pub fn poster_sheets(
     alloc: Global,
     poster: &Poster,
@@ -86,7 +87,7 @@ pub fn poster_sheets(
     Ok(made)
 }
 
-/// Adds the sheets of a page.
+/// Adds the sheets of the poster of a page.
 pub(crate) fn push_poster(
     poster: &Poster,
     page_paper: &Paper,
@@ -114,7 +115,7 @@ pub(crate) fn push_poster(
     Ok(())
 }
 
-/// The page on the tiles.
+/// How a page of this paper lies on the tiles, or the reason why it can't.
 fn laid_on(poster: &Poster, page_paper: &Paper) -> Result<PosterFit, PosterError>
     ensures value { IfOk result (λ laid. laid ≡ laid_of page_paper.now poster.now) }
     ensures tiles { IfOk result (λ laid. poster.now.rows * poster.now.columns ≤ most_tiles) }
@@ -158,7 +159,7 @@ fn laid_on(poster: &Poster, page_paper: &Paper) -> Result<PosterFit, PosterError
     })
 }
 
-/// The part of a side, which is in grains, between its margins, in 10^-5 of a point.
+/// The length that the margins leave of a side, in 10^-5 of a point. The side is given in grains.
 fn tile(side: u64, edge: u64) -> u64
     ensures { result ≡ tile_of side edge }
 {
@@ -167,7 +168,7 @@ fn tile(side: u64, edge: u64) -> u64
         .saturating_sub(edge)
 }
 
-/// The length of this number of tiles.
+/// The length of a number of tiles that overlap, in 10^-5 of a point.
 fn length(tile: u64, stride: u64, tiles: u32) -> u128
     requires { 0 < tiles }
     ensures { result ≡ (tiles - 1) * stride + tile }
@@ -175,7 +176,8 @@ fn length(tile: u64, stride: u64, tiles: u32) -> u128
     u128::from(tiles - 1) * u128::from(stride) + u128::from(tile)
 }
 
-/// The page on the tile in this column, and in this row from the foot. Pages of one paper have the same items, so sheets store these once.
+/// The item that places a page on the tile in this column, and in this row, counted from the bottom. Pages of one paper have the same items, so that
+/// made sheets can keep each item once.
 fn tile_item(laid: &PosterFit, column: u32, row: u32) -> Item
     requires near { IsNear laid.now column row }
     requires scale { laid.now.scale ≤ greatest_number }

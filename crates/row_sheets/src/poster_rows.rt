@@ -1,4 +1,4 @@
-//! Posters of the pages of a row.
+//! Posters of all pages in a row.
 ghost use Rattle.std.specs.Prelude.{◌≡◌, ◌++◌, ◌*◌, ◌≤◌, IfErr, IfOk, OnOk};
 ghost use Rattle.row_sheets.specs.Posters.{most_tiles, blank_tiles, entry_tiles, row_tiles};
 ghost use Rattle.row_sheets.specs.Posters.{AllMayBePosters, EntryMayBePoster, IsNoPosterFor};
@@ -10,8 +10,8 @@ use lengths::Paper;
 use sheet_plan::{MadeSheets, MadeSlot};
 use std::alloc::Global;
 
-/// The pages of a row, each over the sheets of such a poster, one after the other. A blank leaves as many sheets blank. A page whose paper isn't
-/// known has the sheets'. The first page that can't be a poster is reported.
+/// The sheets of posters of the pages in a row, one poster after the other. A blank entry gives as many blank sheets as a poster has. A page whose
+/// paper isn't in `papers` has the paper of the sheets. The first page that can't be a poster is reported.
 pub fn poster_row_sheets(
     alloc: Global,
     poster: &Poster,
@@ -29,7 +29,8 @@ pub fn poster_row_sheets(
     }
 }
 
-/// Why the row isn't laid. The first page that can't be a poster is reported; want of memory only if all can.
+/// The reason why the posters can't be made. It is that of the first page that can't be a poster. If all pages can be one, there is not enough
+/// memory.
 fn first_refusal(poster: &Poster, papers: &[Paper], row: &[Option<u32>]) -> PosterError
     ensures { IsNoPosterFor poster.now papers.now row.now result }
 {
@@ -39,7 +40,7 @@ fn first_refusal(poster: &Poster, papers: &[Paper], row: &[Option<u32>]) -> Post
     }
 }
 
-/// The tiles of all entries.
+/// The sheets of all entries, one poster after the other.
 fn tiles_of_row(
     alloc: Global,
     poster: &Poster,
@@ -74,7 +75,7 @@ fn push_entry(
     }
 }
 
-/// Adds as many blank sheets as a page takes.
+/// Adds as many blank sheets as a poster has.
 fn push_blanks(poster: &Poster, made: &mut MadeSheets) -> Result<(), PosterError>
     requires { poster.now.rows * poster.now.columns ≤ most_tiles }
     ensures pushed { OnOk result (made.new ≡ made.old ++ blank_tiles poster.now) }

@@ -1,4 +1,4 @@
-//! One scale for all pages of a row.
+//! The one scale of all pages in a row.
 ghost use Rattle.std.specs.Prelude.{◌≡◌, IfErr, IfOk, None, OnOk, Some};
 ghost use Rattle.row_sheets.specs.Shapes.{filling};
 ghost use Rattle.row_sheets.specs.SameScale.{at_one_scale as setting_of, least_with, lesser as lesser_of};
@@ -8,8 +8,8 @@ use crate::selecting::paper_or;
 use layouts::{ArrangementError, Setting};
 use lengths::{Number, Paper};
 
-/// The cells with one scale for all pages of the row: that of the largest paper, the least of the pages' own. A page whose paper isn't known has the
-/// sheet's. The first page without a scale of its own is reported.
+/// The setting with one scale for all pages of the row: the least of the scales that they would have on their own, which is that of the largest
+/// paper. A page whose paper isn't in `papers` has the paper of the sheet. The first page that has no scale of its own is reported.
 pub fn at_one_scale(
     setting: &Setting,
     papers: &[Paper],
@@ -31,7 +31,7 @@ pub fn at_one_scale(
     })
 }
 
-/// The least scale so far, with one more entry.
+/// The least scale of the entries so far and of one more entry.
 fn with_entry(
     setting: &Setting,
     papers: &[Paper],

@@ -1,4 +1,4 @@
-//! Each entry of a row on a sheet of its own.
+//! Rows with each entry on a sheet of its own.
 ghost use Rattle.std.specs.Prelude.{◌≡◌, ◌++◌, ◌∷◌, [], IfOk, OnOk};
 ghost use Rattle.pagespec.specs.Items.{item_of};
 ghost use Rattle.row_sheets.specs.RowSheets.{as_it_is as item_as_it_is, paper_of, selected, selected_sheet};
@@ -8,7 +8,7 @@ use pagespec::{Item, Measure, Turn};
 use sheet_plan::{MadeSheets, MadeSlot};
 use std::alloc::{AllocError, Global};
 
-/// Each page of a row as it is, on a sheet of its own paper, and each blank on a sheet of the paper for blanks.
+/// The sheets on which each page of a row is left as it is, on its own paper. A blank has a sheet of the paper `blank`.
 pub fn select(
     alloc: Global,
     row: &[Option<u32>],
@@ -24,7 +24,7 @@ pub fn select(
     Ok(made)
 }
 
-/// Adds a sheet with this entry.
+/// Adds a sheet that has this entry.
 fn push_entry(
     made: &mut MadeSheets,
     entry: Option<u32>,
@@ -51,7 +51,7 @@ fn push_entry(
     }
 }
 
-/// The paper of a page, or the other one if the page isn't there.
+/// The paper of a page, or `other` if the page isn't in `papers`.
 pub(crate) fn paper_or(papers: &[Paper], page: u32, other: &Paper) -> Paper
     ensures { result ≡ paper_of papers.now other.now page }
 {

@@ -1,4 +1,4 @@
-//! What is chosen of a document's pages.
+//! The choice of pages from a document.
 ghost use Rattle.std.specs.Prelude.{◌≡◌, ◌≤◌, ◌<◌, length, Ok, IfOk, IfErr};
 ghost use Rattle.rules.specs.Rows.{Row};
 ghost use Rattle.rules.specs.Choice.{chosen, named_row, part_of, reversed_if, most_entries};
@@ -11,7 +11,7 @@ use crate::parts::{all_pages, even_part, odd_part};
 use crate::tallies::entry_count;
 use std::alloc::{AllocError, Global};
 
-/// Which entries of a row stay, by their places in it.
+/// Which entries of a row are kept: all of them, or those in odd or in even places. Places are counted from 1.
 #[derive(Clone, Copy, Debug, PartialEq, Eq)]
 pub enum Part {
     All,
@@ -19,7 +19,8 @@ pub enum Part {
     Even,
 }
 
-/// The ranges that are named, or else all pages; a part of these; and that backwards on request.
+/// A choice of pages. It has the named ranges, or all pages if none are named. Then it keeps a part of these entries. Then it reverses their order if
+/// `backwards` is true.
 #[derive(Clone, Copy)]
 pub struct Choice<'t> {
     pub ranges: Option<&'t [u8]>,
@@ -27,7 +28,7 @@ pub struct Choice<'t> {
     pub backwards: bool,
 }
 
-/// The row that is chosen from a document of this many pages. A refusal takes no memory.
+/// The row that is chosen from a document with this number of pages. If there is none, the error says why, and no memory is taken.
 pub fn chosen_row(
     alloc: Global,
     pages: u32,
@@ -49,7 +50,7 @@ pub fn chosen_row(
     }
 }
 
-/// The number of entries of the row before a part is taken, or why there is no row.
+/// The number of entries in the row before a part is kept, or the reason why there is no row.
 fn named_count(pages: u32, ranges: Option<&[u8]>) -> Result<usize, RowError>
     requires { pages ≤ most_entries }
     ensures row { IfOk result (λ n. named_row pages (ranges_text ranges.entry) ≡ Ok (named_found pages ranges.entry)) }
@@ -63,7 +64,7 @@ fn named_count(pages: u32, ranges: Option<&[u8]>) -> Result<usize, RowError>
     }
 }
 
-/// The number of entries in a part of a row with this many.
+/// The number of entries that this part keeps of a row with `entries` entries.
 fn part_count(part: Part, entries: usize) -> usize
     ensures { (row : Row) → length row ≡ entries → length (part_of (part_named part) row) ≡ result }
 {
@@ -74,7 +75,7 @@ fn part_count(part: Part, entries: usize) -> usize
     }
 }
 
-/// The row that is chosen, if there are this many entries before a part is taken.
+/// The chosen row. `entries` is the number of its entries before a part is kept.
 fn made_row(
     alloc: Global,
     pages: u32,
@@ -94,7 +95,7 @@ fn made_row(
     Ok(row)
 }
 
-/// The row before a part is taken, which has this many entries.
+/// The row before a part is kept. `entries` is the number of its entries.
 fn found_row(
     alloc: Global,
     pages: u32,
@@ -110,7 +111,7 @@ fn found_row(
     }
 }
 
-/// A part of a row.
+/// The entries of a row that belong to this part.
 fn part_row(
     alloc: Global,
     part: Part,

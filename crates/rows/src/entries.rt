@@ -2,7 +2,7 @@
 ghost use Rattle.std.specs.Prelude.{◌≡◌};
 ghost use Rattle.rules.specs.Signatures.{entry_of};
 
-/// An entry of the row; after its end all is blank.
+/// The entry of a row with this index, counted from 0. Every entry after the end of the row is blank.
 pub fn entry_at(row: &[Option<u32>], entry: u128) -> Option<u32>
     ensures { result ≡ entry_of row.now entry }
 {

@@ -1,21 +1,20 @@
 //! Why there is no row.
 use thiserror::Error;
 
-/// Why there is no row. The faults are looked for in this order, before any memory is asked for: the whole text is
-/// read first, then all pages are looked up, then entries are counted. A fault has the place of its range's first
-/// byte in the text.
+/// Why there is no row. The faults are looked for in the order of this enum, before any memory is requested. The whole text is read first, then all
+/// pages are looked up, then the entries are counted. The value of a fault is the index in the text of the first byte of its range.
 #[derive(Clone, Copy, Debug, PartialEq, Eq, Error)]
 pub enum RowError {
-    /// The text here begins no range.
+    /// The text at this index, up to the next comma, isn't a range.
     #[error("pages: no range at byte {0}")]
     NotARange(usize),
-    /// The document lacks an end of this range.
+    /// The document doesn't have the first or the last page of this range.
     #[error("pages: no such page at byte {0}")]
     NotInDocument(usize),
-    /// With this range there are over 1,000,000 entries.
+    /// Up to the end of this range, there are over 1,000,000 entries.
     #[error("pages: more than 1,000,000 entries at byte {0}")]
     TooManyEntries(usize),
-    /// Nothing is left to be imposed.
+    /// There are no entries to impose.
     #[error("pages: no page is left")]
     NoEntries,
     /// There was not enough memory.

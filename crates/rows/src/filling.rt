@@ -1,4 +1,4 @@
-//! Rows are filled with the entries of ranges.
+//! Filling of rows with the entries of ranges.
 ghost use Rattle.std.specs.Prelude.{◌≡◌, ◌+◌, ◌<◌, ◌≤◌, ◌++◌, length, map, Some, vec_len, vec_capacity};
 ghost use Rattle.std.specs.List.{range_with_len};
 ghost use Rattle.rows.specs.Found.{row_found, entries_found, entries_if, pages_from_to};
@@ -6,7 +6,7 @@ ghost use Rattle.rows.specs.Found.{row_found, entries_found, entries_if, pages_f
 use crate::cutting::split_at_byte;
 use crate::found_ranges::{ResolvedRange, read_range};
 
-/// Appends the entries of all ranges of a text, for which the row has room.
+/// Appends the entries of all ranges of a text. The caller has to show that the row has room for them.
 pub(crate) fn append_ranges(row: &mut Vec<Option<u32>>, pages: u32, text: &[u8])
     requires { vec_len row.old + length (row_found pages text.now) ≤ vec_capacity row.old }
     ensures appended { row.new.items ≡ row.old.items ++ row_found pages text.now }
@@ -20,7 +20,7 @@ pub(crate) fn append_ranges(row: &mut Vec<Option<u32>>, pages: u32, text: &[u8])
     }
 }
 
-/// Appends the entries of a range, if there is one.
+/// Appends the entries of a range, or nothing if there is no range.
 fn append_range_if(row: &mut Vec<Option<u32>>, range: Option<ResolvedRange>)
     requires { vec_len row.old + length (entries_if range) ≤ vec_capacity row.old }
     ensures appended { row.new.items ≡ row.old.items ++ entries_if range }
@@ -49,7 +49,7 @@ fn append_range(row: &mut Vec<Option<u32>>, range: ResolvedRange)
     }
 }
 
-/// Appends the pages from one number to another, up or down.
+/// Appends the pages from the number `first` to the number `last`, in ascending or descending order.
 fn append_pages(row: &mut Vec<Option<u32>>, first: u32, last: u32)
     requires first { 0 < first }
     requires last { 0 < last }
@@ -64,7 +64,7 @@ fn append_pages(row: &mut Vec<Option<u32>>, first: u32, last: u32)
     }
 }
 
-/// Appends the pages up to a number.
+/// Appends the pages from the number `first` up to the number `last`.
 fn append_up(row: &mut Vec<Option<u32>>, first: u32, last: u32)
     requires first { 0 < first }
     requires last { first ≤ last }
@@ -77,7 +77,7 @@ fn append_up(row: &mut Vec<Option<u32>>, first: u32, last: u32)
     }
 }
 
-/// Appends the pages down to a number.
+/// Appends the pages from the number `first` down to the number `last`.
 fn append_down(row: &mut Vec<Option<u32>>, first: u32, last: u32)
     requires first { 0 < last }
     requires last { last < first }

@@ -1,4 +1,4 @@
-//! Ranges, as they are found in a document.
+//! Ranges of a document.
 ghost use Rattle.std.specs.Prelude.{◌≡◌, ◌^◌, ◌≤◌, length, option_map, option_and_then};
 ghost use Rattle.rules.specs.Ranges.{FromTo, place_at, last_place_at, range_at, is_blank_page};
 ghost use Rattle.rows.specs.Found.{found_in, is_missing, entries_found, range_found, pages_from_to};
@@ -6,8 +6,7 @@ ghost use Rattle.rows.specs.Found.{found_in, is_missing, entries_found, range_fo
 use crate::cutting::split_at_byte;
 use crate::places::{read_last_place, read_place};
 
-/// A range in a document: a blank, or the numbers of its first and its last page; 0 is a page that the document
-/// lacks.
+/// A range of a document. It is a blank, or has the numbers of its first and its last page. The number 0 means a page that isn't in the document.
 #[derive(Clone, Copy)]
 pub(crate) enum ResolvedRange {
     Blank,
@@ -15,7 +14,7 @@ pub(crate) enum ResolvedRange {
 }
 
 impl ResolvedRange {
-    /// Whether the document lacks an end of it.
+    /// Whether the first or the last page of the range isn't in the document.
     pub(crate) fn is_missing(self) -> bool
         ensures { result ≡ is_missing self }
     {
@@ -25,7 +24,7 @@ impl ResolvedRange {
         }
     }
 
-    /// The number of its entries.
+    /// The number of entries in the range. It is 0 if the first or the last page isn't in the document.
     pub(crate) fn entries(self) -> u64
         ensures value { result ≡ length (entries_found self) }
         ensures few { result ≤ 2 ^ 32 }
@@ -43,7 +42,7 @@ impl ResolvedRange {
     }
 }
 
-/// The number of pages from one number to another, up or down.
+/// The number of pages from one number to another, both included, in ascending or descending order.
 fn pages_between(first: u32, last: u32) -> u64
     ensures value { result ≡ length (pages_from_to first last) }
     ensures few { result ≤ 2 ^ 32 }
@@ -55,7 +54,7 @@ fn pages_between(first: u32, last: u32) -> u64
     }
 }
 
-/// The range that a text means, in a document of this many pages.
+/// The range that a text means, in a document with this number of pages. It is None if the text means no range.
 pub(crate) fn read_range(pages: u32, text: &[u8]) -> Option<ResolvedRange>
     ensures { result ≡ option_map (found_in pages) (range_at text.now) }
 {
@@ -74,14 +73,14 @@ pub(crate) fn read_range(pages: u32, text: &[u8]) -> Option<ResolvedRange>
     }
 }
 
-/// Whether a text means a blank.
+/// Whether a text means a blank page.
 fn means_blank(text: &[u8]) -> bool
     ensures { result ≡ is_blank_page text.now }
 {
     text == b"blank".as_slice() || text == b"_".as_slice()
 }
 
-/// A page alone.
+/// The range that has only this page, if there is one.
 fn one_page(page: Option<u32>) -> Option<ResolvedRange>
     ensures { result ≡ option_map (λ n. range_found n n) page }
 {
@@ -91,7 +90,7 @@ fn one_page(page: Option<u32>) -> Option<ResolvedRange>
     }
 }
 
-/// The pages from one to another, if there are both.
+/// The range from one page to another, if there are both.
 fn from_to(first: Option<u32>, last: Option<u32>) -> Option<ResolvedRange>
     ensures { result ≡ option_and_then (λ n. option_map (range_found n) last) first }
 {

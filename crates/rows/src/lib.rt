@@ -1,5 +1,5 @@
-//! Rows: which pages are imposed, and in which order. A row is a list of pages, counted from 0, and blanks, which
-//! are None; each step makes a row from a row.
+//! Rows. A row says which pages are imposed, and in which order. It is a list of pages, counted from 0, and of blanks, which are None. Each step
+//! makes a new row from a row.
 #![tactic(auto)]
 
 mod choices;

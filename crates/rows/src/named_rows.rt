@@ -1,4 +1,4 @@
-//! Rows as texts name them.
+//! Rows that are named by texts.
 ghost use Rattle.std.specs.Prelude.{◌≡◌, length, Ok, IfOk, IfErr, vec_len, vec_capacity};
 ghost use Rattle.rules.specs.Choice.{row_of_text};
 ghost use Rattle.rows.specs.Found.{row_found};
@@ -9,10 +9,10 @@ use crate::filling::append_ranges;
 use crate::tallies::entry_count;
 use std::alloc::{AllocError, Global};
 
-/// The row that a text names in a document of this many pages.
+/// The row that a text names, in a document with this number of pages.
 ///
-/// The text is ranges with commas between them: `3`, `4-7`, `9-5`, `5-` to the last page, `_2` the last but one,
-/// `last`, and `blank` or `_` for a blank page. A refused text takes no memory, and a row takes it for its entries alone.
+/// The text has ranges, separated by commas: `3`, `4-7`, `9-5`, `5-` for the pages up to the last, `_2` for the last page but one, `last`, and
+/// `blank` or `_` for a blank page. If the text is refused, the error says why, and no memory is taken. A row takes memory for its entries only.
 pub fn read_row(alloc: Global, pages: u32, text: &[u8]) -> Result<Vec<Option<u32>>, RowError>
     ensures row { IfOk result (λ row. row_of_text pages text.now ≡ Ok row.items) }
     ensures room { IfOk result (λ row. vec_capacity row ≡ vec_len row) }
@@ -25,7 +25,7 @@ pub fn read_row(alloc: Global, pages: u32, text: &[u8]) -> Result<Vec<Option<u32
     }
 }
 
-/// The entries of all ranges of a text, which are this many, and no room for more.
+/// The entries of all ranges of a text, in memory that has no room for more. `entries` is their number.
 pub(crate) fn text_row(
     alloc: Global,
     pages: u32,

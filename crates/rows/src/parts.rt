@@ -1,4 +1,4 @@
-//! All pages, and the parts of a row.
+//! The row of all pages, and the parts of a row.
 ghost use Rattle.std.specs.Prelude.{◌≡◌, IfOk, drop};
 ghost use Rattle.rules.specs.Rows.{all_pages as all, odd_part as odd, even_part as even};
 
@@ -16,21 +16,21 @@ pub fn all_pages(alloc: Global, pages: u32) -> Result<Vec<Option<u32>>, AllocErr
     Ok(row)
 }
 
-/// The entries in odd places, counted from 1.
+/// The entries of a row in odd places. Places are counted from 1.
 pub fn odd_part(alloc: Global, row: &[Option<u32>]) -> Result<Vec<Option<u32>>, AllocError>
     ensures { IfOk result (λ part. part.items ≡ odd row.now) }
 {
     every_other(alloc, row, 0)
 }
 
-/// The entries in even places, counted from 1.
+/// The entries of a row in even places. Places are counted from 1.
 pub fn even_part(alloc: Global, row: &[Option<u32>]) -> Result<Vec<Option<u32>>, AllocError>
     ensures { IfOk result (λ part. part.items ≡ even row.now) }
 {
     every_other(alloc, row, 1)
 }
 
-/// The entry in this place, counted from 0, and every second one after it.
+/// The entry with the index `first`, counted from 0, and every second entry after it.
 fn every_other(
     alloc: Global,
     row: &[Option<u32>],

@@ -1,4 +1,4 @@
-//! Places: pages by their number, from the start of a document or from its end.
+//! Pages by their number, from the start of a document or from its end.
 ghost use Rattle.std.specs.Prelude.{◌≡◌, true, false, min, option_map, MatchOption};
 ghost use Rattle.std.specs.List.{list_all};
 ghost use Rattle.std.specs.Char.{is_ascii_digit};
@@ -6,8 +6,8 @@ ghost use Rattle.rules.specs.Numbers.{number_of};
 ghost use Rattle.rules.specs.Ranges.{FromStart, FromEnd, by_digits, is_number as is_number_text, place_at, last_place_at};
 ghost use Rattle.rows.specs.Found.{number_found};
 
-/// The number, counted from 1, of the page that a text means in a document of this many; 0 if the document lacks
-/// it; None if the text means no page.
+/// The number, counted from 1, of the page that a text means in a document with this number of pages. It is 0 if the document doesn't have the page,
+/// and None if the text means no page.
 pub(crate) fn read_place(pages: u32, text: &[u8]) -> Option<u32>
     ensures { result ≡ option_map (number_found pages) (place_at text.now) }
 {
@@ -20,7 +20,7 @@ pub(crate) fn read_place(pages: u32, text: &[u8]) -> Option<u32>
     }
 }
 
-/// The same; if nothing is written, the last page.
+/// The number of the page that a text means, as by `read_place`. An empty text means the last page.
 pub(crate) fn read_last_place(pages: u32, text: &[u8]) -> Option<u32>
     ensures { result ≡ option_map (number_found pages) (last_place_at text.now) }
 {
@@ -31,7 +31,7 @@ pub(crate) fn read_last_place(pages: u32, text: &[u8]) -> Option<u32>
     }
 }
 
-/// The page with this number.
+/// The number of the page that digits name, counting from the start of the document. It is None if the text isn't digits.
 fn from_start(pages: u32, digits: &[u8]) -> Option<u32>
     ensures { result ≡ option_map (number_found pages) (by_digits FromStart digits.now) }
 {
@@ -41,7 +41,8 @@ fn from_start(pages: u32, digits: &[u8]) -> Option<u32>
     }
 }
 
-/// The page that has this number, counted from the end.
+/// The number of the page that digits name, counting from the end of the document. The result is counted from the start. It is None if the text isn't
+/// digits.
 fn from_end(pages: u32, digits: &[u8]) -> Option<u32>
     ensures { result ≡ option_map (number_found pages) (by_digits FromEnd digits.now) }
 {
@@ -51,7 +52,7 @@ fn from_end(pages: u32, digits: &[u8]) -> Option<u32>
     }
 }
 
-/// This number if the document has it, or else 0.
+/// The number of the page that is in the place `number` from the start, or 0 if the document doesn't have it.
 fn start_number(pages: u32, number: usize) -> u32
     ensures { result ≡ number_found pages (FromStart number) }
 {
@@ -62,7 +63,7 @@ fn start_number(pages: u32, number: usize) -> u32
     }
 }
 
-/// This number from the end if the document has it, or else 0.
+/// The number of the page that is in the place `number` from the end, or 0 if the document doesn't have it. The result is counted from the start.
 fn end_number(pages: u32, number: usize) -> u32
     ensures { result ≡ number_found pages (FromEnd number) }
 {
@@ -73,7 +74,7 @@ fn end_number(pages: u32, number: usize) -> u32
     }
 }
 
-/// The value of digits, or the greatest number; None if there are no digits, or a byte is not a digit.
+/// The value of a text of digits, or the greatest `usize` if it is larger. It is None if the text is empty, or has a byte that isn't a digit.
 fn number_of_digits(text: &[u8]) -> Option<usize>
     ensures { MatchOption result (is_number_text text.now ≡ false) (λ n.
         (is_number_text text.now ≡ true) × (n ≡ min (number_of text.now) usize.MAX)) }
@@ -84,7 +85,8 @@ fn number_of_digits(text: &[u8]) -> Option<usize>
     number_or_zero(text)
 }
 
-/// The same; 0 if there are no digits.
+/// The value of a text of digits, or the greatest `usize` if it is larger. It is 0 if the text is empty, and None if it has a byte that isn't a
+/// digit.
 fn number_or_zero(text: &[u8]) -> Option<usize>
     ensures { MatchOption result (list_all is_ascii_digit text.now ≡ false) (λ n.
         (list_all is_ascii_digit text.now ≡ true) × (n ≡ min (number_of text.now) usize.MAX)) }

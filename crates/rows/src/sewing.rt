@@ -1,4 +1,4 @@
-//! How booklets are sewn: their rows in signatures.
+//! The sewing of booklets: their rows in signatures.
 ghost use Rattle.std.specs.Prelude.{◌≡◌, ◌*◌, ◌≤◌, ◌<◌, length, IfOk, IfErr, IfSome, Ok, option_map};
 ghost use Rattle.rules.specs.Sheets.{blocks};
 ghost use Rattle.rules.specs.Signatures.{AreSides};
@@ -15,8 +15,8 @@ use std::alloc::{AllocError, Global};
 
 const MOST_LEAVES: usize = 8;
 
-/// How a booklet is sewn: in one signature of all pages, in signatures of this many sides, or in as few as are easy
-/// to fold.
+/// How a booklet is sewn: in one signature that has all pages, in signatures of this number of sides, or in as few signatures as possible with at
+/// most eight leaves each.
 #[derive(Clone, Copy, Debug, PartialEq, Eq)]
 pub enum Signing {
     InOne,
@@ -25,7 +25,7 @@ pub enum Signing {
 }
 
 impl Signing {
-    /// The number of sides of a signature, for a row of this many entries.
+    /// The number of sides of each signature, for a row with this number of entries.
     pub fn sides(self, entries: usize) -> u32
         requires sides { MayBeSewn self }
         requires some { 0 < entries }
@@ -41,8 +41,8 @@ impl Signing {
     }
 }
 
-/// The number of sides of a signature for this many entries: the signatures are all alike, as few as possible, and
-/// none has over eight leaves.
+/// The number of sides of each signature, chosen for this number of entries. All signatures have the same size. There are as few as possible without
+/// one of more than eight leaves.
 pub fn auto_sides(entries: usize) -> u32
     requires some { 0 < entries }
     requires few { entries ≤ most_entries }
@@ -54,7 +54,7 @@ pub fn auto_sides(entries: usize) -> u32
     leaves.div_ceil(signatures) as u32 * 4
 }
 
-/// The number of leaves for this many entries, four each.
+/// The number of leaves for this number of entries. A leaf has four entries.
 fn leaves_for(entries: usize) -> u32
     requires some { 0 < entries }
     requires few { entries ≤ most_entries }
@@ -64,7 +64,7 @@ fn leaves_for(entries: usize) -> u32
     entries.div_ceil(4) as u32
 }
 
-/// The row in signatures, if any are wanted.
+/// The row in signatures, or unchanged if no signatures are requested.
 pub fn signed_row(
     alloc: Global,
     row: Vec<Option<u32>>,
@@ -95,7 +95,8 @@ fn sewn_row(
     in_signatures(alloc, row, how.sides(row.len()))
 }
 
-/// The row that is imposed from a document of this many pages: what is chosen, in signatures if any are wanted.
+/// The row that is imposed from a document with this number of pages: the chosen pages, in signatures if these are requested. If no row can be
+/// chosen, the error says why.
 pub fn imposed_row(
     alloc: Global,
     pages: u32,

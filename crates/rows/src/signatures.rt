@@ -1,4 +1,4 @@
-//! A row in signatures.
+//! Rows in signatures.
 ghost use Rattle.std.specs.Prelude.{◌≡◌, ◌+◌, ◌<◌, ◌^◌, ◌++◌, IfOk, OnOk, length, map};
 ghost use Rattle.std.specs.List.{range_with_len};
 ghost use Rattle.rules.specs.Signatures.{AreSides, entry_of, page_in_signature as page_in};
@@ -8,8 +8,8 @@ use crate::entries::entry_at;
 use sheet_plan::page_in_signature;
 use std::alloc::{AllocError, Global};
 
-/// The row in signatures of this many sides, one after the other. The order is that of printing on leaves that are
-/// folded once, put into one another and bound. The last one is filled up with blanks.
+/// The row in signatures of this number of sides, one after the other. Their order is the printing order for leaves that are folded once, put into
+/// one another and bound. The last signature is filled up with blanks.
 pub fn in_signatures(
     alloc: Global,
     row: &[Option<u32>],
@@ -25,7 +25,7 @@ pub fn in_signatures(
     Ok(printed)
 }
 
-/// Appends a signature, whose pages begin with this entry of the row.
+/// Appends a signature. Its first page is the entry of the row with the index `first`.
 fn append_signature(
     printed: &mut Vec<Option<u32>>,
     row: &[Option<u32>],

@@ -1,4 +1,4 @@
-//! What is known of the ranges of a text before they are kept.
+//! What is counted in the ranges of a text before a row is made.
 ghost use Rattle.std.specs.Prelude.{◌≡◌, ◌≤◌, length, Ok, IfOk, IfErr};
 ghost use Rattle.rules.specs.Ranges.{pieces_of};
 ghost use Rattle.rules.specs.Choice.{most_entries, row_of_text};
@@ -12,8 +12,8 @@ use crate::found_ranges::{ResolvedRange, read_range};
 
 const MOST_ENTRIES: u64 = 1_000_000;
 
-/// The place of the first range with a page that the document lacks; that of the first range that exceeds the limit of entries; and, if there is
-/// neither, the number of entries.
+/// The counts of the ranges read so far. `missing` is the place of the first range with a page that isn't in the document. `over` is the place of the
+/// first range that exceeds the limit of entries. If there is neither, `entries` is the number of entries.
 #[derive(Clone, Copy)]
 pub(crate) struct Tally {
     pub missing: Option<usize>,
@@ -21,7 +21,7 @@ pub(crate) struct Tally {
     pub entries: u64,
 }
 
-/// The number of entries of a text's row, or why it has no row.
+/// The number of entries in the row that a text names, or the reason why it names no row.
 pub(crate) fn entry_count(pages: u32, text: &[u8]) -> Result<usize, RowError>
     ensures row { IfOk result (λ n. row_of_text pages text.now ≡ Ok (row_found pages text.now)) }
     ensures count { IfOk result (λ n. n ≡ length (row_found pages text.now)) }
@@ -42,7 +42,7 @@ pub(crate) fn entry_count(pages: u32, text: &[u8]) -> Result<usize, RowError>
     }
 }
 
-/// The tally of all ranges, or where the first piece begins that is not a range.
+/// The tally of all ranges of a text, or the index at which the first piece begins that isn't a range.
 fn tally_ranges(pages: u32, text: &[u8]) -> Result<Tally, usize>
     ensures value { result ≡ tally_from most_entries pages 0 (pieces_of text.now) no_tally }
     ensures few { IfOk result (λ t. t.entries ≤ most_entries) }
@@ -65,7 +65,7 @@ fn tally_ranges(pages: u32, text: &[u8]) -> Result<Tally, usize>
     Ok(tally)
 }
 
-/// The tally with one more range, which begins at this byte.
+/// The tally with one more range, which begins at the byte with the index `at`.
 fn with_range(tally: Tally, at: usize, range: ResolvedRange) -> Tally
     requires { tally.entries ≤ most_entries }
     ensures value { result ≡ with_range most_entries at range tally }
