@@ -1,4 +1,4 @@
-//! The drawing of sheets.
+//! The drawing of the sheets.
 ghost use Rattle.std.specs.Prelude.{◌≡◌, ◌+◌, ◌*◌, ◌/◌, ◌<◌, ◌≤◌, ◌++◌, flat_map, length, take, OnOk, IfOk, Some, slice_get};
 ghost use Rattle.rules.specs.Made.{MadeSheet, Placed};
 ghost use Rattle.pagespec.specs.Items.{item_of};
@@ -17,9 +17,10 @@ use placement::{Matrix, matrix_of};
 use sheet_plan::{MadeSheets, PlacedSlot};
 use std::alloc::{AllocError, Global};
 
-/// A drawing of these sheets, as an SVG. Each sheet has its name and its paper. Each page on it is under the matrix that places it, with its outline,
-/// its number, counted from 1, and an arrow to its head. The guides are drawn above the pages. Four sheets are in a row, each as large as its square
-/// allows. If there are more sheets than `most`, the first are drawn, and a line has the number of the others.
+/// A drawing of these sheets, as an SVG. Each sheet is drawn with its name and the size of its paper. Each of its pages is drawn where its matrix
+/// places it, with an outline, its number, counted from 1, and an arrow at the top. The guides are drawn over the pages. Four sheets are side by
+/// side, each as large as its square allows. If there are more sheets than `most`, only the first `most` are drawn, and a line has the number of
+/// sheets left out.
 pub fn preview_text(
     alloc: Global,
     sheets: &MadeSheets,
@@ -37,7 +38,7 @@ pub fn preview_text(
     Ok(text)
 }
 
-/// Appends all `count` sheets, or the first of them.
+/// Appends all `count` sheets, or only the first `most` if there are more.
 fn append_all(
     sheets: &MadeSheets,
     sides: Sides,
@@ -58,7 +59,7 @@ fn append_all(
     Ok(())
 }
 
-/// Appends the beginning of a drawing, and the first sheets.
+/// Appends the start of a drawing, and the first `count` sheets.
 fn append_first(
     sheets: &MadeSheets,
     sides: Sides,
@@ -74,14 +75,14 @@ fn append_first(
     Ok(())
 }
 
-/// The height of a drawing of `count` sheets.
+/// The height of a drawing of `count` sheets, in units of the drawing.
 fn height_of(count: u32) -> u64
     ensures { result ≡ (count + 3) / 4 * 260 }
 {
     (u64::from(count) + 3) / 4 * 260
 }
 
-/// The beginning of a drawing of `count` sheets.
+/// Appends the start of a drawing of `count` sheets.
 fn append_picture_start(count: u32, out: &mut Vec<u8>) -> Result<(), AllocError>
     ensures { OnOk result (out.new.items ≡ out.old.items ++ picture_start count) }
 {
@@ -100,7 +101,7 @@ const STYLE: &[u8] =
 /// The background of a drawing.
 const GROUND: &[u8] = b"<rect width='100%' height='100%' fill='white'/>\n";
 
-/// The number of sheets that aren't drawn, below those that are.
+/// Appends the number of sheets that aren't drawn, as a text below the `count` sheets that are.
 fn append_left_out(count: u32, more: u32, out: &mut Vec<u8>) -> Result<(), AllocError>
     ensures { OnOk result (out.new.items ≡ out.old.items ++ left_out count more) }
 {
@@ -113,7 +114,7 @@ fn append_left_out(count: u32, more: u32, out: &mut Vec<u8>) -> Result<(), Alloc
     Ok(())
 }
 
-/// The first sheets.
+/// Appends the first `count` sheets.
 fn append_sheets(
     sheets: &MadeSheets,
     sides: Sides,
@@ -130,7 +131,7 @@ fn append_sheets(
     Ok(())
 }
 
-/// A sheet in its square.
+/// Appends a sheet in its square.
 fn append_sheet(
     sheets: &MadeSheets,
     sides: Sides,
@@ -152,7 +153,7 @@ fn append_sheet(
     Ok(())
 }
 
-/// Appends the start of the square of a sheet.
+/// Appends the start of the square in which a sheet is drawn.
 fn append_square(sheet: u32, out: &mut Vec<u8>) -> Result<(), AllocError>
     ensures { OnOk result (out.new.items ≡ out.old.items ++ square_at sheet) }
 {
@@ -164,7 +165,7 @@ fn append_square(sheet: u32, out: &mut Vec<u8>) -> Result<(), AllocError>
     Ok(())
 }
 
-/// A sheet without its pages.
+/// Appends a sheet without its pages.
 fn append_view(paper: &Paper, out: &mut Vec<u8>) -> Result<(), AllocError>
     ensures { OnOk result (out.new.items ≡ out.old.items ++ empty_sheet paper.now) }
 {
@@ -191,7 +192,7 @@ fn append_pages(sheets: &MadeSheets, sheet: u32, out: &mut Vec<u8>) -> Result<()
     Ok(())
 }
 
-/// The page in a slot. A blank one isn't drawn.
+/// Appends the page in a slot. A blank slot isn't drawn.
 fn append_page_in_slot(placed: Option<PlacedSlot<'_>>, out: &mut Vec<u8>) -> Result<(), AllocError>
     ensures { OnOk result (out.new.items ≡ out.old.items ++ slot_picture (placed_of placed.entry)) }
 {
@@ -201,7 +202,7 @@ fn append_page_in_slot(placed: Option<PlacedSlot<'_>>, out: &mut Vec<u8>) -> Res
     }
 }
 
-/// Appends a page at the place that an item gives it.
+/// Appends a page where its item places it.
 fn append_placed_page(
     page: u32,
     item: &Item,
@@ -218,7 +219,7 @@ fn append_placed_page(
     Ok(())
 }
 
-/// Appends a group under a matrix, which sends points as in PostScript.
+/// Appends the start of a group under a matrix, which sends points where PostScript sends them.
 fn append_under(matrix: &Matrix, out: &mut Vec<u8>) -> Result<(), AllocError>
     ensures { OnOk result (out.new.items ≡ out.old.items ++ under (matrix_value matrix.now)) }
 {
@@ -238,7 +239,7 @@ fn append_under(matrix: &Matrix, out: &mut Vec<u8>) -> Result<(), AllocError>
     Ok(())
 }
 
-/// Appends a page with its number and an arrow to its head.
+/// Appends a page with its outline, its number, and an arrow at its top.
 fn append_page(paper: &Paper, number: u64, out: &mut Vec<u8>) -> Result<(), AllocError>
     ensures { OnOk result (out.new.items ≡ out.old.items ++ page_drawing paper.now number) }
 {
@@ -249,7 +250,7 @@ fn append_page(paper: &Paper, number: u64, out: &mut Vec<u8>) -> Result<(), Allo
     Ok(())
 }
 
-/// The arrow at the head of a page, and the page's number.
+/// Appends the arrow at the top of a page, and the number of the page.
 fn append_head(paper: &Paper, number: u64, out: &mut Vec<u8>) -> Result<(), AllocError>
     ensures { OnOk result (out.new.items ≡ out.old.items ++ head paper.now number) }
 {
@@ -263,7 +264,7 @@ fn append_head(paper: &Paper, number: u64, out: &mut Vec<u8>) -> Result<(), Allo
     Ok(())
 }
 
-/// The outline of a sheet or a page.
+/// Appends the outline of a sheet or a page.
 fn append_outline(kind: &[u8], paper: &Paper, out: &mut Vec<u8>) -> Result<(), AllocError>
     ensures { OnOk result (out.new.items ≡ out.old.items ++ outline kind.now paper.now) }
 {
@@ -275,7 +276,7 @@ fn append_outline(kind: &[u8], paper: &Paper, out: &mut Vec<u8>) -> Result<(), A
     Ok(())
 }
 
-/// Appends the width and the height of a paper.
+/// Appends the width and the height of a paper as attributes.
 fn append_as_large(paper: &Paper, out: &mut Vec<u8>) -> Result<(), AllocError>
     ensures { OnOk result (out.new.items ≡ out.old.items ++ as_large paper.now) }
 {
@@ -287,7 +288,7 @@ fn append_as_large(paper: &Paper, out: &mut Vec<u8>) -> Result<(), AllocError>
     Ok(())
 }
 
-/// Appends the start of a part of a drawing that shows nothing beyond this paper.
+/// Appends the start of a part of the drawing that shows nothing outside this paper.
 fn append_clip(paper: &Paper, out: &mut Vec<u8>) -> Result<(), AllocError>
     ensures { OnOk result (out.new.items ≡ out.old.items ++ clipped paper.now) }
 {
@@ -297,7 +298,7 @@ fn append_clip(paper: &Paper, out: &mut Vec<u8>) -> Result<(), AllocError>
     Ok(())
 }
 
-/// Appends a group in which heights on this paper are counted from below.
+/// Appends the start of a group in which heights are counted from the bottom of this paper.
 fn append_flip(paper: &Paper, out: &mut Vec<u8>) -> Result<(), AllocError>
     ensures { OnOk result (out.new.items ≡ out.old.items ++ flipped paper.now) }
 {
@@ -307,7 +308,7 @@ fn append_flip(paper: &Paper, out: &mut Vec<u8>) -> Result<(), AllocError>
     Ok(())
 }
 
-/// Appends the name and the paper of a sheet, and the end of its square.
+/// Appends the name of a sheet and the size of its paper, and the end of its square.
 fn append_caption(
     sides: Sides,
     sheet: u32,

@@ -1,11 +1,11 @@
-//! Lines on drawn sheets.
+//! Guides: lines that are drawn on sheets.
 ghost use Rattle.std.specs.Prelude.{◌≡◌, ◌++◌, OnOk};
 ghost use Rattle.preview.specs.Guides.{guide_picture, guides_picture, kind_name as name_of_kind};
 
 use lengths::{Grains, print_points};
 use std::alloc::AllocError;
 
-/// The meaning of a line: the edge of the margin, a fold, a cut, or a line for notes.
+/// The meaning of a guide: the edge of a margin, a fold, a cut, or a line for notes.
 #[derive(Clone, Copy, Debug, PartialEq, Eq)]
 pub enum GuideKind {
     Margin,
@@ -14,7 +14,7 @@ pub enum GuideKind {
     Note,
 }
 
-/// A line on a sheet between two points, each given by its distances from the left and the lower edge.
+/// A guide, which is a line on a sheet between two points. Each point is given by its distances from the left and the lower edge.
 #[derive(Clone, Copy, Debug, PartialEq, Eq)]
 pub struct Guide {
     pub kind: GuideKind,
@@ -22,7 +22,7 @@ pub struct Guide {
     pub end: (Grains, Grains),
 }
 
-/// All of these lines.
+/// Appends the lines of all guides.
 pub(crate) fn append_guides(guides: &[Guide], out: &mut Vec<u8>) -> Result<(), AllocError>
     ensures { OnOk result (out.new.items ≡ out.old.items ++ guides_picture guides.now) }
 {
@@ -50,7 +50,7 @@ fn append_guide(guide: &Guide, out: &mut Vec<u8>) -> Result<(), AllocError>
     Ok(())
 }
 
-/// The style of a line of this kind.
+/// The name of the style that guides of this kind have.
 fn kind_name(kind: GuideKind) -> &'static [u8]
     ensures { result.now ≡ name_of_kind kind }
 {

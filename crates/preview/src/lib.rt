@@ -1,4 +1,4 @@
-//! A look at sheets before they are imposed: the list of their plan, and a drawing.
+//! Previews of sheets before they are imposed: the list of a plan, and a drawing.
 #![tactic(auto)]
 
 mod drawing;

@@ -12,11 +12,13 @@ use crate::ways::append_ways;
 use sheet_plan::{MadeSheets, PlacedSlot};
 use std::alloc::{AllocError, Global};
 
-/// The list of these sheets. Each sheet, or each leaf if sheets are printed on both sides, has a line with the pages in its places, counted from 1,
-/// row by row, with the sheet held so that they are upright. Then come a line with the numbers of sheets, leaves and blank places; one with the edge
-/// on which leaves are flipped; and one for each way in which pages lie on sheets, with papers and scale. If there are more sheets or leaves than
-/// `most`, the first half of that many and the last are listed, with the number of the others between them. If there are more than 16 ways, a last
-/// line is for the others.
+/// The list of these sheets. If sheets are printed on both sides, each leaf has a line, and otherwise each sheet. The line has the pages in the
+/// places of the sheet, row by row, with the sheet held so that the pages are upright. Pages are counted from 1.
+///
+/// After these lines comes one with the numbers of sheets, leaves and blank places, and one with the edge on which leaves are flipped. Then each way
+/// in which pages lie on sheets has a line, with papers and scale. If there are more sheets or leaves than `most`, only the first and the last ones
+/// have lines, `most` lines in all. A line between them has the number of those left out. If there are more than 16 ways, a last line stands for
+/// those left out.
 pub fn plan_text(
     alloc: Global,
     sheets: &MadeSheets,
@@ -34,7 +36,7 @@ pub fn plan_text(
     Ok(text)
 }
 
-/// The number of lines for this number of sheets.
+/// The number of lines for this number of sheets: one for each sheet, or for each leaf if sheets are printed on both sides.
 fn row_count(sides: Sides, sheets: u32) -> u32
     ensures { result ≡ row_count_of sides sheets }
 {
@@ -44,7 +46,7 @@ fn row_count(sides: Sides, sheets: u32) -> u32
     }
 }
 
-/// Appends the lines of all `count` sheets, or of the first and the last ones.
+/// Appends the lines of all `count` sheets. If there are more than `most` lines, it appends the first and the last ones, with a line between them.
 fn append_shortened(
     sheets: &MadeSheets,
     reading: &Reading,
@@ -68,7 +70,7 @@ fn append_shortened(
     Ok(())
 }
 
-/// Appends the lines from one up to another.
+/// Appends the lines from the number `first` up to, but not including, the number `end`.
 fn append_rows(
     sheets: &MadeSheets,
     reading: &Reading,
@@ -88,7 +90,7 @@ fn append_rows(
     Ok(())
 }
 
-/// The line of a sheet or of a leaf.
+/// Appends the line of a sheet or of a leaf.
 fn append_row(
     sheets: &MadeSheets,
     reading: &Reading,
@@ -107,7 +109,7 @@ fn append_row(
     }
 }
 
-/// The line of a sheet.
+/// Appends the line of a sheet.
 fn append_sheet(
     sheets: &MadeSheets,
     places: &Places,
@@ -125,7 +127,7 @@ fn append_sheet(
     Ok(())
 }
 
-/// The line of a leaf.
+/// Appends the line of a leaf.
 fn append_leaf(
     sheets: &MadeSheets,
     places: &Places,
@@ -146,7 +148,7 @@ fn append_leaf(
     Ok(())
 }
 
-/// The back of a leaf, if there is such a sheet.
+/// Appends the back of a leaf, if it has one.
 fn append_back(
     sheets: &MadeSheets,
     places: &Places,
@@ -165,7 +167,7 @@ fn append_back(
     Ok(())
 }
 
-/// Appends the line in place of `count` others.
+/// Appends the line that takes the place of `count` other lines.
 fn append_left_out(count: u32, out: &mut Vec<u8>) -> Result<(), AllocError>
     ensures { OnOk result (out.new.items ≡ out.old.items ++ left_out_line count) }
 {
@@ -175,7 +177,7 @@ fn append_left_out(count: u32, out: &mut Vec<u8>) -> Result<(), AllocError>
     Ok(())
 }
 
-/// The numbers of sheets, leaves and blank places.
+/// Appends the numbers of sheets, leaves and blank places.
 fn append_totals(
     sheets: &MadeSheets,
     sides: Sides,
@@ -208,7 +210,7 @@ fn append_leaves(sides: Sides, sheets: u32, out: &mut Vec<u8>) -> Result<(), All
     Ok(())
 }
 
-/// Appends the edge on which leaves are flipped.
+/// Appends the edge on which leaves are flipped, if sheets are printed on both sides.
 fn append_flip(sides: Sides, out: &mut Vec<u8>) -> Result<(), AllocError>
     ensures { OnOk result (out.new.items ≡ out.old.items ++ flip_text sides) }
 {
@@ -218,7 +220,7 @@ fn append_flip(sides: Sides, out: &mut Vec<u8>) -> Result<(), AllocError>
     }
 }
 
-/// Appends this edge.
+/// Appends the line with the edge on which leaves are flipped.
 fn append_flip_edge(flip: Edge, out: &mut Vec<u8>) -> Result<(), AllocError>
     ensures { OnOk result (out.new.items ≡ out.old.items ++ edge_line flip) }
 {
@@ -238,7 +240,7 @@ fn edge_name(edge: Edge) -> &'static [u8]
     }
 }
 
-/// The number of blank places of the first `count` sheets.
+/// The number of blank places on all `count` sheets.
 fn count_blanks(sheets: &MadeSheets, count: u32) -> u64
     requires { count ≡ length sheets.now }
     ensures { result ≡ blanks_of sheets.now }
@@ -250,7 +252,7 @@ fn count_blanks(sheets: &MadeSheets, count: u32) -> u64
     blanks
 }
 
-/// The number of blank places of a sheet.
+/// The number of blank places on a sheet.
 fn count_blanks_on(sheets: &MadeSheets, sheet: u32) -> u32
     requires { sheet < length sheets.now }
     ensures { result ≡ blanks_on (slots_at sheets.now sheet) }
@@ -262,7 +264,7 @@ fn count_blanks_on(sheets: &MadeSheets, sheet: u32) -> u32
     blanks
 }
 
-/// The number of blanks in a slot: one, or none.
+/// The number of blank places in a slot, which is 0 or 1.
 fn blank(placed: Option<PlacedSlot<'_>>) -> u32
     ensures value { result ≡ blank_in (placed_of placed.entry) }
     ensures few { result ≤ 1 }

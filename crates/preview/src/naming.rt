@@ -7,22 +7,22 @@ use lengths::{Paper, print_points};
 use sheet_plan::MadeSheets;
 use std::alloc::AllocError;
 
-/// An edge of a sheet.
+/// An edge of a sheet: the short one or the long one.
 #[derive(Clone, Copy, Debug, PartialEq, Eq)]
 pub enum Edge {
     Short,
     Long,
 }
 
-/// How sheets are printed: on one side of the paper, or on both sides. On both sides every two sheets are the front and the back of a leaf, and the
-/// printer flips it on this edge.
+/// Whether sheets are printed on one side of the paper or on both. On both sides, every two sheets are the front and the back of a leaf, which the
+/// printer flips on the edge `flip`.
 #[derive(Clone, Copy, Debug, PartialEq, Eq)]
 pub enum Sides {
     One,
     Both { flip: Edge },
 }
 
-/// The number of sheets. A number beyond `u32` is reported as out of memory, since its lines would be.
+/// The number of sheets. If a `u32` can't hold it, lack of memory is reported, because the lines of these sheets wouldn't fit into memory either.
 pub(crate) fn number_of_sheets(sheets: &MadeSheets) -> Result<u32, AllocError>
     ensures value { IfOk result (λ count. count ≡ length sheets.now) }
     ensures many { OnErr result (u32.MAX < length sheets.now) }
@@ -33,7 +33,7 @@ pub(crate) fn number_of_sheets(sheets: &MadeSheets) -> Result<u32, AllocError>
     }
 }
 
-/// The name of a sheet, counted from 0.
+/// Appends the name of a sheet, which is counted from 0.
 pub(crate) fn append_sheet_name(
     sides: Sides,
     sheet: u32,
@@ -55,7 +55,7 @@ pub(crate) fn append_sheet_name(
     Ok(())
 }
 
-/// The side of the leaf that a sheet is.
+/// The text that says which side of its leaf a sheet is: the front or the back.
 fn face_of(sheet: u32) -> &'static [u8]
     ensures { result.now ≡ face_text sheet }
 {
@@ -71,7 +71,7 @@ pub(crate) fn append_number(number: u64, out: &mut Vec<u8>) -> Result<(), AllocE
     Ok(())
 }
 
-/// The sides of a paper.
+/// Appends the width and the height of a paper, in points.
 pub(crate) fn append_size(paper: &Paper, out: &mut Vec<u8>) -> Result<(), AllocError>
     ensures ok { OnOk result (out.new.items ≡ out.old.items ++ size_in_points paper.now) }
     ensures full { OnErr result (vec_capacity out.old < vec_len out.old + length (size_in_points paper.now)) }

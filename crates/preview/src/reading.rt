@@ -1,4 +1,4 @@
-//! How sheets are read.
+//! The places of a sheet, and their order.
 ghost use Rattle.std.specs.Prelude.{◌≡◌, ◌*◌, ◌<◌, ◌++◌, slice_get, length, OnOk};
 ghost use Rattle.layouts.specs.Cells.{read_columns};
 ghost use Rattle.sheet_plan.specs.OfSheets.{placed_of, slots_at};
@@ -12,8 +12,8 @@ use layouts::{FillOrder, Grid, Order, Turned, read_sides};
 use sheet_plan::{MadeSheets, PlacedSlot};
 use std::alloc::AllocError;
 
-/// Where the places of a sheet are. They are in the cells of a grid, in this order; or there is one place, a tile of a page that goes over columns
-/// and rows of sheets, row by row from the head, each from the left.
+/// Where the places of a sheet are. They are in the cells of a grid, in this order. Or each sheet is a tile of a poster and has one place. The tiles
+/// of a page are in rows from the top down, each row from the left.
 #[derive(Clone, Copy)]
 pub enum Places {
     Cells { grid: Grid, order: Order },
@@ -27,7 +27,7 @@ pub struct Reading {
     pub places: Places,
 }
 
-/// The places of a sheet.
+/// Appends the places of a sheet.
 pub(crate) fn append_places(
     sheets: &MadeSheets,
     places: &Places,
@@ -55,7 +55,7 @@ pub(crate) fn append_places(
 #[derive(Clone, Copy)]
 struct CellSheet<'s> {
     sheets: &'s MadeSheets,
-    /// The number of the sheet.
+    /// The index of the sheet, counted from 0.
     number: u32,
     grid: Grid,
     order: Order,
@@ -74,7 +74,7 @@ impl<'s> CellSheet<'s> {
         Ok(())
     }
 
-    /// Appends the sign before a row, and its cells.
+    /// Appends the separator before a row, and the cells of the row.
     fn append_row(&self, row: u32, out: &mut Vec<u8>) -> Result<(), AllocError>
         requires number { self.now.number < length self.now.sheets.now }
         requires row { row < self.now.grid.rows }
@@ -86,7 +86,7 @@ impl<'s> CellSheet<'s> {
         Ok(())
     }
 
-    /// The cells of a row.
+    /// Appends the cells of a row.
     fn append_columns(&self, row: u32, out: &mut Vec<u8>) -> Result<(), AllocError>
         requires number { self.now.number < length self.now.sheets.now }
         requires row { row < self.now.grid.rows }
@@ -100,7 +100,7 @@ impl<'s> CellSheet<'s> {
         Ok(())
     }
 
-    /// Appends the sign before a cell, and its text.
+    /// Appends the separator before a cell, and the text of the cell.
     fn append_cell(&self, row: u32, column: u32, out: &mut Vec<u8>) -> Result<(), AllocError>
         requires number { self.now.number < length self.now.sheets.now }
         requires row { row < self.now.grid.rows }
@@ -115,21 +115,22 @@ impl<'s> CellSheet<'s> {
     }
 }
 
-/// The sign before a row.
+/// The separator before a row. The first row has none.
 fn slash(row: u32) -> &'static [u8]
     ensures { result.now ≡ slash_of row }
 {
     if row == 0 { b"" } else { b" / " }
 }
 
-/// The sign before a cell.
+/// The separator before a cell. The first cell of a row has none.
 fn bar(column: u32) -> &'static [u8]
     ensures { result.now ≡ bar_of column }
 {
     if column == 0 { b"" } else { b" | " }
 }
 
-/// The row and column of a cell, as one reads the sheet.
+/// The row and the column of a cell, as one reads the sheet. The cell is given by its row and column on the sheet that is held so that its pages are
+/// upright.
 fn read_cell(turned: Turned, grid: Grid, row: u32, column: u32) -> (u32, u32)
     requires row { row < grid.rows }
     requires column { column < grid.columns }
@@ -163,7 +164,7 @@ fn place_at(order: &Order, grid: Grid, row: u32, column: u32) -> u64
     }
 }
 
-/// Appends the text of the place with this number, if the sheet has it.
+/// Appends the text of the place with this number, if the sheet has such a place.
 fn append_numbered_place(
     sheets: &MadeSheets,
     sheet: u32,
@@ -182,7 +183,7 @@ fn append_numbered_place(
     Ok(())
 }
 
-/// The text of a place.
+/// Appends the text of a place.
 fn append_place(placed: Option<PlacedSlot<'_>>, out: &mut Vec<u8>) -> Result<(), AllocError>
     ensures { OnOk result (out.new.items ≡ out.old.items ++ place_text (placed_of placed.entry)) }
 {
@@ -193,7 +194,7 @@ fn append_place(placed: Option<PlacedSlot<'_>>, out: &mut Vec<u8>) -> Result<(),
     Ok(())
 }
 
-/// A tile, with its column and its row.
+/// Appends the text of a tile, with its column and its row on the poster.
 fn append_tile(
     sheets: &MadeSheets,
     sheet: u32,
@@ -209,7 +210,7 @@ fn append_tile(
     Ok(())
 }
 
-/// Appends the column and row of the tile that a sheet is.
+/// Appends the column and the row that a sheet has on its poster.
 fn append_tile_name(grid: Grid, sheet: u32, out: &mut Vec<u8>) -> Result<(), AllocError>
     ensures { OnOk result (out.new.items ≡ out.old.items ++ tile_name grid sheet) }
 {

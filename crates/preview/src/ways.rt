@@ -12,10 +12,10 @@ use lengths::{Number, Paper, print_scale};
 use sheet_plan::{MadeSheets, PlacedSlot};
 use std::alloc::{AllocError, Global};
 
-/// The most ways that are listed.
+/// The most ways that have a line of their own.
 const MOST_TOLD: usize = 16;
 
-/// How a page lies on a sheet: the two papers, and the page's scale.
+/// A way in which a page lies on a sheet: the page's paper, the sheet's paper, and the page's scale.
 #[derive(Clone, Copy, PartialEq, Eq)]
 pub(crate) struct Way {
     pub(crate) page: Paper,
@@ -23,7 +23,7 @@ pub(crate) struct Way {
     pub(crate) scale: Number,
 }
 
-/// A line for each way in which pages lie on the first `count` sheets.
+/// Appends a line for each way in which pages lie on the first `count` sheets.
 pub(crate) fn append_ways(
     alloc: Global,
     sheets: &MadeSheets,
@@ -38,7 +38,7 @@ pub(crate) fn append_ways(
     Ok(())
 }
 
-/// The lines of these ways.
+/// Appends the lines of these ways.
 fn append_lines(ways: &[Way], out: &mut Vec<u8>) -> Result<(), AllocError>
     ensures { OnOk result (out.new.items ≡ out.old.items ++ numbered way_line 0 ways.now) }
 {
@@ -48,7 +48,7 @@ fn append_lines(ways: &[Way], out: &mut Vec<u8>) -> Result<(), AllocError>
     Ok(())
 }
 
-/// The way with this number. It is a function so that a proof can name its value.
+/// The way with this number. This is a function of its own because it gives proofs a name for the value.
 fn way_at(ways: &[Way], number: usize) -> &Way
     requires { number < length ways.now }
     ensures { slice_get ways.now number ≡ Some result.now }
@@ -56,7 +56,7 @@ fn way_at(ways: &[Way], number: usize) -> &Way
     &ways[number]
 }
 
-/// Appends the line of a way; in place of the first that isn't listed, one line for all others.
+/// Appends the line of a way. In place of the first way that isn't listed, one line stands for all ways left out.
 fn append_way_line(number: usize, way: &Way, out: &mut Vec<u8>) -> Result<(), AllocError>
     ensures { OnOk result (out.new.items ≡ out.old.items ++ way_line number way.now) }
 {
@@ -65,7 +65,7 @@ fn append_way_line(number: usize, way: &Way, out: &mut Vec<u8>) -> Result<(), Al
     Ok(())
 }
 
-/// The text of the line of the way with this number.
+/// Appends the text in the line of the way with this number.
 fn append_way_text(number: usize, way: &Way, out: &mut Vec<u8>) -> Result<(), AllocError>
     ensures { OnOk result (out.new.items ≡ out.old.items ++ way_told number way.now) }
 {
@@ -88,7 +88,7 @@ fn append_way(way: &Way, out: &mut Vec<u8>) -> Result<(), AllocError>
     Ok(())
 }
 
-/// The different ways in which pages lie on the first `count` sheets, up to one more than are listed.
+/// The different ways in which pages lie on the first `count` sheets. At most one more is kept than are listed.
 fn different_ways(alloc: Global, sheets: &MadeSheets, count: u32) -> Result<Vec<Way>, AllocError>
     requires { count ≡ length sheets.now }
     ensures { IfOk result (λ ways. ways.items ≡ ways_of sheets.now) }
@@ -100,7 +100,7 @@ fn different_ways(alloc: Global, sheets: &MadeSheets, count: u32) -> Result<Vec<
     Ok(ways)
 }
 
-/// Adds the ways of a sheet.
+/// Adds the ways in which pages lie on a sheet.
 fn note_sheet(sheets: &MadeSheets, sheet: u32, ways: &mut Vec<Way>) -> Result<(), AllocError>
     requires { sheet < length sheets.now }
     ensures { OnOk result ((it : MadeSheet) → slice_get sheets.now sheet ≡ Some it →
@@ -110,7 +110,7 @@ fn note_sheet(sheets: &MadeSheets, sheet: u32, ways: &mut Vec<Way>) -> Result<()
     Ok(())
 }
 
-/// Adds the ways of the slots of a sheet with this paper.
+/// Adds the ways in which the pages in the slots of a sheet lie on it. The sheet has this paper.
 fn note_slots(
     sheets: &MadeSheets,
     sheet: u32,
@@ -126,7 +126,7 @@ fn note_slots(
     Ok(())
 }
 
-/// Adds the way of the page in a slot, on a sheet with this paper.
+/// Adds the way in which the page in a slot lies on a sheet that has this paper.
 fn note_slot(
     placed: Option<PlacedSlot<'_>>,
     sheet: &Paper,
@@ -147,7 +147,7 @@ fn note_slot(
     }
 }
 
-/// Adds a way, unless it is there or the list is full.
+/// Adds a way, unless it is in the list or the list is full.
 fn add_way(way: Way, ways: &mut Vec<Way>) -> Result<(), AllocError>
     ensures { OnOk result (ways.new.items ≡ with_way ways.old.items way) }
 {
