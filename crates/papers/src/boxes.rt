@@ -1,4 +1,4 @@
-//! Papers that boxes give.
+//! Reads bounding boxes, and derives papers from them.
 ghost use Rattle.std.specs.Prelude.{◌≡◌, ◌+ℤ◌};
 ghost use Rattle.dsc.specs.Fields.{fields_in};
 ghost use Rattle.papers.specs.Media as meaning;
@@ -7,16 +7,17 @@ use crate::fields::{is_zero, points_of};
 use dsc::next_field;
 use lengths::{Grains, Paper};
 
-/// Programs may differ by 15 points in the size of one paper.
+/// Two sides that differ by at most 15 points count as equal, because programs round the sizes of one paper
+/// differently.
 const NEARNESS: i128 = 15 * 127_000_000_000;
 
-/// The grains of one point, the shortest side.
+/// The grains of one point. No side of a paper is shorter.
 const ONE_POINT: i128 = 127_000_000_000;
 
-/// The grains of 100,000 points, which no number of a box has.
+/// The grains of 100,000 points. All numbers in a box are below this.
 const TOO_LONG: i128 = 100_000 * ONE_POINT;
 
-/// The edges of a box.
+/// The edges of a bounding box, in grains from the origin of the page.
 #[derive(Clone, Copy)]
 pub struct Edges {
     pub left: Grains,
@@ -25,8 +26,11 @@ pub struct Edges {
     pub top: Grains,
 }
 
-/// The paper that a box gives, if `paper` is used without it. A box that begins at 0 0 is itself the paper. Another box that reaches over `paper` by
-/// more than 15 points gives the paper with equal room to its left and right, and below and above.
+/// The paper that a bounding box gives (docs/RULES.md, 12.2). A box that begins at 0 0 gives its right and top edges
+/// as width and height. Any other box gives a paper only if it begins nowhere below 0, and its right or top edge lies
+/// more than 15 points past the side of `paper`, which is the paper that counts without a box. The paper that such a
+/// box gives leaves as much room to the right of the box as to its left, and as much above as below. None if the box
+/// gives no paper.
 pub fn paper_of_box(paper: &Paper, value: &[u8]) -> Option<Paper>
     ensures { result ≡ meaning.paper_of_box paper.now (fields_in value.now) }
 {
@@ -36,7 +40,8 @@ pub fn paper_of_box(paper: &Paper, value: &[u8]) -> Option<Paper>
     }
 }
 
-/// The paper of a box that begins at 0 0: left, bottom, right, top, and more.
+/// The paper of a box that begins at 0 0: its width is the right edge, and its height the top edge. The value has the
+/// fields left, bottom, right and top; further fields aren't read.
 pub(crate) fn box_paper(value: &[u8]) -> Option<Paper>
     ensures { result ≡ meaning.box_paper (fields_in value.now) }
 {
@@ -51,13 +56,15 @@ pub(crate) fn box_paper(value: &[u8]) -> Option<Paper>
     }
 }
 
-/// The paper of a box that reaches over this one and begins neither to the left of it nor below it.
+/// The paper of a box that reaches past `paper` by more than 15 points, and begins neither left of 0 nor below 0.
 fn wider_paper(paper: &Paper, value: &[u8]) -> Option<Paper>
     ensures { result ≡ meaning.wider_paper paper.now (fields_in value.now) }
 {
     paper_beyond(paper, &edges_of(value)?)
 }
 
+/// The paper of a box with these edges, if it reaches past `paper` by more than 15 points. None if it begins left of 0
+/// or below 0.
 fn paper_beyond(paper: &Paper, edges: &Edges) -> Option<Paper>
     ensures { result ≡ meaning.paper_beyond paper.now edges.now }
 {
@@ -71,21 +78,21 @@ fn paper_beyond(paper: &Paper, edges: &Edges) -> Option<Paper>
     }
 }
 
-/// Whether a box reaches over a paper, to the right or above, by more than 15 points.
+/// Whether a box reaches past a paper by more than 15 points, on the right or at the top.
 fn reaches_over(paper: &Paper, edges: &Edges) -> bool
     ensures { result ≡ meaning.reaches_over paper.now edges.now }
 {
     is_past(paper.width(), edges.right) || is_past(paper.height(), edges.top)
 }
 
-/// Whether an edge lies past the end of a side by more than 15 points.
+/// Whether an edge lies more than 15 points past the end of a side.
 fn is_past(side: Grains, edge: Grains) -> bool
     ensures { result ≡ meaning.is_past side edge }
 {
     side.get() + NEARNESS < edge.get()
 }
 
-/// The paper with as much room to the right of the box as to the left, and above as below.
+/// The paper that leaves as much room to the right of a box as to its left, and as much above as below.
 fn paper_round(edges: &Edges) -> Option<Paper>
     ensures { result ≡ meaning.paper_round edges.now }
 {
@@ -95,14 +102,15 @@ fn paper_round(edges: &Edges) -> Option<Paper>
     )
 }
 
-/// The sum of both lengths, in grains.
+/// The sum of two lengths, in grains.
 fn length_sum(one: Grains, other: Grains) -> i128
     ensures { result ≡ one +ℤ other }
 {
     one.get() + other.get()
 }
 
-/// The edges of a box: left, bottom, right, top, and more.
+/// The edges of a box, from the fields left, bottom, right and top; further fields aren't read. None if one of the
+/// four is missing or isn't a number of points.
 pub(crate) fn edges_of(value: &[u8]) -> Option<Edges>
     ensures { result ≡ meaning.edges_of (fields_in value.now) }
 {
@@ -118,6 +126,7 @@ pub(crate) fn edges_of(value: &[u8]) -> Option<Edges>
     )
 }
 
+/// The four edges, or None if one is missing.
 fn all_edges(
     left: Option<Grains>,
     bottom: Option<Grains>,
@@ -134,14 +143,14 @@ fn all_edges(
     })
 }
 
-/// The paper with these sides, if there is one.
+/// The paper with these sides. None if a side is missing, is shorter than a point, or is too long for a paper.
 pub(crate) fn paper_with_sides(width: Option<Grains>, height: Option<Grains>) -> Option<Paper>
     ensures { result ≡ meaning.paper_meant width height }
 {
     paper_of_sides(width?.get(), height?.get())
 }
 
-/// The paper with these sides in grains, if a paper may have them and none is shorter than a point.
+/// The paper with these sides in grains. None if a side is shorter than a point, or too long for a paper.
 fn paper_of_sides(width: i128, height: i128) -> Option<Paper>
     ensures { result ≡ meaning.paper_or_error width height }
 {
@@ -151,7 +160,8 @@ fn paper_of_sides(width: i128, height: i128) -> Option<Paper>
     Paper::new(Grains::new(width)?, Grains::new(height)?)
 }
 
-/// The same, unless a side is longer than any number of a box.
+/// The paper with these sides in grains. None if a side is shorter than a point or too long for a paper, or has
+/// 100,000 points or more.
 fn shorter_paper(width: i128, height: i128) -> Option<Paper>
     ensures { result ≡ meaning.shorter_paper width height }
 {

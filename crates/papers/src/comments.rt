@@ -1,4 +1,4 @@
-//! Comments among header comments, and the lines that continue them.
+//! Finds comments among header comments, and the `%%+` lines that continue them.
 ghost use Rattle.std.specs.Prelude.{◌≡◌, ◌<◌, ◌++◌, ◌∷◌, [], false, true, length, IfSome, MatchOption};
 ghost use Rattle.rules.specs.Bytes.{colon};
 ghost use Rattle.rules.specs.Units.{is_comment};
@@ -6,7 +6,8 @@ ghost use Rattle.papers.specs.Media.{comment_values, contents, continued, value_
 
 use dsc::{comment_value, first_content, line_end_after};
 
-/// The text after the colon of the first comment with this key, and the lines after it.
+/// For the first comment with this key, returns its value, which is the text after its colon, and the text after its
+/// line. The caller also passes the key followed by a colon.
 pub fn first_comment<'t>(
     header: &'t [u8],
     key: &[u8],
@@ -28,7 +29,7 @@ pub fn first_comment<'t>(
     None
 }
 
-/// The text after the colon, if a line with this content is a comment with this key.
+/// The value of a comment: the text after its colon. None if the line with this content isn't a comment with this key.
 pub(crate) fn value_after<'t>(content: &'t [u8], key: &[u8], with_colon: &[u8]) -> Option<&'t [u8]>
     requires { with_colon.now ≡ key.now ++ colon ∷ [] }
     ensures { MatchOption result (is_comment key.now content.now ≡ false) (λ value.
@@ -41,7 +42,8 @@ pub(crate) fn value_after<'t>(content: &'t [u8], key: &[u8], with_colon: &[u8]) 
     Some(value)
 }
 
-/// The text that the first line adds to a comment before it, if it continues one, and the lines after it.
+/// If the first line begins with `%%+`, returns the text after `%%+`, which continues the comment before it, and the
+/// text after the line. Otherwise returns `None`.
 pub fn continuation(text: &[u8]) -> Option<(&[u8], &[u8])>
     ensures value { MatchOption result (continued (contents text.now) ≡ []) (λ p.
         continued (contents text.now) ≡ p.0.now ∷ continued (contents p.1.now)) }

@@ -1,4 +1,4 @@
-//! Pages that a paper cuts.
+//! Finds the pages that a paper cuts, because their own papers are larger.
 ghost use Rattle.std.specs.Prelude.{◌≡◌, ◌<◌, ◌-ℤ◌, nat_abs, IfSome, IsTrue};
 ghost use Rattle.rules.specs.Papers.{is_side};
 ghost use Rattle.papers.specs.Own.{covers as covers_it, counts_as_one as is_near_to};
@@ -7,24 +7,25 @@ ghost use Rattle.papers.specs.Cuts.{cut_of, is_cut as is_cut_by, with_cut_page a
 use crate::smallest_cover;
 use lengths::Paper;
 
-/// Two sides that differ by at most this number of grains, 15 points, count as equal.
+/// Two sides that differ by at most this number of grains, which is 15 points, count as equal.
 const NEARNESS: u128 = 15 * 127_000_000_000;
 
 /// The pages of a document that a paper cuts.
 #[derive(Clone, Copy)]
 pub struct Cut {
-    /// The first page, counted from 0.
+    /// The first of these pages, counted from 0.
     pub first: usize,
-    /// The last page.
+    /// The last of these pages, counted from 0.
     pub last: usize,
-    /// The number of pages.
+    /// The number of these pages.
     pub pages: usize,
-    /// The smallest paper that covers the own papers of all of them.
+    /// The smallest paper that covers the own papers of all these pages.
     pub paper: Paper,
 }
 
-/// The pages that a paper cuts, given the pages' own papers: those whose own paper it doesn't cover. Papers whose sides differ by at most 15 points
-/// count as equal.
+/// The pages that `paper` cuts. `own` has the own paper of each page. A page is cut if `paper` doesn't cover its own
+/// paper, and the two don't count as equal. Papers count as equal if their sides differ by at most 15 points. None if
+/// no page is cut.
 pub fn cut_by(paper: &Paper, own: &[Paper]) -> Option<Cut>
     ensures { result ≡ cut_of paper.now own.now }
 {
@@ -37,7 +38,7 @@ pub fn cut_by(paper: &Paper, own: &[Paper]) -> Option<Cut>
     cut
 }
 
-/// The cut pages with one more after them.
+/// Adds one more page, with this own paper, after the cut pages found so far.
 fn with_cut_page(cut: Option<Cut>, page: usize, paper: &Paper) -> Cut
     requires few { IfSome cut (λ c. c.pages < usize.MAX) }
     ensures { result ≡ with_one cut page paper.now }
@@ -58,21 +59,21 @@ fn with_cut_page(cut: Option<Cut>, page: usize, paper: &Paper) -> Cut
     }
 }
 
-/// Whether a paper cuts a page of that one.
+/// Whether `paper` cuts a page whose own paper is `own`.
 pub(crate) fn is_cut(paper: &Paper, own: &Paper) -> bool
     ensures { result ≡ is_cut_by paper.now own.now }
 {
     !covers(paper, own) && !is_near(paper, own)
 }
 
-/// Whether no side of the other one is longer.
+/// Whether `paper` covers `other`: neither its width nor its height is smaller.
 fn covers(paper: &Paper, other: &Paper) -> bool
     ensures { result ≡ covers_it paper.now other.now }
 {
     other.width().get() <= paper.width().get() && other.height().get() <= paper.height().get()
 }
 
-/// Whether two papers count as equal.
+/// Whether two papers count as equal: each side differs by at most 15 points.
 pub(crate) fn is_near(paper: &Paper, other: &Paper) -> bool
     ensures { result ≡ is_near_to paper.now other.now }
 {
@@ -80,7 +81,7 @@ pub(crate) fn is_near(paper: &Paper, other: &Paper) -> bool
         && difference(paper.height().get(), other.height().get()) <= NEARNESS
 }
 
-/// The difference of two sides.
+/// The difference of two sides, in grains.
 fn difference(one: i128, other: i128) -> u128
     requires one { IsTrue (is_side one) }
     requires other { IsTrue (is_side other) }

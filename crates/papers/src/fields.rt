@@ -1,4 +1,4 @@
-//! The lengths and names in fields.
+//! Reads lengths and names in the fields of comments.
 ghost use Rattle.std.specs.Prelude.{◌≡◌, ◌≤◌, ◌==◌, length, not, option_map};
 ghost use Rattle.std.specs.List.{prefix_len};
 ghost use Rattle.rules.specs.Units.{is_blank};
@@ -6,7 +6,7 @@ ghost use Rattle.papers.specs.Media as meaning;
 
 use lengths::{Grains, Unit, a4, read_number, to_grains};
 
-/// The name in a field, without parentheses around it.
+/// The name in a field. Parentheses around the whole field aren't part of the name.
 pub(crate) fn name_in(field: &[u8]) -> &[u8]
     ensures { result.now ≡ meaning.name_in field.now }
 {
@@ -16,7 +16,8 @@ pub(crate) fn name_in(field: &[u8]) -> &[u8]
     }
 }
 
-/// The name that a value begins with, and what follows it. A name in parentheses may have blanks in it.
+/// The name at the start of a value, after blanks (spaces and tabs), and the text after the name. A name in
+/// parentheses may contain blanks. None if the value has only blanks.
 pub(crate) fn name_and_rest(value: &[u8]) -> Option<(&[u8], &[u8])>
     ensures { option_map (λ p. (p.0.now, p.1.now)) result ≡ meaning.name_and_rest value.now }
 {
@@ -28,7 +29,7 @@ pub(crate) fn name_and_rest(value: &[u8]) -> Option<(&[u8], &[u8])>
     Some((name_in(name), rest))
 }
 
-/// The number of blanks at the front.
+/// The number of blanks (spaces and tabs) at the start of the text.
 pub(crate) fn leading_blanks(text: &[u8]) -> usize
     ensures value { result ≡ prefix_len is_blank text.now }
     ensures within { result ≤ length text.now }
@@ -38,7 +39,8 @@ pub(crate) fn leading_blanks(text: &[u8]) -> usize
         .count()
 }
 
-/// The length of the name at the front, up to a blank; for a name in parentheses up to the first blank after they are closed.
+/// The length of the name at the start of the text. A name ends before the first blank. A name in parentheses ends
+/// before the first blank after the closing parenthesis.
 fn name_len(text: &[u8]) -> usize
     ensures value { result ≡ meaning.name_len text.now }
     ensures within { result ≤ length text.now }
@@ -69,7 +71,7 @@ fn len_before_blank(text: &[u8]) -> usize
         .count()
 }
 
-/// The length that a field names, in points.
+/// The length in grains of a field that is a number of points. None if the field isn't a number, or more follows it.
 pub(crate) fn points_of(field: &[u8]) -> Option<Grains>
     ensures { result ≡ meaning.points_of field.now }
 {
@@ -77,11 +79,11 @@ pub(crate) fn points_of(field: &[u8]) -> Option<Grains>
     if len < field.len() {
         return None;
     }
-    // Points don't ask for the paper.
+    // The unit `pt` doesn't depend on the paper, so any paper can be passed.
     Some(to_grains(number, Unit::Pt, &a4()))
 }
 
-/// Whether there is a length and it is 0.
+/// Whether this is a length, and is 0.
 pub(crate) fn is_zero(length: Option<Grains>) -> bool
     ensures { result ≡ meaning.is_zero length }
 {

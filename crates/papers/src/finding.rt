@@ -1,4 +1,4 @@
-//! The paper of each page of a document.
+//! Finds the paper of each page of a document.
 ghost use Rattle.std.specs.Prelude.{◌≡◌, IfOk, None, map, length, replicate, codes, option_and_then};
 ghost use Rattle.rules.specs.Parts.{bytes_of, pages};
 ghost use Rattle.dsc.specs.Units.{units_of};
@@ -17,8 +17,9 @@ use dsc::{Document, header_len};
 use lengths::Paper;
 use std::alloc::{AllocError, Global};
 
-/// The papers of a document's pages, in order. If a paper is asked for, all pages have it. Otherwise a page has the paper that it names itself, or
-/// that its document names, or the one at home. Refused only for lack of memory.
+/// The paper of each page of a document, in the order of the pages (docs/RULES.md, 12.3). If `asked` is a paper, all
+/// pages have it. Otherwise a page has the paper that it names itself. If it names none, it has the paper that its
+/// document names, and if there is none, the paper `home`. Fails only if memory is refused.
 pub fn page_papers(
     alloc: Global,
     document: &Document<'_>,
@@ -34,7 +35,7 @@ pub fn page_papers(
     }
 }
 
-/// A number of pages of one paper.
+/// The papers of this number of pages, which all have this paper.
 fn pages_of_one_paper(alloc: Global, pages: u32, paper: Paper) -> Result<Vec<Paper>, AllocError>
     ensures { IfOk result (λ papers. papers.items ≡ replicate pages paper) }
 {
@@ -43,7 +44,7 @@ fn pages_of_one_paper(alloc: Global, pages: u32, paper: Paper) -> Result<Vec<Pap
     Ok(papers)
 }
 
-/// Each page's own paper.
+/// The paper of each page if none is asked for: from the page itself, from the document, or `home`.
 fn declared_papers(
     alloc: Global,
     document: &Document<'_>,
@@ -62,7 +63,7 @@ fn declared_papers(
     )
 }
 
-/// The paper that a document's comments name, or else this one.
+/// The paper that the document's comments give, or `other` if they give none.
 fn document_or(text: &[u8], other: &Paper) -> Paper
     ensures { result
         ≡ or_this (told_by_document paper_named other.now (header text.now) (trailer_lines (units_of text.now))) other.now }
@@ -73,7 +74,8 @@ fn document_or(text: &[u8], other: &Paper) -> Paper
     }
 }
 
-/// Each page's own declaration, or else this paper. Pages may name media of these header comments.
+/// The paper of each page: the one that the page names itself, or `other` if it names none. A page can name a medium
+/// of these header comments.
 fn each_or(
     alloc: Global,
     document: &Document<'_>,
@@ -87,7 +89,8 @@ fn each_or(
     each_with(alloc, document, &known, other)
 }
 
-/// Each page's own declaration, with these media, or else this paper.
+/// The paper of each page: the one that the page names itself, or `other` if it names none. `known` has the media that
+/// pages can name.
 fn each_with(
     alloc: Global,
     document: &Document<'_>,
@@ -105,7 +108,7 @@ fn each_with(
     Ok(papers)
 }
 
-/// The paper that a page names itself, or else this one, its document's.
+/// The paper that a page names itself, or the document's paper `other` if it names none.
 fn page_paper(known: &KnownMedia, page: &[u8], other: &Paper) -> Paper
     ensures { result ≡ page_or (known_paper known.now) (page_head page.now) other.now }
 {
@@ -115,8 +118,9 @@ fn page_paper(known: &KnownMedia, page: &[u8], other: &Paper) -> Paper
     }
 }
 
-/// The paper that a page names in the comments after its first line: by `%%PageMedia:`, if that names a known medium, or else by
-/// `%%PageBoundingBox:`. `other` is the one used without a box.
+/// The paper that the comments after a page's first line give. `%%PageMedia:` gives it if it names a known medium;
+/// otherwise `%%PageBoundingBox:` gives it. `other` is the document's paper; a box that doesn't begin at 0 0 must
+/// reach beyond it.
 fn told_by_page(known: &KnownMedia, page: &[u8], other: &Paper) -> Option<Paper>
     ensures { result ≡ told (known_paper known.now) other.now (page_head page.now) }
 {
@@ -127,7 +131,7 @@ fn told_by_page(known: &KnownMedia, page: &[u8], other: &Paper) -> Option<Paper>
     }
 }
 
-/// The paper of the medium that a page names, in the comments after its first line.
+/// The paper of the medium that a page names in `%%PageMedia:`. `head` is the page's text after its first line.
 #[tactic(auto, using(crate::proofs::PageTells::names_none, crate::proofs::PageTells::names_one))]
 fn named_paper(known: &KnownMedia, head: &[u8]) -> Option<Paper>
     ensures { result ≡ option_and_then (named_medium (known_paper known.now))
@@ -136,7 +140,8 @@ fn named_paper(known: &KnownMedia, head: &[u8]) -> Option<Paper>
     known.paper_of(medium_name(head)?)
 }
 
-/// The paper that a page's box gives, in the comments after its first line. `other` is the one used without a box.
+/// The paper that a page's `%%PageBoundingBox:` gives. `head` is the page's text after its first line. `other` is the
+/// document's paper, beyond which a box that doesn't begin at 0 0 must reach.
 fn boxed_paper(head: &[u8], other: &Paper) -> Option<Paper>
     ensures { result ≡ option_and_then (paper_of_box_at other.now)
         (comment_fields (codes "%%PageBoundingBox") (head_of (length head.now) head.now)) }

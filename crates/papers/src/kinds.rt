@@ -1,4 +1,4 @@
-//! Papers that count as equal, since programs round the sizes of one paper differently.
+//! Makes nearly equal papers equal. Programs round the sizes of one paper differently.
 ghost use Rattle.std.specs.Prelude.{◌≡◌, ℕ, suc, ◌++◌, IfOk, OnOk};
 ghost use Rattle.papers.specs.AsOne.{merge_near_sizes as counted_as_one, first_instead_of as first_instead, is_used as is_paper_used};
 ghost use Rattle.papers.specs.AsOne.{apart_from, is_larger as is_larger_than, kind_of as kind_made, kinds as kinds_with, largest_of};
@@ -9,21 +9,25 @@ use crate::smallest_cover;
 use lengths::Paper;
 use std::alloc::{AllocError, Global};
 
-/// The most kinds of papers. Each page is compared with all kinds, so more would take time.
+/// The most kinds of papers. Each page is compared with all kinds, so a higher limit would cost time.
 const MOST_KINDS: usize = 64;
 
-/// Papers that count as equal.
+/// A kind: papers that count as equal.
 #[derive(Clone, Copy)]
 struct PaperKind {
-    /// The largest of them, to which the others are near.
+    /// The largest paper of the kind. Each side of the others differs from its side by at most 15 points.
     first: Paper,
-    /// The smallest paper that covers all of them.
+    /// The smallest paper that covers all papers of the kind.
     paper: Paper,
 }
 
-/// The papers of pages, with sizes that differ only by rounding made equal. The largest of the papers that are taken (the widest, and the highest of
-/// these) makes a kind with all that differ by at most 15 points on each side. Then the largest that is left makes one, up to 64 kinds. A paper of a
-/// kind becomes the smallest one that covers the kind; the others stay as they are. Refused only for lack of memory.
+/// Makes papers equal whose sizes differ only by rounding (docs/RULES.md, 12.4). `own` has the paper of each page, and
+/// `taken` has the papers of the pages that are imposed.
+///
+/// The largest of the taken papers is the widest, and the highest of these. It forms a kind with all taken papers
+/// whose sides differ from its own by at most 15 points. Then the largest paper that is left forms the next kind, up
+/// to 64 kinds. The result has, for each page, the smallest paper that covers the kind of the page's paper. A paper
+/// that belongs to no kind stays as it is. Fails only if memory is refused.
 pub fn merge_near_sizes(
     alloc: Global,
     taken: &[Paper],
@@ -39,7 +43,7 @@ pub fn merge_near_sizes(
     Ok(papers)
 }
 
-/// The first page's own paper, unless some page has this paper or one that counts as equal.
+/// The paper of the first page, if no page has `paper` or a paper that counts as equal to it. Otherwise `None`.
 pub fn first_instead_of(paper: &Paper, own: &[Paper]) -> Option<Paper>
     ensures { result ≡ first_instead paper.now own.now }
 {
@@ -49,14 +53,14 @@ pub fn first_instead_of(paper: &Paper, own: &[Paper]) -> Option<Paper>
     }
 }
 
-/// Whether a page has this paper, or one that counts as equal.
+/// Whether a page has this paper, or a paper that counts as equal to it.
 fn is_used(paper: &Paper, own: &[Paper]) -> bool
     ensures { result ≡ is_paper_used paper.now own.now }
 {
     own.iter().any(|page| is_near(paper, page))
 }
 
-/// The kinds of these papers, if there is room for them.
+/// The kinds that these papers form, at most `room` of them. Fails only if memory is refused.
 fn kinds_of(alloc: Global, room: usize, papers: &[Paper]) -> Result<Vec<PaperKind>, AllocError>
     ensures { IfOk result (λ kinds. kinds.items ≡ kinds_with room papers.now) }
 {
@@ -69,7 +73,7 @@ fn kinds_of(alloc: Global, room: usize, papers: &[Paper]) -> Result<Vec<PaperKin
     Ok(kinds)
 }
 
-/// Takes one more kind out of the papers that are left, if there are any.
+/// Moves the next kind from `rest`, which has the papers without a kind, to `kinds`. Does nothing if no paper is left.
 fn take_kind(kinds: &mut Vec<PaperKind>, rest: &mut Vec<Paper>) -> Result<(), AllocError>
     ensures { OnOk result ((room : ℕ) → kinds.new.items ++ kinds_with room rest.new.items
         ≡ kinds.old.items ++ kinds_with (suc room) rest.old.items) }
@@ -82,14 +86,14 @@ fn take_kind(kinds: &mut Vec<PaperKind>, rest: &mut Vec<Paper>) -> Result<(), Al
     Ok(())
 }
 
-/// Keeps the papers that aren't near to this one.
+/// Keeps only the papers that don't count as equal to `first`.
 fn keep_apart(papers: &mut Vec<Paper>, first: &Paper)
     ensures { papers.new.items ≡ apart_from first.now papers.old.items }
 {
     papers.retain(|paper| !is_near(paper, first));
 }
 
-/// The largest of these papers, if there is one.
+/// The widest of these papers, and the highest of equally wide ones. None if there are no papers.
 fn largest(papers: &[Paper]) -> Option<Paper>
     ensures { result ≡ largest_of papers.now }
 {
@@ -103,7 +107,7 @@ fn largest(papers: &[Paper]) -> Option<Paper>
     Some(largest)
 }
 
-/// Whether a paper is wider than another, or as wide and higher.
+/// Whether `paper` is wider than `other`, or as wide and higher.
 fn is_larger(paper: &Paper, other: &Paper) -> bool
     ensures { result ≡ is_larger_than paper.now other.now }
 {
@@ -112,7 +116,7 @@ fn is_larger(paper: &Paper, other: &Paper) -> bool
             && other.height().get() < paper.height().get())
 }
 
-/// The kind of the papers near to this one.
+/// The kind of the papers that count as equal to `first`.
 fn kind_of(first: &Paper, papers: &[Paper]) -> PaperKind
     ensures { result ≡ kind_made first.now papers.now }
 {
@@ -128,7 +132,7 @@ fn kind_of(first: &Paper, papers: &[Paper]) -> PaperKind
     }
 }
 
-/// The paper as which a paper counts.
+/// The paper that replaces this one: the paper of the first kind to which it belongs, or itself if it belongs to none.
 fn paper_among(kinds: &[PaperKind], paper: &Paper) -> Paper
     ensures { result ≡ paper_in kinds.now paper.now }
 {

@@ -1,4 +1,4 @@
-//! Media of header comments that pages name.
+//! Finds in the header comments the papers of the media that pages name.
 ghost use Rattle.std.specs.Prelude.{◌≡◌, ◌<◌, ℕ, List, [], ◌∷◌, Some, None, IfOk, OnOk, flat_map, length, option_map, slice_index_or};
 ghost use Rattle.std.specs.Map.{update};
 ghost use Rattle.std.specs.Str.{bytes_eq};
@@ -16,15 +16,17 @@ use lengths::Paper;
 use std::alloc::{AllocError, Global};
 use std::collections::BTreeMap;
 
-/// The media that pages name, by their names. Once it is found, each has the paper of the header's first medium of that name, if the sides may be a
-/// paper's. Memory is taken only for media that pages name, not for all of the header's.
+/// The media that the pages of a document name. Each name has the paper of the header's first medium with that name,
+/// once that medium is found. A medium has no paper if its sides can't be those of a paper. Media that no page names
+/// take no memory.
 #[derive(Drop)]
 pub(crate) struct KnownMedia {
     papers: BTreeMap<Vec<u8>, Option<Option<Paper>>>,
 }
 
 impl KnownMedia {
-    /// The media of this document's pages, by the first `%%DocumentMedia:` of its header and the lines that continue it.
+    /// Finds the media that the pages of a document name. They are in the first `%%DocumentMedia:` of its header
+    /// comments and in the `%%+` lines that continue it. Fails only if memory is refused.
     pub(crate) fn read(
         alloc: Global,
         document: &Document<'_>,
@@ -44,7 +46,7 @@ impl KnownMedia {
         }
     }
 
-    /// The names of these media.
+    /// Collects the names of the media that the pages name; no medium is found yet.
     fn named(alloc: Global, document: &Document<'_>) -> Result<KnownMedia, AllocError>
         ensures { IfOk result (λ known. (k : ℕ) → k < length (pages document.now)
             → IsNameKept known (slice_index_or (pages document.now) k [])) }
@@ -58,7 +60,7 @@ impl KnownMedia {
         Ok(known)
     }
 
-    /// Keeps the name of the medium that a page names.
+    /// Collects the name of the medium that this page names, if it names one.
     fn keep(&mut self, alloc: Global, page: &[u8]) -> Result<(), AllocError>
         ensures kept { OnOk result (IsNameKept self.new page.now) }
         ensures still { OnOk result ((at : List ℕ) → found_at self.old at ≡ Some None → found_at self.new at ≡ Some None) }
@@ -72,7 +74,7 @@ impl KnownMedia {
         }
     }
 
-    /// Stores the result for this name, in place of the earlier one.
+    /// Stores what was found for this name, in place of what was stored before.
     fn put(&mut self, name: Vec<u8>, found: Option<Option<Paper>>) -> Result<(), AllocError>
         ensures { OnOk result ((at : List ℕ) → found_at self.new at ≡ update bytes_eq (found_at self.old) name.items (Some found) at) }
     {
@@ -80,7 +82,8 @@ impl KnownMedia {
         Ok(())
     }
 
-    /// Finds their papers: in the first medium, and in the lines that continue it.
+    /// Finds the papers of the named media in the header. `first` is the value of `%%DocumentMedia:`, and `others` is
+    /// the text after that line, which may continue it.
     fn find(&mut self, alloc: Global, first: &[u8], others: &[u8]) -> Result<(), AllocError>
         ensures { OnOk result ((at : List ℕ) → found_at self.new at
             ≡ option_map (λ found. with_media at found (flat_map medium_in (first.now ∷ continued (contents others.now))))
@@ -90,7 +93,7 @@ impl KnownMedia {
         self.take_continued(alloc, others)
     }
 
-    /// Takes the media of the lines at the front that continue a comment.
+    /// Takes the media of the `%%+` lines at the start of the text.
     fn take_continued(&mut self, alloc: Global, text: &[u8]) -> Result<(), AllocError>
         ensures { OnOk result ((at : List ℕ) → found_at self.new at
             ≡ option_map (λ found. with_media at found (flat_map medium_in (continued (contents text.now)))) (found_at self.old at)) }
@@ -103,7 +106,7 @@ impl KnownMedia {
         Ok(())
     }
 
-    /// Takes the medium of this value, if it is the first one with a name that is kept.
+    /// Takes the medium in this value, if a page names it and no earlier medium has its name.
     fn take(&mut self, alloc: Global, value: &[u8]) -> Result<(), AllocError>
         ensures { OnOk result ((at : List ℕ) → found_at self.new at
             ≡ option_map (λ found. with_media at found (medium_in value.now)) (found_at self.old at)) }
@@ -114,7 +117,7 @@ impl KnownMedia {
         }
     }
 
-    /// Takes the paper of a medium of this name, if it is the first one with a name that is kept.
+    /// Takes the paper of a medium with this name, if a page names it and no earlier medium has its name.
     fn take_named(
         &mut self,
         alloc: Global,
@@ -131,7 +134,7 @@ impl KnownMedia {
         self.put(name, Some(paper))
     }
 
-    /// Whether this name is kept without a result yet.
+    /// Whether a page names this medium, and the medium hasn't been found yet.
     fn is_missing(&self, name: &[u8]) -> bool
         ensures { result ≡ is_not_found (found_at self.now name.now) }
     {
@@ -142,7 +145,8 @@ impl KnownMedia {
         }
     }
 
-    /// The paper of the first medium with this name.
+    /// The paper of the header's first medium with this name. None if no page names it, if the header lacks it, or if
+    /// its sides can't be those of a paper.
     pub(crate) fn paper_of(&self, name: &[u8]) -> Option<Paper>
         ensures { result ≡ known_paper self.now name.now }
     {

@@ -1,40 +1,43 @@
-//! Laws of the definitions. The functions do nothing.
+//! Laws of papers. Each function states one in its contract, and does nothing.
 ghost use Rattle.papers.specs.Told.{TellingIsTame};
 ghost use Rattle.papers.specs.SetSizes.{SizeIsSet};
 ghost use Rattle.papers.specs.Found.{PapersAreFound};
 ghost use Rattle.papers.specs.AsOne.{KindsAreOfLargest, NearAreOne, NothingIsCut, OrderIsNothing};
 
-/// The lines by which sheets report their paper begin no part of a document.
+/// The lines with which sheets report their papers begin no page, no trailer, no data and no embedded document.
 pub fn telling_is_tame()
     ensures { TellingIsTame }
 {}
 
-/// If any sheet sets its page size, each sheet begins by setting that of its own paper.
+/// Suppose that the page size was first set to the paper of any one sheet. Then each sheet has the page size of its
+/// own paper: either the last of its first lines sets this size, or the size that was set is printed alike.
 pub fn size_is_set()
     ensures { SizeIsSet }
 {}
 
-/// In the output of any number of sheets, each sheet's own paper is found as it is printed.
+/// If the output is read again, the paper of each sheet is found, with sides as they are printed. This holds for any
+/// papers with sides from 1 point to 99,999.99999 points, and any lines at the ends of sheets that begin nothing. The
+/// document's last page must leave no embedded document open, and the output must not be too long.
 pub fn papers_are_found()
     ensures { PapersAreFound }
 {}
 
-/// Each paper that is taken is covered by the one as which it counts.
+/// Each paper that is taken is covered by the paper that replaces it, so no page is cut.
 pub fn nothing_is_cut()
     ensures { NothingIsCut }
 {}
 
-/// Papers of one kind count as equal.
+/// All papers of one kind are replaced by the same paper.
 pub fn near_are_one()
     ensures { NearAreOne }
 {}
 
-/// Each kind is that of the largest paper that is near to no earlier one.
+/// The paper that each kind is formed around is the largest of the papers that belong to no earlier kind.
 pub fn kinds_are_of_largest()
     ensures { KindsAreOfLargest }
 {}
 
-/// The paper as which a paper counts depends neither on the order of pages nor on how often they are taken.
+/// The paper that replaces a paper depends neither on the order of the pages nor on how often they are taken.
 pub fn order_is_nothing()
     ensures { OrderIsNothing }
 {}

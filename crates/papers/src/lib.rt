@@ -1,4 +1,4 @@
-//! Papers: which ones a document and its pages name, and which of them count as equal.
+//! Finds the papers that a document and its pages name, and makes nearly equal papers equal.
 #![tactic(auto)]
 
 mod boxes;

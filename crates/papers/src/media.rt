@@ -1,4 +1,4 @@
-//! The paper that a document is made for, by its comments.
+//! Finds the paper that a document is made for, from its comments or its setup.
 ghost use Rattle.std.specs.Prelude.{◌≡◌, ◌++◌, ◌∷◌, [], ◌&&◌, IsTrue, option_and_then, option_map, codes, None};
 ghost use Rattle.rules.specs.Papers.{is_side};
 ghost use Rattle.rules.specs.Bytes.{colon};
@@ -14,26 +14,38 @@ use dsc::{header_len, next_field, trailer_box};
 use lengths::{Grains, Paper};
 use paper_names::paper_by_name;
 
-/// Programs may differ by 15 points in the size of one paper.
+/// Two sides that differ by at most 15 points count as equal, because programs round the sizes of one paper
+/// differently.
 const NEARNESS: u128 = 15 * 127_000_000_000;
 
-/// The source of a paper: a comment, or the setup.
+/// The comment, or the setup, that gives a document's paper.
 #[derive(Clone, Copy, Debug, PartialEq, Eq)]
 pub enum Comment {
     /// The first `%%DocumentMedia:`.
     DocumentMedia,
-    /// The first `%%DocumentPaperSizes:`. One of its fields is the name of a paper, perhaps in parentheses.
+    /// The first `%%DocumentPaperSizes:`, whose fields are names of papers, with or without parentheses.
     DocumentPaperSizes,
     /// The first `%%BoundingBox:`.
     BoundingBox,
-    /// No comment: the setup asks for the paper, by the first `/PageSize [width height]` before the first page.
+    /// No comment. The setup asks for the paper, with the first `/PageSize [width height]` before the first page.
     Setup,
 }
 
-/// The paper of a document by its header comments (DSC 3.0, 5.2), or else the usual one. The first of these counts: width and height of the first
-/// `%%DocumentMedia:`; the first known name in `%%DocumentPaperSizes:` (on its side, if the box at 0 0 has its sides exchanged, to 15 points);
-/// `%%BoundingBox:`, by `paper_of_box`; the paper that the setup asks for. A box that is `(atend)` is the first `%%BoundingBox:` of the trailer. A
-/// text with a faulty data block has no trailer.
+/// The paper that a document is made for, and the comment that gives it (docs/RULES.md, 12.2; DSC 3.0, 5.2). The first
+/// of these that gives a paper counts:
+///
+/// 1. the width and height in the first `%%DocumentMedia:`;
+///
+/// 2. the first known name in `%%DocumentPaperSizes:`. The paper is turned on its side if a `%%BoundingBox:` that
+/// begins at 0 0 has its sides exchanged, to 15 points;
+///
+/// 3. `%%BoundingBox:`, as `paper_of_box` reads it. If its value is `(atend)`, the first `%%BoundingBox:` of the
+/// trailer counts. A text with a faulty data block has no trailer;
+///
+/// 4. the paper that the setup asks for, with `/PageSize`.
+///
+/// A box that doesn't begin at 0 0 must reach beyond the paper of the setup, or beyond `usual` if the setup asks for
+/// no paper. None if none of the four gives a paper.
 pub fn document_paper(text: &[u8], usual: &Paper) -> Option<(Paper, Comment)>
     ensures { result ≡ meaning.document_paper usual.now text.now }
 {
@@ -44,7 +56,8 @@ pub fn document_paper(text: &[u8], usual: &Paper) -> Option<(Paper, Comment)>
     }
 }
 
-/// The same, by the comments alone.
+/// The paper that the comments alone give, and which comment gives it. A box that doesn't begin at 0 0 must reach
+/// beyond the paper `usual`.
 pub(crate) fn document_told(text: &[u8], usual: &Paper) -> Option<(Paper, Comment)>
     ensures { result ≡ meaning.document_told usual.now text.now }
 {
@@ -55,7 +68,7 @@ pub(crate) fn document_told(text: &[u8], usual: &Paper) -> Option<(Paper, Commen
     }
 }
 
-/// The paper of the first known name among the comments, else that of the first box.
+/// The paper of the first known name in `%%DocumentPaperSizes:`, or else the paper that the document's box gives.
 fn named_or_boxed(header: &[u8], text: &[u8], usual: &Paper) -> Option<(Paper, Comment)>
     ensures { result ≡ meaning.or_named usual.now (meaning.contents header.now) (meaning.trailer_lines (units_of text.now)) None }
 {
@@ -69,14 +82,14 @@ fn named_or_boxed(header: &[u8], text: &[u8], usual: &Paper) -> Option<(Paper, C
     }
 }
 
-/// The paper of a box that begins at 0 0, if there is a box.
+/// The paper of a box that begins at 0 0. None if there is no box, or it begins elsewhere.
 fn corner_paper(value: Option<&[u8]>) -> Option<Paper>
     ensures { result ≡ option_and_then meaning.box_paper (option_map (λ v. fields_in v.now) value.entry) }
 {
     box_paper(value?)
 }
 
-/// The paper, on its side if this box has its sides exchanged.
+/// The paper, turned on its side if `told`, the paper of a box, has its sides exchanged.
 fn lying_as(told: Option<Paper>, paper: Paper) -> Paper
     ensures { result ≡ meaning.lying_as told paper }
 {
@@ -86,14 +99,14 @@ fn lying_as(told: Option<Paper>, paper: Paper) -> Paper
     }
 }
 
-/// Whether one paper has the sides of the other exchanged.
+/// Whether one paper has the sides of the other exchanged, to 15 points.
 fn has_exchanged_sides(told: &Paper, paper: &Paper) -> bool
     ensures { result ≡ (meaning.are_near told.now.width paper.now.height && meaning.are_near told.now.height paper.now.width) }
 {
     are_near(told.width(), paper.height()) && are_near(told.height(), paper.width())
 }
 
-/// Whether two sides count as equal, since programs round them differently.
+/// Whether two sides count as equal: they differ by at most 15 points.
 fn are_near(one: Grains, other: Grains) -> bool
     requires one { IsTrue (is_side one) }
     requires other { IsTrue (is_side other) }
@@ -102,7 +115,7 @@ fn are_near(one: Grains, other: Grains) -> bool
     (one.get() - other.get()).unsigned_abs() <= NEARNESS
 }
 
-/// The paper of the first known name in the first list of names among the comments. Lines may continue the list.
+/// The paper of the first known name in the first `%%DocumentPaperSizes:` and the `%%+` lines that continue it.
 fn named_in(header: &[u8]) -> Option<Paper>
     ensures { result ≡ meaning.paper_of_first_name_in
         (meaning.comment_values (codes "%%DocumentPaperSizes") (meaning.contents header.now)) }
@@ -114,7 +127,7 @@ fn named_in(header: &[u8]) -> Option<Paper>
     }
 }
 
-/// The paper of the first known name in the lines at the front that continue a comment.
+/// The paper of the first known name in the `%%+` lines at the start of the text.
 fn named_behind(text: &[u8]) -> Option<Paper>
     ensures { result ≡ meaning.paper_of_first_name_in (meaning.continued (meaning.contents text.now)) }
 {
@@ -128,7 +141,7 @@ fn named_behind(text: &[u8]) -> Option<Paper>
     None
 }
 
-/// The paper of the first field that names one.
+/// The paper of the first field that is the name of a known paper.
 fn first_named(value: &[u8]) -> Option<Paper>
     ensures { result ≡ meaning.paper_of_first_name (fields_in value.now) }
 {
@@ -142,7 +155,7 @@ fn first_named(value: &[u8]) -> Option<Paper>
     None
 }
 
-/// The paper of the first medium among the comments.
+/// The paper that the first `%%DocumentMedia:` gives.
 fn media_in(header: &[u8]) -> Option<Paper>
     ensures { result ≡ option_and_then meaning.media_paper
         (meaning.comment_value (codes "%%DocumentMedia") (meaning.contents header.now)) }
@@ -150,7 +163,8 @@ fn media_in(header: &[u8]) -> Option<Paper>
     media_paper(comment_text(header, b"%%DocumentMedia", b"%%DocumentMedia:")?)
 }
 
-/// The text after the colon of the first box among the comments, which may be in the trailer.
+/// The value of the document's `%%BoundingBox:`. If the value in the header is `(atend)`, the value in the trailer
+/// counts.
 pub(crate) fn box_of<'t>(header: &'t [u8], text: &'t [u8]) -> Option<&'t [u8]>
     ensures { option_map (λ value. fields_in value.now) result
         ≡ meaning.box_of (meaning.contents header.now) (meaning.trailer_lines (units_of text.now)) }
@@ -158,7 +172,7 @@ pub(crate) fn box_of<'t>(header: &'t [u8], text: &'t [u8]) -> Option<&'t [u8]>
     box_or_last(value_of(header, b"%%BoundingBox", b"%%BoundingBox:")?, text)
 }
 
-/// A box in the header with this value, or the first one in the trailer.
+/// The value of a box: this value from the header, or if it is `(atend)`, that of the trailer's first box.
 #[tactic(auto, using(crate::proofs::Contents::trailer_box_is))]
 fn box_or_last<'t>(value: &'t [u8], text: &'t [u8]) -> Option<&'t [u8]>
     ensures { option_map (λ v. fields_in v.now) result
@@ -171,7 +185,7 @@ fn box_or_last<'t>(value: &'t [u8], text: &'t [u8]) -> Option<&'t [u8]>
     }
 }
 
-/// Whether a comment in the header with this value is in the trailer.
+/// Whether a header comment with this value is `(atend)`, which means that its real value is in the trailer.
 pub fn is_at_end(value: &[u8]) -> bool
     ensures { result ≡ meaning.is_at_end (fields_in value.now) }
 {
@@ -181,7 +195,7 @@ pub fn is_at_end(value: &[u8]) -> bool
     }
 }
 
-/// The text after the colon of the first comment with this key.
+/// The value of the first comment with this key: the text after its colon.
 #[tactic(auto, using(crate::proofs::Contents::none_said, crate::proofs::Contents::first_said))]
 fn comment_text<'t>(header: &'t [u8], key: &[u8], with_colon: &[u8]) -> Option<&'t [u8]>
     requires { with_colon.now ≡ key.now ++ colon ∷ [] }
@@ -193,7 +207,7 @@ fn comment_text<'t>(header: &'t [u8], key: &[u8], with_colon: &[u8]) -> Option<&
     }
 }
 
-/// The same, for its fields.
+/// The value of the first comment with this key. Its contract gives the fields of the value.
 #[tactic(auto, using(crate::proofs::Contents::none_told, crate::proofs::Contents::first_told))]
 fn value_of<'t>(header: &'t [u8], key: &[u8], with_colon: &[u8]) -> Option<&'t [u8]>
     requires { with_colon.now ≡ key.now ++ colon ∷ [] }
@@ -206,7 +220,8 @@ fn value_of<'t>(header: &'t [u8], key: &[u8], with_colon: &[u8]) -> Option<&'t [
     }
 }
 
-/// The paper of a medium: its name, its width, its height, and more.
+/// The paper of a medium. The value has the medium's name, its width and its height in points; further fields aren't
+/// read. None if the sides can't be those of a paper.
 pub fn media_paper(value: &[u8]) -> Option<Paper>
     ensures { result ≡ meaning.media_paper value.now }
 {
@@ -214,7 +229,8 @@ pub fn media_paper(value: &[u8]) -> Option<Paper>
     sides_paper(rest)
 }
 
-/// The paper of a medium after its name: its width, its height, and more.
+/// The paper of a medium, from the text after its name: its width and its height in points; further fields aren't
+/// read.
 pub(crate) fn sides_paper(rest: &[u8]) -> Option<Paper>
     ensures { result ≡ meaning.sides_paper (fields_in rest.now) }
 {

@@ -1,4 +1,4 @@
-//! The comments after a page's line.
+//! Reads the comments directly after a page's first line.
 ghost use Rattle.std.specs.Prelude.{◌≡◌, ◌++◌, ◌∷◌, [], option_map, drop, length};
 ghost use Rattle.rules.specs.Units.{content_of, line_len};
 ghost use Rattle.rules.specs.Bytes.{colon};
@@ -10,7 +10,7 @@ use crate::comments::value_after;
 use crate::fields::name_and_rest;
 use dsc::{first_content, is_header, key_of, line_end_after};
 
-/// The text after the first line.
+/// The text without its first line.
 pub(crate) fn behind_first_line(text: &[u8]) -> &[u8]
     ensures { result.now ≡ drop (line_len text.now) text.now }
 {
@@ -18,7 +18,8 @@ pub(crate) fn behind_first_line(text: &[u8]) -> &[u8]
     behind
 }
 
-/// The length of the content of the first line, which is short in a page.
+/// The length of the first line without its line end. The first line of a page is short, so the bytes are tested one
+/// by one.
 fn first_line_len(text: &[u8]) -> usize
     ensures { result ≡ length (content_of text.now) }
 {
@@ -27,7 +28,7 @@ fn first_line_len(text: &[u8]) -> usize
         .count()
 }
 
-/// The text after the colon of the first comment with this key, in the run of comments at the front.
+/// The value of the first comment with this key, among the comments at the start of the text.
 fn text_in_head<'t>(text: &'t [u8], key: &[u8], with_colon: &[u8]) -> Option<&'t [u8]>
     requires { with_colon.now ≡ key.now ++ colon ∷ [] }
     ensures { option_map (λ value. value.now) result ≡ comment_value key.now (head_of (length text.now) text.now) }
@@ -47,7 +48,8 @@ fn text_in_head<'t>(text: &'t [u8], key: &[u8], with_colon: &[u8]) -> Option<&'t
     None
 }
 
-/// The same, for its fields.
+/// The value of the first comment with this key, among the comments at the start of the text. Its contract gives the
+/// fields of the value.
 pub(crate) fn value_in_head<'t>(text: &'t [u8], key: &[u8], with_colon: &[u8]) -> Option<&'t [u8]>
     requires { with_colon.now ≡ key.now ++ colon ∷ [] }
     ensures { option_map (λ value. fields_in value.now) result
@@ -56,14 +58,15 @@ pub(crate) fn value_in_head<'t>(text: &'t [u8], key: &[u8], with_colon: &[u8]) -
     text_in_head(text, key, with_colon)
 }
 
-/// The name of the medium that the run of comments at the front names.
+/// The name of the medium in `%%PageMedia:`, among the comments at the start of the text.
 pub(crate) fn medium_name(text: &[u8]) -> Option<&[u8]>
     ensures { option_map (λ name. name.now) result ≡ medium_told (head_of (length text.now) text.now) }
 {
     first_name(text_in_head(text, b"%%PageMedia", b"%%PageMedia:")?)
 }
 
-/// The name that a value begins with.
+/// The name at the start of a comment's value, after blanks and without parentheses. None if the value has only
+/// blanks.
 pub fn first_name(value: &[u8]) -> Option<&[u8]>
     ensures { option_map (λ name. name.now) result ≡ name_told value.now }
 {
@@ -71,7 +74,8 @@ pub fn first_name(value: &[u8]) -> Option<&[u8]>
     Some(name)
 }
 
-/// Whether a line with this content belongs to that run: a comment, including the one that begins a page's setup, but none that begins another part.
+/// Whether a line with this content belongs to the comments after a page's first line. It must have the form of a
+/// comment. Of the keys that begin with `%%Begin`, only `%%BeginPageSetup` belongs to them.
 fn is_in_head(content: &[u8]) -> bool
     ensures { result ≡ is_in_head content.now }
 {

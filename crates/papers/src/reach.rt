@@ -1,4 +1,4 @@
-//! Pages that reach beyond the papers by which they are placed.
+//! Finds pages that reach beyond the papers with which they are placed.
 ghost use Rattle.std.specs.Prelude.{◌≡◌, ◌<◌, ◌+ℤ◌, false, codes, get_or, int_lt, length, map, option_and_then, option_map, IfOk, IfSome, None, Some};
 ghost use Rattle.rules.specs.Parts.{bytes_of, pages};
 ghost use Rattle.dsc.specs.Fields.{fields_in};
@@ -13,7 +13,8 @@ use crate::page_heads::{behind_first_line, value_in_head};
 use dsc::{Document, header_len};
 use lengths::{Grains, Paper};
 
-/// A page's own box, or else this one, unless the page names a medium.
+/// The box of a page: its own `%%PageBoundingBox:`, or else the document's box `other`. The document's box isn't used
+/// if the page names a medium.
 fn page_box(page: &[u8], other: Option<&[u8]>) -> Option<Edges>
     ensures { result ≡ meaning.page_box (option_map (λ v. fields_in v.now) other.entry) page.now }
 {
@@ -24,7 +25,8 @@ fn page_box(page: &[u8], other: Option<&[u8]>) -> Option<Edges>
     }
 }
 
-/// This box, unless the comments name a medium. With several media, the document's box covers all of them.
+/// The document's box `other`, unless the comments of the page name a medium. If a document has several media, its box
+/// covers all of them.
 fn unless_medium<'t>(head: &[u8], other: Option<&'t [u8]>) -> Option<&'t [u8]>
     ensures { option_map (λ v. fields_in v.now) result ≡ meaning.unless_named
         (comment_fields (codes "%%PageMedia") (head_of (length head.now) head.now)) (option_map (λ v. fields_in v.now) other.entry) }
@@ -35,42 +37,44 @@ fn unless_medium<'t>(head: &[u8], other: Option<&'t [u8]>) -> Option<&'t [u8]>
     }
 }
 
+/// The edges of this box. None if there is no box, or if one of its edges isn't a number.
 fn edges_if(value: Option<&[u8]>) -> Option<Edges>
     ensures { result ≡ option_and_then edges_told (option_map (λ v. fields_in v.now) value.entry) }
 {
     edges_of(value?)
 }
 
-/// Pages with the papers by which they are placed.
+/// The pages of a document, with the papers with which they are placed.
 #[derive(Clone, Copy)]
 pub struct PlacedPages<'p, 'd> {
-    /// The document, which has the boxes of its pages: each page's own, or else the document's, unless the page names a medium.
+    /// The document, which gives the box of each page: the page's own, or else the document's. The document's box
+    /// isn't used for a page that names a medium.
     pub document: &'p Document<'d>,
-    /// Whether each page is taken.
+    /// For each page, whether it is taken for a sheet.
     pub taken: &'p [bool],
-    /// The papers by which they are placed.
+    /// For each page, the paper with which it is placed.
     pub papers: &'p [Paper],
-    /// The pages' own papers.
+    /// For each page, its own paper.
     pub own: &'p [Paper],
-    /// Whether pages that their papers cut are reported apart, as `cut_by` finds them.
+    /// Whether pages that their papers cut are left out, because `cut_by` reports them.
     pub cut_apart: bool,
 }
 
-/// Pages that reach beyond the papers by which they are placed.
+/// The pages that reach beyond the papers with which they are placed.
 #[derive(Clone, Copy)]
 pub struct Reach {
-    /// The first page, counted from 0.
+    /// The first of these pages, counted from 0.
     pub first: usize,
-    /// The paper by which it is placed.
+    /// The paper with which the first of these pages is placed.
     pub paper: Paper,
-    /// The edges of its drawing.
+    /// The edges to which the first of these pages reaches.
     pub edges: Edges,
-    /// The number of pages.
+    /// The number of these pages.
     pub pages: usize,
 }
 
-/// The pages that are taken and reach beyond the papers by which they are placed, by more than a point. Their boxes show it, or their own papers if
-/// those are cut.
+/// The taken pages that reach more than one point beyond the paper with which they are placed. If that paper cuts the
+/// page, its own paper shows how far it reaches; otherwise its box does. None if there are no such pages.
 pub fn reach_beyond(pages: &PlacedPages<'_, '_>) -> Option<Reach>
     ensures { result ≡ meaning.reach_of (meaning.placing pages.now.taken.now pages.now.own.now
         (meaning.page_boxes (bytes_of pages.now.document.now) pages.now.document.now) pages.now.cut_apart) pages.now.papers.now }
@@ -80,7 +84,7 @@ pub fn reach_beyond(pages: &PlacedPages<'_, '_>) -> Option<Reach>
     reach_with(pages, box_of(header, text))
 }
 
-/// The same, where this is the document's box.
+/// The pages that reach beyond their papers, as in `reach_beyond`. `other` is the document's box.
 fn reach_with(pages: &PlacedPages<'_, '_>, other: Option<&[u8]>) -> Option<Reach>
     ensures { result ≡ meaning.reach_of (meaning.placing pages.now.taken.now pages.now.own.now
         (meaning.boxes_or (option_map (λ v. fields_in v.now) other.entry) pages.now.document.now) pages.now.cut_apart)
@@ -94,7 +98,7 @@ fn reach_with(pages: &PlacedPages<'_, '_>, other: Option<&[u8]>) -> Option<Reach
     reach
 }
 
-/// The pages so far, and this one if its edges are beyond its paper.
+/// The pages found so far, and also this page if its edges are beyond its paper.
 fn with_if_beyond(
     reach: Option<Reach>,
     page: usize,
@@ -112,7 +116,7 @@ fn with_if_beyond(
     }
 }
 
-/// The pages so far, and this one.
+/// The pages found so far, and also this page.
 fn with_reaching_page(reach: Option<Reach>, page: usize, paper: &Paper, edges: Edges) -> Reach
     requires few { IfSome reach (λ r. r.pages < usize.MAX) }
     ensures { result ≡ meaning.with_reaching_page reach (page, paper.now, edges) }
@@ -131,7 +135,7 @@ fn with_reaching_page(reach: Option<Reach>, page: usize, paper: &Paper, edges: E
     }
 }
 
-/// The edges to which a page reaches, if it is taken.
+/// The edges to which a page reaches. None if the page isn't taken, has no box, or is cut and left out.
 fn extent_at(
     pages: &PlacedPages<'_, '_>,
     other: Option<&[u8]>,
@@ -154,6 +158,7 @@ fn extent_at(
     }
 }
 
+/// Whether the page with this number is taken.
 fn is_taken(taken: &[bool], page: usize) -> bool
     ensures { result ≡ get_or taken.now page false }
 {
@@ -163,6 +168,7 @@ fn is_taken(taken: &[bool], page: usize) -> bool
     }
 }
 
+/// The own paper of the page with this number, or `other` if there is no such page.
 fn own_at(own: &[Paper], page: usize, other: &Paper) -> Paper
     ensures { result ≡ get_or own.now page other.now }
 {
@@ -172,6 +178,7 @@ fn own_at(own: &[Paper], page: usize, other: &Paper) -> Paper
     }
 }
 
+/// The box of the page with this number. None if it has no box, or if there is no such page.
 fn box_at(document: &Document<'_>, other: Option<&[u8]>, page: usize) -> Option<Edges>
     ensures { result
         ≡ get_or (meaning.boxes_or (option_map (λ v. fields_in v.now) other.entry) document.now) page None }
@@ -183,7 +190,7 @@ fn box_at(document: &Document<'_>, other: Option<&[u8]>, page: usize) -> Option<
     }
 }
 
-/// The edges of a paper.
+/// The edges of a paper whose lower left corner is at 0 0.
 fn paper_edges(paper: &Paper) -> Option<Edges>
     ensures { result ≡ Some (meaning.paper_edges paper.now) }
 {
@@ -195,10 +202,10 @@ fn paper_edges(paper: &Paper) -> Option<Edges>
     })
 }
 
-/// The tolerance for rounding: a point.
+/// A page may reach this number of grains, which is one point, beyond its paper, because sizes are rounded.
 const ROUNDING: i128 = 127_000_000_000;
 
-/// Whether edges are beyond a paper.
+/// Whether an edge is beyond a paper by more than one point.
 fn is_beyond(paper: &Paper, edges: &Edges) -> bool
     ensures { result ≡ meaning.is_beyond paper.now edges.now }
 {
@@ -206,7 +213,7 @@ fn is_beyond(paper: &Paper, edges: &Edges) -> bool
         || (is_past(paper.width(), edges.right.get()) || is_past(paper.height(), edges.top.get()))
 }
 
-/// Whether a place is past this length by more than the tolerance.
+/// Whether a place, in grains, is past this length by more than one point.
 fn is_past(length: Grains, grains: i128) -> bool
     ensures { result ≡ int_lt (length +ℤ meaning.rounding) grains }
 {

@@ -1,4 +1,4 @@
-//! The paper that a document's setup asks for.
+//! Finds the paper that a document's setup asks for, with `/PageSize`.
 ghost use Rattle.std.specs.Prelude.{◌≡◌, ◌≤◌, codes, length, option_map};
 ghost use Rattle.rules.specs.Units.{is_comment};
 ghost use Rattle.dsc.specs.Fields.{fields_in};
@@ -9,14 +9,14 @@ use crate::fields::{leading_blanks, points_of};
 use dsc::{comment_value, first_content, line_end_after, next_field};
 use lengths::Paper;
 
-/// The paper of a document without comments: the one that its setup asks for, or else the one at home.
+/// The paper of a document whose comments name none: the paper that its setup asks for, or `home` if it asks for none.
 pub(crate) fn usual_in(text: &[u8], home: &Paper) -> Paper
     ensures { result ≡ meaning.usual_in home.now text.now }
 {
     set_size(text).unwrap_or(*home)
 }
 
-/// The paper of the first line before the first page that asks for one.
+/// The paper in the first line that asks for a paper, among the lines before the first page.
 pub(crate) fn set_size(text: &[u8]) -> Option<Paper>
     ensures { result ≡ meaning.set_size (meaning.contents text.now) }
 {
@@ -35,20 +35,21 @@ pub(crate) fn set_size(text: &[u8]) -> Option<Paper>
     None
 }
 
-/// Whether a line with this content begins a page.
+/// Whether a line with this content begins a page, as a `%%Page:` line does.
 fn begins_page(content: &[u8]) -> bool
     ensures { result ≡ is_comment (codes "%%Page") content.now }
 {
     comment_value(content, b"%%Page", b"%%Page:").is_some()
 }
 
-/// The paper that a line asks for: two numbers in brackets after the first `/PageSize`.
+/// The paper that a line asks for: two numbers of points in brackets, directly after the line's first `/PageSize`.
 fn size_asked(content: &[u8]) -> Option<Paper>
     ensures { result ≡ meaning.size_asked content.now }
 {
     size_behind(behind_key(content)?)
 }
 
+/// The paper in brackets at the start of this text, which follows `/PageSize`. Blanks may be before the brackets.
 fn size_behind(text: &[u8]) -> Option<Paper>
     ensures { result ≡ meaning.size_behind text.now }
 {
@@ -71,7 +72,7 @@ fn behind_key(content: &[u8]) -> Option<&[u8]>
     None
 }
 
-/// The text in the brackets at the start of a text.
+/// The text between the brackets at the start of this text.
 fn in_brackets(text: &[u8]) -> Option<&[u8]>
     ensures { option_map (λ inside. inside.now) result ≡ meaning.in_brackets text.now }
 {
@@ -91,7 +92,7 @@ fn open_len(text: &[u8]) -> usize
     text.iter().take_while(|b| **b != b']').count()
 }
 
-/// The paper whose sides are two numbers, and nothing else.
+/// The paper whose width and height are the two fields of this text. None if it has more or fewer fields.
 fn two_sides(inside: &[u8]) -> Option<Paper>
     ensures { result ≡ meaning.two_sides (fields_in inside.now) }
 {

@@ -1,11 +1,11 @@
-//! Calls on two papers.
+//! Covers two papers with one.
 ghost use Rattle.std.specs.Prelude.{◌≡◌, IsTrue};
 ghost use Rattle.rules.specs.Papers.{is_side};
 ghost use Rattle.papers.specs.Own.{smallest_cover as covering_paper, larger as larger_side};
 
 use lengths::{Grains, Paper};
 
-/// The smallest paper that covers both.
+/// The smallest paper that covers both: it has the larger of their widths and the larger of their heights.
 pub fn smallest_cover(a: &Paper, b: &Paper) -> Paper
     ensures { result ≡ covering_paper a.now b.now }
 {
@@ -17,7 +17,7 @@ pub fn smallest_cover(a: &Paper, b: &Paper) -> Paper
     }
 }
 
-/// The larger side.
+/// The larger of two sides.
 fn larger(a: Grains, b: Grains) -> Grains
     requires a { IsTrue (is_side a) }
     requires b { IsTrue (is_side b) }
