@@ -1,4 +1,5 @@
-//! The prepared body of a page: a part of the page, where that is enough.
+//! The prepared body of a page. It borrows the page's bytes if they are one run in the page, and copies them
+//! otherwise.
 ghost use Rattle.std.specs.Prelude.{◌≡◌, ◌++◌, IfOk, IfErr, IfSome};
 ghost use Rattle.rules.specs.Filters.{ended, prepared};
 ghost use Rattle.dsc.specs.Views.{GivesUnlessShort};
@@ -11,14 +12,15 @@ use crate::filters::{Drops, Kept, end_line, filter, wants_end};
 use std::alloc::{AllocError, Global};
 use std::marker::Model;
 
-/// The prepared body of a page. If it is one run of the page's bytes, it is a part of the page, and nothing is
-/// copied. A body takes 24 bytes, and a copy, if there is one, takes its own memory.
+/// The prepared body of a page: the bytes that `prepare` returns. If they are one run of the page, the body borrows
+/// them from the page and copies nothing. A body takes 24 bytes, and a copy takes memory of its own.
 #[derive(Drop)]
 pub struct Body<'d> {
     bytes: Bytes<'d>,
 }
 
-/// A copy is in a box: most bodies have none, and a list takes a word more than a reference to a part.
+/// The bytes of a body: a run of its page, or a copy. The copy is in a box because most bodies have none, and a `Vec`
+/// would take one word more than the reference to a run.
 #[derive(Drop)]
 enum Bytes<'d> {
     Part(&'d [u8]),
@@ -35,10 +37,12 @@ impl<'d> Model for Body<'d> {
 }
 
 impl<'d> Body<'d> {
-    /// The same body as `prepare` makes. It isn't copied if it is one run of the page's bytes. This is so if
-    /// outermost lines are dropped only at the page's start and end, and what is kept ends with a line end. Refused
-    /// with BadCount or ShortData, for the page's first faulty data block, or with NoMemory. A page of a document
-    /// has no faulty block.
+    /// Prepares the body of a page, with the same bytes as `prepare`. The bytes aren't copied if they are one run of
+    /// the page. This is the case if outermost lines are dropped only at the start and the end of the page, and the
+    /// run ends with a line end.
+    ///
+    /// Refuses the first faulty data block of the page, with `BadCount` or `ShortData`. A page of a document has no
+    /// faulty block. Without enough memory the error is `NoMemory`.
     pub fn prepare(alloc: Global, page: &'d [u8]) -> Result<Body<'d>, DscError>
         ensures answer { GivesUnlessShort (λ b. b) page_fault_told result (prepared page.now) }
         ensures refusals { IfErr result IsPageError }
@@ -48,7 +52,7 @@ impl<'d> Body<'d> {
         Ok(body)
     }
 
-    /// A run of a page's bytes as its body.
+    /// The body that consists of this run of its page.
     pub(crate) fn of_run(run: &'d [u8]) -> Body<'d>
         ensures { result ≡ run.now }
     {
@@ -57,7 +61,7 @@ impl<'d> Body<'d> {
         }
     }
 
-    /// Its bytes.
+    /// The bytes of the body.
     pub fn as_slice(&self) -> &[u8]
         ensures { result.now ≡ self.now }
     {
@@ -68,7 +72,8 @@ impl<'d> Body<'d> {
     }
 }
 
-/// The body of a page, or why it isn't cut.
+/// Prepares the body of a page, as `Body::prepare` does. The error has the place of the page's first faulty data
+/// block.
 fn cut_body<'d>(alloc: Global, page: &'d [u8]) -> Result<Body<'d>, CutError>
     ensures { GivesUnlessShort (λ b. b) block_fault_told result (prepared page.now) }
 {
@@ -77,7 +82,7 @@ fn cut_body<'d>(alloc: Global, page: &'d [u8]) -> Result<Body<'d>, CutError>
     Ok(body)
 }
 
-/// The text that was kept, with a line end at its end.
+/// Makes a body from the bytes that the filter kept. Adds a line end if they don't end with one.
 fn body_of<'d>(alloc: Global, kept: Kept<'d>) -> Result<Body<'d>, AllocError>
     ensures { IfOk result (λ b. b ≡ ended ((kept.entry.copied.items ++ kept.entry.held.now) ++ kept.entry.run.now)) }
 {
@@ -94,7 +99,7 @@ fn body_of<'d>(alloc: Global, kept: Kept<'d>) -> Result<Body<'d>, AllocError>
     })
 }
 
-/// The one run that was kept, if no line end is to be added.
+/// The bytes that the filter kept, if they are one run of the page and need no further line end.
 fn one_run<'d>(kept: &Kept<'d>) -> Option<&'d [u8]>
     ensures { IfSome result (λ part.
         part.now ≡ ended ((kept.now.copied.items ++ kept.now.held.now) ++ kept.now.run.now)) }

@@ -1,4 +1,4 @@
-//! Where the bodies of pages begin, as far as the pass that cuts the text can see.
+//! Finds where the prepared bodies of pages begin, in the same pass that cuts the text.
 ghost use Rattle.std.specs.Prelude.{◌≡◌, ◌+◌, ◌≤◌, length, OnOk, IfOk};
 ghost use Rattle.rules.specs.Run.{most_input_bytes};
 ghost use Rattle.dsc.specs.Views.{unit_of, at_depth};
@@ -12,18 +12,23 @@ use crate::walk::WalkStep;
 use std::alloc::{AllocError, Global};
 use std::marker::Model;
 
-/// For each page the byte at which its body begins, or 0 (no body begins there). A body has a start if lines are
-/// dropped only at the page's start and the page ends with a line end; then everything from there on is kept. A
-/// text has at most 2^30 bytes, so a `u32` counts them.
+/// Where the prepared body of each page begins, as a byte index in the text. A body has a start if lines are dropped
+/// only at the start of its page, and the page ends with a line end. Everything in the page from that byte on is then
+/// kept. 0 means that the body has no start, because no body begins at byte 0. A text has at most 2^30 bytes, so a
+/// `u32` can hold each start.
 #[derive(Drop)]
 pub(crate) struct BodyStarts {
+    // The starts of the bodies of all pages before the current one.
     found: Vec<u32>,
-    // The start for the page that was begun last.
+    // The start of the current page's body, or 0 if it has none.
     current: u32,
+    // Whether the filter dropped the unit that was noted last.
     was_dropped: bool,
+    // Whether a page has begun.
     in_pages: bool,
+    // Whether the trailer has begun.
     ended: bool,
-    // Whether that page ends with a line end, as far as it has been read.
+    // Whether the current page ends with a line end, as far as it has been read.
     line_ended: bool,
 }
 
@@ -43,7 +48,7 @@ impl Model for BodyStarts {
 }
 
 impl BodyStarts {
-    /// Before the first unit.
+    /// The state before the first unit of a text.
     pub fn new(alloc: Global) -> BodyStarts
         ensures { result ≡ none_sought }
     {
@@ -57,7 +62,7 @@ impl BodyStarts {
         }
     }
 
-    /// Notes a unit.
+    /// Notes the next unit of the text. Fails only if memory is refused.
     pub fn note(&mut self, step: &WalkStep<'_>) -> Result<(), AllocError>
         requires { step.now.at + length step.now.unit.bytes.now ≤ most_input_bytes }
         ensures { OnOk result (self.new ≡ noted self.old step.now.at (step.now.at + length step.now.unit.bytes.now)
@@ -80,7 +85,7 @@ impl BodyStarts {
         Ok(())
     }
 
-    /// Begins a page by this line, which ends before the byte `behind`.
+    /// Notes a `%%Page:` line that ends just before the byte `behind`. It ends the page before it and begins a page.
     fn begin_page(&mut self, behind: u32, line: &[u8]) -> Result<(), AllocError>
         ensures { OnOk result (self.new ≡ with_page self.old behind line.now) }
     {
@@ -93,7 +98,7 @@ impl BodyStarts {
         Ok(())
     }
 
-    /// All of them.
+    /// The start of each page's body, in the order of the pages. A start is 0 if the body has none.
     pub fn into_starts(self) -> Result<Vec<u32>, AllocError>
         ensures { IfOk result (λ v. v.items ≡ starts_in self) }
     {
@@ -112,8 +117,9 @@ impl BodyStarts {
     }
 }
 
-/// Where the body begins after a unit. A kept unit doesn't change it. A dropped one moves it past the unit if
-/// nothing was kept before; otherwise there is no start.
+/// The start of the current page's body after a unit, which begins at the byte `at` and ends just before the byte
+/// `behind`. A kept unit leaves the start as it is. A dropped unit moves the start to `behind` if nothing was kept
+/// before it; otherwise the body has no start.
 fn moved(dropped: bool, current: u32, at: u32, behind: u32) -> u32
     ensures { result ≡ body_start_after dropped current at behind }
 {
@@ -126,14 +132,15 @@ fn moved(dropped: bool, current: u32, at: u32, behind: u32) -> u32
     }
 }
 
-/// A start, if its page ends with a line end, or else none.
+/// The start of a body if its page ends with a line end, and 0 otherwise.
 fn closed(line_ended: bool, start: u32) -> u32
     ensures { result ≡ closed line_ended start }
 {
     if line_ended { start } else { 0 }
 }
 
-/// Whether bytes end with a line end; without bytes the answer stays what it was.
+/// Whether the text ends with a line end after these bytes. Without bytes the answer is `was`, which is the answer for
+/// the text before them.
 fn ends_line(was: bool, bytes: &[u8]) -> bool
     ensures { result ≡ ends_line was bytes.now }
 {

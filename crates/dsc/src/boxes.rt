@@ -1,4 +1,4 @@
-//! The box that a trailer has.
+//! The bounding box in the trailer of a document.
 ghost use Rattle.std.specs.Prelude.{◌≡◌, option_map};
 ghost use Rattle.dsc.specs.Fields.{fields_in};
 ghost use Rattle.dsc.specs.Units.{units_of};
@@ -10,7 +10,7 @@ use crate::keys::Meaning;
 use crate::units::LineOrBlock;
 use crate::walk::Walk;
 
-/// A part of a document.
+/// The part of a document that a unit is in.
 #[derive(Clone, Copy)]
 pub(crate) enum Section {
     Preamble,
@@ -18,8 +18,8 @@ pub(crate) enum Section {
     Trailer,
 }
 
-/// The text after the colon of the first `%%BoundingBox:` of the trailer, outside embedded documents and data. None
-/// if the text has a faulty data block.
+/// The value of the first `%%BoundingBox:` comment in the trailer: the text after its colon. Comments in embedded
+/// documents and in data blocks don't count. None if there is no such comment, or if the text has a faulty data block.
 pub fn trailer_box(text: &[u8]) -> Option<&[u8]>
     ensures { option_map (λ value. fields_in value.now) result ≡ box_of_trailer (units_of text.now) }
 {
@@ -37,7 +37,7 @@ pub fn trailer_box(text: &[u8]) -> Option<&[u8]>
     found
 }
 
-/// The part that a unit is in, if the one before it is in this one.
+/// The part of the document that a unit is in. `part` is that of the unit before it.
 fn next_part(part: Section, meaning: Meaning) -> Section
     ensures { result ≡ part_after part meaning.is_page meaning.is_trailer }
 {
@@ -60,7 +60,8 @@ fn next_part(part: Section, meaning: Meaning) -> Section
     }
 }
 
-/// The box that was found before, or else that of this unit, if it is in the trailer.
+/// The value of the bounding box after a unit. It is the value that was found before; if there was none, it is that of
+/// this unit, provided that the unit is in the trailer.
 fn found_by<'d>(
     part: Section,
     found: Option<&'d [u8]>,

@@ -1,4 +1,4 @@
-//! The values of comments.
+//! Reads the values of comments.
 ghost use Rattle.std.specs.Prelude.{◌≡◌, ◌++◌, ◌∷◌, [], MatchOption, true, false};
 ghost use Rattle.rules.specs.Bytes.{colon};
 ghost use Rattle.rules.specs.Units.{fields, is_comment};
@@ -6,7 +6,8 @@ ghost use Rattle.dsc.specs.Fields.{fields_in};
 
 use crate::keys::key_of;
 
-/// The text after the colon, if a line with this content is a comment with this key.
+/// The value of a comment: the text after its colon. None if the line with this content isn't a comment with this key.
+/// The caller also passes the key followed by a colon.
 pub fn comment_value<'t>(content: &'t [u8], key: &[u8], with_colon: &[u8]) -> Option<&'t [u8]>
     requires { with_colon.now ≡ key.now ++ colon ∷ [] }
     ensures { MatchOption result (is_comment key.now content.now ≡ false) (λ value.
@@ -19,7 +20,7 @@ pub fn comment_value<'t>(content: &'t [u8], key: &[u8], with_colon: &[u8]) -> Op
     Some(value)
 }
 
-/// Whether it is a comment with this key, followed by a colon.
+/// Whether a line with this content is a comment with this key. The colon must follow the key directly.
 fn is_comment_of(content: &[u8], key: &[u8], with_colon: &[u8]) -> bool
     requires { with_colon.now ≡ key.now ++ colon ∷ [] }
     ensures { result ≡ is_comment key.now content.now }

@@ -1,4 +1,4 @@
-//! A document with its parts.
+//! A document that is cut into preamble, pages and trailer.
 ghost use Rattle.std.specs.Prelude.{◌≡◌, ℕ, ◌+◌, ◌-◌, ◌<◌, ◌≤◌, List, [], length, take, drop, slice_index_or};
 ghost use Rattle.std.specs.Prelude.{IfOk, IfErr, IfSome, Ok};
 ghost use Rattle.rules.specs.Parts.{bytes_of, pages};
@@ -25,19 +25,22 @@ use std::alloc::{AllocError, Global};
 use std::fmt;
 use std::marker::Model;
 
-/// The most bytes that a document may have.
+/// The most bytes that a document may have, which is 2^30.
 const MOST_BYTES: usize = 1_073_741_824;
 
-/// The most pages that it may have.
+/// The most pages that a document may have.
 const MOST_PAGES: usize = 1_000_000;
 
-/// A text that is accepted as a document. Contracts see the units that it is cut into, each with its depth.
+/// A PostScript document that follows the Document Structuring Conventions. It borrows its text. Contracts see the
+/// units that the text is cut into, each with its depth in embedded documents.
 #[derive(Drop)]
 pub struct Document<'d> {
     text: &'d [u8],
+    /// For each page, the byte at which it begins.
     starts: Vec<u32>,
-    /// For each page the byte at which its body begins, or 0.
+    /// For each page, the byte at which its prepared body begins, or 0 if this isn't known.
     bodies: Vec<u32>,
+    /// The byte at which the trailer begins, or the length of the text if there is no trailer.
     stop: usize,
 }
 
@@ -56,9 +59,12 @@ impl<'d> Model for Document<'d> {
 
 impl<'d> Document<'d> {
     /// Cuts a text into the units of a document (DSC 3.0). A page begins at each `%%Page:` line outside embedded
-    /// documents and data blocks, and the trailer at the first `%%Trailer` or `%%EOF` line after a page. Refused
-    /// with the first of: TooLong, NotPostScript, BadCount or ShortData (for the first faulty data block of the
-    /// text), TooManyPages, NoPages. NoMemory may come instead of any but the first two.
+    /// documents and data blocks. The trailer begins at the first `%%Trailer` or `%%EOF` line after the first page's
+    /// line, also outside them.
+    ///
+    /// Refuses a text with the first of these errors that applies: `TooLong`, `NotPostScript`, `BadCount` or
+    /// `ShortData` (for the first faulty data block), `TooManyPages`, `NoPages`. If memory is refused, `NoMemory` may
+    /// be returned instead of any error but the first two.
     pub fn read(alloc: Global, text: &'d [u8]) -> Result<Document<'d>, DscError>
         ensures answer { GivesUnlessShort (λ d. d) fault_told result (document_of text.now) }
         ensures first_checks { IfErr result (λ e. PassedFirstChecks e text.now) }
@@ -85,8 +91,9 @@ impl<'d> Document<'d> {
         })
     }
 
-    /// Reads a text by the parts of a document from which it differs only before the first page. Refused with TooLong
-    /// alone.
+    /// Makes a document of a text from the parts of another document, without cutting the text. The text must not be
+    /// shorter than that document, and must be the same from the first page on. Refuses only a text that is too long,
+    /// with `TooLong`.
     pub fn from_parts(text: &'d [u8], parts: Parts) -> Result<Document<'d>, DscError>
         requires serve { Serve parts text.now }
         ensures answer { GivesUnlessShort (λ d. d) fault_told result (document_of text.now) }
@@ -113,7 +120,7 @@ impl<'d> Document<'d> {
         })
     }
 
-    /// Where its parts begin.
+    /// Returns where the parts of the document begin, without its text.
     pub fn into_parts(self) -> Parts
         ensures parts { ArePartsOf (bytes_of self.entry) result }
     {
@@ -131,7 +138,7 @@ impl<'d> Document<'d> {
         }
     }
 
-    /// The text that it was read from.
+    /// The text that the document was read from.
     pub fn text(&self) -> &'d [u8]
         ensures text { result.now ≡ bytes_of self.now }
         ensures units { self.now ≡ units_of result.now }
@@ -147,7 +154,8 @@ impl<'d> Document<'d> {
         self.starts.len() as u32
     }
 
-    /// A page, counted from 0: from its `%%Page:` line to the next page or the trailer.
+    /// A page, counted from 0. It reaches from its `%%Page:` line to the next page, the trailer or the end of the
+    /// text.
     pub fn page(&self, p: u32) -> &'d [u8]
         requires { p < length (pages self.now) }
         ensures page { result.now ≡ slice_index_or (pages self.now) p [] }
@@ -158,9 +166,9 @@ impl<'d> Document<'d> {
         text_part(self.text, entry(starts, p), next_or(starts, p, self.stop))
     }
 
-    /// The prepared body of a page, counted from 0, as `Body::prepare` makes it from the page. If lines are dropped
-    /// only at the page's start and what is kept ends with a line end, `body_start` has the answer and nothing is
-    /// read.
+    /// The prepared body of a page, counted from 0. It has the same bytes as the body that `Body::prepare` makes from
+    /// the page. If `body_start` knows where the body begins, the page isn't read again. Fails only if memory is
+    /// refused.
     pub fn body(&self, alloc: Global, p: u32) -> Result<Body<'d>, AllocError>
         requires { p < length (pages self.now) }
         ensures body { IfOk result (λ b. prepared (slice_index_or (pages self.now) p []) ≡ Ok b) }
@@ -176,9 +184,9 @@ impl<'d> Document<'d> {
         }
     }
 
-    /// The byte of a page, counted from 0, from which on it is its prepared body. This is known if the document
-    /// found it as it was read: if lines are dropped only at the page's start and what is kept ends with a line
-    /// end.
+    /// The byte of a page at which its prepared body begins; the body reaches to the end of the page. Both the pages
+    /// and the bytes of a page are counted from 0. The start is known if lines are dropped only at the start of the
+    /// page, and the page ends with a line end. Otherwise the result is `None`.
     pub fn body_start(&self, p: u32) -> Option<u32>
         requires { p < length (pages self.now) }
         ensures within { IfSome result (λ start. start ≤ length (slice_index_or (pages self.now) p [])) }
@@ -194,9 +202,10 @@ impl<'d> Document<'d> {
         Some(start - starts[p as usize])
     }
 
-    /// The part of the preamble that is kept, ending with a line end. A line with `%%Pages: ` and the number of sheets is
-    /// added after the first line. Outermost lines with the keys `%%Pages`, `%%PageOrder`, `%%BoundingBox`,
-    /// `%%HiResBoundingBox`, `%%DocumentMedia` and `%%Orientation` are dropped, and the `%%+` lines after them.
+    /// The preamble of the output, which ends with a line end. After the first line it has a line with `%%Pages: ` and
+    /// the number of sheets. Outermost lines with the keys `%%Pages`, `%%PageOrder`, `%%BoundingBox`,
+    /// `%%HiResBoundingBox`, `%%DocumentMedia` and `%%Orientation` are dropped, and so are the `%%+` lines that
+    /// continue them. Fails only if memory is refused.
     pub fn preamble_text(&self, sheets: u32) -> Result<Vec<u8>, AllocError>
         ensures text { IfOk result (λ v. v.items ≡ preamble_text sheets self.now) }
     {
@@ -204,8 +213,9 @@ impl<'d> Document<'d> {
         Ok(text)
     }
 
-    /// The same, with lines after the number of sheets, each with its line end. If there are any, lines with the key
-    /// `%%DocumentPaperSizes` are dropped too.
+    /// The preamble as `preamble_text` makes it, with these lines inserted after the number of sheets. Each of them
+    /// must have its line end. If there are any, outermost lines with the key `%%DocumentPaperSizes` are dropped too,
+    /// because the inserted lines report the papers.
     pub fn dressed_preamble(&self, sheets: u32, lines: &[u8]) -> Result<Vec<u8>, AllocError>
         ensures text { IfOk result (λ v. (rows : List (List ℕ)) → lines.now ≡ lines_text rows →
             v.items ≡ dressed_preamble sheets rows self.now) }
@@ -220,7 +230,8 @@ impl<'d> Document<'d> {
         Ok(text)
     }
 
-    /// The part of the trailer that is kept: the same lines are dropped as from a preamble.
+    /// The trailer of the output. The same lines are dropped from it as from the preamble in `preamble_text`. Fails
+    /// only if memory is refused.
     pub fn trailer_text(&self) -> Result<Vec<u8>, AllocError>
         ensures text { IfOk result (λ v. v.items ≡ trailer_text self.now) }
     {
@@ -232,8 +243,8 @@ impl<'d> Document<'d> {
         )
     }
 
-    /// The number of pages after the trailer's first line, outside embedded documents and data. They don't belong
-    /// to the document: another document was appended to it.
+    /// The number of `%%Page:` lines after the first line of the trailer, outside embedded documents and data blocks.
+    /// They begin pages that don't belong to the document, for example because another document was appended to it.
     pub fn pages_behind_trailer(&self) -> usize
         ensures { result ≡ pages_behind self.now }
     {
@@ -242,7 +253,7 @@ impl<'d> Document<'d> {
     }
 }
 
-/// This entry. A function of its own, which gives a proof a name for the value, like the next two.
+/// The start of this page. This is a function, as are the next two, so that proofs have a name for its value.
 fn entry(starts: &[u32], p: usize) -> usize
     requires { p < length starts.now }
     ensures { result ≡ slice_index_or starts.now p 0 }
@@ -250,7 +261,7 @@ fn entry(starts: &[u32], p: usize) -> usize
     starts[p] as usize
 }
 
-/// A part of the text.
+/// The bytes of the text from `start` up to `end`.
 fn text_part(text: &[u8], start: usize, end: usize) -> &[u8]
     requires order { start ≤ end }
     requires within { end ≤ length text.now }
@@ -259,7 +270,7 @@ fn text_part(text: &[u8], start: usize, end: usize) -> &[u8]
     &text[start..end]
 }
 
-/// The entry after this one, or the end.
+/// The start of the page after this one, or `stop` if this is the last page.
 fn next_or(starts: &[u32], p: usize, stop: usize) -> usize
     requires { p < length starts.now }
     ensures { result ≡ slice_index_or starts.now (p + 1) stop }

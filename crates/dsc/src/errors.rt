@@ -1,4 +1,4 @@
-//! Why an input is refused.
+//! The errors of reading a document.
 ghost use Rattle.std.specs.Prelude.{◌≡◌};
 ghost use Rattle.dsc.specs.Faults.{widened};
 ghost use Rattle.dsc.specs.declared.errors.CutError.TheVariants.{Faulty, NoMemory};
@@ -7,7 +7,8 @@ use crate::units::UnitError;
 use std::alloc::AllocError;
 use thiserror::Error;
 
-/// Why a document or a page is refused. A byte index is that of the first byte of a faulty data block's first line.
+/// Why a document or a page is refused. `BadCount` and `ShortData` contain the index of the byte at which the faulty
+/// data block begins.
 #[derive(Clone, Copy, Debug, PartialEq, Eq, Error)]
 pub enum DscError {
     /// The input has over 1,073,741,824 bytes.
@@ -19,28 +20,28 @@ pub enum DscError {
     /// The count of a data block is missing, or isn't a number.
     #[error("input: bad count at byte {0}")]
     BadCount(usize),
-    /// Fewer bytes or lines are left than the data block's count.
+    /// A data block counts more bytes or lines than follow its first line.
     #[error("input: data cut short at byte {0}")]
     ShortData(usize),
     /// The document has over 1,000,000 pages.
     #[error("input: too many pages")]
     TooManyPages,
-    /// No page begins outside embedded documents.
+    /// The document has no `%%Page:` line outside embedded documents and data blocks.
     #[error("input: no pages")]
     NoPages,
-    /// Memory for growth was refused.
+    /// Memory was refused.
     #[error("out of memory")]
     NoMemory,
 }
 
-/// A data block that is faulty, and the byte at which its line begins.
+/// A faulty data block, and the index of the byte at which it begins.
 #[derive(Clone, Copy, Debug)]
 pub struct FaultyBlock {
     pub at: usize,
     pub fault: UnitError,
 }
 
-/// Why a text isn't cut.
+/// Why a text isn't cut: for its first faulty data block, or because memory was refused.
 #[derive(Debug, Drop)]
 pub enum CutError {
     Faulty(FaultyBlock),

@@ -1,4 +1,4 @@
-//! The fields of a line.
+//! Reads the fields of a line. Blanks (spaces and tabs) separate fields.
 ghost use Rattle.std.specs.Prelude.{◌≡◌, ◌≤◌, length, MatchOption, min, [], ◌∷◌, true, false, not};
 ghost use Rattle.std.specs.List.{list_all, prefix_len};
 ghost use Rattle.std.specs.Char.{is_ascii_digit};
@@ -6,7 +6,7 @@ ghost use Rattle.rules.specs.Units.{is_blank};
 ghost use Rattle.rules.specs.Numbers.{number_of};
 ghost use Rattle.dsc.specs.Fields.{fields_in};
 
-/// The number of blanks at the start of the bytes.
+/// The number of blanks (spaces and tabs) at the start of the bytes.
 fn blanks_at(text: &[u8]) -> usize
     ensures value { result ≡ prefix_len is_blank text.now }
     ensures within { result ≤ length text.now }
@@ -16,7 +16,7 @@ fn blanks_at(text: &[u8]) -> usize
         .count()
 }
 
-/// The length of the field at the start of the bytes.
+/// The length of the field at the start of the bytes, which is 0 if they begin with a blank.
 fn field_at(text: &[u8]) -> usize
     ensures value { result ≡ prefix_len (λ b. not (is_blank b)) text.now }
     ensures within { result ≤ length text.now }
@@ -26,7 +26,7 @@ fn field_at(text: &[u8]) -> usize
         .count()
 }
 
-/// The first field of the bytes, and what follows it.
+/// The first field of a text, and the text after it. Spaces and tabs separate fields. None if the text has no field.
 pub fn next_field(text: &[u8]) -> Option<(&[u8], &[u8])>
     ensures { MatchOption result (fields_in text.now ≡ []) (λ p. fields_in text.now ≡ p.0.now ∷ fields_in p.1.now) }
 {
@@ -38,7 +38,7 @@ pub fn next_field(text: &[u8]) -> Option<(&[u8], &[u8])>
     Some(from.split_at(len))
 }
 
-/// The value of the digits, or the greatest number; None if a byte is not a digit.
+/// The value of a field of digits, or `usize::MAX` if the value is larger. None if a byte isn't a digit.
 pub(crate) fn count_in(field: &[u8]) -> Option<usize>
     ensures { MatchOption result (list_all is_ascii_digit field.now ≡ false) (λ n.
         (list_all is_ascii_digit field.now ≡ true) × (n ≡ min (number_of field.now) usize.MAX)) }

@@ -1,4 +1,4 @@
-//! What is kept of a text.
+//! Filters pages, preambles and trailers: drops some of their lines and keeps all else.
 ghost use Rattle.std.specs.Prelude.{◌≡◌, ℕ, ◌+◌, ◌<◌, ◌≤◌, List, [], ◌++◌, length, take, drop, IfOk, IfErr, OnOk};
 ghost use Rattle.std.specs.Prelude.{if◌then◌else◌, false, Ok, codes, decimal};
 ghost use Rattle.rules.specs.Bytes.{line};
@@ -22,8 +22,8 @@ use crate::walk::Walk;
 use itoa::Buffer;
 use std::alloc::{AllocError, Global};
 
-/// The lines that a filter drops: those that set up a page, those that describe the whole document, or the latter and
-/// those that name its papers.
+/// The lines that a filter drops. `PageSetup` drops those that set up a page, and `DocumentSetup` drops those that
+/// describe the whole document. `SetupAndPapers` also drops those that name the papers of the document.
 #[derive(Clone, Copy)]
 pub(crate) enum Drops {
     PageSetup,
@@ -31,7 +31,8 @@ pub(crate) enum Drops {
     SetupAndPapers,
 }
 
-/// Whether a line with this content is dropped if it is outermost.
+/// Whether the filter drops an outermost line with this content. A line is outermost if it is in no embedded document
+/// and in no data block.
 fn drops_line(drops: Drops, content: &[u8]) -> bool
     ensures { result ≡ drops_of drops content.now }
 {
@@ -44,7 +45,8 @@ fn drops_line(drops: Drops, content: &[u8]) -> bool
     }
 }
 
-/// Whether such a line is dropped from a page. Its letter shows whether its key has to be compared.
+/// Whether an outermost line with this content is dropped from a page. The letter after the percent signs decides for
+/// most lines, so that few keys need be compared.
 fn drops_in_page(content: &[u8]) -> bool
     ensures { result ≡ drops_in_page content.now }
 {
@@ -58,7 +60,7 @@ fn drops_in_page(content: &[u8]) -> bool
     }
 }
 
-/// Whether such a line is dropped from a preamble or a trailer.
+/// Whether an outermost line with this content is dropped from a preamble or a trailer.
 fn drops_in_header(content: &[u8]) -> bool
     ensures { result ≡ drops_in_header content.now }
 {
@@ -71,7 +73,8 @@ fn drops_in_header(content: &[u8]) -> bool
                         || key == b"%%Orientation".as_slice()))))
 }
 
-/// Whether the filter drops this unit; `was` is whether it dropped the one before.
+/// Whether the filter drops this unit, which is at this depth. `was` says whether it dropped the unit before: if it
+/// did, a `%%+` line is dropped too, because it continues that unit.
 pub(crate) fn drops_unit(drops: Drops, was: bool, unit: &LineOrBlock<'_>, depth: usize) -> bool
     ensures { result ≡ is_dropped drops was (at_depth depth (unit_of unit.now)) }
 {
@@ -81,8 +84,9 @@ pub(crate) fn drops_unit(drops: Drops, was: bool, unit: &LineOrBlock<'_>, depth:
     (depth == 0 && drops_line(drops, unit.content)) || (was && unit.content.starts_with(b"%%+"))
 }
 
-/// The kept part of a text: bytes that were copied, followed by two runs of the text that weren't. The second one
-/// may still grow: it has `run_len` bytes, and the unread text follows them.
+/// The bytes that a filter has kept of a text. They are the copied bytes, then the run `held`, and then the first
+/// `run_len` bytes of `run`. The two runs are borrowed from the text. The unread text follows in `run`, so the second
+/// run can grow.
 #[derive(Drop)]
 pub(crate) struct Kept<'d> {
     pub copied: Vec<u8>,
@@ -92,7 +96,7 @@ pub(crate) struct Kept<'d> {
 }
 
 impl<'d> Kept<'d> {
-    /// All of it in one list.
+    /// Returns all kept bytes in one list. Fails only if memory is refused.
     pub fn into_copy(self) -> Result<Vec<u8>, AllocError>
         ensures { IfOk result (λ v. v.items ≡ (self.entry.copied.items ++ self.entry.held.now) ++ self.entry.run.now) }
     {
@@ -108,9 +112,9 @@ impl<'d> Kept<'d> {
         Ok(copied)
     }
 
-    /// Takes a unit of this length. A kept unit extends the run. A dropped one ends it: the run is held, and the
-    /// next one begins after the unit; a run that was held before is copied. So a text that is kept in one run is
-    /// never copied.
+    /// Passes a unit of this length. A kept unit extends the second run. A dropped unit ends it: unless it is empty,
+    /// it then takes the place of `held`, and the bytes held before are copied. The next run begins after the dropped
+    /// unit. A text that is kept in one run is therefore never copied.
     fn go_on(&mut self, len: usize, dropped: bool) -> Result<(), AllocError>
         requires { self.old.run_len + len ≤ length self.old.run.now }
         ensures kept { OnOk result (
@@ -141,7 +145,8 @@ impl<'d> Kept<'d> {
     }
 }
 
-/// Copies a part, if it has bytes. Afterwards there is room for `room` bytes.
+/// Appends these bytes to the copied bytes, unless there are none. Reserves `room` bytes first: enough for these bytes
+/// and for all that may be copied later.
 fn copy(copied: &mut Vec<u8>, part: &[u8], room: usize) -> Result<(), AllocError>
     ensures { OnOk result (copied.new.items ≡ copied.old.items ++ part.now) }
 {
@@ -152,7 +157,8 @@ fn copy(copied: &mut Vec<u8>, part: &[u8], room: usize) -> Result<(), AllocError
     copied.extend_from_slice(part)
 }
 
-/// The kept part of the text, after the bytes that were copied before.
+/// Filters a text. Returns the bytes in `copied`, followed by what the filter keeps of the text. Refuses the text's
+/// first faulty data block.
 pub(crate) fn filter<'d>(
     copied: Vec<u8>,
     drops: Drops,
@@ -177,8 +183,8 @@ pub(crate) fn filter<'d>(
     Ok(kept)
 }
 
-/// The comments that are dropped from a preamble with these lines: names of papers too if there are lines, because these
-/// report the papers.
+/// The filter for a preamble into which these lines are inserted. If there are any, it also drops the names of papers,
+/// because the inserted lines report the papers.
 pub(crate) fn drops_with(lines: &[u8]) -> Drops
     ensures { (rows : List (List ℕ)) → lines.now ≡ lines_text rows → drops_of result ≡ drops_with rows }
 {
@@ -188,7 +194,8 @@ pub(crate) fn drops_with(lines: &[u8]) -> Drops
     Drops::SetupAndPapers
 }
 
-/// Appends to `front` what is kept of a part of a preamble or of a trailer, which has no faulty block.
+/// Appends to `front` what the filter keeps of a text. The text is from a preamble or a trailer and has no faulty data
+/// block. Fails only if memory is refused.
 pub(crate) fn filter_header(
     front: Vec<u8>,
     drops: Drops,
@@ -204,8 +211,8 @@ pub(crate) fn filter_header(
     }
 }
 
-/// A document's first line, the number of its sheets in a line after it, and then more lines, with room for a further
-/// `room` bytes.
+/// The first lines of the output's preamble: the document's first line, a `%%Pages: ` line with the number of sheets,
+/// and then `lines`. Reserves room for another `room` bytes.
 pub(crate) fn with_count(
     alloc: Global,
     first: &[u8],
@@ -227,7 +234,7 @@ pub(crate) fn with_count(
     Ok(text)
 }
 
-/// Whether the bytes need a line end.
+/// Whether the bytes need a line end. They do if the last byte isn't CR or LF.
 pub(crate) fn wants_end(bytes: &[u8]) -> bool
     ensures { ended bytes.now ≡ (if result then line bytes.now else bytes.now) }
 {
@@ -237,7 +244,7 @@ pub(crate) fn wants_end(bytes: &[u8]) -> bool
     }
 }
 
-/// Adds a line end unless the last byte ends a line.
+/// Adds LF, unless the last byte is CR or LF or there are no bytes. Fails only if memory is refused.
 pub fn end_line(kept: &mut Vec<u8>) -> Result<(), AllocError>
     ensures { OnOk result (kept.new.items ≡ ended kept.old.items) }
 {
@@ -247,11 +254,12 @@ pub fn end_line(kept: &mut Vec<u8>) -> Result<(), AllocError>
     Ok(())
 }
 
-/// The prepared body of a page: its bytes without the lines that set up the page, ending with a line end. These
-/// lines are each outermost line whose key begins with `%%Page`, `%%BeginPageSetup`, `%%EndPageSetup`, and what
-/// `%%+` lines add to them. The page is cut as a text of its own, and need not begin with a page line. Refused with
-/// BadCount or ShortData, for its first faulty data block, or with NoMemory. A page of a document has no faulty
-/// block.
+/// The prepared body of a page: its bytes without the lines that set up the page, ending with a line end. These are
+/// the outermost lines whose key begins with `%%Page` or is `%%BeginPageSetup` or `%%EndPageSetup`, and the `%%+`
+/// lines that continue them. The page is cut as a text by itself, and needn't begin with a `%%Page:` line.
+///
+/// Refuses the first faulty data block of the page, with `BadCount` or `ShortData`. A page of a document has no faulty
+/// block. Without enough memory the error is `NoMemory`.
 pub fn prepare(alloc: Global, page: &[u8]) -> Result<Vec<u8>, DscError>
     ensures answer { GivesUnlessShort (λ v. v.items) page_fault_told result (prepared page.now) }
     ensures refusals { IfErr result IsPageError }
@@ -261,7 +269,7 @@ pub fn prepare(alloc: Global, page: &[u8]) -> Result<Vec<u8>, DscError>
     Ok(body)
 }
 
-/// The prepared body of a page, or why it isn't cut.
+/// Prepares the body of a page, as `prepare` does. The error has the place of the page's first faulty data block.
 fn prepared_body(alloc: Global, page: &[u8]) -> Result<Vec<u8>, CutError>
     ensures { GivesUnlessShort (λ v. v.items) block_fault_told result (prepared page.now) }
 {

@@ -6,7 +6,9 @@ ghost use Rattle.dsc.specs.Header.{is_header, ends_header, stays, is_last, heade
 use crate::keys::key_of;
 use crate::lines::{content_end, line_end_after};
 
-/// The length of the header comments: the first line, and the run of comments after it.
+/// The number of bytes of the header comments, which are the first line and the comments directly after it. They end
+/// with `%%EndComments`, or before a line that begins a later part (`%%Begin`.., `%%Page:`, `%%Trailer`, `%%EOF`) or
+/// is no comment. Their form, and that `%%EndComments` ends them, are of DSC 3.0, General Header Comments.
 pub fn header_len(text: &[u8]) -> usize
     ensures value { result ≡ header_len text.now }
     ensures within { result ≤ length text.now }
@@ -16,7 +18,7 @@ pub fn header_len(text: &[u8]) -> usize
     first + header_run(rest)
 }
 
-/// The length of the run of header comments at the start of the bytes.
+/// The number of bytes of the header comments at the start of this text, which follows the first line of a document.
 fn header_run(text: &[u8]) -> usize
     ensures value { result ≡ header_run text.now }
     ensures within { result ≤ length text.now }
@@ -46,7 +48,7 @@ fn stays(content: &[u8]) -> bool
     is_header(content) && !ends_header(content)
 }
 
-/// Whether a line with this content begins with a percent sign and a printable character.
+/// Whether a line with this content has the form of a header comment: a percent sign and a printable character.
 pub fn is_header(content: &[u8]) -> bool
     ensures { result ≡ is_header content.now }
 {
@@ -59,7 +61,7 @@ pub fn is_header(content: &[u8]) -> bool
     }
 }
 
-/// Whether the header comments end before such a line.
+/// Whether the header comments end before a line with this content.
 fn ends_header(content: &[u8]) -> bool
     ensures { result ≡ ends_header content.now }
 {
@@ -69,14 +71,14 @@ fn ends_header(content: &[u8]) -> bool
             || (key == b"%%Trailer".as_slice() || key == b"%%EOF".as_slice()))
 }
 
-/// Whether the header comments end with such a line.
+/// Whether the header comments end with a line with this content.
 fn is_last(content: &[u8]) -> bool
     ensures { result ≡ is_last content.now }
 {
     key_of(content) == b"%%EndComments".as_slice()
 }
 
-/// The content of the first line.
+/// The content of the first line: its bytes without the line end.
 pub fn first_content(text: &[u8]) -> &[u8]
     ensures { result.now ≡ content_of text.now }
 {
@@ -84,7 +86,7 @@ pub fn first_content(text: &[u8]) -> &[u8]
     content
 }
 
-/// The length of the first line.
+/// The number of bytes of the first line with its line end.
 fn first_len(text: &[u8]) -> usize
     ensures value { result ≡ line_len text.now }
     ensures within { result ≤ length text.now }

@@ -1,4 +1,4 @@
-//! The keys of lines, and what the key of a line means for the parts of a document.
+//! Reads the keys of lines, and finds the lines that begin pages, trailers and embedded documents.
 ghost use Rattle.std.specs.Prelude.{◌≡◌, ◌<◌, length, nat_eq, codes, false};
 ghost use Rattle.std.specs.List.{starts_with};
 ghost use Rattle.rules.specs.Units.{key};
@@ -8,7 +8,7 @@ ghost use Rattle.dsc.specs.Views.{unit_of, at_depth, comment_line};
 
 use crate::units::LineOrBlock;
 
-/// The length of the key of a line.
+/// The length of the key of a line with this content.
 fn key_len(content: &[u8]) -> usize
     ensures { result ≡ length (key content.now) }
 {
@@ -18,7 +18,7 @@ fn key_len(content: &[u8]) -> usize
         .count()
 }
 
-/// The key of a line.
+/// The key of a line with this content: the bytes before its first space, tab or colon.
 pub fn key_of(content: &[u8]) -> &[u8]
     ensures { result.now ≡ key content.now }
 {
@@ -26,7 +26,8 @@ pub fn key_of(content: &[u8]) -> &[u8]
     key
 }
 
-/// The letter that distinguishes most comments: the byte after the two percent signs at the start of a line.
+/// The byte after the two percent signs at the start of a line. It distinguishes most comments before their keys are
+/// compared.
 pub(crate) fn comment_letter(content: &[u8]) -> Option<u8>
     ensures { result ≡ letter_of content.now }
 {
@@ -36,7 +37,8 @@ pub(crate) fn comment_letter(content: &[u8]) -> Option<u8>
     }
 }
 
-/// The meaning of a unit for the parts: whether it begins a page or the trailer, and the depth after it.
+/// What a unit means for the parts of a document: whether it begins a page or the trailer, and the depth in embedded
+/// documents after it.
 #[derive(Clone, Copy)]
 pub(crate) struct Meaning {
     pub is_page: bool,
@@ -44,7 +46,8 @@ pub(crate) struct Meaning {
     pub depth: usize,
 }
 
-/// The meaning of a line. Its letter shows whether its key has to be compared.
+/// The meaning of a line with this content at this depth. The letter after the percent signs decides for most lines,
+/// so that few keys need be compared.
 fn meaning_of_line(content: &[u8], depth: usize) -> Meaning
     requires { depth < usize.MAX }
     ensures page { result.is_page ≡ begins_page (at_depth depth (comment_line content.now)) }
@@ -66,7 +69,7 @@ fn meaning_of_line(content: &[u8], depth: usize) -> Meaning
     }
 }
 
-/// The meaning of a line that begins no page.
+/// The meaning of a line with this content at this depth, if it isn't a `%%Page:` line.
 fn meaning_of_key(content: &[u8], depth: usize) -> Meaning
     requires countable { depth < usize.MAX }
     requires no_page { starts_with nat_eq content.now (codes "%%Page:") ≡ false }
@@ -97,7 +100,7 @@ fn meaning_of_key(content: &[u8], depth: usize) -> Meaning
     }
 }
 
-/// The meaning of a unit, if this is the depth before it.
+/// The meaning of a unit. `depth` is the depth in embedded documents before it.
 pub(crate) fn meaning_of(unit: &LineOrBlock<'_>, depth: usize) -> Meaning
     requires { depth < usize.MAX }
     ensures page { result.is_page ≡ begins_page (at_depth depth (unit_of unit.now)) }

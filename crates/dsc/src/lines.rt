@@ -5,18 +5,18 @@ ghost use Rattle.rules.specs.Units.{is_end, line_len, lines_len, end_len, conten
 
 use memchr::memchr2_iter;
 
-/// Lines without CR are counted in blocks of this many bytes, so that a count fits a byte and the compiler counts
-/// many at once.
+/// Lines are counted in blocks of this many bytes, as long as there is no CR. A block is so small that its count fits
+/// a `u8`, which lets the compiler count many bytes at once.
 const BLOCK: usize = 240;
 
-/// Whether the byte ends a line.
+/// Whether the byte is CR or LF.
 pub(crate) fn is_line_end(byte: u8) -> bool
     ensures { result ≡ is_end byte }
 {
     byte == b'\r' || byte == b'\n'
 }
 
-/// The length of the line end at the start of the bytes.
+/// The length of the line end at the start of the bytes. It is 2 for CR LF, and 0 if there are no bytes.
 fn end_at(text: &[u8]) -> usize
     ensures { result ≡ end_len text.now }
 {
@@ -32,18 +32,18 @@ fn end_at(text: &[u8]) -> usize
     }
 }
 
-/// The length of the content of the first line.
+/// The length of the first line without its line end.
 pub fn content_end(text: &[u8]) -> usize
     ensures { result ≡ length (content_of text.now) }
 {
-    // The iterator looks at the next few bytes first; most lines are short.
+    // This iterator looks at the next few bytes first, which is faster because most lines are short.
     match memchr2_iter(b'\r', b'\n', text).next() {
         Some(at) => at,
         None => text.len(),
     }
 }
 
-/// The length of the first line with its end, if its content has this length.
+/// The length of the first line with its line end. `content` is its length without it.
 pub fn line_end_after(text: &[u8], content: usize) -> usize
     requires { content ≡ length (content_of text.now) }
     ensures value { result ≡ line_len text.now }
@@ -54,7 +54,7 @@ pub fn line_end_after(text: &[u8], content: usize) -> usize
     content + end_at(&text[content..])
 }
 
-/// The length of this many lines, if there are that many.
+/// The number of bytes of the first `count` lines. None if the text has fewer lines.
 pub(crate) fn lines_end(count: usize, text: &[u8]) -> Option<usize>
     ensures value { result ≡ lines_len count text.now }
     ensures within { IfSome result (λ n. n ≤ length text.now) }
@@ -74,8 +74,8 @@ pub(crate) fn lines_end(count: usize, text: &[u8]) -> Option<usize>
     Some(end)
 }
 
-/// The blocks without CR at the start of the text, as long as fewer than `count` lines end in them and bytes
-/// follow. Gives the number of lines that end in them, and the number of their bytes.
+/// Passes blocks at the start of the text that contain no CR. Fewer than `count` lines end in these blocks, and more
+/// text follows them. Returns the number of lines that end in the passed blocks, and the number of their bytes.
 fn first_blocks(count: usize, text: &[u8]) -> (usize, usize)
     ensures fewer { result.0 ≤ count }
     ensures within { result.1 ≤ length text.now }
@@ -99,7 +99,7 @@ fn first_blocks(count: usize, text: &[u8]) -> (usize, usize)
     (lines, passed)
 }
 
-/// The numbers of LF and of CR in a block.
+/// The number of LF bytes and the number of CR bytes in a block.
 fn ends_in(block: &[u8]) -> (u8, u8)
     requires { length block.now ≤ BLOCK }
     ensures feeds { result.0 ≡ count_by (λ b. b == 10) block.now }

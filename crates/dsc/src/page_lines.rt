@@ -1,12 +1,12 @@
-//! The number of pages that begin in a text.
+//! Counts the pages that begin in a text.
 ghost use Rattle.std.specs.Prelude.{◌≡◌};
 ghost use Rattle.dsc.specs.PagesBehind.{page_lines as lines_that_begin_pages};
 ghost use Rattle.dsc.specs.Units.{units_of};
 
 use crate::walk::Walk;
 
-/// The number of `%%Page:` lines of a text, outside embedded documents and data. None if it has a faulty data
-/// block.
+/// The number of `%%Page:` lines of a text, outside embedded documents and data blocks. It is 0 if the text has a
+/// faulty data block.
 pub(crate) fn page_lines(text: &[u8]) -> usize
     ensures { result ≡ lines_that_begin_pages (units_of text.now) }
 {

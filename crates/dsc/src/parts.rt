@@ -1,21 +1,24 @@
-//! Where the parts of a document begin, without its text.
+//! The places at which the parts of a document begin, without its text.
 ghost use Rattle.std.specs.Prelude.{◌≡◌, ℕ, ◌+◌, ◌<◌, ◌≤◌, length, map, slice_index_or};
 ghost use Rattle.rules.specs.Run.{most_input_bytes};
 ghost use Rattle.dsc.specs.Later.{later, later_found};
 
-/// Where the pages of a document begin, their bodies, and its trailer. `Document::from_parts` reads another text by
-/// them, if it differs only in what comes before the first page.
+/// The places at which the pages of a document, their prepared bodies and the trailer begin. With them
+/// `Document::from_parts` makes a document of another text, which may differ only before the first page. That text
+/// isn't cut again.
 #[derive(Drop)]
 pub struct Parts {
     /// The number of bytes of the document.
     pub(crate) len: usize,
+    /// For each page, the byte at which it begins.
     pub(crate) starts: Vec<u32>,
-    /// For each page the byte at which its body begins, or 0.
+    /// For each page, the byte at which its prepared body begins, or 0 if this isn't known.
     pub(crate) bodies: Vec<u32>,
+    /// The byte at which the trailer begins, or the length of the document if it has no trailer.
     pub(crate) stop: usize,
 }
 
-/// Moves the starts of pages on by this number of bytes.
+/// Adds this number of bytes to the start of each page.
 pub(crate) fn move_starts(starts: &mut Vec<u32>, by: u32)
     requires room { (p : ℕ) → p < length starts.old.items → slice_index_or starts.old.items p 0 + by ≤ most_input_bytes }
     ensures { starts.new.items ≡ map (later by) starts.old.items }
@@ -25,7 +28,7 @@ pub(crate) fn move_starts(starts: &mut Vec<u32>, by: u32)
     }
 }
 
-/// Moves the starts of bodies on by this number of bytes. One that wasn't found stays 0.
+/// Adds this number of bytes to the start of each body. A start of 0 stays 0, because it means that none is known.
 pub(crate) fn move_bodies(bodies: &mut Vec<u32>, by: u32)
     requires room { (p : ℕ) → p < length bodies.old.items → slice_index_or bodies.old.items p 0 + by ≤ most_input_bytes }
     ensures { bodies.new.items ≡ map (later_found by) bodies.old.items }
@@ -35,6 +38,7 @@ pub(crate) fn move_bodies(bodies: &mut Vec<u32>, by: u32)
     }
 }
 
+/// The start of a body after the move by this number of bytes. 0 stays 0.
 fn later_found(by: u32, at: u32) -> u32
     requires { at + by ≤ most_input_bytes }
     ensures { result ≡ later_found by at }

@@ -1,13 +1,14 @@
-//! Lines that don't begin with two percent signs. They mean nothing for the parts of a document, and no filter
-//! drops them, so many are passed at a time.
+//! Lines that don't begin with two percent signs. They begin no part of a document, and no filter drops them. A run of
+//! such lines is therefore passed at once.
 ghost use Rattle.std.specs.Prelude.{◌≡◌, ◌<◌, ◌≤◌, length, codes};
 ghost use Rattle.dsc.specs.Plain.{BeginsPlain, next_line};
 
 use crate::lines::{content_end, is_line_end, line_end_after};
 use memchr::memmem::Finder;
 
-/// The number of bytes of lines at the start of the text that don't begin with two percent signs, which the finder looks for.
-/// They reach up to the first two, or, if these are not at the start of a line, up to the end of their line.
+/// The number of bytes of the lines at the start of the text that don't begin with two percent signs. The finder finds
+/// the first two percent signs. If these begin a line, the result counts the bytes before that line. Otherwise it also
+/// counts the line that contains them.
 pub(crate) fn plain_len(percent_signs: &Finder<'_>, text: &[u8]) -> usize
     requires { percent_signs.now ≡ codes "%%" }
     ensures plain { BeginsPlain result text.now }
@@ -22,7 +23,8 @@ pub(crate) fn plain_len(percent_signs: &Finder<'_>, text: &[u8]) -> usize
     }
 }
 
-/// Where the next line begins, from a byte on that is not a line end.
+/// The byte at which the next line begins. It is `at` if a line begins there, and otherwise the byte after the line
+/// that contains `at`. The caller passes a byte that isn't in a line end.
 fn next_line(text: &[u8], at: usize) -> usize
     requires { at < length text.now }
     ensures value { result ≡ next_line at text.now }

@@ -1,4 +1,4 @@
-//! One pass over a text, which notes where its pages begin and where its trailer does.
+//! Finds where the pages and the trailer of a text begin, in one pass over the text.
 ghost use Rattle.std.specs.Prelude.{◌≡◌, ◌+◌, ◌<◌, ◌≤◌, [], length, OnOk, IfOk, None};
 ghost use Rattle.rules.specs.Run.{most_input_bytes};
 ghost use Rattle.dsc.specs.Views.{GivesUnlessShort, unit_of, at_depth};
@@ -15,12 +15,12 @@ use crate::keys::Meaning;
 use crate::walk::{Walk, WalkStep};
 use std::alloc::{AllocError, Global};
 
-/// The number of page starts that are kept: one more than a document may have, so that a fault after too many pages
-/// is still found.
+/// The most page starts that are stored, which is one more than a document may have. If there are more pages, the pass
+/// still goes on to the end, because a faulty data block is reported rather than too many pages.
 const MOST_STARTS: usize = 1_000_001;
 
-/// Where the pages begin, and where the trailer begins once it is found. Pages after the first `MOST_STARTS` are
-/// left out.
+/// Where the pages begin, and where the trailer begins once it has been found. Only the first `MOST_STARTS` pages are
+/// stored.
 #[derive(Drop)]
 pub(crate) struct PageStarts {
     pub starts: Vec<u32>,
@@ -28,7 +28,7 @@ pub(crate) struct PageStarts {
 }
 
 impl PageStarts {
-    /// Notes a unit that begins at this byte.
+    /// Notes a unit that begins at the byte `at`. Fails only if memory is refused.
     fn note(&mut self, meaning: Meaning, at: usize) -> Result<(), AllocError>
         requires { at ≤ most_input_bytes }
         ensures starts { OnOk result (self.new.starts.items
@@ -57,7 +57,8 @@ impl PageStarts {
     }
 }
 
-/// One pass over the text. Where bodies begin is noted only while there aren't too many pages.
+/// Finds in one pass where the pages, the trailer and the bodies of the pages begin. Once there are too many pages, it
+/// no longer looks for bodies. Refuses the text's first faulty data block.
 pub(crate) fn scan(alloc: Global, text: &[u8]) -> Result<(PageStarts, Vec<u32>), CutError>
     requires { length text.now ≤ most_input_bytes }
     ensures marks { GivesUnlessShort (λ s. marks_on MOST_STARTS s.0.starts.items s.0.stop (length text.now) []) block_fault_told
@@ -79,7 +80,7 @@ pub(crate) fn scan(alloc: Global, text: &[u8]) -> Result<(PageStarts, Vec<u32>),
     Ok((seen, bodies))
 }
 
-/// Notes a unit. Where bodies begin is noted only while there aren't too many pages.
+/// Notes the next unit. Once there are too many pages, no bodies are looked for.
 fn note_unit(
     seen: &mut PageStarts,
     bodies: &mut BodyStarts,

@@ -1,4 +1,4 @@
-//! The units of a text: lines, and blocks of data.
+//! Cuts a text into units, which are lines and blocks of data.
 ghost use Rattle.std.specs.Prelude.{◌≡◌, ◌<◌, ◌≤◌, length, codes, IfOk, MatchOption, true, false};
 ghost use Rattle.rules.specs.Units.{first_unit, begins_block, fields, is_comment};
 ghost use Rattle.dsc.specs.Fields.{fields_in, third_is, data_in};
@@ -8,7 +8,8 @@ use crate::fields::{count_in, next_field};
 use crate::keys::comment_letter;
 use crate::lines::{content_end, line_end_after, lines_end};
 
-/// A line with its end, or a data block: a line and the data after it. The content is the line's, without its end.
+/// A unit: a line with its line end, or a data block. A data block consists of the line that begins it and the data
+/// after that line. `content` is the line without its line end.
 #[derive(Clone, Copy)]
 pub(crate) struct LineOrBlock<'d> {
     pub content: &'d [u8],
@@ -16,14 +17,15 @@ pub(crate) struct LineOrBlock<'d> {
     pub is_block: bool,
 }
 
-/// The fault of a data block: its count is no number, or passes the end of the text.
+/// What is wrong with a data block. Its count is missing or isn't a number, or it counts more data than the text has.
 #[derive(Debug, Clone, Copy)]
 pub enum UnitError {
     BadCount,
     ShortData,
 }
 
-/// The text after the colon of a line that begins data, and whether lines may be counted.
+/// The text after the colon of a line that begins a data block, and whether the data may be counted in lines. That is
+/// so for `%%BeginData:`, but not for `%%BeginBinary:`. None if the line begins no data block.
 fn data_heading(content: &[u8]) -> Option<(&[u8], bool)>
     ensures { MatchOption result (begins_block content.now ≡ false) (λ h.
         (begins_block content.now ≡ true) × (fields content.now ≡ fields_in h.0.now)
@@ -41,7 +43,7 @@ fn data_heading(content: &[u8]) -> Option<(&[u8], bool)>
     }
 }
 
-/// Whether the third field is `Lines`, if the first has been read.
+/// Whether the third field after `%%BeginData:` is `Lines`. `behind` is the text after the first field.
 fn third_is_lines(behind: &[u8]) -> bool
     ensures { result ≡ third_is (codes "Lines") (fields_in behind.now) }
 {
@@ -54,7 +56,8 @@ fn third_is_lines(behind: &[u8]) -> bool
     }
 }
 
-/// The length of the data that such a line begins.
+/// The number of bytes of the data in a block. `behind` is the text after the colon of its first line, and `rest` is
+/// the text after that line.
 fn data_len(behind: &[u8], may_count_lines: bool, rest: &[u8]) -> Result<usize, UnitError>
     ensures length { ReadsAs (λ n. n) block_fault result (data_in may_count_lines rest.now (fields_in behind.now)) }
     ensures within { IfOk result (λ n. n ≤ length rest.now) }
@@ -67,7 +70,7 @@ fn data_len(behind: &[u8], may_count_lines: bool, rest: &[u8]) -> Result<usize, 
         None => return Err(UnitError::BadCount),
         Some(count) => count,
     };
-    // A line has at least one byte, so a count above the rest is too large for lines too.
+    // A line has at least one byte, so a count of lines that is above the number of bytes left is too large as well.
     if rest.len() < count {
         return Err(UnitError::ShortData);
     }
@@ -81,7 +84,7 @@ fn data_len(behind: &[u8], may_count_lines: bool, rest: &[u8]) -> Result<usize, 
     }
 }
 
-/// The first unit of a text that isn't empty.
+/// The first unit of a text that isn't empty. Refuses a data block that is faulty.
 pub(crate) fn first_unit(text: &[u8]) -> Result<LineOrBlock<'_>, UnitError>
     requires { 0 < length text.now }
     ensures unit { ReadsAs unit_of block_fault result (first_unit text.now) }

@@ -1,4 +1,4 @@
-//! The walk over the units of a text, which the cut and the filters share.
+//! Walks over the units of a text. The pass that cuts a document and the filters share this walk.
 ghost use Rattle.std.specs.Prelude.{◌≡◌, ◌<◌, length, codes, IfOk, IfErr, true, false, Err};
 ghost use Rattle.rules.specs.Parts.{begins_page, begins_trailer};
 ghost use Rattle.rules.specs.Units.{first_unit};
@@ -12,8 +12,8 @@ use crate::units::{LineOrBlock, UnitError, first_unit};
 use memchr::memmem::Finder;
 use std::marker::Model;
 
-/// A walk over the units of a text. Contracts see its place: what is left of the text, the byte at which that
-/// begins, and the depth there.
+/// A walk over the units of a text. Contracts see its place: the rest of the text, the byte at which the rest begins,
+/// and the depth in embedded documents there.
 #[derive(Drop)]
 pub(crate) struct Walk<'d> {
     percent_signs: Finder<'static>,
@@ -33,8 +33,8 @@ impl<'d> Model for Walk<'d> {
     ghost invariant = { λ w. (w.percent_signs ≡ codes "%%") × IsShallow w.rest.now w.at w.depth };
 }
 
-/// A step of a walk: a unit, the byte at which it begins, the depth before it, and its meaning there. Successive
-/// lines that don't begin with two percent signs are one unit without content.
+/// A step of a walk: a unit, the byte at which it begins, the depth before it, and its meaning there. Successive lines
+/// that don't begin with two percent signs are passed together, as one unit without content.
 #[derive(Clone, Copy)]
 pub(crate) struct WalkStep<'d> {
     pub unit: LineOrBlock<'d>,
@@ -56,7 +56,7 @@ impl<'d> Walk<'d> {
         }
     }
 
-    /// Whether nothing is left.
+    /// Whether the walk has passed the whole text.
     pub fn is_done(&self) -> bool
         ensures done { result ≡ true → length self.now.rest ≡ 0 }
         ensures going { result ≡ false → 0 < length self.now.rest }
@@ -64,7 +64,7 @@ impl<'d> Walk<'d> {
         self.rest.is_empty()
     }
 
-    /// The next unit, which the walk passes; or the faulty block that comes next.
+    /// Passes the next unit and returns it. If the next unit is a faulty data block, the error contains that block.
     pub fn step(&mut self) -> Result<WalkStep<'d>, FaultyBlock>
         requires { 0 < length self.old.rest }
         ensures piece { IfOk result (λ s. IsPieceOf (unit_of s.unit) self.old.rest) }
@@ -97,7 +97,8 @@ impl<'d> Walk<'d> {
     }
 }
 
-/// The first unit of a text that isn't empty, or the lines at its start that don't begin with two percent signs.
+/// The first unit of a text that isn't empty. Successive lines that don't begin with two percent signs count as one
+/// unit.
 fn first_piece<'d>(percent_signs: &Finder<'_>, text: &'d [u8]) -> Result<LineOrBlock<'d>, UnitError>
     requires needle { percent_signs.now ≡ codes "%%" }
     requires some { 0 < length text.now }
