@@ -1,14 +1,14 @@
-//! Laws of lines that are inserted into a document. The functions do nothing.
+//! Laws of lines that are inserted into a document. Each function states one in its contract, and does nothing.
 ghost use Rattle.guard.specs.Laws.{GuardIsShort, GuardStays, LinesStay};
 
-/// Lines that are inserted after the header comments of a document change only its preamble. The document is still
-/// accepted unless it becomes too long, with the same pages and the same trailer; its units are those that it had
-/// and the lines.
+/// Lines that are inserted after the header comments of a document change only its preamble. Unless the document
+/// becomes too long, it is still accepted, with the same pages and the same trailer. Its units are the old ones and
+/// the inserted lines.
 pub fn lines_stay()
     ensures { LinesStay }
 {}
 
-/// The guard changes only the preamble, for every paper of the sheet.
+/// The guard changes only the preamble of a document, whatever the paper of the sheet.
 pub fn guard_stays()
     ensures { GuardStays }
 {}

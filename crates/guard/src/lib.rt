@@ -1,5 +1,5 @@
-//! The guard: lines of PostScript that are inserted into a document before it is imposed. They keep a document in its place on the sheet if it prints
-//! the sheet, or sets its page device or its matrix, by itself.
+//! The guard: lines of PostScript that are inserted into a document before it is imposed. A page may print the sheet,
+//! change the page device or set a matrix by itself. The guard then keeps the page in its place on the sheet.
 #![tactic(auto)]
 
 pub mod laws;

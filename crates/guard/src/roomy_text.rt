@@ -1,4 +1,4 @@
-//! A document's text with room before it, in which the guard is put without moving all of it.
+//! The text of a document with free space before it, so that the guard can be inserted without moving the whole text.
 ghost use Rattle.std.specs.Prelude.{◌≡◌, ◌≤◌, drop, vec_len, option_map, OnErr, OnOk};
 ghost use Rattle.dsc.specs.Serving.{ArePartsOf, Serve};
 ghost use Rattle.dsc.specs.declared.parts.Parts.{Parts};
@@ -9,11 +9,11 @@ use lengths::Paper;
 use std::alloc::AllocError;
 use std::marker::Model;
 
-/// A document's text. There may be room before it, which isn't visible.
+/// The text of a document. There may be free space before it, which callers don't see.
 #[derive(Debug, Drop)]
 pub struct RoomyText {
     bytes: Vec<u8>,
-    /// The byte at which the text begins.
+    /// The index of the byte at which the text begins. The bytes before it are free space.
     start: usize,
 }
 
@@ -29,7 +29,7 @@ impl Model for RoomyText {
 }
 
 impl RoomyText {
-    /// The text that begins at this byte.
+    /// The text that begins at the byte `start`. The bytes before it become free space.
     pub fn with_headroom(start: usize, bytes: Vec<u8>) -> RoomyText
         requires { start ≤ vec_len bytes }
         ensures { result.items ≡ drop start bytes.items }
@@ -37,7 +37,7 @@ impl RoomyText {
         RoomyText { bytes, start }
     }
 
-    /// The text.
+    /// The text of the document, without the free space.
     pub fn as_slice(&self) -> &[u8]
         ensures value { result.now ≡ self.now.items }
     {
@@ -45,8 +45,10 @@ impl RoomyText {
         text
     }
 
-    /// Inserts the guard, for this paper of the sheet. If the room before the text is enough, only the header comments are moved. The parts of the
-    /// document become those of the guarded one. Refused only for lack of memory; then the text is unchanged.
+    /// Inserts the guard after the header comments; `sheet_paper` is the paper of the sheet, if one is named. If the
+    /// free space before the text is large enough, only the header comments are moved. The parts of the document can
+    /// still be used for the guarded document (`Document::from_parts`). If memory is refused, the call fails, and the
+    /// text is unchanged.
     pub fn put_guard(&mut self, sheet_paper: Option<&Paper>) -> Result<(), AllocError>
         ensures put_in { OnOk result
             (self.new.items ≡ guarded (option_map (λ p. p.now) sheet_paper.entry) self.old.items) }

@@ -1,4 +1,4 @@
-//! The guard's text, and where it is inserted.
+//! The text of the guard, and the calls that insert it.
 ghost use Rattle.std.specs.Prelude.{◌≡◌, ◌+◌, ◌≤◌, ◌++◌, flat_map, length, option_map, take, drop, vec_len, IfOk, OnErr, OnOk};
 ghost use Rattle.rules.specs.Bytes.{line};
 ghost use Rattle.rules.specs.Filters.{ended};
@@ -8,12 +8,12 @@ use dsc::{end_line, header_len};
 use lengths::{Paper, print_points};
 use std::alloc::{AllocError, Global};
 
-/// The guard's first lines; the page size is set after them.
+/// The first lines of the guard. The line that sets the page size comes after them.
 const FIRST_LINES: &[u8] = b"\
     %%BeginResource: procset ImposeGuard 1.0 0\n\
     userdict /ImposeGuard known not {userdict begin\n";
 
-/// Its other lines. docs/GUARD.md says what each is for.
+/// The lines of the guard after the page size. docs/GUARD.md says what each line does.
 const OTHER_LINES: &[u8] = b"\
     /ImposeShow /showpage load def\n\
     /PStoPSenablepage true def\n\
@@ -52,12 +52,13 @@ const OTHER_LINES: &[u8] = b"\
     end} bind if\n\
     %%EndResource\n";
 
-/// More bytes than the guard has, with any paper.
+/// The room in bytes that is reserved for the guard. The guard is shorter, whatever the paper.
 const ROOM: usize = 2_560;
 
-/// The text with the guard inserted after its header comments: the first line, and the comments after it up to and
-/// including `%%EndComments`. With a sheet's paper the guard first sets the device's page size to it, if the
-/// interpreter has `setpagedevice`. Any text is taken, document or not. Refused only for lack of memory.
+/// A copy of the text with the guard inserted after its header comments. These are the first line and the comments
+/// directly after it, up to and including `%%EndComments`. If `sheet_paper` is a paper, the guard first sets the
+/// device's page size to it, provided that the interpreter has `setpagedevice`. The text needn't be a document. Fails
+/// only if memory is refused.
 pub fn guarded(
     alloc: Global,
     text: &[u8],
@@ -74,14 +75,15 @@ pub fn guarded(
     Ok(out)
 }
 
-/// Inserts the guard into a text in place, as `guarded` does in a copy. Refused only for lack of memory; then the
-/// text is unchanged.
+/// Inserts the guard into the text itself, where `guarded` inserts it into a copy. If memory is refused, the call
+/// fails, and the text is unchanged.
 pub fn put_guard(text: &mut Vec<u8>, sheet_paper: Option<&Paper>) -> Result<(), AllocError>
     ensures put_in { OnOk result (text.new.items ≡ guarded (option_map (λ p. p.now) sheet_paper.entry) text.old.items) }
     ensures unchanged { OnErr result (text.new.items ≡ text.old.items) }
 {
     let end = header_len(text.as_slice());
-    // The header's last byte is written again, followed by a line end if it isn't one.
+    // The splice puts back the last byte of the header comments, adds a line end if that byte isn't one, and inserts
+    // the guard.
     let start = end.saturating_sub(1);
     let mut lines = Vec::with_capacity(*text.allocator(), ROOM)?;
     lines.extend_from_slice(&text[start..end])?;
@@ -91,9 +93,10 @@ pub fn put_guard(text: &mut Vec<u8>, sheet_paper: Option<&Paper>) -> Result<(), 
     Ok(())
 }
 
-/// Inserts the guard into the text that follows the first `start` of `bytes`, and returns the byte at which the
-/// text then begins. If there is room for the guard before the text, only its header comments are moved, towards
-/// the front; otherwise what follows them is moved. Refused only for lack of memory; then the bytes are unchanged.
+/// Inserts the guard into the text that begins at the byte `start` of `bytes`. Returns the index of the byte at which
+/// the guarded text begins. If the bytes before `start` are enough for the guard, the header comments are moved
+/// towards the front. Otherwise the text after the header comments is moved. If memory is refused, the call fails, and
+/// the bytes are unchanged.
 pub fn put_guard_before(
     bytes: &mut Vec<u8>,
     start: usize,
@@ -120,7 +123,7 @@ pub fn put_guard_before(
     Ok(start)
 }
 
-/// These header comments followed by the guard.
+/// The header comments, with a line end at their end, followed by the guard.
 fn guarded_header(
     alloc: Global,
     header: &[u8],
@@ -136,7 +139,7 @@ fn guarded_header(
     Ok(front)
 }
 
-/// Overwrites as many bytes from `begin` on with these.
+/// Replaces bytes from `begin` on by those of `front`. The number of bytes stays the same.
 fn overwrite(bytes: &mut Vec<u8>, begin: usize, front: &[u8])
     requires { begin + length front.now ≤ vec_len bytes.old }
     ensures put { bytes.new.items ≡ take begin bytes.old.items
@@ -146,7 +149,7 @@ fn overwrite(bytes: &mut Vec<u8>, begin: usize, front: &[u8])
     bytes[begin..begin + front.len()].copy_from_slice(front);
 }
 
-/// Appends the guard.
+/// Appends all lines of the guard.
 fn append_guard(sheet_paper: Option<&Paper>, out: &mut Vec<u8>) -> Result<(), AllocError>
     ensures { OnOk result (out.new.items ≡
         out.old.items ++ flat_map line (guard_lines (option_map (λ p. p.now) sheet_paper.entry))) }
@@ -157,7 +160,7 @@ fn append_guard(sheet_paper: Option<&Paper>, out: &mut Vec<u8>) -> Result<(), Al
     Ok(())
 }
 
-/// Appends the line that sets the page size to a paper, if there is one.
+/// Appends the line that sets the page size to the sheet's paper, if there is one.
 fn append_page_size(sheet_paper: Option<&Paper>, out: &mut Vec<u8>) -> Result<(), AllocError>
     ensures { OnOk result (out.new.items ≡
         out.old.items ++ flat_map line (guard_size_lines (option_map (λ p. p.now) sheet_paper.entry))) }
@@ -168,7 +171,7 @@ fn append_page_size(sheet_paper: Option<&Paper>, out: &mut Vec<u8>) -> Result<()
     }
 }
 
-/// Appends the line that sets the page size to this paper.
+/// Appends the line that sets the device's page size to this paper, in points.
 fn append_size_of(paper: &Paper, out: &mut Vec<u8>) -> Result<(), AllocError>
     ensures { OnOk result (out.new.items ≡ out.old.items ++ line (page_size_line paper.now)) }
 {

@@ -1,5 +1,5 @@
-//! What joined texts are cut into, and that what a run wrote is a document again, so that runs can be piped. Definitions, laws
-//! and lemmas.
+//! Proves that the output of a run is itself a document, so that runs can be piped. The proof needs laws about the
+//! units of joined texts. This crate has only definitions, laws and lemmas.
 #![tactic(auto)]
 
 pub mod laws;
