@@ -1,4 +1,4 @@
-//! What a shelf holds.
+//! The entries of a shelf.
 ghost use Rattle.std.specs.Prelude.{◌≡◌};
 
 use crate::prepared::Prepared;
@@ -6,14 +6,14 @@ use boxcar::Keeps;
 use boxcar::tag::Names;
 use dsc::Document;
 
-/// A page on a shelf, and whether it was put there as one of the document of the shelf.
+/// An entry of a shelf: a page, and whether it was put there as a page of the document to which the shelf belongs.
 #[derive(Drop)]
 pub struct Entry<'d> {
     pub(crate) page: Prepared<'d>,
     pub(crate) is_own: bool,
 }
 
-/// The rule of a shelf's entries: a page that was put as one of the document's own is one.
+/// The rule for the entries of a shelf: a page that was put as one of the shelf's document is one.
 pub struct OwnFlagIsTrue;
 
 impl<'d> Keeps<Entry<'d>> for OwnFlagIsTrue {
@@ -22,7 +22,7 @@ impl<'d> Keeps<Entry<'d>> for OwnFlagIsTrue {
     ghost holds = { λ tag _ entry. IsToldTruly tag entry };
 }
 
-/// How a shelf's tag names a document: by its pages.
+/// How the tag of a shelf names the shelf's document: by the bytes of its pages.
 pub(crate) struct ItsPages;
 
 impl<'d> Names<Document<'d>> for ItsPages {

@@ -1,4 +1,5 @@
-//! Laws of every history of the queue, and of every pass. Each is a function that does nothing.
+//! Laws of all histories of the queue, and of all passes. A move is an accepted put, or a take that returned a sheet.
+//! Each function states one law in its contract, and does nothing.
 ghost use Rattle.handover.specs.Laws.{FirstPutIsFirstTaken, NeverOverfull, WholePassMadeAll, WholePassLosesNone};
 ghost use Rattle.handover.specs.Laws.{OwnMovesAreKept, MovesStandInOneHistory, SplitMovesStandInOneHistory};
 ghost use Rattle.handover.specs.Laws.{RoomIsUsedUp};
@@ -7,52 +8,56 @@ ghost use Rattle.handover.specs.Rule.{PassesStandTogether};
 use crate::rule::{HandoverHistory, PassKnowledge};
 use crossbeam_queue::protocol::Protocol;
 
-/// Sheets are taken in the order in which they were put; none is lost or duplicated.
+/// Sheets are taken in the order in which they were put. No sheet is lost or taken twice.
 pub fn first_put_is_first_taken()
     ensures { FirstPutIsFirstTaken }
 {}
 
-/// There are never more sheets in the queue than its capacity.
+/// The queue never holds more sheets than its capacity.
 pub fn never_overfull()
     ensures { NeverOverfull }
 {}
 
-/// A pass that has all shares made all moves of its front.
+/// If a pass has all shares, it made every move in the history that its caller has seen.
 pub fn whole_pass_made_all()
     ensures { WholePassMadeAll }
 {}
 
-/// If a pass has all shares, the sheets that it took and those left are those that it put, each as often.
+/// If a pass has all shares, it took each sheet that it put, unless the sheet is still in the queue. A sheet that it
+/// put several times counts as often.
 pub fn whole_pass_loses_none()
     ensures { WholePassLosesNone }
 {}
 
-/// A move is one more own move of its pass, a joined pass has those of both, and a split takes none away.
+/// A move becomes an own move of its pass. A joined pass has the own moves of both passes, and a split takes none
+/// away.
 pub fn own_moves_are_kept()
     ensures { OwnMovesAreKept }
 {}
 
-/// The moves of a pass are in one history of the queue, each once and in order, after all that its caller had seen.
+/// The moves of a pass are in one history of the queue. Each is there once, in the order in which they were made, and
+/// after all that the caller had seen.
 pub fn moves_stand_in_one_history()
     ensures { MovesStandInOneHistory }
 {}
 
-/// A caller may split its pass, make moves with both parts, side by side, and join them again. These moves are in
-/// one history of the queue too: each once, those of a part in order, after the moves before the split and before
-/// those after the join.
+/// A caller may split its pass, make moves with both parts at the same time, and join them again. All these moves are
+/// in one history of the queue, each once. Those of each part are in order, after the moves before the split and
+/// before the moves after the join.
 pub fn split_moves_stand_in_one_history()
     ensures { SplitMovesStandInOneHistory }
 {}
 
-/// A put lowers the room of its pass by one, while it has any, and a take leaves it unchanged; a joined pass has
-/// the room of both.
+/// While a pass has room, each of its puts lowers the room by one; a take doesn't change the room. A joined pass has
+/// the room of both passes.
 pub fn room_is_used_up()
     ensures { RoomIsUsedUp }
 {}
 
-/// At every moment the moves of all passes of a queue, whether these ever met or not, are in one history, whose
-/// content is what the queue holds. No move is that of two passes. That content, with the puts that they may still
-/// make by right, is at most the queue's capacity, which is the one that each pass with a share knows.
+/// At every moment, the moves of all passes of a queue are in one history, even if the passes never met. The queue
+/// holds the sheets that were put and not yet taken in this history. No move belongs to two passes. The sheets in the
+/// queue, and the puts that may still be made by right, are together at most the capacity. Each pass with a share
+/// knows this capacity.
 pub fn passes_stand_together()
     ensures { PassesStandTogether ⟦<HandoverHistory as Protocol<u32, PassKnowledge>>⟧.holds }
 {}

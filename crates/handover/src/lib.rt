@@ -1,4 +1,4 @@
-//! What preparers hand over to imposers: prepared pages on a shelf, and the sheets that are ready in a queue.
+//! Lets preparers hand their work to imposers: prepared pages on a shelf, and ready sheets in a queue.
 #![tactic(auto)]
 
 mod entry;

@@ -1,4 +1,4 @@
-//! A caller's token for the ready queue.
+//! A caller's token for the queue of ready sheets.
 ghost use Rattle.std.specs.Prelude.{◌≡◌};
 ghost use Rattle.handover.specs.Passes.{IsPass, puts_in};
 
@@ -6,16 +6,16 @@ use crate::rule::PassKnowledge;
 use std::fmt;
 use std::marker::Model;
 
-/// The number of shares of a queue.
+/// The number of shares of a queue, which is 2^32.
 pub(crate) const WHOLE_SHARE: u64 = 4_294_967_296;
 
-/// A caller's token for one queue. It represents a history of the queue that the caller has seen, its front, and
-/// the caller's own puts and takes in it. Neither is stored: a pass is its share and its room.
+/// A caller's token for one queue. Contracts see its front, which is a history of the queue that the caller has seen,
+/// and the caller's own puts and takes in this history. Neither is stored: a pass consists of its share and its room.
 #[derive(Drop)]
 pub struct Pass {
     pub(crate) token: crossbeam_queue::Pass<u32, PassKnowledge>,
     pub(crate) share: u64,
-    /// The number of puts that will still be accepted; None if puts aren't made by right.
+    /// The number of puts that the queue will certainly accept from this pass. None if puts aren't made by right.
     pub(crate) room: Option<u32>,
 }
 
@@ -32,7 +32,8 @@ impl Model for Pass {
 }
 
 impl Pass {
-    /// The number of the queue's 2^32 shares that the pass has. With all of them it is the queue's only pass.
+    /// The number of shares that the pass has, of the 2^32 shares of its queue. A pass with all shares is the only
+    /// pass of the queue.
     pub fn share(&self) -> u64
         ensures value { result ≡ self.now.share }
         ensures pass { IsPass self.now }
@@ -40,7 +41,7 @@ impl Pass {
         self.share
     }
 
-    /// The number of puts that will still be accepted.
+    /// The number of puts that the queue will certainly accept from this pass. It is 0 if puts aren't made by right.
     pub fn room(&self) -> u32
         ensures { result ≡ puts_in self.now.room }
     {

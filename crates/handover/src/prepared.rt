@@ -1,4 +1,4 @@
-//! A prepared page.
+//! A page that has been prepared for placement on sheets.
 ghost use Rattle.std.specs.Prelude.{◌≡◌, ◌<◌, [], length, slice_index_or, IfOk, IfErr, Ok};
 ghost use Rattle.rules.specs.Parts.{pages};
 ghost use Rattle.rules.specs.Filters.{prepared};
@@ -12,26 +12,28 @@ use std::alloc::{AllocError, Global};
 use std::fmt;
 use std::marker::Model;
 
-/// A page of a document with its prepared body, which is what is kept of its bytes when it is placed on a sheet.
-/// The page comments and the page setup lines of DSC 3.0 are dropped. It takes 32 bytes. It takes more memory only
-/// if the body isn't the rest of the page, or if the page was prepared from its bytes.
+/// A page of a document with its prepared body, which is the part of the page that is placed on a sheet. The page
+/// comments and the page setup lines of DSC 3.0 are dropped from it. A prepared page takes 32 bytes. It takes more
+/// memory only if its body isn't the rest of the page, or if it was made by `new`.
 #[derive(Drop)]
 pub struct Prepared<'d> {
     kept: KeptBody<'d>,
 }
 
-/// A shelf holds every page until its run ends, so pages are kept small: most bodies are the rest of their page.
+/// How the body of a page is stored. A shelf keeps all pages until the run ends, so they must be small. Most bodies
+/// are the rest of their page, and need only the byte at which they begin.
 #[derive(Drop)]
 enum KeptBody<'d> {
     Rest {
         raw: &'d [u8],
         page: u32,
-        /// The byte from which on the rest is the body.
+        /// The byte of the page at which its body begins.
         start: u32,
     },
     Boxed(Box<Whole<'d>>),
 }
 
+/// A page whose body is stored separately.
 #[derive(Drop)]
 struct Whole<'d> {
     raw: &'d [u8],
@@ -52,9 +54,10 @@ impl<'d> Model for Prepared<'d> {
 }
 
 impl<'d> Prepared<'d> {
-    /// Prepares a page from its bytes, `raw`. `page` is its number, counted from 0.
-    /// Refused with BadCount or ShortData, for the first faulty data block of `raw`, or with NoMemory. A page of an
-    /// accepted document has no faulty block.
+    /// Prepares a page from its bytes `raw`. `page` is its number in the document, counted from 0.
+    ///
+    /// Refuses the first faulty data block of `raw`, with `BadCount` or `ShortData`. A page of an accepted document
+    /// has no faulty block. Without enough memory the error is `NoMemory`.
     pub fn new(alloc: Global, page: u32, raw: &'d [u8]) -> Result<Prepared<'d>, DscError>
         ensures answer { GivesUnlessShort (λ p. p.body) page_fault_told result (prepared raw.now) }
         ensures page { IfOk result (λ p. (p.page ≡ page) × (p.raw ≡ raw.now)) }
@@ -68,7 +71,7 @@ impl<'d> Prepared<'d> {
         }
     }
 
-    /// A page of a document, counted from 0, with its prepared body. Refused only for lack of memory.
+    /// Prepares a page of a document, counted from 0. Fails only if memory is refused.
     pub fn of_page(
         alloc: Global,
         document: &Document<'d>,
@@ -89,7 +92,7 @@ impl<'d> Prepared<'d> {
         Prepared::whole(alloc, page, raw, body)
     }
 
-    /// A page with a body that is kept as it is.
+    /// A page whose body is stored separately. Fails only if memory is refused.
     fn whole(
         alloc: Global,
         page: u32,
@@ -115,7 +118,7 @@ impl<'d> Prepared<'d> {
         }
     }
 
-    /// The bytes of the page, as they are in the input.
+    /// The bytes of the whole page, as they are in the document.
     pub fn raw(&self) -> &'d [u8]
         ensures { result.now ≡ self.now.raw }
     {
@@ -125,7 +128,7 @@ impl<'d> Prepared<'d> {
         }
     }
 
-    /// The prepared body.
+    /// The prepared body: the bytes of the page that are placed on a sheet.
     pub fn body(&self) -> &[u8]
         ensures body { result.now ≡ self.now.body }
         ensures prepared { prepared self.now.raw ≡ Ok result.now }

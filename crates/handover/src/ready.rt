@@ -1,4 +1,4 @@
-//! The queue of sheets that are ready.
+//! The queue of sheets that are ready to be imposed.
 ghost use Rattle.std.specs.Prelude.{◌≡◌, ◌<◌, ◌≤◌, ◌-◌, [], length, OnOk, OnErr, IfOk, IfErr, IfSome, IfNone};
 ghost use Rattle.crossbeam_queue.specs.Passes.{view};
 ghost use Rattle.rules.specs.Seats.{whole_share};
@@ -18,17 +18,18 @@ use std::marker::{Brand, Model};
 use std::sync::Wait;
 use thiserror::Error;
 
-/// The queue had no room for this sheet.
+/// A put was refused, because the queue or the pass had no room. The error contains the sheet.
 #[derive(Clone, Copy, Debug, PartialEq, Eq, Error)]
 #[error("the queue has no room for sheet {0}")]
 pub struct Full(pub u32);
 
 type Line = RuledArrayQueue<u32, PassKnowledge, HandoverHistory>;
 
-/// The sheets that are ready, oldest first: a bounded queue for many threads, without a lock.
+/// The sheets that are ready to be imposed, oldest first, in a bounded queue for many threads, without a lock.
 ///
-/// Each call takes a `Pass` of the queue. In any schedule an accepted put is one step, and so is a take that
-/// returns a sheet. They are in one history of the queue, which begins with all that the caller had seen.
+/// Each call takes a `Pass` of the queue. However the threads are scheduled, an accepted put is a single step, and so
+/// is a take that returns a sheet. These steps are in one history of the queue, which begins with all that the caller
+/// had seen.
 #[derive(Drop)]
 pub struct Ready {
     line: Line,
@@ -44,7 +45,8 @@ impl Model for Ready {
 }
 
 impl Ready {
-    /// A queue with room for this many sheets, at least one, and the pass that has all its shares.
+    /// Makes a queue with room for `capacity` sheets, at least one, and the pass that has all its shares. Fails only
+    /// if memory is refused.
     pub fn new(alloc: Global, capacity: u32) -> Result<(Ready, Pass), AllocError>
         requires { 0 < capacity }
         ensures capacity { IfOk result (λ made. made.0.capacity ≡ capacity) }
@@ -61,11 +63,12 @@ impl Ready {
         Ok((ready, pass))
     }
 
-    /// The same for a queue in which puts are made by right. The pass has room for as many puts as the queue's
-    /// capacity, and the room can be split. A pass with room can always put; each put lowers its room. A pass
-    /// without room is refused, unless it has all shares: the room that there is may belong to others.
+    /// Makes a queue in which puts are made by right, and the pass that has all its shares. The pass has room for
+    /// `capacity` puts. This room can be split among several passes. While a pass has room, its puts are never
+    /// refused, and each put lowers its room by one. A pass without room is refused, unless it has all shares, because
+    /// free places in the queue may belong to other passes. Fails only if memory is refused.
     ///
-    /// No take gives room back: the capacity is the number of all puts that are ever made by right.
+    /// A take gives no room back: `capacity` is the number of all puts that are ever made by right.
     pub fn by_right(alloc: Global, capacity: u32) -> Result<(Ready, Pass), AllocError>
         requires { 0 < capacity }
         ensures capacity { IfOk result (λ made. made.0.capacity ≡ capacity) }
@@ -82,9 +85,9 @@ impl Ready {
         Ok((ready, pass))
     }
 
-    /// Puts a sheet after all others. It may wait for another thread that is in the way. Refused with Full, which
-    /// returns the sheet, only if the queue was full at some moment of the call. If puts are made by right, it is
-    /// refused only if the pass has no room.
+    /// Puts a sheet behind all others. The call may wait for another thread that is in the way. A refused put returns
+    /// the sheet in `Full`. In a queue made by `new`, a put is refused only if the queue was full at some moment of
+    /// the call. In a queue made by `by_right`, it is refused only if the pass has no room.
     pub fn put<R: Wait>(&self, rt: &R, pass: &mut Pass, sheet: u32) -> Result<(), Full>
         requires { IsPassOf self.now pass.old }
         ensures pass { IsPassOf self.now pass.new }
@@ -110,8 +113,8 @@ impl Ready {
         }
     }
 
-    /// Takes the oldest sheet. It may wait for another thread that is in the way.
-    /// None only if the queue was empty at some moment of the call.
+    /// Takes the oldest sheet. The call may wait for another thread that is in the way. It returns `None` only if the
+    /// queue was empty at some moment of the call.
     pub fn take<R: Wait>(&self, rt: &R, pass: &mut Pass) -> Option<u32>
         requires { IsPassOf self.now pass.old }
         ensures pass { IsPassOf self.now pass.new }
@@ -124,7 +127,8 @@ impl Ready {
         self.line.pop_as::<Takes, R>(rt, &mut pass.token)
     }
 
-    /// A new pass with the same front, no moves of its own, `give` of the share and no room.
+    /// Splits off a new pass with the share `give`. It has seen the same history, and has no moves of its own and no
+    /// room.
     pub fn split(&self, pass: &mut Pass, give: u64) -> Pass
         requires pass { IsPassOf self.now pass.old }
         requires share { (0 < give) × (give < pass.old.share) }
@@ -135,7 +139,8 @@ impl Ready {
         self.split_with_room(pass, give, 0)
     }
 
-    /// The same with this much of the room.
+    /// Splits off a new pass with the share `give` and this much of the room. It has seen the same history, and has no
+    /// moves of its own.
     pub fn split_with_room(&self, pass: &mut Pass, give: u64, room: u32) -> Pass
         requires pass { IsPassOf self.now pass.old }
         requires share { (0 < give) × (give < pass.old.share) }
@@ -173,7 +178,8 @@ impl Ready {
         }
     }
 
-    /// One pass from two: it has seen what either had seen, and has the moves, the shares and the room of both.
+    /// Joins two passes into one. It has seen what either had seen, and has the moves, the shares and the room of
+    /// both.
     pub fn join(&self, one: Pass, two: Pass) -> Pass
         requires one { IsPassOf self.now one }
         requires two { IsPassOf self.now two }
@@ -199,7 +205,8 @@ impl Ready {
     }
 }
 
-/// The pass with which a queue was made learns the queue's capacity, and gets its room.
+/// Lets the first pass of a new queue know the queue's capacity, and gives it its room. This changes only what
+/// contracts see.
 fn open<N: Picks>(line: &Line, token: &mut crossbeam_queue::Pass<u32, PassKnowledge>)
     requires token { Rattle.crossbeam_queue.specs.Passes.IsPassOf line.now token.old × (view token.old ≡ first_sight) }
     requires number { (N.number ≤ u32.MAX) × (puts_in N.room ≤ N.number) }

@@ -1,4 +1,4 @@
-//! The answers of the shelf to a put.
+//! What a shelf returns for a put: a receipt or an error.
 ghost use Rattle.std.specs.Prelude.{◌≡◌, ◌<◌};
 
 use crate::entry::{Entry, OwnFlagIsTrue};
@@ -8,7 +8,7 @@ use std::alloc::Global;
 use std::fmt;
 use std::marker::Model;
 
-/// The token of an entry of a shelf: which page was put there, and at which index.
+/// The token of an entry of a shelf. Contracts see which page was put there, and at which index.
 #[derive(Drop)]
 pub struct Receipt<'d> {
     pub(crate) token: Pushed<Entry<'d>, Global, OwnFlagIsTrue>,
@@ -26,7 +26,7 @@ impl<'d> Model for Receipt<'d> {
 }
 
 impl<'d> Receipt<'d> {
-    /// The index of the entry, by which others find it.
+    /// The index of the entry, with which any thread finds it (`Shelf::at`, `Shelf::find`).
     pub fn index(&self) -> u32
         ensures { result ≡ self.now.index }
     {
@@ -34,8 +34,7 @@ impl<'d> Receipt<'d> {
     }
 }
 
-/// The token of an entry whose index has more than 32 bits, so that it has no receipt. The entry stays on the
-/// shelf.
+/// The token of an entry whose index has more than 32 bits. Such an entry has no receipt, but it stays on the shelf.
 #[derive(Drop)]
 pub struct Overflow<'d> {
     pub(crate) token: Pushed<Entry<'d>, Global, OwnFlagIsTrue>,
@@ -53,7 +52,7 @@ impl<'d> Model for Overflow<'d> {
 }
 
 impl<'d> Overflow<'d> {
-    /// The index of the entry.
+    /// The index of the entry, which is at least 2^32.
     pub fn index(&self) -> u64
         ensures index { result ≡ self.now.index }
         ensures too_large { 4_294_967_295 < result }
@@ -62,12 +61,12 @@ impl<'d> Overflow<'d> {
     }
 }
 
-/// Why a put gives no receipt.
+/// Why a put returns no receipt.
 #[derive(Debug, Drop)]
 pub enum PutError<'d> {
-    /// Memory for growth was refused. The shelf is unchanged, and the page is returned.
+    /// Memory was refused. The shelf is unchanged, and the page is returned.
     NoMemory(Prepared<'d>),
-    /// The page is on the shelf, at an index beyond those that a receipt can have.
+    /// The page is on the shelf, but its index has more than 32 bits, and no receipt can have such an index.
     ShelfFull(Overflow<'d>),
 }
 

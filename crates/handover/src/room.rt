@@ -1,4 +1,5 @@
-//! The room of a pass: how many puts it may make that won't be refused. None if puts aren't made by right.
+//! The room of a pass: the number of puts that the queue will certainly accept from it. It is `None` in a queue in
+//! which puts aren't made by right.
 ghost use Rattle.std.specs.Prelude.{◌≡◌, ◌≢◌, ℕ, ◌+◌, ◌≤◌, Some, IsTrue, false};
 ghost use Rattle.rules.specs.Seats.{whole_share};
 ghost use Rattle.handover.specs.Queue.{Put};
@@ -6,8 +7,8 @@ ghost use Rattle.handover.specs.Passes.{puts_in, room_after, room_kept, room_giv
 
 use crate::pass::WHOLE_SHARE;
 
-/// Whether a pass with this room and this share may try to put. If puts are made by right and it has no room left,
-/// what there is may belong to others.
+/// Whether a pass with this room and this share may try to put a sheet. If puts are made by right, a pass without room
+/// may not, because free places in the queue may belong to other passes. A pass with all shares may always try.
 pub(crate) fn may_put(room: Option<u32>, share: u64) -> bool
     ensures may { IsTrue result → room ≡ Some 0 → share ≡ whole_share }
     ensures none_left { result ≡ false → (room ≡ Some 0) × (share ≢ whole_share) }
@@ -18,7 +19,7 @@ pub(crate) fn may_put(room: Option<u32>, share: u64) -> bool
     }
 }
 
-/// The room that is left after a put.
+/// The room of a pass after a put.
 pub(crate) fn room_after_put(room: Option<u32>) -> Option<u32>
     ensures { (sheet : ℕ) → result ≡ room_after (Put sheet) room }
 {
@@ -28,7 +29,7 @@ pub(crate) fn room_after_put(room: Option<u32>) -> Option<u32>
     }
 }
 
-/// The room that is kept if this much is given away.
+/// The room that a pass keeps if it gives this much of its room away.
 pub(crate) fn room_kept(give: u32, room: Option<u32>) -> Option<u32>
     requires { give ≤ puts_in room }
     ensures { result ≡ room_kept give room }
@@ -39,7 +40,7 @@ pub(crate) fn room_kept(give: u32, room: Option<u32>) -> Option<u32>
     }
 }
 
-/// The room that is given.
+/// The room that a pass gets if it is given this much.
 pub(crate) fn room_given(give: u32, room: Option<u32>) -> Option<u32>
     ensures { result ≡ room_given give room }
 {
@@ -49,7 +50,7 @@ pub(crate) fn room_given(give: u32, room: Option<u32>) -> Option<u32>
     }
 }
 
-/// The room of two passes together.
+/// The room of the pass into which two passes are joined.
 pub(crate) fn both_rooms(one: Option<u32>, two: Option<u32>) -> Option<u32>
     requires { puts_in one + puts_in two ≤ u32.MAX }
     ensures { result ≡ both_rooms one two }

@@ -1,9 +1,9 @@
-//! What a pass knows, and the rule of the queue.
+//! What a pass knows, and the rule that every step of the queue keeps.
 use crossbeam_queue::protocol::Protocol;
 use std::marker::Model;
 
-/// A pass's knowledge: a history that its caller has seen, the caller's own moves in it, and the number of puts that it
-/// may make by right. No value of this type is ever made.
+/// What a pass knows: a history that its caller has seen, the caller's own moves in it, and the number of puts that it
+/// may make by right. Only contracts use this type; no value of it is ever made.
 pub struct PassKnowledge {
     nothing: (),
 }
@@ -16,8 +16,9 @@ impl Model for PassKnowledge {
     ghost view = { λ v. spent_pass };
 }
 
-/// Between any two steps there is one history. The queue holds its content, and every pass has seen a beginning of
-/// it. The queue has room for its content and for all puts that may be made by right.
+/// The rule of the queue. Between any two steps there is one history. The queue holds the sheets that were put and not
+/// yet taken in it, and each pass has seen a beginning of the history. The capacity is enough for the sheets in the
+/// queue and for all puts that may still be made by right.
 pub struct HandoverHistory;
 
 impl Protocol<u32, PassKnowledge> for HandoverHistory {

@@ -1,4 +1,4 @@
-//! The shelf of prepared pages.
+//! The shelf on which prepared pages are put.
 ghost use Rattle.std.specs.Prelude.{◌≡◌, IfOk, IfErr, IfSome, IsTrue, false};
 ghost use Rattle.handover.specs.Pages.{IsPrepared};
 ghost use Rattle.handover.specs.Shelves.{IsOn, GivesNoReceipt, IsShelfOf, IsOwn};
@@ -12,8 +12,8 @@ use std::alloc::{AllocError, Global};
 use std::marker::Model;
 use std::sync::Wait;
 
-/// Prepared pages, shared by many threads without a lock. A shelf only grows, and a page stays where it was put. A
-/// shelf may belong to a document: then it knows of each page whether it was put as one of this document.
+/// Prepared pages, which many threads share without a lock. A shelf only grows, and a page keeps its index. A shelf
+/// may belong to a document. It then knows of each page whether it was put as a page of this document.
 #[derive(Drop)]
 pub struct Shelf<'d> {
     list: boxcar::Vec<Entry<'d>, Global, OwnFlagIsTrue>,
@@ -27,7 +27,7 @@ impl<'d> Model for Shelf<'d> {
     ghost view = { λ s. s.list };
 }
 
-/// A page on a shelf, the receipt of its entry, and whether it was put there as one of the document of the shelf.
+/// What a shelf has at an index: a page, its receipt, and whether it was put as a page of the shelf's document.
 #[derive(Drop)]
 pub struct Shelved<'a, 'd> {
     pub page: &'a Prepared<'d>,
@@ -36,13 +36,13 @@ pub struct Shelved<'a, 'd> {
 }
 
 impl<'d> Shelf<'d> {
-    /// An empty shelf, without a document.
+    /// Makes an empty shelf that belongs to no document. Fails only if memory is refused.
     pub fn new(alloc: Global) -> Result<Shelf<'d>, AllocError> {
         let list = boxcar::Vec::with_rule(alloc, Tag::empty())?;
         Ok(Shelf { list })
     }
 
-    /// An empty shelf of this document.
+    /// Makes an empty shelf that belongs to this document. Fails only if memory is refused.
     pub fn of_document(alloc: Global, document: &Document<'_>) -> Result<Shelf<'d>, AllocError>
         ensures of { IfOk result (λ shelf. IsShelfOf shelf document.now) }
     {
@@ -51,9 +51,9 @@ impl<'d> Shelf<'d> {
         Ok(Shelf { list })
     }
 
-    /// Puts a page on the shelf. It may spin while another thread makes room.
-    /// Refused with NoMemory, which returns the page, and with ShelfFull, if the page's index has more than 32
-    /// bits.
+    /// Puts a page on the shelf, but not as a page of the shelf's document. The call may spin while another thread
+    /// makes room. If memory is refused, the error is `NoMemory` and contains the page. If the index of the page has
+    /// more than 32 bits, the error is `ShelfFull`, and the page stays on the shelf.
     pub fn put<R: Wait>(&self, rt: &R, prepared: Prepared<'d>) -> Result<Receipt<'d>, PutError<'d>>
         ensures put { IfOk result (λ receipt. IsOn self.now receipt × (receipt.value ≡ prepared.entry)) }
         ensures mark { IfOk result (λ receipt. receipt.is_own ≡ false) }
@@ -62,7 +62,8 @@ impl<'d> Shelf<'d> {
         self.put_as(rt, prepared, false)
     }
 
-    /// Puts a page like `put`, and records whether it is put as one of the document of the shelf.
+    /// Puts a page on the shelf, as `put` does. If `is_own` is true, it is put as a page of the shelf's document, and
+    /// it must be one.
     pub fn put_as<R: Wait>(
         &self,
         rt: &R,
@@ -90,7 +91,7 @@ impl<'d> Shelf<'d> {
         }
     }
 
-    /// The page that was put for this receipt of this shelf.
+    /// The page for which this shelf returned this receipt.
     pub fn read<'a>(&'a self, receipt: &Receipt<'d>) -> &'a Prepared<'d>
         requires { IsOn self.now receipt.now }
         ensures { result.now ≡ receipt.now.value }
@@ -98,8 +99,8 @@ impl<'d> Shelf<'d> {
         &self.list.value(&receipt.token).page
     }
 
-    /// The page at an index, if the shelf has one. `find` also returns its receipt, which allows a clause to say
-    /// that it is this page.
+    /// The page at an index, or `None` if the shelf has no page there. `find` also returns a receipt, with which
+    /// contracts can say which page it is.
     pub fn at(&self, index: u32) -> Option<&Prepared<'d>>
         ensures prepared { IfSome result (λ page. IsPrepared page.now) }
     {
@@ -107,8 +108,8 @@ impl<'d> Shelf<'d> {
         Some(found.page)
     }
 
-    /// The page at an index, if the shelf has one, with the receipt of its entry, and whether it was put as one of
-    /// the document of the shelf.
+    /// The page at an index, with its receipt, and with whether it was put as a page of the shelf's document. None if
+    /// the shelf has no page there.
     pub fn find(&self, index: u32) -> Option<Shelved<'_, 'd>>
         ensures shown { IfSome result (λ found. IsOn self.now found.receipt × (found.receipt.index ≡ index)
             × (found.receipt.value ≡ found.page.now)) }
@@ -119,7 +120,7 @@ impl<'d> Shelf<'d> {
         let token = self.list.witness(index as usize)?;
         let entry = self.list.get_seen(index as usize, &token)?;
         let page = &entry.page;
-        // Calling it shows that its body is the prepared form of its bytes.
+        // The contract of `body` shows here that the page's body is the prepared form of its bytes.
         page.body();
         Some(Shelved {
             page,
@@ -128,8 +129,8 @@ impl<'d> Shelf<'d> {
         })
     }
 
-    /// An index has one page: two receipts of this shelf with the same index are of the same page, put in the same way,
-    /// whoever got them. It does nothing.
+    /// Shows that two receipts of this shelf with the same index are of the same page, put in the same way. It doesn't
+    /// matter which threads got them. Only the contract of this function is of use: it does nothing.
     pub fn agree(&self, one: &Receipt<'d>, two: &Receipt<'d>)
         requires one { IsOn self.now one.now }
         requires two { IsOn self.now two.now }

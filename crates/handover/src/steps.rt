@@ -1,9 +1,9 @@
-//! What each step reveals, and how passes are split and joined.
+//! What a pass learns from each step of the queue, and how passes are split and joined.
 use crate::rule::PassKnowledge;
 use crossbeam_queue::protocol::{Join, Lesson, Outcome, Split};
 use std::marker::{Brand, PhantomData};
 
-/// A put: the sheet was put, or the queue was full.
+/// The step of a put: a sheet was put, or the queue was full.
 pub(crate) struct Puts;
 
 impl Outcome<u32, PassKnowledge> for Puts {
@@ -19,7 +19,7 @@ impl Lesson<u32, PassKnowledge> for Puts {
     ghost fact = { Sees };
 }
 
-/// A take: a sheet was taken, or the queue was empty.
+/// The step of a take: a sheet was taken, or the queue was empty.
 pub(crate) struct Takes;
 
 impl Outcome<u32, PassKnowledge> for Takes {
@@ -35,7 +35,8 @@ impl Lesson<u32, PassKnowledge> for Takes {
     ghost fact = { Sees };
 }
 
-/// Ghost parameter, chosen in the proof of each call; no code: a share to give away, or a capacity; and a room.
+/// A ghost parameter, which the proof of each call chooses: a number, which is a share to give away or a capacity, and
+/// a room. It has no code.
 pub trait Picks {
     ghost use Rattle.std.specs.Prelude.{ℕ, Option};
 
@@ -52,7 +53,7 @@ impl Picks for Brand {
     ghost room = { None };
 }
 
-/// A split: the number is the share that is given, together with the room.
+/// The split of a pass. The number is the share that is given away, with the room.
 pub(crate) struct HistoryCut<N: Picks> {
     of: PhantomData<N>,
 }
@@ -66,7 +67,7 @@ impl<N: Picks> Split<PassKnowledge> for HistoryCut<N> {
     ghost right = { gets_of N.number (puts_in N.room) };
 }
 
-/// A join, and the look after it, from which the pass learns what the rule says about it.
+/// The join of two passes, and the step after it, in which the joined pass learns what the rule says about it.
 pub(crate) struct JoinPasses;
 
 impl Join<PassKnowledge> for JoinPasses {
@@ -84,7 +85,8 @@ impl Lesson<u32, PassKnowledge> for JoinPasses {
     ghost fact = { Learns };
 }
 
-/// Before the first move the pass learns the capacity, which is the number, and gets its room.
+/// The step before the first move. In it the first pass learns the capacity of the queue, which is the number, and
+/// gets its room.
 pub(crate) struct Opens<N: Picks> {
     of: PhantomData<N>,
 }
