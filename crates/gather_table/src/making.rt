@@ -1,4 +1,4 @@
-//! How the shared table is made.
+//! Makes the table that threads share.
 ghost use Rattle.std.specs.Prelude.{◌≡◌, ◌+◌, ◌/◌, ◌<◌, ◌≤◌, nat_lt, if◌then◌else◌, length, IfOk};
 ghost use Rattle.rules.specs.Admissible.{most_slots};
 ghost use Rattle.rules.specs.Run.{most_pages, most_sheets};
@@ -17,13 +17,13 @@ use sheet_plan::Plan;
 use std::alloc::{AllocError, Global};
 
 impl<'s> GatherTable<'s> {
-    /// A table for a plan, and the seat that has all its shares. Blank slots count as marked from the start, and
-    /// groups with only blank slots as closed.
+    /// Makes a table for a plan, and the seat that has all its shares. Blank slots are marked from the start, and
+    /// groups that have only blank slots are closed. Fails only if memory is refused.
     ///
-    /// One word for each page has its index. The bits of a sheet of up to 64 slots are a lane of neighbouring bits
-    /// of one word. A sheet takes the next free bits of the current word if there are enough, otherwise the first
-    /// bits of the next word. A wide sheet has words of its own after the lanes, a closing word and then one word
-    /// for each group.
+    /// The table has one word for the index of each page. The bits of a sheet of up to 64 slots are side by side in
+    /// one word; they are its lane. A lane takes the next free bits of the current word if there are enough, and
+    /// otherwise the first bits of the next word. A wide sheet has words of its own after the lanes: a closing word,
+    /// and then one word for each group.
     pub fn new(alloc: Global, plan: &Plan<'s>) -> Result<(GatherTable<'s>, Seat), AllocError>
         ensures layout { IfOk result (λ made. made.0.layout ≡ layout plan.now) }
         ensures seat { IfOk result (λ made. made.1 ≡ opening_seat made.0) }
@@ -46,7 +46,7 @@ impl<'s> GatherTable<'s> {
     }
 }
 
-/// Where the bits of each sheet are, and the number of words for them.
+/// The place of each sheet's bits, and the number of words of the whole table. Fails only if memory is refused.
 fn homes_of(alloc: Global, plan: &Plan) -> Result<(Vec<Home>, u32), AllocError>
     ensures homes { IfOk result (λ made. AreHomes (layout plan.now) made.0.items) }
     ensures words { IfOk result (λ made. made.1 ≡ wide_at (layout plan.now) (length (layout plan.now).sheets)) }
@@ -79,7 +79,8 @@ fn lane_words(plan: &Plan) -> u32
     next.word + 1
 }
 
-/// The next lane of this many bits.
+/// The lane of the next sheet, which needs `count` bits. It begins at `next` if that word has enough bits left, and
+/// otherwise at the first bit of the next word.
 fn fit(next: Lane, count: u8) -> Lane
     requires { (next.first ≤ 64) × (count ≤ 64) × (next.word < most_sheets) }
     ensures { result ≡ lane_for next count }
@@ -93,7 +94,7 @@ fn fit(next: Lane, count: u8) -> Lane
     next
 }
 
-/// The number of a sheet's bits in the lanes: a wide sheet has none there.
+/// The number of bits that a sheet with this many slots needs in the lanes. A wide sheet needs none.
 fn lane_width(slots: u16) -> u8
     ensures { result ≡ (if nat_lt 64 slots then 0 else slots) }
 {
@@ -103,8 +104,8 @@ fn lane_width(slots: u16) -> u8
     slots as u8
 }
 
-/// The number of words that only this sheet uses: of a wide one a closing word and one for each group, otherwise
-/// none.
+/// The number of words that a sheet with this many slots has for itself. A wide sheet has a closing word and one word
+/// for each group. Any other sheet has none.
 fn own_words(slots: u16) -> u32
     requires { slots ≤ most_slots }
     ensures { result ≡ (if nat_lt 64 slots then 1 + (slots + 63) / 64 else 0) }
@@ -115,7 +116,8 @@ fn own_words(slots: u16) -> u32
     0
 }
 
-/// Where a sheet's bits are, given its lane and the next word after those of the wide sheets before it.
+/// The place of a sheet's bits. `lane` is the lane that it has if it isn't wide. `wide` is the next word after those
+/// of the earlier wide sheets.
 fn home_at(slots: u16, pages: u32, lane: Lane, wide: u32) -> Home
     requires { (pages ≤ most_pages) × (lane.word ≤ most_sheets) }
     ensures { result ≡ (if nat_lt 64 slots then record { slots = slots; word = wide; first = 0 }

@@ -1,10 +1,10 @@
-//! What a seat knows, and the rule of the table.
+//! What a seat knows, and the rule that every step of the table keeps.
 use atomic_table::TableRule;
 use sheet_plan::Plan;
 use std::marker::Model;
 
-/// A seat's knowledge: a history that its caller has seen, and the caller's own calls in it. No value of this type is
-/// ever made.
+/// What a seat knows: a history that its caller has seen, and the caller's own calls in it. Only contracts use this
+/// type; no value of it is ever made.
 pub struct SeatKnowledge {
     nothing: (),
 }
@@ -17,8 +17,9 @@ impl Model for SeatKnowledge {
     ghost view = { λ v. spent_seat };
 }
 
-/// Between any two steps there is one legal history. The words hold its state, and every seat has seen a beginning
-/// of it.
+/// The rule of the table. Between any two steps there is one legal history, in which each call has the reply of a
+/// table for one thread. The words hold the state after this history, and each seat has seen a beginning of the
+/// history.
 pub struct TableHistory;
 
 impl<'s> TableRule<(), SeatKnowledge, Plan<'s>> for TableHistory {

@@ -1,4 +1,4 @@
-//! A caller's token.
+//! A caller's token for the table.
 ghost use Rattle.std.specs.Prelude.{◌≡◌};
 ghost use Rattle.gather_table.specs.Shared.{IsSeat};
 
@@ -6,8 +6,8 @@ use crate::rule::SeatKnowledge;
 use std::fmt;
 use std::marker::Model;
 
-/// A caller's token for one table. It represents a legal history that the caller has seen, its front, and the
-/// caller's own calls in it. Neither is stored: a seat is eight bytes, its share.
+/// A caller's token for one table. Contracts see its front, which is a legal history that the caller has seen, and the
+/// caller's own calls in this history. Neither is stored: a seat has eight bytes, for its share.
 #[derive(Drop)]
 pub struct Seat {
     pub(crate) token: atomic_table::Seat<(), SeatKnowledge>,
@@ -28,7 +28,8 @@ impl Model for Seat {
 }
 
 impl Seat {
-    /// The number of the table's 2^32 shares that the seat has. With all of them it is the table's only seat.
+    /// The number of shares that the seat has, of the 2^32 shares of its table. A seat with all shares is the only
+    /// seat of the table.
     pub fn share(&self) -> u64
         ensures value { result ≡ self.now.share }
         ensures seat { IsSeat self.now }

@@ -1,9 +1,9 @@
-//! What each step reveals, and how seats are split and joined.
+//! What a seat learns from each step of the table, and how seats are split and joined.
 use crate::rule::SeatKnowledge;
 use atomic_table::{Join, Play, Split};
 use std::marker::{Brand, PhantomData};
 
-/// A publish.
+/// The step of a publish, which stores an index for a page.
 pub(crate) struct Publishes;
 
 impl Play<(), SeatKnowledge> for Publishes {
@@ -12,7 +12,7 @@ impl Play<(), SeatKnowledge> for Publishes {
     ghost then = { publishes };
 }
 
-/// A look-up of a page.
+/// The step that looks up the index of a page.
 pub(crate) struct Finds;
 
 impl Play<(), SeatKnowledge> for Finds {
@@ -21,7 +21,8 @@ impl Play<(), SeatKnowledge> for Finds {
     ghost then = { finds };
 }
 
-/// Ghost parameter, chosen in the proof of each call; no code: which call a step is, given the word that it finds.
+/// A ghost parameter, which the proof of each call chooses: the call that a step is, given the word that it finds. It
+/// has no code.
 pub trait StepIs {
     ghost use Rattle.std.specs.Prelude.{ℕ};
     ghost use Rattle.gather_table.specs.History.{Entry};
@@ -35,7 +36,7 @@ impl StepIs for Brand {
     ghost entry = { λ found. Look 0 0 };
 }
 
-/// A call on slots or groups. A word may hold those of several sheets.
+/// The step of a call on slots or groups. Its word may hold the slots of several sheets.
 pub(crate) struct Calls<E: StepIs> {
     of: PhantomData<E>,
 }
@@ -46,7 +47,7 @@ impl<E: StepIs> Play<(), SeatKnowledge> for Calls<E> {
     ghost then = { calls E.entry };
 }
 
-/// A join.
+/// The join of two seats.
 pub(crate) struct JoinSeats;
 
 impl Join<SeatKnowledge> for JoinSeats {
@@ -58,7 +59,7 @@ impl Join<SeatKnowledge> for JoinSeats {
     ghost spent = { spent_seat };
 }
 
-/// A look after a join, from which the seat learns what the rule says about it.
+/// The step after a join, in which the joined seat learns what the rule says about it.
 pub(crate) struct Learns;
 
 impl Play<(), SeatKnowledge> for Learns {
@@ -67,8 +68,8 @@ impl Play<(), SeatKnowledge> for Learns {
     ghost then = { learns };
 }
 
-/// Ghost parameter, chosen in the proof of each call; no code: the own places of the two seats that one seat
-/// becomes, and the share of the second.
+/// A ghost parameter, which the proof of each call chooses: for a seat that becomes two, the places of each one's own
+/// calls, and the share of the second. It has no code.
 pub trait Parts {
     ghost use Rattle.std.specs.Prelude.{ℕ, List};
 
@@ -89,7 +90,7 @@ impl Parts for Brand {
     ghost share = { 1 };
 }
 
-/// A split: one seat becomes two, each with its own places and its share.
+/// The split of a seat into two. Each of them has its own calls and its share.
 pub(crate) struct Parted<P: Parts> {
     of: PhantomData<P>,
 }

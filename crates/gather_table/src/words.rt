@@ -1,5 +1,5 @@
-//! The meaning of words: the slots of a group, bit k for its slot k; the groups of a wide sheet; and the index of a
-//! page.
+//! The meaning of the words of a table. A page's word holds its index. A group's word has a bit for each slot, bit k
+//! for its slot k. The closing word of a wide sheet has a bit for each group.
 ghost use Rattle.std.specs.Prelude.{◌≡◌, ◌+◌, ◌-◌, ◌*◌, ◌/◌, ◌<◌, ◌≤◌, ◌^◌, nat_lt, if◌then◌else◌, length};
 ghost use Rattle.rules.specs.Admissible.{most_slots};
 ghost use Rattle.rules.specs.Sheets.{layout};
@@ -10,7 +10,8 @@ ghost use Rattle.gather_table.specs.Words.{index_in, reply_in};
 use crate::answers::{Closing, Published, Reply};
 use sheet_plan::Plan;
 
-/// The blank slots of a group, counted from its first. A sheet of up to 64 slots is one group.
+/// The blank slots of a group: bit j is set if the group's slot j, counted from 0, is blank. A sheet of up to 64 slots
+/// is one group.
 pub(crate) fn blank_bits(plan: &Plan, sheet: u32, group: u8) -> u64
     requires sheet { sheet < length plan.now.sheets }
     requires group { group < group_count (layout plan.now) sheet }
@@ -28,7 +29,7 @@ pub(crate) fn group_count(slots: u16) -> u8
     ((slots + 63) / 64) as u8
 }
 
-/// The number of slots in a group of such a sheet.
+/// The number of slots in a group of a sheet with this many slots.
 pub(crate) fn group_size(slots: u16, group: u8) -> u16
     requires { 64 * group ≤ slots }
     ensures { result ≡ (if nat_lt (64 * group + 64) slots then 64 else slots - 64 * group) }
@@ -41,7 +42,7 @@ pub(crate) fn group_size(slots: u16, group: u8) -> u16
     }
 }
 
-/// The bits of this many slots or groups, all set.
+/// The word in which the bits of this many slots or groups are set, and no others.
 pub(crate) fn full_bits(count: u16) -> u64
     requires { (0 < count) × (count ≤ 64) }
     ensures { result ≡ 2 ^ count - 1 }
@@ -49,7 +50,7 @@ pub(crate) fn full_bits(count: u16) -> u64
     u64::MAX >> (64 - count)
 }
 
-/// The index of a page, given its word, which is the index plus one, or 0 if there is none.
+/// The index of a page, from its word. The word is the index plus one, or 0 if the page has no index.
 pub(crate) fn index_by(word: u64) -> Option<u32>
     requires { word ≤ 2 ^ 32 }
     ensures { result ≡ index_in word }
@@ -60,7 +61,7 @@ pub(crate) fn index_by(word: u64) -> Option<u32>
     Some((word - 1) as u32)
 }
 
-/// The reply to a publish, given the word that it found.
+/// The reply to a publish, from the word that the page had before.
 pub(crate) fn published_by(found: u64) -> Published
     requires { found ≤ 2 ^ 32 }
     ensures { result ≡ publish_reply (index_in found) }
@@ -71,8 +72,9 @@ pub(crate) fn published_by(found: u64) -> Published
     }
 }
 
-/// The reply for a bit, given the bits that it found, where all of them are `full`: it was there, it is the last
-/// one, or another.
+/// The reply to setting a bit. `found` has the bits that were set before, and `full` has all bits that can be set. The
+/// bit was already set (`Repeated`), was the last one missing (`Completing`), or other bits are still missing
+/// (`Fresh`).
 pub(crate) fn reply_by(found: u64, bit: u64, full: u64) -> Reply
     ensures { result ≡ reply_in found bit full }
 {
@@ -85,7 +87,7 @@ pub(crate) fn reply_by(found: u64, bit: u64, full: u64) -> Reply
     }
 }
 
-/// The reply to a mark in a group of a wide sheet, given the reply of the slot in the group.
+/// The reply to a mark in a group of a wide sheet. `reply` is the reply that the slot has within the group.
 pub(crate) fn group_reply(group: u8, reply: Reply) -> Reply
     ensures { result ≡ group_reply group reply }
 {
@@ -95,7 +97,7 @@ pub(crate) fn group_reply(group: u8, reply: Reply) -> Reply
     }
 }
 
-/// The reply to closing a group, given the reply of the group in its sheet.
+/// The reply to closing a group. `reply` is the reply that the group has within its sheet.
 pub(crate) fn closing_by(reply: Reply) -> Closing
     ensures { result ≡ closing_by reply }
 {
