@@ -1,5 +1,9 @@
-//! Laws of a machine with further operators; of sheets of several papers, and with marks or lines for notes; of real documents.
-//! The functions do nothing.
+//! Laws of a PostScript machine with further operators, of sheets on several papers and with strokes (marks and lines
+//! for notes), and of two real documents (docs/PICTURES.md, 'Further operators').
+//!
+//! An operator is placeless if its result in a placed state is its result in the state itself, placed. It is blind if
+//! it is placeless and doesn't ask for the names that the sheet's text defines. The premises are in docs/PICTURES.md.
+//! Each function states one law in its contract, and does nothing.
 ghost use Rattle.open_pictures.specs.Blindness.{PlacelessRunsPreambles};
 ghost use Rattle.open_pictures.specs.Documents.{OpenMadeSheetsShowThePages, OpenOwnPicture, OpenSheetsShowThePages};
 ghost use Rattle.open_pictures.specs.DocumentRun.{OpenSheetsShowTheDocument};
@@ -19,27 +23,31 @@ ghost use Rattle.open_pictures.specs.Unguarded.{DressedSheetsShowThePages, OpenD
 ghost use Rattle.open_pictures.specs.Barcode.{BarcodeIsShown};
 ghost use Rattle.open_pictures.specs.Groff.{GroffIsShown};
 
-/// With any further operators that are placeless, a machine in a placed state does what it does in the state, placed.
+/// With further operators that are placeless, if the machine goes from one state to another by itself, it also goes
+/// from the first state, placed, to the second state, placed.
 pub fn open_placing_commutes()
     ensures { OpenPlacingCommutes }
 {}
 
-/// A placed page paints on the sheet what it paints by itself, placed.
+/// With further operators that are placeless, a placed page paints on the sheet the picture that it paints by itself,
+/// placed.
 pub fn open_page_is_placed()
     ensures { OpenPageIsPlaced }
 {}
 
-/// Each sheet is printed with the pictures of its pages, placed.
+/// With further operators that are placeless, each sheet is printed with the pictures of its pages, placed.
 pub fn open_sheets_are_printed()
     ensures { OpenSheetsArePrinted }
 {}
 
-/// A page prints by itself, after the preamble, the picture that it paints by itself.
+/// With further operators that are blind, the picture that a page prints directly after the preamble is the picture
+/// that it paints by itself.
 pub fn open_own_picture()
     ensures { OpenOwnPicture }
 {}
 
-/// With any further operators that are blind, a machine, given an output, prints, sheet by sheet, what the document's own pages print, placed.
+/// With further operators that are blind, a machine that runs an output prints, sheet by sheet, the pictures that the
+/// document's own pages print, placed.
 pub fn open_sheets_show_the_pages()
     ensures { OpenSheetsShowThePages }
 {}
@@ -54,162 +62,187 @@ pub fn tables_are_placeless()
     ensures { TablesArePlaceless }
 {}
 
-/// They are blind, if they ask for none of the names that the sheet's text puts.
+/// Operators that see no place are blind if they don't ask for the names that the sheet's text defines.
 pub fn tables_are_blind()
     ensures { TablesAreBlind }
 {}
 
-/// An operator whose result depends on its operands and the settings asks for none of these names.
+/// If the result of an operator depends only on its operands and the settings, the operator doesn't ask for the names
+/// that the sheet's text defines.
 pub fn answers_ask_for_none()
     ensures { AnswersAskForNone }
 {}
 
-/// The same holds for made sheets, each page on a paper of its own.
+/// What `open_sheets_show_the_pages` says also holds for made sheets on which each page has a paper of its own.
 pub fn open_made_sheets_show_the_pages()
     ensures { OpenMadeSheetsShowThePages }
 {}
 
-/// Operators that are placeless may run the preamble too; others may look at where it is.
+/// Operators that are placeless may also be used by the preamble. A preamble may have others too, which look at their
+/// place.
 pub fn placeless_runs_preambles()
     ensures { PlacelessRunsPreambles }
 {}
 
-/// A document whose pages are independent prints what its output shows, sheet by sheet, placed.
+/// With further operators that are blind, if the pages of a document are independent, a machine that runs an output
+/// prints, sheet by sheet, the pictures that the document itself prints, placed.
 pub fn open_sheets_show_the_document()
     ensures { OpenSheetsShowTheDocument }
 {}
 
-// Under the guard.
+// Laws of guarded documents.
 
-/// With further operators too, the free machine does in the page's place what the page does by itself.
+/// What a page with further operators does by itself, the machine with the guard's procedures does in the page's
+/// place.
 pub fn open_shelter_commutes()
     ensures { OpenShelterCommutes }
 {}
 
-/// Operators of a table that don't look at what matrices hold are placeless under the guard too.
+/// Operators that don't look at the contents of matrices are placeless in guarded documents too.
 pub fn tables_are_placeless_there()
     ensures { TablesArePlacelessThere }
 {}
 
-/// A placed page of a guarded document paints on the sheet what it paints by itself, placed.
+/// A placed page of a guarded document with further operators paints on the sheet the picture that it paints by
+/// itself, placed.
 pub fn open_guarded_page_is_placed()
     ensures { OpenGuardedPageIsPlaced }
 {}
 
-/// Given an output of a document with the guard in its preamble, a machine prints the pictures of its pages, placed.
+/// A machine that runs an output of a document with the guard in its preamble prints the pictures that the pages paint
+/// by themselves, placed. Pages may have further operators.
 pub fn open_guarded_sheets_show_the_pages()
     ensures { OpenGuardedSheetsShowThePages }
 {}
 
-/// The sheets that impose makes of a guarded document show its pages, with any further operators that are placeless there.
+/// A machine that runs what impose makes of a guarded document by a specification prints the pictures of its pages,
+/// placed. Pages may have further operators that are placeless in guarded documents.
 pub fn open_guarded_document_is_shown()
     ensures { OpenGuardedDocumentIsShown }
 {}
 
-/// The same holds for what impose writes of any sheets that are reported as one paper.
+/// What `open_guarded_document_is_shown` says of specifications holds for any sheets that are reported as having one
+/// paper.
 pub fn open_made_document_is_shown()
     ensures { OpenMadeDocumentIsShown }
 {}
 
-/// An operator whose result depends on its operands and the settings doesn't look at what matrices hold.
+/// If the result of an operator depends only on its operands and the settings, the operator doesn't look at the
+/// contents of matrices.
 pub fn answers_see_no_matrices()
     ensures { AnswersSeeNoMatrices }
 {}
 
-/// A placed page of a document with a showpage of its own paints on the sheet what it paints by itself, placed.
+/// If a document has a `showpage` of its own, its placed pages paint on the sheet the pictures that they paint by
+/// themselves, placed. Pages may have further operators.
 pub fn open_own_page_is_placed()
     ensures { OpenOwnPageIsPlaced }
 {}
 
-/// Given an output of such a document, a machine prints, sheet by sheet, what its pages paint by themselves, placed.
+/// A machine that runs what impose makes, by a specification, of a document with a `showpage` of its own prints, sheet
+/// by sheet, the pictures that the pages paint by themselves, placed. Pages may have further operators.
 pub fn open_own_showpage_is_shown()
     ensures { OpenOwnShowpageIsShown }
 {}
 
-/// The same holds for what impose makes of such a document on sheets that are reported as one paper.
+/// What `open_own_showpage_is_shown` says of specifications holds for any sheets that are reported as having one
+/// paper.
 pub fn open_own_made_document_is_shown()
     ensures { OpenOwnMadeDocumentIsShown }
 {}
 
-/// A placed page of a document that made userdict's `showpage` empty paints on the sheet what it paints by itself, placed.
+/// If a document leaves the `showpage` of userdict empty, its placed pages paint on the sheet the pictures that they
+/// paint by themselves, placed. Pages may have further operators.
 pub fn open_silenced_page_is_placed()
     ensures { OpenSilencedPageIsPlaced }
 {}
 
-/// Given an output of such a document, a machine prints, sheet by sheet, what its pages paint by themselves, placed.
+/// A machine that runs what impose makes, by a specification, of a document that leaves the `showpage` of userdict
+/// empty prints, sheet by sheet, the pictures that the pages paint by themselves, placed. Pages may have further
+/// operators.
 pub fn open_silenced_document_is_shown()
     ensures { OpenSilencedDocumentIsShown }
 {}
 
-/// The same holds for what impose makes of such a document on sheets that are reported as one paper.
+/// What `open_silenced_document_is_shown` says of specifications holds for any sheets that are reported as having one
+/// paper.
 pub fn open_silenced_made_document_is_shown()
     ensures { OpenSilencedMadeDocumentIsShown }
 {}
 
-// Values.
+// Laws of operators on values.
 
-/// An operator that sees dictionaries but for the names that the sheet's text puts asks for none of these.
+/// An operator on values sees the entries of dictionaries, except those that the sheet's text defines. Therefore it
+/// doesn't ask for these names.
 pub fn stores_ask_for_none()
     ensures { StoresAskForNone }
 {}
 
-/// Such an operator doesn't look at what matrices hold either.
+/// An operator on values doesn't look at the contents of matrices.
 pub fn stores_see_no_matrices()
     ensures { StoresSeeNoMatrices }
 {}
 
-/// A table of such operators is blind.
+/// A table of operators on values is blind, also if it has other operators that don't ask for the names that the
+/// sheet's text defines.
 pub fn stores_are_blind()
     ensures { StoresAreBlind }
 {}
 
-/// It is also placeless under the guard.
+/// A table of operators on values is placeless in guarded documents too, also if it has other operators that don't
+/// look at the contents of matrices.
 pub fn stores_are_placeless_there()
     ensures { StoresArePlacelessThere }
 {}
 
-/// The table of operators on values is blind, with any others that are.
+/// The project's table of operators on values is blind. It stays blind if operators are added that don't ask for the
+/// names that the sheet's text defines.
 pub fn values_are_blind()
     ensures { ValuesAreBlind }
 {}
 
-/// It is also placeless under the guard.
+/// The project's table of operators on values is placeless in guarded documents too. It stays so if operators are
+/// added that don't look at the contents of matrices.
 pub fn values_are_placeless_there()
     ensures { ValuesArePlacelessThere }
 {}
 
-/// Where sheets have several papers, each calls `setpagedevice` with the size of its own.
+/// If sheets have several papers, each sheet calls `setpagedevice` with the size of its own paper.
 pub fn device_size_is_set()
     ensures { DeviceSizeIsSet }
 {}
 
-/// Given all that impose writes of a document with the guard in it, a machine prints what the document's pages paint by themselves, placed, with each
-/// sheet's strokes after them.
+/// A machine that runs anything that impose writes of a document with the guard prints, sheet by sheet, the pictures
+/// that the document's pages paint by themselves, placed. The strokes of a sheet come after its pages.
 pub fn dressed_document_is_shown()
     ensures { DressedDocumentIsShown }
 {}
 
-/// The same holds with further operators that look neither at the place nor at matrices.
+/// What `dressed_document_is_shown` says also holds if pages have further operators that are placeless in guarded
+/// documents.
 pub fn open_dressed_document_is_shown()
     ensures { OpenDressedDocumentIsShown }
 {}
 
-/// Without the guard a machine prints what the document's pages print by themselves, placed, with each sheet's strokes after them.
+/// A machine that runs anything that impose writes of a document without the guard prints, sheet by sheet, the
+/// pictures that the document's own pages print, placed. The strokes of a sheet come after its pages.
 pub fn dressed_sheets_show_the_pages()
     ensures { DressedSheetsShowThePages }
 {}
 
-/// The same holds with further operators that don't look at the place.
+/// What `dressed_sheets_show_the_pages` says also holds if pages have further operators that are blind.
 pub fn open_dressed_sheets_show_the_pages()
     ensures { OpenDressedSheetsShowThePages }
 {}
 
-/// Sheets of barcode.ps show its three pages, placed.
+/// A machine that runs an output of barcode.ps prints the pictures of its three pages, placed. Only comments may be
+/// added to the sheets.
 pub fn barcode_is_shown()
     ensures { BarcodeIsShown }
 {}
 
-/// Sheets of groff.ps show its two pages, placed.
+/// A machine that runs an output of groff.ps prints the pictures of its two pages, placed. Only comments may be added
+/// to the sheets.
 pub fn groff_is_shown()
     ensures { GroffIsShown }
 {}

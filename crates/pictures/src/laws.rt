@@ -1,4 +1,6 @@
-//! Laws of the machine and of what it paints. The functions do nothing.
+//! Laws of a small PostScript machine, and of the pictures that it paints on sheets (docs/PICTURES.md, which lists the
+//! premises). A picture is placed by applying the page's matrix last in each transformation, and by clipping it at the
+//! edge of the page's paper. Each function states one law in its contract, and does nothing.
 ghost use Rattle.pictures.specs.DocumentRun.{PagesArePrinted};
 ghost use Rattle.pictures.specs.Documents.{OpeningIsCut, OutputIsPrinted};
 ghost use Rattle.pictures.specs.Imposed.{MadeSheetsShowThePages};
@@ -26,12 +28,13 @@ ghost use Rattle.pictures.specs.Lines.{AskingShows, AsksUserdict, ClipIsThePages
 ghost use Rattle.pictures.specs.Lines.{DeviceIsHanded, DeviceIsLeft, GraphicsAreThePages, GuardedTwice, LoadedShowpage};
 ghost use Rattle.pictures.specs.Lines.{MatrixIsThePages, OuterIsKept, PageIsLeft, SaveSaves, ShowpageStaysAName};
 
-/// A machine in a placed state does what it does in the state, placed.
+/// If the machine goes from one state to another by itself, it also goes from the first state, placed, to the second
+/// state, placed.
 pub fn placing_commutes()
     ensures { PlacingCommutes }
 {}
 
-/// A placed page paints on the sheet what it paints by itself, placed.
+/// A placed page paints on the sheet the picture that it paints by itself, placed.
 pub fn page_is_placed()
     ensures { PageIsPlaced }
 {}
@@ -41,304 +44,333 @@ pub fn sheets_are_printed()
     ensures { SheetsArePrinted }
 {}
 
-/// The tokens of a complete text followed by another are those of the first and then those of the second.
+/// If a text that ends between tokens is followed by another text, the tokens of both together are those of the first,
+/// followed by those of the second.
 pub fn tokens_join()
     ensures { TokensJoin }
 {}
 
-/// The text before a placed page is cut into the tokens of the sheet's text.
+/// The text before a placed page is cut into the tokens that save the state and place the page, and ends between
+/// tokens.
 pub fn opening_is_cut()
     ensures { OpeningIsCut }
 {}
 
-/// Given an output, a machine prints the sheets in order, each with the pictures of its pages, placed.
+/// A machine that runs an output prints the sheets in order, each with the pictures of its pages, placed.
 pub fn output_is_printed()
     ensures { OutputIsPrinted }
 {}
 
-/// A placed transformation is read as the picture's own, and then as the place.
+/// To read a point through a placed transformation, first read it through the picture's own matrices, and then through
+/// those of the place.
 pub fn reading_follows()
     ensures { ReadingFollows }
 {}
 
-/// Each whole point of a page is read where its item puts it.
+/// A point of a page with whole coordinates is read on the sheet where the specification's item puts it.
 pub fn points_are_put()
     ensures { PointsArePut }
 {}
 
-/// A page prints by itself, after the preamble, the picture that it paints by itself.
+/// The picture that a page prints directly after the preamble is the picture that it paints by itself.
 pub fn own_picture()
     ensures { OwnPicture }
 {}
 
-/// Given an output, a machine prints, sheet by sheet, what the document's own pages print, placed.
+/// A machine that runs an output prints, sheet by sheet, the pictures that the document's own pages print, placed.
 pub fn sheets_show_the_pages()
     ensures { SheetsShowThePages }
 {}
 
-/// A document prints, page after page, what each page prints after the preamble, if its pages are independent.
+/// If the pages of a document are independent, the document prints, page after page, what each page prints directly
+/// after the preamble.
 pub fn pages_are_printed()
     ensures { PagesArePrinted }
 {}
 
-/// Then, given an output, a machine prints, sheet by sheet, what the document has printed, placed.
+/// If the pages of a document are independent, a machine that runs an output prints, sheet by sheet, the pictures that
+/// the document itself prints, placed.
 pub fn sheets_show_the_document()
     ensures { SheetsShowTheDocument }
 {}
 
-/// A picture that is placed and placed again is placed once, in the combined place.
+/// A picture that is placed, and then placed again, is the same as the picture placed once, in the combined place.
 pub fn places_compose()
     ensures { PlacesCompose }
 {}
 
-/// The tokens of what is kept of a page are the page's, if each dropped line begins between tokens.
+/// The prepared body of a page has the same tokens as the whole page, if each dropped line begins between tokens.
 pub fn kept_runs_alike()
     ensures { KeptRunsAlike }
 {}
 
-/// The tokens of an output's preamble are those of the document's.
+/// The preamble of an output has the same tokens as the document's preamble, if its first line ends between tokens,
+/// and each dropped line begins between tokens.
 pub fn preamble_runs_alike()
     ensures { PreambleRunsAlike }
 {}
 
-/// Given made sheets, written without added lines other than comments, a machine prints what the document's own
-/// pages print, placed.
+/// A machine that runs an output of made sheets prints, sheet by sheet, the pictures that the document's own pages
+/// print, placed. The lines added to the sheets must be comments.
 pub fn made_sheets_show_the_pages()
     ensures { MadeSheetsShowThePages }
 {}
 
-/// After the guard's text each of its names means what is defined for it, and everything else is unchanged.
+/// After the text of the guard, each name that the guard defines has its new meaning, and everything else is
+/// unchanged.
 pub fn guard_defines()
     ensures { GuardDefines }
 {}
 
-/// Inserting the guard again changes nothing.
+/// If the guard has run, running its text again changes nothing.
 pub fn guarded_twice()
     ensures { GuardedTwice }
 {}
 
-/// `copypage` and `erasepage` leave the sheet as it is.
+/// With the guard, `copypage` and `erasepage` leave the sheet as it is.
 pub fn page_is_left()
     ensures { PageIsLeft }
 {}
 
-/// Within a placed page `setpagedevice` takes its operand, and does nothing.
+/// With the guard, `setpagedevice` in a placed page removes its operand from the stack, and does nothing else.
 pub fn device_is_left()
     ensures { DeviceIsLeft }
 {}
 
-/// Elsewhere it passes on only the keys that say how a printer treats its paper.
+/// With the guard, `setpagedevice` outside placed pages passes on only the keys that say how a printer treats its
+/// paper.
 pub fn device_is_handed()
     ensures { DeviceIsHanded }
 {}
 
-/// The names of papers that are defined are made to do nothing; no others are added.
+/// After the text of the guard, each name of a paper that was defined means a procedure that does nothing. A name of a
+/// paper that wasn't defined stays undefined.
 pub fn papers_are_left()
     ensures { PapersAreLeft }
 {}
 
-/// A page that names a paper does nothing by that, neither by itself nor in its place.
+/// With the guard, a page that names a paper paints the same as without the name, both by itself and in its place.
 pub fn paper_is_nothing()
     ensures { PaperIsNothing }
 {}
 
-/// `bind` doesn't bind `showpage`.
+/// With the guard, `bind` leaves the name `showpage` in a procedure as it is.
 pub fn showpage_stays_a_name()
     ensures { ShowpageStaysAName }
 {}
 
-/// A loaded `showpage` does nothing in a placed page, and prints elsewhere.
+/// The guard's `showpage` does nothing in a placed page, and prints the sheet elsewhere. This is also so if it was
+/// loaded into another name.
 pub fn loaded_showpage()
     ensures { LoadedShowpage }
 {}
 
-/// `initmatrix` sets the page's own transformation.
+/// With the guard, `initmatrix` sets the transformation with which the page began.
 pub fn matrix_is_the_pages()
     ensures { MatrixIsThePages }
 {}
 
-/// `defaultmatrix` gives the page's own transformation.
+/// With the guard, `defaultmatrix` gives the transformation with which the page began.
 pub fn default_is_the_pages()
     ensures { DefaultIsThePages }
 {}
 
-/// ImposeClip clips to the outlines of the page and of all pages around it.
+/// The guard's procedure `ImposeClip` clips to the outline of the page and to the outlines of all pages around it.
 pub fn outer_is_kept()
     ensures { OuterIsKept }
 {}
 
-/// `initclip` clips to the page's own outline, and to those of the pages around it.
+/// With the guard, `initclip` clips to the outline of the page and to the outlines of all pages around it, and to
+/// nothing else.
 pub fn clip_is_the_pages()
     ensures { ClipIsThePages }
 {}
 
-/// `initgraphics` sets the page's own transformation, and clips to these outlines.
+/// With the guard, `initgraphics` sets the transformation with which the page began, and clips to the same outlines as
+/// `initclip`.
 pub fn graphics_are_the_pages()
     ensures { GraphicsAreThePages }
 {}
 
-/// A document's own `save` saves.
+/// With the guard, a document's own `save` still saves the state.
 pub fn save_saves()
     ensures { SaveSaves }
 {}
 
-/// Where a page begins, a dictionary's own `showpage` is made one that asks userdict.
+/// If a dictionary has a `showpage` of its own, the guard replaces it where a page begins. The new procedure looks up
+/// the `showpage` of userdict.
 pub fn asks_userdict()
     ensures { AsksUserdict }
 {}
 
-/// That procedure does what userdict's `showpage` does.
+/// The procedure by which the guard replaces a dictionary's own `showpage` does what the `showpage` of userdict does.
 pub fn asking_shows()
     ensures { AskingShows }
 {}
 
-/// Where a page begins, the sheet's text and the guard have brought the machine to the page's beginning, in its place.
+/// The sheet's text before a page, together with the guard, brings the machine to the beginning of the page, in the
+/// page's place.
 pub fn page_begins()
     ensures { PageBegins }
 {}
 
-/// With the guard's procedures, the free machine does in the page's place what the page does by itself.
+/// What a page does by itself, the machine with the guard's procedures does in the page's place.
 pub fn shelter_commutes()
     ensures { ShelterCommutes }
 {}
 
-/// The guard's names do to a page by itself what the operators do without anything around them.
+/// For a page by itself, the guard's `initgraphics`, `initclip`, `initmatrix` and `defaultmatrix` have the effect that
+/// the operators have for a page that isn't placed. Its `initclip` also makes a matrix.
 pub fn by_itself_as_the_operators()
     ensures { ByItselfAsTheOperators }
 {}
 
-/// A placed page paints on the sheet what it paints by itself, placed.
+/// A placed page of a guarded document paints on the sheet the picture that it paints by itself, placed.
 pub fn guarded_page_is_placed()
     ensures { GuardedPageIsPlaced }
 {}
 
-/// Each sheet is printed with the pictures of its pages, placed.
+/// Each sheet of a guarded document is printed with the pictures of its pages, placed.
 pub fn guarded_sheets_are_printed()
     ensures { GuardedSheetsArePrinted }
 {}
 
-/// Given an output of a guarded document, a machine prints, sheet by sheet, what its pages paint by themselves, placed.
+/// A machine that runs an output of a guarded document prints, sheet by sheet, the pictures that the pages paint by
+/// themselves, placed.
 pub fn guarded_sheets_show_the_pages()
     ensures { GuardedSheetsShowThePages }
 {}
 
-/// After the guard's text the state is one in which pages are placed.
+/// After the text of the guard, the machine is in a guarded state, which means that pages can be placed.
 pub fn guard_is_enough()
     ensures { GuardIsEnough }
 {}
 
-/// It stays so if other names are defined.
+/// A guarded state stays guarded if a name is defined that the guard doesn't need.
 pub fn stays_guarded()
     ensures { StaysGuarded }
 {}
 
-/// Given what impose makes of a document, a machine prints, sheet by sheet, what the document's pages paint by themselves, placed.
+/// A machine that runs what impose makes of a document by a specification prints, sheet by sheet, the pictures that
+/// the pages paint by themselves, placed.
 pub fn guarded_document_is_shown()
     ensures { GuardedDocumentIsShown }
 {}
 
-/// If all sheets have one paper, it is reported once, in the header.
+/// If all sheets have the same paper, the output reports one paper, in its header.
 pub fn one_paper_is_told_as_one()
     ensures { OnePaperIsToldAsOne }
 {}
 
-/// The lines by which such sheets report their paper are comments.
+/// If sheets are reported as having one paper, the lines that report it are comments.
 pub fn telling_is_quiet()
     ensures { TellingIsQuiet }
 {}
 
-/// Given what impose makes of a document on sheets that are reported as one paper, by whatever layout, a machine prints what the document's pages
-/// paint by themselves, placed.
+/// A machine that runs what impose makes of a document in any layout prints the pictures that the document's pages
+/// paint by themselves, placed. The sheets must be reported as having one paper.
 pub fn made_document_is_shown()
     ensures { MadeDocumentIsShown }
 {}
 
-/// A placed page of a document with a showpage of its own paints on the sheet what it paints by itself, placed.
+/// If a document has a `showpage` of its own in a dictionary on the stack, its placed pages paint on the sheet the
+/// pictures that they paint by themselves, placed.
 pub fn own_page_is_placed()
     ensures { OwnPageIsPlaced }
 {}
 
-/// Each sheet of such a document is printed with the pictures of its pages, placed, if the first one has a page.
+/// Each sheet of a document with a `showpage` of its own is printed with the pictures of its pages, placed. The first
+/// sheet must have a page.
 pub fn own_sheets_are_printed()
     ensures { OwnSheetsArePrinted }
 {}
 
-/// Given what impose makes of such a document, a machine prints, sheet by sheet, what its pages paint by themselves, placed.
+/// A machine that runs what impose makes, by a specification, of a document with a `showpage` of its own prints, sheet
+/// by sheet, the pictures that the pages paint by themselves, placed. The first sheet must have a page.
 pub fn own_showpage_is_shown()
     ensures { OwnShowpageIsShown }
 {}
 
-/// The same holds for sheets that are reported as one paper, by whatever layout.
+/// What `own_showpage_is_shown` says of specifications holds for any layout whose sheets are reported as having one
+/// paper.
 pub fn own_made_document_is_shown()
     ensures { OwnMadeDocumentIsShown }
 {}
 
-/// Where a page begins and userdict's `showpage` is empty, the guard puts its own there again.
+/// If the `showpage` of userdict is empty where a page begins, the guard puts its own `showpage` there again.
 pub fn showpage_is_put_back()
     ensures { ShowpageIsPutBack }
 {}
 
-/// A placed page of a document that made it so paints on the sheet what it paints by itself, placed.
+/// If a document leaves the `showpage` of userdict empty, its placed pages paint on the sheet the pictures that they
+/// paint by themselves, placed.
 pub fn silenced_page_is_placed()
     ensures { SilencedPageIsPlaced }
 {}
 
-/// Each sheet of such a document is printed with the pictures of its pages, placed, if the first one has a page.
+/// Each sheet of a document that leaves the `showpage` of userdict empty is printed with the pictures of its pages,
+/// placed. The first sheet must have a page.
 pub fn silenced_sheets_are_printed()
     ensures { SilencedSheetsArePrinted }
 {}
 
-/// Given what impose makes of such a document, a machine prints, sheet by sheet, what its pages paint by themselves, placed.
+/// A machine that runs what impose makes, by a specification, of a document that leaves the `showpage` of userdict
+/// empty prints, sheet by sheet, the pictures that the pages paint by themselves, placed. The first sheet must have a
+/// page.
 pub fn silenced_document_is_shown()
     ensures { SilencedDocumentIsShown }
 {}
 
-/// The same holds for sheets that are reported as one paper, by whatever layout.
+/// What `silenced_document_is_shown` says of specifications holds for any layout whose sheets are reported as having
+/// one paper.
 pub fn silenced_made_document_is_shown()
     ensures { SilencedMadeDocumentIsShown }
 {}
 
-/// After the guard's text the state is one in which sheets of sheets can be placed.
+/// After the text of the guard, the machine is in a state in which sheets of other documents can be placed as pages.
 pub fn guard_takes_sheets()
     ensures { GuardTakesSheets }
 {}
 
-/// It stays so if other names are defined.
+/// A state in which sheets can be placed as pages stays such a state if a name is defined that the guard and the
+/// sheets don't need.
 pub fn stays_taking_sheets()
     ensures { StaysTakingSheets }
 {}
 
-/// Another document's sheet that is placed as a page paints its own picture, placed.
+/// A sheet of another document that is placed as a page paints its own picture, placed.
 pub fn sheet_is_placed()
     ensures { SheetIsPlaced }
 {}
 
-/// That is the picture of the sheet's pages, each with the two places combined.
+/// The picture of a sheet that is placed as a page consists of the pictures of the sheet's pages. Each of them is in
+/// its place on that sheet and in the sheet's place, combined.
 pub fn sheet_is_composed()
     ensures { SheetIsComposed }
 {}
 
-/// Sheets of sheets are printed, each with the pictures of its sheets, placed.
+/// If the sheets of one run are imposed again, each new sheet is printed with the pictures of its sheets, placed.
 pub fn sheets_of_sheets_are_printed()
     ensures { SheetsOfSheetsArePrinted }
 {}
 
-/// Given what impose makes of a run's output, a machine prints the sheets of that run, placed.
+/// A machine that runs what impose makes of the output of an earlier run prints the sheets of the earlier run, placed.
+/// Both runs are those of specifications.
 pub fn two_runs_are_shown()
     ensures { TwoRunsAreShown }
 {}
 
-/// The same holds for two runs that make sheets by whatever layouts, and add only comments.
+/// What `two_runs_are_shown` says of specifications also holds for runs with any layouts that add only comments.
 pub fn two_made_runs_are_shown()
     ensures { TwoMadeRunsAreShown }
 {}
 
-/// Where sheets can be placed, they can be placed within a page.
+/// If sheets can be placed as pages in some state, they can also be placed within a page that begins there.
 pub fn sheets_are_taken_within()
     ensures { SheetsAreTakenWithin }
 {}
 
-/// Sheets that were imposed any number of times are printed, each with the pictures of its sheets, placed.
+/// If pages are imposed any number of times, each sheet is printed with the pictures of its sheets, placed.
 pub fn nests_are_printed()
     ensures { NestsArePrinted }
 {}
