@@ -9,7 +9,7 @@ ghost use Rattle.impose_words.specs.Tables.{app_in, rule_in, rules_in, with_app,
 use clap::{Arg, ArgAction, Command};
 use std::alloc::{AllocError, Global};
 
-/// The end of the help.
+/// The text at the end of the help.
 const PAPERS_AND_EXAMPLES: &str = "Papers:
   a0, a1, a2, a3, a4, a5, a6, a7, b0, b1, b2, b3, b4, b5, b6, c4, c5, c6, dl, jisb4, jisb5, ra3, ra4, sra3,
   sra4, letter, legal, tabloid, ledger, statement, executive, folio, quarto, 10x14; or a size, such as
@@ -27,8 +27,8 @@ Examples:
   impose booklet --pages 3-14 in.ps out.ps
   impose-pdf booklet in.pdf out.pdf   a booklet of a PDF";
 
-/// An argument of a subcommand. It has a name, which is that of an option after `--`, the name of its value in the help, if it has a value, and its
-/// help.
+/// An argument of a subcommand. Its texts are its name (for an option, the text after `--`), the name of its value in the help if it has a value, and
+/// its help. An option with a letter has that first.
 #[derive(Clone, Copy)]
 enum Argument {
     /// A required word.
@@ -63,7 +63,7 @@ enum Group {
     Pages,
 }
 
-/// A subcommand: its name, its help, and its arguments before those that every subcommand has.
+/// A subcommand: its name, its help, and the groups of its own arguments, which come before the arguments that every subcommand has.
 struct Subcommand {
     name: &'static str,
     about: &'static str,
@@ -424,7 +424,7 @@ fn with_groups<'a>(
     Ok(command)
 }
 
-/// The arguments of a group, in their order in help.
+/// The arguments of a group, in the order in which the help lists them.
 fn arguments_in(group: Group) -> &'static [Argument]
     ensures { map rule_in result.now ≡ rules_in group }
 {

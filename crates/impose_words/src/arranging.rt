@@ -1,4 +1,4 @@
-//! The values of arguments about pages in cells.
+//! The values of options and arguments about cells, the pages in them and the marks beside them.
 ghost use Rattle.std.specs.Prelude.{◌≡◌, ◌*◌};
 ghost use Rattle.impose_words.specs.Arranging as meaning;
 
@@ -8,7 +8,7 @@ use layouts::{Cells, FillOrder, MOST_ON_SHEET, Turned};
 use lengths::{Grains, read_digits};
 use pagespec::Turn;
 
-/// The cells that the text names: a number, or columns and rows with an `x` between them.
+/// The cells that the text names: a number, or columns and rows with an `x` between them. `None` unless there are from 1 to 1,024 cells.
 pub fn cells_named(text: &str) -> Option<Cells>
     ensures { result ≡ meaning.cells_named text.now }
 {
@@ -20,7 +20,7 @@ pub fn cells_named(text: &str) -> Option<Cells>
     }
 }
 
-/// At least this number of cells.
+/// A grid of at least `count` cells. `None` unless `count` is from 1 to 1,024.
 fn at_least(count: u32) -> Option<Cells>
     ensures { result ≡ meaning.at_least count }
 {
@@ -31,7 +31,7 @@ fn at_least(count: u32) -> Option<Cells>
     }
 }
 
-/// These columns, with the number of rows that the text names.
+/// A grid with this number of columns and the number of rows that the text names. `None` unless it has from 1 to 1,024 cells.
 fn with_rows(columns: u32, text: &[u8]) -> Option<Cells>
     ensures { result ≡ meaning.with_rows columns (meaning.digits_at text.now) }
 {
@@ -52,7 +52,7 @@ fn exactly(columns: u32, rows: u32) -> Option<Cells>
     }
 }
 
-/// The columns and rows that the text names.
+/// The grid that the text names by its columns and rows. `None` if the text names a number of cells only, or no cells.
 pub fn exact_cells(text: &str) -> Option<Cells>
     ensures { result ≡ meaning.exact_alone (meaning.cells_named text.now) }
 {
@@ -62,7 +62,7 @@ pub fn exact_cells(text: &str) -> Option<Cells>
     }
 }
 
-/// The number of pages that the text names, on a sheet with as many cells for notes.
+/// The number of pages that the text names, for sheets with a cell for notes beside each page. `None` unless it is from 1 to 512.
 pub fn parse_note_count(text: &str) -> Option<Cells>
     ensures { result ≡ meaning.noted_alone (meaning.cells_named text.now) }
 {
@@ -83,7 +83,7 @@ fn with_notes(pages: u32) -> Option<Cells>
     }
 }
 
-/// The direction in which cells are filled, and whether it is from right to left.
+/// The order that the text names: whether cells are filled by rows or by columns, and whether from right to left.
 pub fn run_named(text: &str) -> Option<(FillOrder, bool)>
     ensures { result ≡ meaning.run_named text.now }
 {
@@ -108,7 +108,7 @@ pub(crate) fn turn_named(text: &str) -> Option<Turn>
     }
 }
 
-/// The side to which one turns the pages to read them.
+/// The side, left or right, to which a reader turns pages that lie on their sides.
 pub fn turned_named(text: &str) -> Option<Turned>
     ensures { result ≡ meaning.turned_named text.now }
 {
@@ -127,7 +127,7 @@ pub(crate) const NO_MARKS: Marks = Marks {
     numbers: None,
 };
 
-/// The marks that the text names for a booklet, which is folded, and may be cut around its halves.
+/// The marks that the text names for a booklet: where it is folded, where its margins are cut off, or both.
 pub(crate) fn booklet_marks_named(text: &str) -> Option<Marks>
     ensures { result ≡ meaning.booklet_marks_named text.now }
 {
@@ -149,7 +149,7 @@ pub(crate) fn booklet_marks_named(text: &str) -> Option<Marks>
     }
 }
 
-/// The marks that the text names for other sheets, which are only cut.
+/// The marks that the text names for sheets that are cut but not folded.
 pub(crate) fn cut_marks_named(text: &str) -> Option<Marks>
     ensures { result ≡ meaning.cut_marks_named text.now }
 {
@@ -163,13 +163,13 @@ pub(crate) fn cut_marks_named(text: &str) -> Option<Marks>
     }
 }
 
-/// The smallest size of numbers, in grains: a tenth of a point.
+/// The smallest size of page numbers, in grains: a tenth of a point.
 const SMALLEST_NUMBERS: i128 = 12_700_000_000;
 
-/// The largest size of numbers, in grains: 72 points.
+/// The largest size of page numbers, in grains: 72 points.
 const LARGEST_NUMBERS: i128 = 9_144_000_000_000;
 
-/// The size of numbers that the text names.
+/// The size of page numbers that the text names. `None` unless it is a length from a tenth of a point to 72 points.
 pub(crate) fn number_size_named(text: &str) -> Option<Grains>
     ensures { result ≡ meaning.number_size_named text.now }
 {

@@ -1,4 +1,4 @@
-//! The request that the words make.
+//! Reads the words of a command line into a request.
 ghost use Rattle.std.specs.Prelude.{◌≡◌, [], ◌∷◌, IfOk, IfErr, None, Option, Some, codes, false, map, option_map, string_bytes, true};
 ghost use Rattle.clap.specs.Words.{Text, fault_of, first_of, found_of, is_simple, rows_of, subcommand_of, subcommand_rows_of};
 ghost use Rattle.lengths.specs.Lengths.{a4};
@@ -36,23 +36,24 @@ use pagespec::Turn;
 use rows::{Part, Signing};
 use std::alloc::Global;
 
-/// The request that the words make; the first is the program's name. The paper at home isn't found here: it is a4 until another one is set.
+/// The request that a command line makes. Its first word is the program's name. The user's default paper isn't looked up here; the request has a4 in
+/// its place, for the caller to replace.
 ///
-/// Words that the command doesn't take are `Words`, with clap's message, and so is a call for help or the version. Among accepted words the first of
-/// these is the fault: an unknown paper after `--paper`, then after `--sheet`; a border that isn't a length, or is negative; an unknown turn; cells
-/// that a sheet can't have, or a signature that leaves can't have; margins or gaps that aren't lengths in the forms of these options; a trim, creep
-/// or overlap that isn't a length; an unknown order, a wrong side after `--turned`, no number after `--scale`; marks that the layout doesn't have; no
-/// size after `--numbers`, or no first number; odd and even entries together; an OUTFILE that begins with a minus sign; two of `--print-spec`,
-/// `--plan` and `--preview`; a drawing whose file isn't named as an SVG.
+/// A command line that the command doesn't take is refused as `Words`, with clap's message, and so is a call for help or for the version. Otherwise
+/// the fault is the first of these: an unknown paper after `--paper`, then after `--sheet`; a border that isn't a length, or is negative; an unknown
+/// turn; cells that a sheet can't have, or a signature that leaves can't have; margins or gaps that aren't lengths in the forms of these options; a
+/// trim, creep or overlap that isn't a length; an unknown order, a wrong side after `--turned`, no number after `--scale`; marks that the layout
+/// doesn't have; no size after `--numbers`, or no first number; both `--odd` and `--even`; an OUTFILE that begins with a minus sign; two of
+/// `--print-spec`, `--plan` and `--preview`; a drawing whose file isn't named as an SVG. Memory that is refused is a fault too.
 #[tactic(auto, using(crate::proofs::Commands::impose_is_simple))]
 pub fn read_command(alloc: Global, words: &[String]) -> Result<ImposeRequest, RequestFault>
-    // The command takes the words, and the request is what it finds among them.
+    // The command takes the command line, and the request is made from the values in it.
     ensures read { IfOk result (λ request.
         Entered (map string_bytes words.now) (λ name found. ReadsRequest name found request)) }
     ensures home { IfOk result (λ request. request.default_paper ≡ a4) }
-    // A fault is the first that there is.
+    // No fault comes before the one that is reported.
     ensures refused { IfErr result (RefusesCommand (map string_bytes words.now)) }
-    // The command is a simple one: the words alone decide whether it takes them and what it finds in them.
+    // The command is simple: the words alone decide whether the command takes them, and which values it finds in them.
     ensures simple { is_simple impose ≡ true }
 {
     let matches = parse_words(alloc, words)?;
@@ -62,7 +63,7 @@ pub fn read_command(alloc: Global, words: &[String]) -> Result<ImposeRequest, Re
     }
 }
 
-/// The values that the command finds among the words.
+/// The values that clap finds in the command line.
 fn parse_words<'a>(alloc: Global, words: &'a [String]) -> Result<ArgMatches<'a>, RequestFault>
     ensures taken { IfOk result (λ _. fault_of impose (map string_bytes words.entry.now) ≡ []) }
     ensures found { IfOk result (λ m. subcommand_rows_of m ≡ subcommand_of impose (map string_bytes words.entry.now)) }
@@ -81,7 +82,7 @@ fn parse_words<'a>(alloc: Global, words: &'a [String]) -> Result<ArgMatches<'a>,
     }
 }
 
-/// The request that the subcommand with this name and its matches make.
+/// The request that the subcommand `name` makes from the values that clap found for it.
 fn subcommand_request(
     alloc: Global,
     name: &str,
@@ -99,7 +100,7 @@ fn subcommand_request(
     request_for(alloc, sizes, layout, found)
 }
 
-/// The request for this layout with these sizes. The other values are read in order, and the first fault is reported.
+/// The request for this layout, with the papers, border and turn in `sizes`. The remaining values are read in order, and the first fault is reported.
 fn request_for(
     alloc: Global,
     sizes: Sizes,
@@ -151,7 +152,7 @@ struct Sizes {
     turn: Turn,
 }
 
-/// The sizes that are found; the first option with an invalid value is at fault.
+/// Reads the papers, the border and the turn. The error is the first option that has an invalid value.
 fn sizes_of(found: &ArgMatches<'_>) -> Result<Sizes, OptionId>
     ensures read { IfOk result (λ sizes.
         ReadsSizes (rows_of (found_of found.now)) sizes.page_paper sizes.sheet_paper sizes.border sizes.turn) }
@@ -177,7 +178,7 @@ fn sizes_of(found: &ArgMatches<'_>) -> Result<Sizes, OptionId>
     })
 }
 
-/// The paper that an option names, if it is there.
+/// The paper that an option names, or `Some(None)` without the option. `None` if the option's value names no paper.
 fn paper_option(found: &ArgMatches<'_>, option: OptionId) -> Option<Option<Paper>>
     ensures { result ≡ size_found option (rows_of (found_of found.now)) }
 {
@@ -187,7 +188,7 @@ fn paper_option(found: &ArgMatches<'_>, option: OptionId) -> Option<Option<Paper
     }
 }
 
-/// The requested border; a width of 0 is none.
+/// The width of the requested border. `Some(None)` means no border, which the width 0 means too; `None` means an invalid value.
 fn border_of(found: &ArgMatches<'_>) -> Option<Option<Grains>>
     ensures { result ≡ border_found (rows_of (found_of found.now)) }
 {
@@ -197,7 +198,7 @@ fn border_of(found: &ArgMatches<'_>) -> Option<Option<Grains>>
     }
 }
 
-/// The turn of pages.
+/// The requested turn of pages. `None` if the option's value names no turn.
 fn turn_of(found: &ArgMatches<'_>) -> Option<Turn>
     ensures { result ≡ turn_found (rows_of (found_of found.now)) }
 {
@@ -207,7 +208,7 @@ fn turn_of(found: &ArgMatches<'_>) -> Option<Turn>
     }
 }
 
-/// The fault of an invalid value.
+/// The fault of an option or argument with an invalid value.
 fn bad_value(alloc: Global, found: &ArgMatches<'_>, option: OptionId) -> RequestFault
     ensures { (wrong : Option Wrong) → wrong ≡ Some (NoValue option) → SaysWrong (rows_of (found_of found.now)) result wrong }
 {
@@ -220,7 +221,7 @@ fn bad_value(alloc: Global, found: &ArgMatches<'_>, option: OptionId) -> Request
     }
 }
 
-/// The layout of the subcommand with this name.
+/// The layout that the subcommand of this name asks for.
 fn layout_of(alloc: Global, name: &str, found: &ArgMatches<'_>) -> Result<Layout, RequestFault>
     ensures read { IfOk result (AsksFor name.now (rows_of (found_of found.now))) }
     ensures refused { IfErr result (λ f. SaysWrong (rows_of (found_of found.now)) f (wrong_layout name.now (rows_of (found_of found.now)))) }
@@ -239,7 +240,7 @@ fn layout_of(alloc: Global, name: &str, found: &ArgMatches<'_>) -> Result<Layout
     }
 }
 
-/// The layout of a command with cells.
+/// The layout of a command whose first argument names cells.
 fn cells_layout(
     alloc: Global,
     command: CellCommand,
@@ -268,7 +269,7 @@ fn cells_layout(
     })
 }
 
-/// The cells that the text after a command names. For notes it is a number of pages, and for a poster the columns and rows of sheets.
+/// The cells that the text after a command names. For notes the text is a number of pages, and for a poster it is the columns and rows of sheets.
 fn cells_in(command: CellCommand, text: &str) -> Option<Cells>
     ensures { result ≡ cells_of_command command text.now }
 {
@@ -293,7 +294,7 @@ fn booklet_of(alloc: Global, found: &ArgMatches<'_>) -> Result<Layout, RequestFa
     }
 }
 
-/// The signatures, if any are requested.
+/// The requested signatures, or `Some(None)` without the option. `None` if the option's value names no signatures.
 fn signing_of(found: &ArgMatches<'_>) -> Option<Option<Signing>>
     ensures { result ≡ signing_found (rows_of (found_of found.now)) }
 {
@@ -331,7 +332,7 @@ fn spec_of(alloc: Global, found: &ArgMatches<'_>) -> Result<Layout, RequestFault
     }
 }
 
-/// Whether a specification is laid on another row than all pages in order.
+/// Whether a specification is to place another row than all pages in order.
 fn asks_for_row(found: &ArgMatches<'_>) -> bool
     ensures { result ≡ row_asked (rows_of (found_of found.now)) }
 {
@@ -342,7 +343,8 @@ fn asks_for_row(found: &ArgMatches<'_>) -> bool
         || is_set(found, "reverse")
 }
 
-/// The margins and gaps of the layout's sheets, the order in which they are read, and the scale of pages.
+/// The margins, gaps, trim, creep and overlap that are requested, the order in which cells are filled, and the scale of pages. The error is the first
+/// option that has an invalid value.
 fn spacing_of(layout: &Layout, found: &ArgMatches<'_>) -> Result<Spacing, OptionId>
     ensures read { IfOk result (SpacesBy (keeps_room layout.now) (rows_of (found_of found.now))) }
     ensures refused { IfErr result (λ option.
@@ -386,7 +388,7 @@ fn spacing_of(layout: &Layout, found: &ArgMatches<'_>) -> Result<Spacing, Option
     })
 }
 
-/// The margins of a sheet; none without `--margin`.
+/// The margins of a sheet; 0 without `--margin`. `None` if the option's value isn't margins.
 fn margins_of(found: &ArgMatches<'_>) -> Option<Margins>
     ensures { result ≡ margins_found (rows_of (found_of found.now)) }
 {
@@ -396,7 +398,7 @@ fn margins_of(found: &ArgMatches<'_>) -> Option<Margins>
     }
 }
 
-/// The gaps between cells; none without `--gap`.
+/// The gaps between cells; 0 without `--gap`. `None` if the option's value isn't gaps.
 fn gaps_of(found: &ArgMatches<'_>) -> Option<Free>
     ensures { result ≡ gaps_found (rows_of (found_of found.now)) }
 {
@@ -406,7 +408,7 @@ fn gaps_of(found: &ArgMatches<'_>) -> Option<Free>
     }
 }
 
-/// The length that an option names; 0 without the option.
+/// The length that an option names; 0 without the option. `None` if the option's value isn't a length.
 fn length_of(found: &ArgMatches<'_>, option: OptionId) -> Option<Grains>
     ensures { result ≡ length_found option (rows_of (found_of found.now)) }
 {
@@ -416,7 +418,7 @@ fn length_of(found: &ArgMatches<'_>, option: OptionId) -> Option<Grains>
     }
 }
 
-/// The order in which cells are read. `--rtl` turns any order from right to left.
+/// The order in which cells are filled. `--rtl` makes any order run from right to left.
 fn order_of(found: &ArgMatches<'_>) -> Result<Order, OptionId>
     ensures read { IfOk result (λ order. order_found (rows_of (found_of found.now)) ≡ Some order) }
     ensures refused { IfErr result (λ option. wrong_order (rows_of (found_of found.now)) ≡ Some (NoValue option)) }
@@ -434,7 +436,7 @@ fn order_of(found: &ArgMatches<'_>) -> Result<Order, OptionId>
     })
 }
 
-/// The direction in which cells are filled, and whether the order itself is from the right.
+/// Whether cells are filled by rows or by columns, and whether the order that `--order` names runs from right to left.
 fn run_of(found: &ArgMatches<'_>) -> Option<(FillOrder, bool)>
     ensures { result ≡ run_found (rows_of (found_of found.now)) }
 {
@@ -444,7 +446,7 @@ fn run_of(found: &ArgMatches<'_>) -> Option<(FillOrder, bool)>
     }
 }
 
-/// How the text of pages lies in the cells.
+/// How pages lie in their cells: upright, or on one of their sides.
 fn turned_of(found: &ArgMatches<'_>) -> Option<Turned>
     ensures { result ≡ turned_found (rows_of (found_of found.now)) }
 {
@@ -454,7 +456,7 @@ fn turned_of(found: &ArgMatches<'_>) -> Option<Turned>
     }
 }
 
-/// The requested scale, if there is one.
+/// The requested scale, or `Some(None)` without one. `None` if the option's value isn't a number.
 fn scale_of(found: &ArgMatches<'_>) -> Option<Option<Number>>
     ensures { result ≡ scale_found (rows_of (found_of found.now)) }
 {
@@ -464,7 +466,7 @@ fn scale_of(found: &ArgMatches<'_>) -> Option<Option<Number>>
     }
 }
 
-/// The requested marks and numbers, if sheets of the layout have them.
+/// The requested marks and page numbers, if the layout can have them. The error is the option that has an invalid value.
 fn marks_of(layout: &Layout, found: &ArgMatches<'_>) -> Result<Marks, OptionId>
     ensures read { IfOk result (λ marks. marks_found layout.now (rows_of (found_of found.now)) ≡ Some marks) }
     ensures refused { IfErr result (λ option. wrong_marks layout.now (rows_of (found_of found.now)) ≡ Some (NoValue option)) }
@@ -474,7 +476,7 @@ fn marks_of(layout: &Layout, found: &ArgMatches<'_>) -> Result<Marks, OptionId>
     Ok(Marks { numbers, ..lines })
 }
 
-/// The requested marks.
+/// The requested fold and cut marks. Sheets with cells for notes have ruled lines instead.
 fn lines_of(layout: &Layout, found: &ArgMatches<'_>) -> Result<Marks, OptionId>
     ensures read { IfOk result (λ marks. lines_found layout.now (rows_of (found_of found.now)) ≡ Some marks) }
     ensures refused { IfErr result (λ option. wrong_lines layout.now (rows_of (found_of found.now)) ≡ Some (NoValue option)) }
@@ -494,7 +496,7 @@ fn lines_of(layout: &Layout, found: &ArgMatches<'_>) -> Result<Marks, OptionId>
     }
 }
 
-/// The requested numbers.
+/// The requested page numbers: their size, and the number of the first page. `None` without `--numbers`, and for a layout that can't have them.
 fn numbering_option(layout: &Layout, found: &ArgMatches<'_>) -> Result<Option<Numbering>, OptionId>
     ensures read { IfOk result (λ numbers. numbers_found layout.now (rows_of (found_of found.now)) ≡ Some numbers) }
     ensures refused { IfErr result (λ option.
@@ -512,7 +514,7 @@ fn numbering_option(layout: &Layout, found: &ArgMatches<'_>) -> Result<Option<Nu
     }
 }
 
-/// The size of numbers, if pages have numbers.
+/// The size of page numbers, or `Some(None)` without them. `None` if the option's value isn't such a size.
 fn number_size_of(found: &ArgMatches<'_>) -> Option<Option<Grains>>
     ensures { result ≡ number_size_found (rows_of (found_of found.now)) }
 {
@@ -522,7 +524,8 @@ fn number_size_of(found: &ArgMatches<'_>) -> Option<Option<Grains>>
     }
 }
 
-/// The first number. It can't be named without numbers.
+/// The number of the first page; 1 without `--numbers-from`. `None` if that option's value isn't a whole number, or if `--numbers` isn't given with
+/// it.
 fn first_of(found: &ArgMatches<'_>) -> Option<u32>
     ensures { result ≡ first_found (rows_of (found_of found.now)) }
 {
@@ -550,7 +553,7 @@ fn choice_of(
     }
 }
 
-/// The pages that the ranges of this argument name.
+/// The pages that the argument `id` names by ranges, with the effect of `--odd`, `--even` and `--reverse`. `--odd` and `--even` together are refused.
 fn choice_by(alloc: Global, id: &str, found: &ArgMatches<'_>) -> Result<PageChoice, RequestFault>
     ensures read { IfOk result (ChoosesBy (Some id.now) (rows_of (found_of found.now))) }
     ensures refused { IfErr result (λ f.
@@ -577,7 +580,7 @@ fn part_of(odd: bool, even: bool) -> Option<Part>
     }
 }
 
-/// The output file. A name that begins with a minus sign is most likely an option that comes too late.
+/// The name of the output file. A name that begins with a minus sign is refused, because it is most likely an option that comes too late.
 fn outfile_of(alloc: Global, found: &ArgMatches<'_>) -> Result<Option<String>, RequestFault>
     ensures asked { IfOk result (λ outfile.
         file_asked (given opt.Outfile (rows_of (found_of found.now))) ≡ option_map string_bytes outfile) }
@@ -595,7 +598,7 @@ fn outfile_of(alloc: Global, found: &ArgMatches<'_>) -> Result<Option<String>, R
     }
 }
 
-/// The product. A list or drawing is only offered for layouts that lay rows.
+/// The kind of output that is requested. A list or a drawing can be requested only for layouts that lay rows.
 fn product_of(
     alloc: Global,
     layout: &Layout,
@@ -628,7 +631,7 @@ fn product_of(
     }
 }
 
-/// The specification if it is requested, or else the sheets.
+/// The specification as the kind of output if it is requested, otherwise the sheets.
 fn specification_if(printed: bool) -> Product
     ensures specification { is_specification result ≡ printed }
     ensures plan { is_plan result ≡ false }
@@ -641,7 +644,7 @@ fn specification_if(printed: bool) -> Product
     }
 }
 
-/// The drawing, in the file of this name after `--preview`, which ends as that of an SVG.
+/// A drawing as the kind of output, in the file that `--preview` names. The file's name must end in `.svg`; `-` means standard output.
 fn picture_of(alloc: Global, name: &str, found: &ArgMatches<'_>) -> Result<Product, RequestFault>
     requires { given opt.Preview (rows_of (found_of found.now)) ≡ Some name.now }
     ensures picture { IfOk result (NamesPicture name.now) }
@@ -658,7 +661,7 @@ fn picture_of(alloc: Global, name: &str, found: &ArgMatches<'_>) -> Result<Produ
     }
 }
 
-/// The file of this name; `-` means standard input or output.
+/// The name of a file. `None` without a name, and for `-`, which means standard input or output.
 fn file_named(name: Option<&str>) -> Option<&str>
     ensures { option_map (λ s. s.now) result ≡ file_asked (option_map (λ s. s.now) name.entry) }
 {

@@ -14,7 +14,7 @@ pub struct Margins {
     pub inner: Option<Grains>,
 }
 
-/// Edges that are named, with their margins.
+/// The margins of the edges that a text names. An edge that isn't named has `None`.
 #[derive(Clone, Copy)]
 pub(crate) struct Edges {
     pub left: Option<Grains>,
@@ -38,7 +38,7 @@ impl Edges {
         }
     }
 
-    /// The margins along these edges, and 0 along the others.
+    /// The margins of these edges, with 0 for each edge that isn't named.
     fn margins(&self) -> Margins
         ensures { result ≡ meaning.along_edges self.now }
     {
@@ -65,7 +65,7 @@ impl Margins {
     }
 }
 
-/// The gaps that the text names: one length, or two in a list.
+/// The gaps that the text names: one length for both directions, or a list of two, the first between cells side by side. `None` for another text.
 pub fn gaps_named(text: &str) -> Option<Free>
     ensures { result ≡ meaning.gaps_named text.now }
 {
@@ -75,7 +75,7 @@ pub fn gaps_named(text: &str) -> Option<Free>
     }
 }
 
-/// Two gaps, if both are lengths.
+/// The two gaps. `None` if one of them isn't a length.
 fn gaps_of(across: Option<Grains>, up: Option<Grains>) -> Option<Free>
     ensures { result ≡ meaning.gaps_of across up }
 {
@@ -86,7 +86,8 @@ fn gaps_of(across: Option<Grains>, up: Option<Grains>) -> Option<Free>
     })
 }
 
-/// The margins that the text names: one length; two, for left and right, and for top and bottom; four, clockwise from the top; or edges by name.
+/// The margins that the text names: one length for all edges; two, the first for left and right, the second for top and bottom; four, clockwise from
+/// the top; or edges by name, such as `left=2cm,top=1cm`. `None` for another text.
 pub fn margins_named(text: &str) -> Option<Margins>
     ensures { result ≡ meaning.margins_named text.now }
 {
@@ -98,7 +99,7 @@ pub fn margins_named(text: &str) -> Option<Margins>
     }
 }
 
-/// One, two or four lengths.
+/// The margins that a list of one, two or four lengths gives.
 fn lengths_named(text: &str) -> Option<Free>
     ensures { result ≡ meaning.lengths_named text.now }
 {
@@ -133,7 +134,7 @@ fn margins_by(lengths: &[Grains]) -> Option<Free>
     })
 }
 
-/// Edges by their names, each once.
+/// The edges that a list names with their margins. `None` if the list names an edge twice, or isn't such a list.
 fn edges_named(text: &str) -> Option<Edges>
     ensures { result ≡ meaning.edges_named text.now }
 {
@@ -145,7 +146,7 @@ fn edges_named(text: &str) -> Option<Edges>
     Some(edges)
 }
 
-/// These edges with one more, by its name and its length.
+/// The edges, with one more that the text names with its margin, such as `left=2cm`.
 fn edge_in(edges: Edges, text: &str, is_listed: bool) -> Option<Edges>
     ensures { result ≡ meaning.edge_in is_listed (Some edges) text.now }
 {
@@ -154,7 +155,7 @@ fn edge_in(edges: Edges, text: &str, is_listed: bool) -> Option<Edges>
     with_edge(edges, name, margin)
 }
 
-/// The edges with the one of this name, which wasn't among them: an edge of the sheet, or the inner one.
+/// The edges, with this margin for the edge that is named. `None` if there is no such edge, or if it has a margin already.
 fn with_edge(edges: Edges, name: &str, margin: Grains) -> Option<Edges>
     ensures { result ≡ meaning.with_edge edges name.now margin }
 {
@@ -183,7 +184,7 @@ fn with_edge(edges: Edges, name: &str, margin: Grains) -> Option<Edges>
     }
 }
 
-/// The margin of an edge that had none before.
+/// The margin as that of an edge. `None` if the edge has a margin already.
 fn once(before: Option<Grains>, margin: Grains) -> Option<Option<Grains>>
     ensures { result ≡ meaning.once before margin }
 {
@@ -193,7 +194,7 @@ fn once(before: Option<Grains>, margin: Grains) -> Option<Option<Grains>>
     }
 }
 
-/// The text before the first such character, and the text after it.
+/// The text before the first character `at`, and the text after it. `None` if the character isn't there.
 fn cut_at(text: &str, at: char) -> Option<(&str, &str)>
     requires { at < 128 }
     ensures { option_map (λ x. (x.0.now, x.1.now)) result ≡ meaning.cut_at at text.now }

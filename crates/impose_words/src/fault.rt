@@ -2,7 +2,7 @@
 use clap::Error as WordsError;
 use std::alloc::AllocError;
 
-/// A command with cells: of a grid, of a column with cells for notes beside it, or of a poster's sheets.
+/// A command whose first argument names cells: those of a grid, those of a column with a cell for notes beside each, or the sheets of a poster.
 #[derive(Clone, Copy, Debug, PartialEq, Eq)]
 pub enum CellCommand {
     NUp,
@@ -19,7 +19,7 @@ pub enum OptionId {
     Sheet,
     Border,
     Turn,
-    /// The word after such a command.
+    /// The first argument of such a command.
     Count(CellCommand),
     Signature,
     Margin,
@@ -32,7 +32,7 @@ pub enum OptionId {
     Scale,
     /// `--marks` for a booklet.
     BookletMarks,
-    /// `--marks` for other sheets.
+    /// `--marks` for sheets that are cut but not folded.
     CutMarks,
     Numbers,
     NumbersFrom,
@@ -44,7 +44,7 @@ impl OptionId {
     ghost use Rattle.std.specs.Prelude.{◌≡◌};
     ghost use Rattle.impose_words.specs.Words.{opt_id};
 
-    /// The name of its argument.
+    /// The name by which clap knows the argument; for an option, it is the text after `--`.
     pub fn id(self) -> &'static str
         ensures { result.now ≡ opt_id self }
     {
@@ -72,7 +72,7 @@ impl OptionId {
     }
 }
 
-/// An option that replaces the sheets by another product.
+/// An option that asks for another kind of output in place of the sheets.
 #[derive(Clone, Copy, Debug, PartialEq, Eq)]
 pub enum ProductOption {
     PrintSpec,
@@ -83,17 +83,17 @@ pub enum ProductOption {
 /// Why a command line is refused.
 #[derive(Debug, Drop)]
 pub enum RequestFault {
-    /// The command doesn't take the words, or they call for help or the version.
+    /// The command doesn't take the command line, or the command line calls for help or for the version. The error is clap's.
     Words(WordsError),
-    /// A word isn't text.
+    /// A word of the command line isn't UTF-8.
     NoText,
-    /// The words lack a subcommand or one of its arguments, although clap accepts them.
+    /// The command line lacks a subcommand or one of the subcommand's arguments, although clap accepts it.
     Lacking,
     /// The argument or option doesn't take this text as its value.
     BadValue(OptionId, String),
-    /// Both `--odd` and `--even` are there.
+    /// Both `--odd` and `--even` are given.
     OddAndEven,
-    /// Two options that each replace the sheets are there.
+    /// Two options are given that each ask for another kind of output in place of the sheets.
     TwoProducts(ProductOption, ProductOption),
     /// There was no memory for the request.
     NoMemory,

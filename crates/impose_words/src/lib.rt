@@ -1,4 +1,4 @@
-//! The words of impose, and the request that they make.
+//! Reads the command line of `impose` into a request.
 #![tactic(auto)]
 
 mod arguments;

@@ -1,4 +1,4 @@
-//! Requests, as command lines make them.
+//! Requests, which are read from command lines.
 ghost use Rattle.std.specs.Prelude.{◌≡◌, option_map, string_bytes, true};
 ghost use Rattle.rows.specs.Choices.{choice_of};
 ghost use Rattle.impose_words.specs.Choices.{choice_in, is_all_pages};
@@ -13,14 +13,15 @@ use lengths::{Grains, Number, Paper};
 use pagespec::Turn;
 use rows::{Choice, Part, Signing};
 
-/// The layout of pages.
+/// The way in which pages are laid out on sheets.
 #[derive(Drop)]
 pub enum Layout {
-    /// A page in each of these cells of a sheet.
+    /// A page in each of these cells of a sheet, in order.
     NUp(Cells),
-    /// The same page in each of these cells.
+    /// The same page in each of these cells of a sheet.
     Cards(Cells),
-    /// A page in each of these cells. If the sheets are cut and the parts laid on one another, pages are in order; with duplex on both sides.
+    /// A page in each of these cells of a sheet. If the printed sheets are cut along the cells and the piles are laid on one another, the pages are
+    /// in order. With `duplex` the sheets are printed on both sides.
     Stack {
         cells: Cells,
         duplex: bool,
@@ -29,23 +30,25 @@ pub enum Layout {
     Notes {
         pages: u32,
     },
-    /// Each page over columns and rows of sheets.
+    /// Each page spread over a grid of sheets.
     Poster {
         columns: u32,
         rows: u32,
     },
-    /// Two pages on each side of a sheet, to be folded and sewn in this way.
+    /// Two pages on each side of a leaf. The leaves are folded and sewn in the signatures that `signing` gives. With `long_edge`, backs are turned
+    /// for printers that flip on the long edge.
     Booklet {
         signing: Signing,
         long_edge: bool,
     },
     /// Eight pages on one side of a sheet, to be folded thrice and cut once.
     Zine,
-    /// Each page as it is, on a sheet of its own paper.
+    /// Each page unchanged, on a sheet of the page's own paper.
     Selection,
-    /// By a page specification of pstops.
+    /// All pages in order, placed by a page specification of pstops.
     Spec(String),
-    /// By a page specification on a row, in signatures if they are named. Items name places of the row.
+    /// A row of pages, placed by a page specification. The row is first put into signatures if `signing` names them. The page numbers in the
+    /// specification are places of the row.
     SpecRow {
         specs: String,
         signing: Option<Signing>,
@@ -53,7 +56,7 @@ pub enum Layout {
 }
 
 impl Layout {
-    /// Whether the layout can have margins.
+    /// Whether the layout can have margins and the other settings of `Spacing`.
     pub fn keeps_room(&self) -> bool
         ensures { result ≡ keeps_room self.now }
     {
@@ -65,7 +68,7 @@ impl Layout {
         }
     }
 
-    /// Whether its pages can have numbers.
+    /// Whether numbers can be drawn on the pages of this layout.
     pub fn has_numbers(&self) -> bool
         ensures { result ≡ has_numbers self.now }
     {
@@ -77,7 +80,7 @@ impl Layout {
         }
     }
 
-    /// Whether the layout lays rows of pages on sheets, which can be listed and drawn.
+    /// Whether the layout itself lays rows of pages on sheets, without a specification. Only such sheets can be listed and drawn.
     pub fn lays_rows(&self) -> bool
         ensures { result ≡ lays_rows self.now }
     {
@@ -88,18 +91,19 @@ impl Layout {
     }
 }
 
-/// The margins and gaps of sheets, the creep of leaves, the order in which sheets are read, and the scale of pages.
+/// The margins and gaps of sheets, the creep of leaves, the order in which cells are filled, and the scale of pages.
 #[derive(Clone, Copy)]
 pub struct Spacing {
+    /// The margins along the edges of sheets, the gaps between cells, and the trim of pages.
     pub free: Free,
-    /// The margin along the edge at which leaves are bound: in a booklet the fold, on other sheets the left edge of fronts and the right edge of
-    /// backs.
+    /// The margin along the edge at which leaves are bound. In a booklet this edge is the fold; on other sheets it is the left edge of fronts and the
+    /// right edge of backs.
     pub inner: Option<Grains>,
     /// The distance by which pages of a booklet's innermost leaves are moved towards the fold.
     pub creep: Grains,
-    /// The overlap of neighbouring sheets of a poster.
+    /// The width of the strip of a page that is on both of two neighbouring sheets of a poster.
     pub overlap: Grains,
-    /// The order in which pages fill the cells. A booklet is bound at the right if they go from right to left.
+    /// The order in which pages fill the cells. If it runs from right to left, a booklet is bound at the right.
     pub order: Order,
     /// The scale of the pages; without it they are as large as possible.
     pub scale: Option<Number>,
@@ -108,7 +112,7 @@ pub struct Spacing {
 }
 
 impl Spacing {
-    /// No margins and gaps, rows from the left, and pages as large as possible.
+    /// No margins and gaps, cells filled by rows from the left, and pages as large as possible.
     pub fn none() -> Spacing
         ensures { result ≡ nothing_kept }
     {
@@ -125,7 +129,7 @@ impl Spacing {
         }
     }
 
-    /// These cells, with the margins of fronts, the gaps, the order and the scale.
+    /// The arrangement of these cells with the gaps, the order, the scale, and the margins of fronts, where an inner margin is the left one.
     pub fn arrangement(&self, cells: Cells) -> Arrangement
         ensures { result ≡ arrangement_in self.now cells }
     {
@@ -146,7 +150,8 @@ impl Spacing {
         }
     }
 
-    /// Two columns of `pages` cells with these margins and gaps, filled one after the other, so the pages fill the left one.
+    /// The arrangement of pages with room for notes: two columns of `pages` cells each, with these margins and gaps. Cells are filled by columns, so
+    /// that the pages of a sheet fill the left column.
     pub fn notes(&self, pages: u32) -> Arrangement
         ensures { result ≡ notes_in self.now pages }
     {
@@ -165,7 +170,8 @@ impl Spacing {
         }
     }
 
-    /// Two rows of four cells with these margins and gaps, from the left, or from the right with `--rtl`.
+    /// The arrangement of a zine: two rows of four cells with these margins and gaps, filled from the left, or from the right with `--rtl`. A gap of
+    /// 0 counts as one grain, because the two rows are rounded separately.
     pub fn zine(&self) -> Arrangement
         ensures { result ≡ zine_in self.now }
     {
@@ -192,7 +198,7 @@ impl Spacing {
         }
     }
 
-    /// The halves of a sheet, with these margins and gaps.
+    /// The form of a booklet's leaves, whose halves have these margins and gaps.
     pub fn binding(&self, long_edge: bool) -> Binding
         ensures { result ≡ binding_in self.now long_edge }
     {
@@ -204,7 +210,7 @@ impl Spacing {
     }
 }
 
-/// The margins and gaps of leaves; an inner margin is on both sides of the fold.
+/// The margins and gaps of leaves. An inner margin is added to the gap at the fold twice, once for each half.
 fn at_fold(inner: Option<Grains>, free: Free) -> Free
     ensures { result ≡ free_at_fold inner free }
 {
@@ -217,7 +223,7 @@ fn at_fold(inner: Option<Grains>, free: Free) -> Free
     }
 }
 
-/// A gap with a margin on both sides of it. If the margin is out of range, the gap is negative and so out of range too.
+/// The gap plus a margin on both sides of it. If one of the two lengths is out of range, the result is -1 grain, which is out of range too.
 fn fold_gap(gap: Grains, inner: Grains) -> Grains
     ensures { result ≡ gap_at_fold gap inner }
 {
@@ -228,7 +234,7 @@ fn fold_gap(gap: Grains, inner: Grains) -> Grains
     }
 }
 
-/// A gap, or else the least length.
+/// The gap if it is above 0, otherwise one grain.
 fn some_gap(gap: Grains) -> Grains
     ensures { result ≡ some_gap_of gap }
 {
@@ -241,16 +247,16 @@ fn some_gap(gap: Grains) -> Grains
 /// The pages to impose, and their order.
 #[derive(Drop)]
 pub struct PageChoice {
-    /// The ranges of pages; all pages without ranges.
+    /// The page ranges as they are written. `None` for all pages.
     pub ranges: Option<String>,
-    /// The part of these pages, by their places.
+    /// Which of these pages are taken by their places: all, the first, third and so on, or the second, fourth and so on.
     pub part: Part,
     /// Whether the order is reversed.
     pub backwards: bool,
 }
 
 impl PageChoice {
-    /// All pages, in their order.
+    /// All pages, in the document's order.
     pub fn whole() -> PageChoice
         ensures { is_all_pages result ≡ true }
     {
@@ -261,14 +267,14 @@ impl PageChoice {
         }
     }
 
-    /// Whether it is all pages, in their order, without any range.
+    /// Whether the choice is all pages in the document's order, without page ranges.
     pub fn is_whole(&self) -> bool
         ensures { result ≡ is_all_pages self.now }
     {
         self.ranges.is_none() && self.part == Part::All && !self.backwards
     }
 
-    /// The same choice as a type of `rows`.
+    /// The same choice, as the type that the crate `rows` takes.
     pub fn as_choice(&self) -> Choice<'_>
         ensures { choice_of result ≡ choice_in self.now }
     {
@@ -289,53 +295,54 @@ fn ranges_of(ranges: &Option<String>) -> Option<&[u8]>
     }
 }
 
-/// The product of a request.
+/// The kind of output that a request asks for.
 #[derive(Drop)]
 pub enum Product {
     /// The sheets.
     Sheets,
-    /// The equal specification, with a command line of pstops, on standard output.
+    /// The specification that places pages as the layout does, and a command line of pstops with it, on standard output.
     Specification,
-    /// The list of the sheets, on standard output.
+    /// A list of the pages on each sheet, on standard output.
     Plan,
-    /// A drawing of the sheets in this file; without a name on standard output.
+    /// A drawing of the sheets, in the file of this name, or on standard output without a name.
     Picture(Option<String>),
 }
 
-/// A command line's request.
+/// The request that a command line makes.
 #[derive(Drop)]
 pub struct ImposeRequest {
+    /// The way in which pages are laid out on sheets.
     pub layout: Layout,
-    /// Margins, gaps, order and scale; a selection or a specification has none.
+    /// The margins, gaps, order and scale. A selection or a specification has `Spacing::none()`.
     pub spacing: Spacing,
-    /// The pages to impose; a specification takes all.
+    /// The pages to impose, and their order. `Layout::Spec` takes all pages.
     pub choice: PageChoice,
     /// The turn of each page before it is placed.
     pub turn: Turn,
-    /// The paper of the pages, if the words name it.
+    /// The paper of the pages, if the command line names it.
     pub page_paper: Option<Paper>,
-    /// The paper of the pages if neither the words nor the document name one: the usual one of the machine.
+    /// The paper of the pages if neither the command line nor the document names one: the user's default paper.
     pub default_paper: Paper,
-    /// The paper of the sheets, if it is named.
+    /// The paper of the sheets, if the command line names it.
     pub sheet_paper: Option<Paper>,
     /// The width of a border round each placed page, if one is requested.
     pub border: Option<Grains>,
     /// The marks and numbers that are drawn on the sheets.
     pub marks: Marks,
-    /// Whether the guard is inserted.
+    /// Whether the guard is inserted into the document (crate `guard`).
     pub is_guarded: bool,
-    /// The product: the sheets, or a report on them.
+    /// The kind of output: the sheets, or a specification, list or drawing in their place.
     pub product: Product,
     /// Whether the report is left out.
     pub is_quiet: bool,
-    /// The input file; None for standard input.
+    /// The name of the input file. `None` for standard input.
     pub infile: Option<String>,
-    /// The output file of the sheets; None for standard output.
+    /// The name of the output file for the sheets. `None` for standard output.
     pub outfile: Option<String>,
 }
 
 impl ImposeRequest {
-    /// Whether left and right margins are exchanged on every second sheet.
+    /// Whether the left and right margins are exchanged on every second sheet, because it is the back of a leaf.
     pub fn swaps_margins(&self) -> bool
         ensures { result ≡ swaps_margins self.now.layout self.now.spacing }
     {

@@ -6,8 +6,8 @@ use crate::request::{ImposeRequest, Layout};
 use lengths::Paper;
 
 impl ImposeRequest {
-    /// The paper of the sheets, for pages of this paper: the one that is named, or else that of the pages, which a booklet has
-    /// held upright.
+    /// The paper of the sheets for pages of `page_paper`: the paper that the command line names, or else that of the pages. A booklet takes the paper
+    /// of the pages upright.
     pub fn sheet_paper_for(&self, page_paper: &Paper) -> Paper
         ensures { result ≡ meaning.sheet_paper_for self.now.layout self.now.sheet_paper page_paper.now }
     {

@@ -1,11 +1,12 @@
-//! The signatures of a booklet, as an option names them.
+//! Signatures, as the option `--signature` names them.
 ghost use Rattle.std.specs.Prelude.{◌≡◌};
 ghost use Rattle.command_words.specs.Matches.{u32_of};
 ghost use Rattle.impose_words.specs.Signatures.{of_sides as signing_of_sides, signing_named as signing_by, whole_number};
 
 use rows::Signing;
 
-/// The signatures that this word names: `auto`, or the number of sides of each.
+/// The signatures that this word names: `auto`, or the number of sides of each, which is a multiple of four from 4 to 1,000,000. `None` for another
+/// word.
 pub fn signing_named(text: &str) -> Option<Signing>
     ensures { result ≡ signing_by text.now }
 {
@@ -16,7 +17,7 @@ pub fn signing_named(text: &str) -> Option<Signing>
     }
 }
 
-/// Signatures of this number of sides; None unless it is a multiple of four from 4 to 1,000,000.
+/// Signatures of this number of sides. `None` unless the number is a multiple of four from 4 to 1,000,000.
 fn of_sides(sides: Option<u32>) -> Option<Signing>
     ensures { result ≡ signing_of_sides sides }
 {
@@ -32,7 +33,7 @@ fn of_sides(sides: Option<u32>) -> Option<Signing>
     }
 }
 
-/// The whole number in a text of digits.
+/// The whole number that a text of digits gives. `None` for a text with a sign, and for a number above 2^32 - 1.
 pub fn whole_number(text: &str) -> Option<u32>
     ensures { result ≡ whole_number text.now }
 {
@@ -43,7 +44,7 @@ pub fn whole_number(text: &str) -> Option<u32>
     }
 }
 
-/// The same, with or without a plus.
+/// The whole number that a text of digits gives, with or without a plus sign before them.
 fn parsed(text: &str) -> Option<u32>
     ensures { result ≡ u32_of text.now }
 {

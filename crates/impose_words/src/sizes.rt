@@ -6,14 +6,14 @@ use command_words::border_named;
 use lengths::{Grains, Number, Paper, a4, length_named, read_number};
 use papers::read_paper;
 
-/// The paper that the text names, by its name or by its width and height.
+/// The paper that the text names, by its name or by its width and height. `None` if there is no such paper.
 pub fn size_named(text: &str) -> Option<Paper>
     ensures { result ≡ meaning.size_named text.now }
 {
     read_paper(text.as_bytes()).ok()
 }
 
-/// The number that is the whole text, up to 99,999.999999999. Decimals after the ninth have no effect.
+/// The number that the whole text gives, if it is at most 99,999.999999999. Decimals after the ninth have no effect.
 pub fn parse_number(text: &str) -> Option<Number>
     ensures { result ≡ meaning.number_alone text.now }
 {
@@ -33,7 +33,7 @@ pub fn lacks_unit(text: &str, is_listed: bool) -> bool
     }
 }
 
-/// The length that the text names, alone or in a list.
+/// The length that the text names. In a list, each length needs a unit; alone, 0 needs none.
 pub(crate) fn length_in(text: &str, is_listed: bool) -> Option<Grains>
     ensures { result ≡ meaning.length_in is_listed text.now }
 {
@@ -51,7 +51,7 @@ pub fn length_with_unit(text: &str) -> Option<Grains>
     length_in(text, false)
 }
 
-/// The border of the width that the text names; none if it is 0.
+/// The width of a border that the text names. `Some(None)`, no border, if the width is 0. `None` if the text isn't the width of a border.
 pub fn border_with_unit(text: &str) -> Option<Option<Grains>>
     ensures { result ≡ meaning.border_with_unit text.now }
 {
