@@ -14,7 +14,7 @@ use std::process::ExitCode;
 use world::{Host, World, tell};
 
 fn main(rt: HostRuntime) -> ExitCode {
-    // What is said of a run finds its room before the run.
+    // Memory for the report is reserved before the run.
     let report = match ReportText::new(rt.alloc()) {
         Ok(report) => report,
         Err(_) => return end_with(&rt, ImposeFault::no_memory()),
@@ -45,8 +45,8 @@ fn main(rt: HostRuntime) -> ExitCode {
     ExitCode::from(tell(&mut rt.stderr(), text.as_slice(), status))
 }
 
-/// Reports how the program ended, and returns its status. The end is taken by value, so the output is closed before anything is reported: if standard
-/// error was closed at the start, the output may have its descriptor.
+/// The text that reports how the program ended, and its exit status. `ended` is taken by value, so that the output is closed before anything is
+/// printed: if standard error was closed at the start, the output may have got its file descriptor.
 fn said<W: World>(
     alloc: Global,
     report: ReportText,
@@ -68,7 +68,7 @@ fn own_words(rt: &(impl Env + AllocGlobal)) -> Result<Vec<String>, RequestFault>
     }
 }
 
-/// The value of `PAPERSIZE`; empty if it isn't set or isn't text.
+/// The value of `PAPERSIZE`. It is empty if the variable isn't set or isn't UTF-8.
 fn paper_size(rt: &(impl Env + AllocGlobal)) -> String {
     match env::var(rt, "PAPERSIZE") {
         Ok(value) => value,
@@ -76,7 +76,7 @@ fn paper_size(rt: &(impl Env + AllocGlobal)) -> String {
     }
 }
 
-/// Ends with a fault before the words are read, or after the help.
+/// Ends the program with a fault that comes before the command line is read, or while the help or the version is printed.
 fn end_with(rt: &HostRuntime, fault: ImposeFault) -> ExitCode {
     let status = fault_status(&fault);
     let text = text_of_fault(rt.alloc(), &fault, None, &[]);

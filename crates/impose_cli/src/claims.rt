@@ -1,4 +1,4 @@
-//! A document's claims about itself.
+//! Statements that a document makes about itself.
 ghost use Rattle.std.specs.Prelude.{◌≡◌, codes, option_map};
 ghost use Rattle.papers.specs.Media.{comment_value, contents};
 ghost use Rattle.impose_messages.specs.Said.{shown_name};
@@ -11,7 +11,8 @@ use lengths::Paper;
 use papers::{Comment, document_paper, first_comment, first_name, is_at_end};
 use row_runs::declared_page_count;
 
-/// The claims of a document about itself that are reported. It takes no memory.
+/// The statements of a document about itself that messages mention: the number of its pages, and the name of its paper if no such paper is known. No
+/// memory is allocated.
 pub(crate) fn claims_of(request: &ImposeRequest, input: &[u8]) -> Claims
     ensures { meaning.IsToldBy request.now input.now result }
 {
@@ -20,7 +21,7 @@ pub(crate) fn claims_of(request: &ImposeRequest, input: &[u8]) -> Claims
     Claims { pages, unknown }
 }
 
-/// A name in the form in which it is shown.
+/// A name as messages show it.
 fn shown(name: Option<&[u8]>) -> Option<ShownName>
     ensures { result ≡ option_map shown_name (option_map (λ n. n.now) name.entry) }
 {
@@ -30,7 +31,7 @@ fn shown(name: Option<&[u8]>) -> Option<ShownName>
     }
 }
 
-/// The name of the document's paper, if it is unknown and the command line names no paper for the pages.
+/// The name of the document's paper, if no such paper is known and the command line names no paper for the pages.
 fn unknown_paper<'t>(request: &ImposeRequest, input: &'t [u8]) -> Option<&'t [u8]>
     ensures { option_map (λ name. name.now) result
         ≡ meaning.unknown_paper request.now.page_paper request.now.default_paper input.now }
@@ -41,7 +42,7 @@ fn unknown_paper<'t>(request: &ImposeRequest, input: &'t [u8]) -> Option<&'t [u8
     }
 }
 
-/// The first name in the document's `%%DocumentPaperSizes:`, if no name there gives its paper (DSC 2.1).
+/// The first name in the document's `%%DocumentPaperSizes:` (DSC 2.1), unless the document's paper is found by a name.
 fn unknown_name<'t>(usual: &Paper, input: &'t [u8]) -> Option<&'t [u8]>
     ensures { option_map (λ name. name.now) result ≡ meaning.unknown_name usual.now input.now }
 {
@@ -52,7 +53,7 @@ fn unknown_name<'t>(usual: &Paper, input: &'t [u8]) -> Option<&'t [u8]>
     told_name(names_value(header)?)
 }
 
-/// The name at the start of a value, unless the value is left to the trailer, which isn't read for names.
+/// The name at the start of a comment's value. `None` if the value is `(atend)`, which leaves it to the trailer. The trailer isn't read for names.
 fn told_name(value: &[u8]) -> Option<&[u8]>
     ensures { option_map (λ name. name.now) result ≡ meaning.told_name value.now }
 {
@@ -82,7 +83,7 @@ fn is_name(comment: Comment) -> bool
     }
 }
 
-/// The text after the colon of the first `%%DocumentPaperSizes:` among these lines.
+/// The text after the colon of the first `%%DocumentPaperSizes:` in these lines.
 fn names_value(lines: &[u8]) -> Option<&[u8]>
     ensures { option_map (λ value. value.now) result ≡ comment_value (codes "%%DocumentPaperSizes") (contents lines.now) }
 {

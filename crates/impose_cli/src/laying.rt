@@ -31,7 +31,7 @@ use rows::Signing;
 use sheet_plan::are_sides;
 use std::alloc::Global;
 
-/// The papers of the pages, once they are turned, and of the sheets. A selection keeps each page on its own paper.
+/// The paper of the pages after they are turned, and the paper of the sheets. In a selection, sheets have the paper of their pages.
 pub(crate) fn papers_for(request: &ImposeRequest, page_paper: &Paper) -> Papers
     ensures page { result.page ≡ cells_paper request.now page_paper.now }
     ensures sheet { result.sheet ≡ sheet_paper_in request.now.layout request.now.sheet_paper
@@ -45,12 +45,12 @@ pub(crate) fn papers_for(request: &ImposeRequest, page_paper: &Paper) -> Papers
     Papers { page, sheet }
 }
 
-/// How a task lays its row.
+/// How a task lays its row of pages on sheets.
 #[derive(Drop)]
 pub(crate) enum RowLaying {
-    /// As its layout does.
+    /// As a layout other than a specification lays it.
     Plain(Laying<'static>),
-    /// By the specification that its layout names, on sheets of this paper and all with pages of that one.
+    /// By the specification that the request names. `sheet` is the paper of the sheets, and all pages are placed by the paper `page`.
     Named {
         spec: Spec,
         sheet: Paper,
@@ -59,7 +59,7 @@ pub(crate) enum RowLaying {
 }
 
 impl RowLaying {
-    /// The laying, which is lent a specification.
+    /// The same laying as the type that the crate `row_runs` takes. It borrows the specification.
     pub(crate) fn lent(&self) -> Laying<'_>
         requires { MayBeLaidSo self.now }
         ensures is { IsLayingOf self.now result }
@@ -76,7 +76,7 @@ impl RowLaying {
     }
 }
 
-/// How the layout of a request lays its row on sheets.
+/// How the layout of a request lays its row of pages on sheets. The error is the fault of the layout.
 pub(crate) fn row_laying(
     alloc: Global,
     request: &ImposeRequest,
@@ -107,7 +107,7 @@ pub(crate) fn row_laying(
     }
 }
 
-/// The specification of this text.
+/// The specification that this text gives. The error is the fault of the text.
 pub(crate) fn spec_named(alloc: Global, specs: &str) -> Result<Spec, ImposeFault>
     ensures taken { IfOk result (λ spec. Takes most_slots specs.now spec) }
     ensures refused { IfErr result (RefusesSpecification specs.now) }
@@ -118,7 +118,7 @@ pub(crate) fn spec_named(alloc: Global, specs: &str) -> Result<Spec, ImposeFault
     }
 }
 
-/// How the layout lays pages on sheets; None for a specification.
+/// How the layout lays pages on sheets. `None` if the layout is a specification. The error is the fault of the layout.
 pub(crate) fn laying_for(
     layout: &Layout,
     spacing: &Spacing,
@@ -150,7 +150,7 @@ pub(crate) fn laying_for(
     }
 }
 
-/// Tests that the named sheets, if any, may have room for pages of some paper.
+/// Checks that sheets of the paper that the command line names, if it names one, may have room for pages of some paper.
 pub(crate) fn check_sheets(
     layout: &Layout,
     spacing: &Spacing,
@@ -171,7 +171,7 @@ pub(crate) fn check_sheets(
     }
 }
 
-/// The margins and gaps of a layout that has cells.
+/// The margins and gaps of a layout that has cells. `None` for another layout.
 fn kept_free(layout: &Layout, spacing: &Spacing) -> Option<Free>
     ensures { result ≡ kept_free_in layout.now spacing.now }
 {
@@ -186,7 +186,7 @@ fn kept_free(layout: &Layout, spacing: &Spacing) -> Option<Free>
     }
 }
 
-/// Whether the margins are as even as the layout needs.
+/// Whether the margins are as equal as the layout needs: opposite margins in a zine and in a stack for both sides, and all margins in a poster.
 fn is_even_enough(layout: &Layout, free: &Free) -> bool
     ensures { result ≡ are_even_enough layout.now free.now }
 {
@@ -198,7 +198,7 @@ fn is_even_enough(layout: &Layout, free: &Free) -> bool
     }
 }
 
-/// Pages in the cells that the layout asks for.
+/// The laying of pages in the cells that the layout asks for.
 fn cell_laying(
     layout: &Layout,
     spacing: &Spacing,
@@ -223,7 +223,7 @@ fn cell_laying(
     }
 }
 
-/// The cells that the layout asks for; for a zine its own.
+/// The arrangement of cells that the layout asks for. Callers pass only layouts with cells, so the last case is the zine.
 fn cells_for(layout: &Layout, spacing: &Spacing) -> Arrangement
     ensures { result ≡ cells_of_layout layout.now spacing.now }
 {
@@ -235,7 +235,7 @@ fn cells_for(layout: &Layout, spacing: &Spacing) -> Arrangement
     }
 }
 
-/// How the layout puts a row into these cells.
+/// The scheme by which the layout puts a row of pages into these cells.
 fn scheme_for(layout: &Layout, cells: Cells) -> Scheme
     requires { cells_per_sheet cells ≤ most_on_sheet }
     ensures { result ≡ scheme_in layout.now (cells_per_sheet cells) }
@@ -329,7 +329,8 @@ fn has_one_margin(free: &Free) -> bool
     has_even_margins(free) && free.left.get() == free.bottom.get()
 }
 
-/// The signatures of a request, if it has any. Refused if a signature can't have this number of sides, or if the border's width is 0.
+/// The signatures of a request, if it has any. The request is refused if a signature can't have the number of sides that is named, or if a border is
+/// named whose width isn't above 0.
 #[tactic(auto, using(crate::proofs::RowOptions::no_border, crate::proofs::RowOptions::not_sewn))]
 pub(crate) fn signing_for(request: &ImposeRequest) -> Result<Option<Signing>, ImposeFault>
     ensures signing { IfOk result (λ signing. signing ≡ signing_in request.now.layout) }
@@ -367,7 +368,7 @@ pub(crate) fn is_drawn(border: Option<Grains>) -> bool
     }
 }
 
-/// Whether a signature may have this number of sides, if one is named.
+/// Whether a signature may have the number of sides that is named, if a number is named.
 fn may_be_sewn(signing: Signing) -> bool
     ensures { IsTrue result ↔ MayBeSewn signing }
 {

@@ -1,4 +1,4 @@
-//! The command of impose: it reads the words, imposes a document as they ask, and writes the result.
+//! The command `impose`: it reads a command line, imposes a document as the command line asks, and writes the result.
 #![tactic(auto)]
 
 mod attempt;

@@ -1,4 +1,4 @@
-//! A look at the sheets that a request would impose.
+//! Lists and drawings of the sheets that a request makes.
 ghost use Rattle.std.specs.Prelude.{IfErr, IfOk, IfSome};
 ghost use Rattle.rows.specs.Sewing.{MayBeSewn};
 ghost use Rattle.dsc.specs.Serving.{Serve};
@@ -17,10 +17,10 @@ use imposer::RunError;
 use row_runs::{RowJob, SheetError, SheetRequest, row_plan, row_preview};
 use std::alloc::Global;
 
-/// The most sheets or leaves that are listed, or sheets that are drawn.
+/// The largest number of sheets or leaves in a list, and of sheets in a drawing.
 const MOST_TOLD: u32 = 40;
 
-/// The list or drawing of the sheets, in place of imposing them.
+/// A way to show the sheets in place of writing them.
 #[derive(Clone, Copy, Debug, PartialEq, Eq)]
 pub enum Overview {
     /// A list of the pages on each sheet.
@@ -29,7 +29,7 @@ pub enum Overview {
     Picture,
 }
 
-/// The list or drawing of the sheets for this document, by the layout of a request. The faults are those of a run of the request.
+/// The list or drawing of the sheets that a request makes from a document. It is refused with the same faults as a run of the request.
 pub fn look_text(
     alloc: Global,
     request: &ImposeRequest,
@@ -45,7 +45,7 @@ pub fn look_text(
     Ok(text)
 }
 
-/// The list or drawing for a task; these are the parts of its text.
+/// The list or drawing of the sheets of a task. `parts` says where the pages and the trailer of the task's text begin.
 fn task_text(
     alloc: Global,
     request: &ImposeRequest,
@@ -85,7 +85,7 @@ fn task_text(
     }
 }
 
-/// The list or drawing for a job.
+/// The list or drawing of the sheets of a job.
 fn job_text(alloc: Global, job: &RowJob<'_, '_>, look: Overview) -> Result<Vec<u8>, SheetError>
     requires asked { MayBeAsked job.now.asked }
     ensures told { IfOk result (λ text. TellsSheets look job.now text.items) }

@@ -12,8 +12,8 @@ use lengths::Grains;
 use rows::{RowError, read_row};
 use std::alloc::Global;
 
-/// The checks that don't need the document, so that a mistake is found before a byte is read. In this order: a drawing over the input, options
-/// without effect, the layout, the page ranges.
+/// Makes the checks that don't need the document, so that a mistake is found before a byte is read. In this order, it refuses a drawing that would be
+/// written over the input, an option without effect, a layout that isn't possible, and a text that isn't page ranges.
 pub fn check_request(alloc: Global, request: &ImposeRequest) -> Result<(), ImposeFault>
     ensures possible { OnOk result (MayBeRead request.now) }
     ensures refused { IfErr result (RefusesRequest request.now) }
@@ -58,8 +58,9 @@ fn is_one_file(one: Option<&str>, other: Option<&str>) -> bool
     }
 }
 
-/// The first option without effect, or with another effect than it names: a paper for sheets that keep their own; a margin at an edge that is missing
-/// or has another margin; cut marks that don't fit an inner margin; cut marks without a margin for them.
+/// The first option that has no effect, or not the effect that its name promises: `--sheet` for sheets that keep the papers of their pages; an inner
+/// margin where there is no inner edge, or where a left margin is named too; cut marks with an inner margin; cut marks without margins that have room
+/// for them.
 fn idle_option(request: &ImposeRequest) -> Option<IdleOption>
     ensures { result ≡ meaning.idle_option request.now }
 {
@@ -94,7 +95,7 @@ fn is_bound(layout: &Layout) -> bool
     matches!(layout, Layout::NUp(_) | Layout::Booklet { .. })
 }
 
-/// Whether a left margin is named beside an inner one, which is the left margin of fronts.
+/// Whether both a left margin and an inner margin are named for `nup`, although the inner margin is the left one of fronts.
 fn has_two_left(layout: &Layout, spacing: &Spacing) -> bool
     ensures { result ≡ meaning.has_two_left layout.now spacing.now }
 {
@@ -117,7 +118,7 @@ fn is_cut_outside(layout: &Layout) -> bool
     }
 }
 
-/// Whether the margins are at least half the gap.
+/// Whether each margin is above 0 and at least half the gap between cells in its direction.
 fn has_margins(free: &Free) -> bool
     ensures { result ≡ meaning.has_margins free.now }
 {
@@ -133,7 +134,7 @@ fn fits_half_gap(margin: Grains, gap: Grains) -> bool
     0 < margin && gap.get() <= margin + margin
 }
 
-/// Whether the text names pages by ranges. A text that isn't ranges for a document without pages isn't for any other.
+/// Checks that the text is page ranges, for a document without pages. A text that isn't page ranges for that document is none for any other.
 fn check_ranges(alloc: Global, choice: &PageChoice) -> Result<(), ImposeFault>
     ensures ranges { OnOk result (AreGoodRanges choice.now) }
     ensures refused { IfErr result (RefusesRanges choice.now) }

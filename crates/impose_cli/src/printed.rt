@@ -1,4 +1,4 @@
-//! The specification of a task as it is printed, with an equal command line of pstops.
+//! The specification of a task as it is printed, with a command line of pstops that places pages in the same way.
 ghost use Rattle.std.specs.Prelude.{◌≡◌, ◌++◌, IfOk, OnOk};
 ghost use Rattle.impose_cli.specs.Printed.{call_text, printed_command, comments_text, is_border_trimmed};
 ghost use Rattle.impose_cli.specs.Printed.{options_text, printed_text, quoted_spec};
@@ -12,8 +12,8 @@ use impose_words::ImposeRequest;
 use imposer::Options;
 use std::alloc::{AllocError, Global};
 
-/// The specification on a line, the equal command line of pstops on the next, then comments on what pstops does differently: it draws a border along
-/// the page's edges, whatever is trimmed, and inserts no guard.
+/// The specification on one line, a command line of pstops with it on the next line, then comments on the differences between pstops and impose.
+/// pstops draws a border along the edges of the whole page even if the page is trimmed, and it inserts no guard.
 pub fn printed_task(
     alloc: Global,
     request: &ImposeRequest,
@@ -77,8 +77,8 @@ const TRIM_COMMENT: &[u8] =
 const GUARD_COMMENT: &[u8] =
     b"# impose also puts its guard into the document, which pstops doesn't\n";
 
-/// Appends a specification in quotes; no byte of it has a meaning there. One that begins with a minus sign gets its modulo, since pstops would take
-/// it for an option.
+/// Appends a specification. It may stand in quotes, because no byte of it has a meaning for the shell there. A specification that begins with a minus
+/// sign gets its modulo, because pstops would take it for an option otherwise.
 fn append_spec(spec: &str, out: &mut Vec<u8>) -> Result<(), AllocError>
     ensures { OnOk result (out.new.items ≡ out.old.items ++ quoted_spec spec.now) }
 {

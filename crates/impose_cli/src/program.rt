@@ -32,11 +32,11 @@ use world::{Output, ReadFault, ReadSource, Rest, World, read_front, read_input_b
 /// How the program ended.
 #[derive(Drop)]
 pub struct Ended<W: World> {
-    /// The request of the words, if they make one.
+    /// The request that the command line makes, if it makes one.
     pub request: Option<ImposeRequest>,
-    /// The result, or the fault; after a fault there may be a part of the result.
+    /// The result, or the fault. A fault may come after part of the output was written.
     pub outcome: Result<Done, ImposeFault>,
-    /// The world if no output was created in it, or the output.
+    /// The world if no output was created in it, otherwise the output.
     pub rest: Rest<W, W::Output>,
 }
 
@@ -52,10 +52,12 @@ impl<W: World> Ended<W> {
     }
 }
 
-/// The program. It reads the words, of which the first is its name, finds the paper at home by `PAPERSIZE` and `/etc/papersize`, and checks the
-/// request. Then it reads its input whole and closes it. Last it imposes, prints the specification, or writes the list or drawing of the sheets.
+/// The whole program. It reads the command line, whose first word is the program's name. It finds the user's default paper from `paper_size`, the
+/// value of `PAPERSIZE`, and from /etc/papersize, and checks the request. Then it reads the whole input and closes it. Last it imposes the pages,
+/// prints the specification, or writes the list or the drawing of the sheets.
 ///
-/// The output is created when nothing is left to refuse. So a request that is refused creates none, and input and output may be one file.
+/// The output is created only when nothing is left that could be refused. A refused request therefore creates no output, and the input and the output
+/// may be the same file.
 pub fn impose<R: Threads + Wait + Sync, W: World>(
     rt: &R,
     alloc: Global,
@@ -66,8 +68,8 @@ pub fn impose<R: Threads + Wait + Sync, W: World>(
     requires countable { (W.seen world).failures + 1 < u64.MAX }
     ensures ended { EndsProgram W.seen (map string_bytes words.now) paper_size.now (W.gives world) (W.regular world)
         (edge_of_world (W.tells world) W.seen W.Output.seen) result.request result.outcome world result.rest (shown W.Output.seen result.rest) }
-    // A refusal has created no output, and gives the world back. An output that exists has all that was to be
-    // written, or a write failed or memory ran out.
+    // If the request is refused, no output has been created, and the world is given back. If an output has been created, it has all bytes that were
+    // to be written, or a write failed, or memory ran out.
     ensures created { IsCreatedFor result.outcome result.rest }
 {
     match read_command(alloc, words) {
@@ -88,7 +90,7 @@ pub fn impose<R: Threads + Wait + Sync, W: World>(
     }
 }
 
-/// The request, with this paper at home.
+/// The request, with `home` as the user's default paper.
 fn at_home(request: ImposeRequest, home: Paper) -> ImposeRequest
     ensures { result ≡ record request { default_paper = home } }
 {
@@ -98,14 +100,14 @@ fn at_home(request: ImposeRequest, home: Paper) -> ImposeRequest
     }
 }
 
-/// The file that names the paper at home.
+/// The file that names the user's default paper.
 const HOME_FILE: &str = "/etc/papersize";
 
-/// The most bytes of that file that are read.
+/// The largest number of bytes of that file that are read.
 const HOME_BYTES: usize = 4_096;
 
-/// The paper at home, by the value of `PAPERSIZE` and the start of the file. A file that can't be read, or isn't regular, counts as empty. It takes
-/// no memory.
+/// The user's default paper, from the value of `PAPERSIZE` and the start of /etc/papersize. A file that can't be read, or isn't a regular file,
+/// counts as empty. No memory is allocated.
 fn home_of<W: World>(paper_size: &[u8], world: &mut W) -> Paper
     requires countable { (W.seen world.old).failures < u64.MAX }
     ensures home { FindsHome paper_size.now (W.gives world.old) (W.regular world.old) (W.seen world.old) (W.seen world.new) result }
@@ -128,7 +130,7 @@ fn home_of<W: World>(paper_size: &[u8], world: &mut W) -> Paper
     }
 }
 
-/// Checks the request, reads the input, and makes the product.
+/// Checks the request, reads the input, and writes the output that the request asks for.
 fn carry_out<R: Threads + Wait + Sync, W: World>(
     rt: &R,
     alloc: Global,
@@ -150,7 +152,7 @@ fn carry_out<R: Threads + Wait + Sync, W: World>(
     }
 }
 
-/// Makes the product of the request.
+/// Writes the kind of output that the request asks for, made from this input.
 fn make<R: Threads + Wait + Sync, W: World>(
     rt: &R,
     alloc: Global,
@@ -180,7 +182,7 @@ fn make<R: Threads + Wait + Sync, W: World>(
     }
 }
 
-/// All bytes of the file of this name, or of standard input, with room before them.
+/// Reads all bytes of the file of this name, or of standard input without a name. There is room before the bytes for the guard.
 fn roomy_input<W: World>(
     alloc: Global,
     name: Option<&str>,
@@ -200,10 +202,10 @@ fn roomy_input<W: World>(
     }
 }
 
-/// Room for the guard before the document, enough for any paper.
+/// The number of bytes before the document that are kept free for the guard. They are enough for sheets of any paper.
 const ROOM: u32 = 2_560;
 
-/// All bytes of an input of this world, which is then closed.
+/// Reads all bytes of an input of this world, and closes the input.
 fn read_from<W: World>(
     alloc: Global,
     input: W::Input,
@@ -226,7 +228,7 @@ fn read_from<W: World>(
     }
 }
 
-/// Prints the specification, with the equal command line of pstops, to standard output.
+/// Prints the specification, with a command line of pstops that places pages in the same way, to standard output.
 fn print_input<W: World>(
     alloc: Global,
     request: &ImposeRequest,
@@ -298,7 +300,7 @@ fn create_with_text<W: World>(
     }
 }
 
-/// The fault of a write that failed after this number of bytes.
+/// The fault of a write that failed after `written` bytes.
 fn failed_at(written: usize, cause: Option<io::Error>) -> ImposeFault
     ensures { result ≡ faults.Write written cause }
 {

@@ -14,7 +14,8 @@ use papers::{PlacedPages, Reach, page_papers, reach_beyond};
 use rows::{RowError, imposed_row};
 use std::alloc::{AllocError, Global};
 
-/// The papers that pages name themselves, or else the document's; without these, the paper of the command line, or else the usual one.
+/// The paper of each page as the page itself names it, or else as the document does. If neither names one, it is the paper of the command line, or
+/// else the user's default paper.
 fn told_own(
     alloc: Global,
     request: &ImposeRequest,
@@ -26,8 +27,8 @@ fn told_own(
     page_papers(alloc, document, None, &usual)
 }
 
-/// The pages that reach beyond the papers by which they are placed, of those that are taken, where these are the papers that
-/// a request finds for pages. Of those that the paper cuts which is named, it says whether they are reported apart.
+/// The pages of the request's row that reach beyond `papers`, the papers by which they are placed. `own` are the papers that the request finds for
+/// pages. `cut_apart` says whether pages that the paper of `--paper` cuts are reported separately.
 pub(crate) fn reach_of_row(
     alloc: Global,
     request: &ImposeRequest,
@@ -48,8 +49,8 @@ pub(crate) fn reach_of_row(
     }
 }
 
-/// The pages taken that reach beyond the papers by which they are placed; `own` are their own papers. `cut_apart` is whether pages that their papers
-/// cut are reported apart.
+/// The pages of the request's row that reach beyond `papers`, the papers by which they are placed. `own` are the pages' own papers. `cut_apart` says
+/// whether pages that their papers cut are reported separately.
 fn reach_of_pages(
     alloc: Global,
     request: &ImposeRequest,
@@ -64,7 +65,7 @@ fn reach_of_pages(
     match imposed_row(alloc, document.pages(), &request.choice.as_choice(), None) {
         Ok(row) => reach_on_row(alloc, document, row.as_slice(), papers, own, cut_apart),
         Err(RowError::NoMemory) => Err(AllocError),
-        // There is no such row, which the run will say.
+        // There is no such row. The run reports the reason.
         Err(_) => Ok(None),
     }
 }
@@ -90,7 +91,7 @@ fn reach_on_row(
     }))
 }
 
-/// The same, if all pages are placed by this paper and none is reported apart.
+/// The pages of the request's row that reach beyond this paper, if all pages are placed by it. Pages that the paper cuts aren't reported separately.
 pub(crate) fn reach_over(
     alloc: Global,
     request: &ImposeRequest,

@@ -52,7 +52,7 @@ pub(crate) struct RowTask {
     pub(crate) text: RoomyText,
     pub(crate) page_paper: Paper,
     pub(crate) origin: PaperOrigin,
-    /// The papers of its pages, once they are turned.
+    /// The papers of the document's pages, after they are turned.
     pub(crate) papers: Vec<Paper>,
     /// The pages that `--paper` cuts.
     pub(crate) cut: Option<Cut>,
@@ -60,13 +60,13 @@ pub(crate) struct RowTask {
     pub(crate) reach: Option<Reach>,
     /// The number of pages after the document's trailer.
     pub(crate) behind: usize,
-    /// The number of its pages that are taken, each counted once.
+    /// The number of the document's pages that are imposed. A page that is imposed several times counts once.
     pub(crate) taken: u32,
     pub(crate) laying: RowLaying,
     pub(crate) signing: Option<Signing>,
 }
 
-/// The task of the request for this document, and the parts of its text; or the fault that is found before the run.
+/// The task of a request for a document, and the parts of the task's text. The error is a fault that is found before the run.
 pub(crate) fn row_task(
     alloc: Global,
     request: &ImposeRequest,
@@ -77,7 +77,7 @@ pub(crate) fn row_task(
     ensures parts { IfOk result (λ found. Serve found.1 found.0.text.items) }
     ensures refused { IfErr result (RefusesRowTask request.now input.items) }
 {
-    // The document is read as it came, so that a fault has its place there.
+    // The document is read before the guard is inserted, so that a fault names its place in the input.
     let (found, parts) = papers_of(alloc, request, input.as_slice())?;
     let papers = papers_for(request, &found.page_paper);
     let laying = row_laying(alloc, request, &papers)?;
@@ -99,16 +99,16 @@ pub(crate) fn row_task(
     Ok((task, parts))
 }
 
-/// The papers of a document's pages.
+/// The papers of a document's pages, and other facts about these pages.
 #[derive(Drop)]
 struct FoundPapers {
     /// The number of pages.
     pages: u32,
     /// The paper for which sheets and cells are made.
     page_paper: Paper,
-    /// The source of that paper.
+    /// Where that paper comes from.
     origin: PaperOrigin,
-    /// The papers by which the pages are placed, once they are turned.
+    /// The papers by which the pages are placed, after they are turned.
     papers: Vec<Paper>,
     /// The pages that `--paper` cuts.
     cut: Option<Cut>,
@@ -116,11 +116,11 @@ struct FoundPapers {
     reach: Option<Reach>,
     /// The number of pages after the trailer.
     behind: usize,
-    /// The number of pages that are taken, each counted once.
+    /// The number of pages that are imposed. A page that is imposed several times counts once.
     taken: u32,
 }
 
-/// The papers of this document's pages, and its parts; or why it is refused.
+/// The papers of a document's pages, and the document's parts. The error is the reason why the document is refused.
 fn papers_of(
     alloc: Global,
     request: &ImposeRequest,
@@ -159,7 +159,7 @@ pub(crate) fn has_one_paper(
     Ok(are_all(&found.page_paper, found.papers.as_slice(), paper))
 }
 
-/// Whether the first paper and the others all equal `paper`.
+/// Whether the paper `first` and all of the papers `others` have the size of `paper`.
 fn are_all(first: &Paper, others: &[Paper], paper: &Paper) -> bool
     ensures { result ≡ (are_same first.now paper.now && list_all (are_same paper.now) others.now) }
 {
@@ -231,8 +231,8 @@ fn papers_in(
     })
 }
 
-/// The paper for which sheets and cells are made: the document's, if a page that is taken has it or one near to it, and else
-/// that of the first one taken. A specification places all pages by the document's.
+/// The paper for which sheets and cells are made, and where it comes from. It is the document's if a page of the row has that paper or one of nearly
+/// the same size, otherwise it is the paper of the row's first page. A specification places all pages by the document's paper.
 fn paper_of_row(request: &ImposeRequest, input: &[u8], taken: &[Paper]) -> (Paper, PaperOrigin)
     ensures { result ≡ paper_for request.now.layout (page_paper_found request.now.page_paper request.now.default_paper input.now) taken.now }
 {
@@ -246,8 +246,8 @@ fn paper_of_row(request: &ImposeRequest, input: &[u8], taken: &[Paper]) -> (Pape
     }
 }
 
-/// The paper as which this one counts among those that are taken. In a selection it counts as a page's would, so that blanks have sheets like pages;
-/// otherwise it stays.
+/// The paper as which `paper` counts beside `taken`, the papers of the row's pages. In a selection, papers of nearly the same size count as one, so
+/// that blank sheets get the same paper as sheets with pages. In other layouts it is `paper` itself.
 fn counted_paper(
     alloc: Global,
     layout: &Layout,
@@ -268,8 +268,8 @@ fn counted_paper(
     }
 }
 
-/// The papers by which pages are placed: each its own. A selection puts pages whose papers count as one on one, and a
-/// specification places all by this one.
+/// The papers by which pages are placed. In most layouts each page is placed by its own paper. In a selection, papers of nearly the same size count
+/// as one. A specification places all pages by the paper `one`.
 fn papers_placed(
     alloc: Global,
     layout: &Layout,
@@ -290,7 +290,7 @@ fn papers_placed(
     }
 }
 
-/// This paper for each of those.
+/// The paper `one`, as often as there are papers in `own`.
 fn all_of(alloc: Global, one: &Paper, own: &[Paper]) -> Result<Vec<Paper>, AllocError>
     ensures { IfOk result (λ papers. papers.items ≡ map (λ paper. one.now) own.now) }
 {
@@ -301,14 +301,14 @@ fn all_of(alloc: Global, one: &Paper, own: &[Paper]) -> Result<Vec<Paper>, Alloc
     Ok(papers)
 }
 
-/// Whether pages that the named paper cuts are reported apart from those that reach beyond their papers.
+/// Whether pages that the paper of `--paper` cuts are reported separately from those that reach beyond their papers.
 fn has_cuts_apart(layout: &Layout) -> bool
     ensures { result ≡ cuts_apart layout.now }
 {
     !matches!(layout, Layout::SpecRow { .. })
 }
 
-/// The pages that the paper cuts which is named for them, of those that the row takes, if they are reported apart.
+/// The pages of the row that the paper of `--paper` cuts. `None` if there are none, or if they aren't reported separately.
 fn cut_pages(
     alloc: Global,
     request: &ImposeRequest,
@@ -324,7 +324,7 @@ fn cut_pages(
     let Some(named) = request.page_paper else {
         return Ok(None);
     };
-    // A page that names no paper has the one that is named, which doesn't cut it.
+    // A page that names no paper counts as having the paper of `--paper`, which doesn't cut it.
     let own = page_papers(alloc, document, None, &named)?;
     let taken = papers_taken(alloc, row, own.as_slice(), &named)?;
     Ok(cut_by(&named, taken.as_slice()))
@@ -349,7 +349,7 @@ fn guarded_paper(
     }
 }
 
-/// The paper of a selection's first sheet. Blank sheets have this paper.
+/// The paper of a selection's first sheet. `blank` is the paper of blank sheets.
 fn first_paper(
     alloc: Global,
     choice: &PageChoice,
@@ -366,7 +366,7 @@ fn first_paper(
     match imposed_row(alloc, found.pages, &choice.as_choice(), None) {
         Ok(row) => Ok(paper_of_first(row.as_slice(), found.papers.as_slice(), blank)),
         Err(RowError::NoMemory) => Err(ImposeFault::no_memory()),
-        // There is no such row, which the run will say.
+        // There is no such row. The run reports the reason.
         Err(_) => Ok(*blank),
     }
 }
@@ -384,7 +384,7 @@ fn paper_of_first(row: &[Option<u32>], papers: &[Paper], blank: &Paper) -> Paper
     }
 }
 
-/// Imposes a task; these are the parts of its text.
+/// Imposes a task. `parts` says where the pages and the trailer of the task's text begin.
 pub(crate) fn impose_task<R: Threads + Wait + Sync, W: World>(
     rt: &R,
     alloc: Global,
@@ -424,7 +424,7 @@ pub(crate) fn impose_task<R: Threads + Wait + Sync, W: World>(
     impose_job(rt, alloc, &job, name_of(&request.outfile), world)
 }
 
-/// An error of the run as a fault, for a document with this number of pages.
+/// The fault for an error of the run on a document of `pages` pages.
 pub(crate) fn asked_fault_of(error: SheetError, pages: u32) -> ImposeFault
     ensures { result ≡ asked_fault pages error }
 {

@@ -1,4 +1,4 @@
-//! Runs of requests, into outputs that are created once nothing is left to refuse.
+//! Runs of requests. Their outputs are created only when nothing is left that could be refused.
 ghost use Rattle.std.specs.Prelude.{◌≡◌, ◌<◌, ◌⊎◌, [], ℕ, List, IfErr, IfOk, IsTrue, MatchResult, OnOk, None, Some, Ok, Err, option_map, string_bytes, true};
 ghost use Rattle.std.specs.IoError.{error_kind};
 ghost use Rattle.std.specs.declared.io.ErrorKind.TheVariants.{OutOfMemory};
@@ -44,8 +44,8 @@ use std::sync::Wait;
 use std::thread::Threads;
 use world::{Asked, Before, Buffered, Fate, Late, Output, Refused, Rest, World};
 
-/// Carries out a request for this document. The first fault is the document's, then the layout's, then the run's. The output is created once all is
-/// checked, so a refused request creates none.
+/// Imposes a document as a request asks. A fault of the document is found first, then one of the layout, then one of the run. The output is created
+/// after all checks, so a refused request creates none.
 pub(crate) fn run_on_document<R: Threads + Wait + Sync, W: World>(
     rt: &R,
     alloc: Global,
@@ -65,7 +65,7 @@ pub(crate) fn run_on_document<R: Threads + Wait + Sync, W: World>(
 
 // ---- on the row of a layout
 
-/// Carries out a request whose layout lays a row on sheets.
+/// Imposes a document by a layout that lays a row of pages on sheets.
 fn run_row<R: Threads + Wait + Sync, W: World>(
     rt: &R,
     alloc: Global,
@@ -99,7 +99,7 @@ fn run_row<R: Threads + Wait + Sync, W: World>(
     }
 }
 
-/// Imposes a row.
+/// Imposes the row of a job, into the output of this name.
 pub(crate) fn impose_job<R: Threads + Wait + Sync, W: World>(
     rt: &R,
     alloc: Global,
@@ -128,7 +128,7 @@ pub(crate) fn impose_job<R: Threads + Wait + Sync, W: World>(
 
 // ---- by a specification
 
-/// Carries out a request by the specification that it names.
+/// Imposes a document by the specification that the request names.
 fn run_spec<R: Threads + Wait + Sync, W: World>(
     rt: &R,
     alloc: Global,
@@ -162,7 +162,7 @@ fn run_spec<R: Threads + Wait + Sync, W: World>(
     }
 }
 
-/// Imposes a task, as `run` of imposer does; these are the parts of its text.
+/// Imposes a task by its specification, as `run` of the crate `imposer` does. `parts` says where the pages and the trailer of the task's text begin.
 fn impose_by_spec<R: Threads + Wait + Sync, W: World>(
     rt: &R,
     alloc: Global,
@@ -190,7 +190,7 @@ fn impose_by_spec<R: Threads + Wait + Sync, W: World>(
     write_job(rt, alloc, &job, name, world)
 }
 
-/// Checks the border, and reads the specification, and the document by its parts.
+/// Checks the border, reads the specification, and makes the document from its text and its parts.
 fn read_task<'t>(
     alloc: Global,
     task: &'t Task,
@@ -246,10 +246,11 @@ fn reported(outcome: Result<Report, ImposeFault>, about: About) -> Result<Done, 
 
 // ---- what is written
 
-/// The buffer's size: sheets that are smaller are written together.
+/// The size of the output's buffer, in bytes. Sheets that are smaller are gathered in it and written together.
 const WRITTEN_AT_ONCE: usize = 16_384;
 
-/// Writes the sheets of a job to the output of this name, which is created when the first byte is to be written. Nothing is refused.
+/// Writes the sheets of a job to the output of this name, which is created when the first byte is to be written. The job has been checked, so it
+/// isn't refused here: only memory, the output's creation or a write can fail.
 fn write_job<R: Threads + Wait + Sync, W: World>(
     rt: &R,
     alloc: Global,
@@ -264,7 +265,7 @@ fn write_job<R: Threads + Wait + Sync, W: World>(
     write_asked::<Brand, R, W>(rt, alloc, job, Asked { name, world })
 }
 
-/// `write_job`, generic in what was seen of the world before.
+/// Does the work of `write_job`. The parameter `B` tells the contracts the output's name and what was seen of the world before.
 fn write_asked<B: Before, R: Threads + Wait + Sync, W: World>(
     rt: &R,
     alloc: Global,
@@ -292,7 +293,7 @@ fn write_asked<B: Before, R: Threads + Wait + Sync, W: World>(
     }
 }
 
-/// All bytes were written. An output without bytes is created now.
+/// The end of a run after all bytes were written. An output that got no bytes is created now.
 fn written_out<'n, B: Before, W: World>(
     report: Report,
     name: Option<&str>,
@@ -321,7 +322,7 @@ fn written_out<'n, B: Before, W: World>(
     }
 }
 
-/// Memory ran out or a write failed after the sink had taken this many bytes.
+/// The end of a run in which memory ran out or a write failed, after the sink had taken `taken` bytes.
 fn broken_off<'n, B: Before, W: World>(
     taken: u64,
     sink: Buffered<Late<'n, W, B>>,
@@ -331,7 +332,7 @@ fn broken_off<'n, B: Before, W: World>(
 {
     let written = taken.saturating_sub(sink.waiting() as u64);
     match sink.into_output().fate() {
-        // Only an output that was asked for fails.
+        // No output was asked for, so no write failed: memory ran out.
         Fate::Unasked(world) => refused_before(ImposeFault::no_memory(), world),
         Fate::Refused(refused) => uncreated(refused),
         Fate::Created(output) => failed(written, output),
@@ -349,7 +350,8 @@ fn taken_before(error: &RunError) -> u64
     }
 }
 
-/// The output couldn't be created.
+/// The end of a run whose output couldn't be created. The fault is a lack of memory if that was the cause, otherwise a write that failed after 0
+/// bytes.
 fn uncreated<W: World>(refused: Refused<W>) -> Attempt<W, Report>
     ensures fault { ((error_kind refused.cause ≡ OutOfMemory) × (result.outcome ≡ Err without_memory))
         ⊎ (¬ (error_kind refused.cause ≡ OutOfMemory) × (result.outcome ≡ Err (faults.Write 0 (Some refused.cause)))) }
@@ -365,7 +367,7 @@ fn uncreated<W: World>(refused: Refused<W>) -> Attempt<W, Report>
     refused_before(fault, refused.world)
 }
 
-/// The output exists, with `written` bytes. The fault is that of the output if it failed, or else out of memory.
+/// The end of a run that leaves an output with `written` bytes. The fault is that of the output if the output failed, otherwise a lack of memory.
 fn failed<W: World>(written: u64, output: W::Output) -> Attempt<W, Report>
     requires begun { (W.Output.seen output).failures ≡ 0 → (W.Output.seen output).has_taken ≡ true }
     ensures fault { MatchResult result.outcome (λ report. ⊥) (IsSaidOf (W.Output.seen output) written) }

@@ -1,4 +1,4 @@
-//! The pages that a request takes.
+//! The pages of a document that a request imposes.
 ghost use Rattle.std.specs.Prelude.{◌≡◌, ℕ, ◌+◌, ◌<◌, ◌≤◌, ◌==◌, ◌||◌, if◌then◌else◌, IfOk, OnOk, None, length, get_or, false};
 ghost use Rattle.std.specs.Prelude.{[], ◌++◌, option_and_then, slice_get};
 ghost use Rattle.rules.specs.Choice.{imposed_row as row_of, most_entries};
@@ -12,7 +12,7 @@ use lengths::Paper;
 use rows::{RowError, imposed_row};
 use std::alloc::{AllocError, Global};
 
-/// The chosen row, before it is put into signatures. It is empty if there is no such row, which the run reports.
+/// The row of pages that a choice gives, before it is put into signatures. It is empty if the choice gives no row; the run reports the reason.
 pub(crate) fn row_of_choice(
     alloc: Global,
     pages: u32,
@@ -28,7 +28,7 @@ pub(crate) fn row_of_choice(
     }
 }
 
-/// The number of pages that such a row takes, each counted once.
+/// The number of pages in the row that a choice gives. A page that is in the row several times counts once.
 pub(crate) fn pages_of_choice(
     alloc: Global,
     pages: u32,
@@ -42,7 +42,7 @@ pub(crate) fn pages_of_choice(
     taken_count(alloc, row.as_slice(), pages)
 }
 
-/// The number of pages that the row takes, each counted once, of a document with this number of pages.
+/// The number of pages in a row, of a document of `pages` pages. A page that is in the row several times counts once.
 pub(crate) fn taken_count(alloc: Global, row: &[Option<u32>], pages: u32) -> Result<u32, AllocError>
     ensures { IfOk result (λ count. count ≡ taken_below row.now pages) }
 {
@@ -54,7 +54,7 @@ pub(crate) fn taken_count(alloc: Global, row: &[Option<u32>], pages: u32) -> Res
     Ok(count)
 }
 
-/// One more, if a page is taken.
+/// The count, or one more if a page is taken.
 fn counted(count: u32, is_taken: bool) -> u32
     requires { count < u32.MAX }
     ensures { result ≡ count + (if is_taken then 1 else 0) }
@@ -62,7 +62,7 @@ fn counted(count: u32, is_taken: bool) -> u32
     if is_taken { count + 1 } else { count }
 }
 
-/// The papers of a row's pages, in order.
+/// The papers of the pages in a row, in the order of the row. `own` are the papers of all pages of the document.
 pub(crate) fn papers_on_row(
     alloc: Global,
     row: &[Option<u32>],
@@ -77,7 +77,7 @@ pub(crate) fn papers_on_row(
     Ok(papers)
 }
 
-/// Appends the paper of an entry's page, if it has one.
+/// Appends the paper of an entry's page, unless the entry is blank.
 fn push_paper(papers: &mut Vec<Paper>, own: &[Paper], entry: &Option<u32>) -> Result<(), AllocError>
     ensures { OnOk result (papers.new.items
         ≡ papers.old.items ++ or_without (option_and_then (slice_get own.now) entry.now) []) }
@@ -100,7 +100,7 @@ fn paper_of_entry(own: &[Paper], entry: Option<u32>) -> Option<Paper>
     }
 }
 
-/// The papers of pages, with `other` for each page that the row doesn't take.
+/// The papers `own` of a document's pages, with `other` in place of the paper of each page that isn't in the row.
 pub(crate) fn papers_taken(
     alloc: Global,
     row: &[Option<u32>],
@@ -123,7 +123,7 @@ fn paper_if(is_taken: bool, own: &Paper, other: &Paper) -> Paper
     if is_taken { *own } else { *other }
 }
 
-/// For each page of a document with this number of pages, whether the row takes it.
+/// For each page of a document of `pages` pages, whether the page is in the row.
 pub(crate) fn pages_taken(
     alloc: Global,
     row: &[Option<u32>],

@@ -45,22 +45,22 @@ pub struct Task {
     /// The specification by which its pages are placed.
     pub spec: String,
     pub options: Options,
-    /// The source of the pages' paper.
+    /// Where the paper of the pages comes from.
     pub origin: PaperOrigin,
     /// The counts of the document's pages.
     pub counted: CountedPages,
 }
 
-/// The numbers of a document's pages, if all are placed by one paper.
+/// Counts of a document's pages, for pages that are all placed by one paper.
 #[derive(Clone, Copy)]
 pub struct CountedPages {
     /// The number of all pages.
     pub pages: u32,
     /// The number of pages after the trailer.
     pub behind: usize,
-    /// The number of those that are taken, each counted once.
+    /// The number of pages that are imposed. A page that is imposed several times counts once.
     pub taken: u32,
-    /// The pages that reach beyond the paper.
+    /// The pages that reach beyond the paper by which they are placed.
     pub reach: Option<Reach>,
 }
 
@@ -70,8 +70,9 @@ pub(crate) const WORKERS: Workers = Workers {
     imposers: 2,
 };
 
-/// The checks of a layout that don't need the document, so that a mistake is found before a byte is read. A specification is checked. Other layouts
-/// are checked with the pages' paper, if it is named; otherwise only whether the named sheets may have room for pages.
+/// Makes the checks of a layout that don't need the document, so that a mistake is found before a byte is read. A specification is read. Another
+/// layout is tried with the paper of the pages if the command line names it; otherwise it is only checked whether the named sheets may have room for
+/// pages.
 pub fn check_layout(alloc: Global, request: &ImposeRequest) -> Result<(), ImposeFault>
     ensures possible { OnOk result
         (IsPossible request.now.layout request.now.spacing (named_cells_paper request.now) request.now.sheet_paper) }
@@ -102,7 +103,8 @@ fn check_spec(alloc: Global, specs: &str) -> Result<(), ImposeFault>
     }
 }
 
-/// Whether a specification can express the request apart from its layout: its pages, their turn, marks, scale, and places on backs.
+/// Whether a specification can express the request apart from its layout: all pages in order, not turned, without marks and numbers, without one
+/// scale for pages of several papers, and with the same margins on fronts and backs.
 fn is_said(request: &ImposeRequest) -> bool
     ensures { result ≡ says request.now }
 {
@@ -114,8 +116,9 @@ fn is_said(request: &ImposeRequest) -> bool
         && !request.swaps_margins()
 }
 
-/// The task with the specification that a request comes to, and the parts of its text. In this order it is refused for: the document; pages that are
-/// chosen or turned, marks, one scale, or an inner edge; pages of other papers; the layout.
+/// The task of a request, with the specification that places pages as the request asks, and the parts of the task's text. In this order it is refused
+/// for: the document; pages that are chosen or turned, marks or numbers, one scale for pages of several papers, or an inner margin of `nup`; pages of
+/// other papers; the layout.
 pub fn task_for(
     alloc: Global,
     request: &ImposeRequest,
@@ -126,7 +129,7 @@ pub fn task_for(
     ensures accepted { OnOk result (HasNoFault request.now input.items) }
     ensures refused { IfErr result (RefusesTask request.now input.items) }
 {
-    // The document is read as it came, so that a fault has its place there.
+    // The document is read before the guard is inserted, so that a fault names its place in the input.
     let (page_paper, origin) = paper_of_pages(request, input.as_slice());
     let (counted, parts) = pages_of(alloc, request, input.as_slice(), &page_paper)?;
     if !is_said(request) {
@@ -162,7 +165,7 @@ pub fn task_for(
     Ok((task, parts))
 }
 
-/// Tests that all pages have this paper, if a specification is made for the layout.
+/// Checks that all pages have this paper, if the layout is one for which a specification is made.
 fn check_one_paper(
     alloc: Global,
     request: &ImposeRequest,
@@ -190,7 +193,7 @@ fn has_specification(layout: &Layout) -> bool
     matches!(layout, Layout::NUp(_) | Layout::Booklet { .. })
 }
 
-/// The document, with the guard unless the request leaves it out, and the parts of that text.
+/// The document, with the guard unless the request leaves it out. The parts of the document also serve for this text.
 pub(crate) fn text_to_impose(
     is_guarded: bool,
     sheet_paper: &Paper,
@@ -207,7 +210,7 @@ pub(crate) fn text_to_impose(
     Ok(text)
 }
 
-/// The paper of the pages: the one named, or the document's own, or the one at home.
+/// The paper of the pages, and where it comes from: the command line, or else the document, or else the user's default paper.
 pub(crate) fn paper_of_pages(request: &ImposeRequest, input: &[u8]) -> (Paper, PaperOrigin)
     ensures { result ≡ page_paper_found request.now.page_paper request.now.default_paper input.now }
 {
@@ -220,7 +223,7 @@ pub(crate) fn paper_of_pages(request: &ImposeRequest, input: &[u8]) -> (Paper, P
     }
 }
 
-/// The numbers of a document's pages if all are placed by this paper, and its parts.
+/// Counts of a document's pages, for pages that are all placed by this paper, and the document's parts.
 pub(crate) fn pages_of(
     alloc: Global,
     request: &ImposeRequest,
@@ -299,7 +302,7 @@ fn creeps(spacing: &Spacing) -> bool
     spacing.creep.get() != 0
 }
 
-/// This text, with this number of sides.
+/// The text of the specification that the request names, with this number of sides of a signature.
 fn named_placing(alloc: Global, specs: &str, sides: Option<u32>) -> Result<PlacedItem, ImposeFault>
     ensures text { IfOk result (λ placed. string_bytes placed.0 ≡ specs.now) }
     ensures sides { IfOk result (λ placed. placed.1 ≡ sides) }
@@ -347,7 +350,7 @@ fn booklet_placing(
     }
 }
 
-/// The text of a specification, with this number of sides.
+/// The text of a specification, with this number of sides of a signature.
 fn written(alloc: Global, spec: &Spec, sides: Option<u32>) -> Result<PlacedItem, ImposeFault>
     ensures text { IfOk result (λ placed. IsWritten spec.now (string_bytes placed.0)) }
     ensures sides { IfOk result (λ placed. placed.1 ≡ sides) }
