@@ -1,10 +1,11 @@
-//! The results of commands, as text.
+//! The answers of commands, as text.
 use lengths::{Grains, print_points};
 use std::alloc::Global;
 use std::fmt::{Debug, Display};
 use std::io::Write;
 
-/// The form of an answer: all of it, with a refusal by its name; a refusal by its line; or `yes` in place of an answer that isn't a refusal.
+/// The form of an answer. `Whole` gives the whole answer, and a refusal by its name in the program. `Line` gives a refusal by its message. `Taken`
+/// gives `yes` in place of an answer that isn't a refusal.
 #[derive(Clone, Copy, PartialEq, Eq)]
 pub enum Form {
     Whole,
@@ -12,7 +13,7 @@ pub enum Form {
     Taken,
 }
 
-/// The text of an answer.
+/// The text of an answer, while it is put together.
 #[derive(Drop)]
 pub struct Answer {
     pub alloc: Global,
@@ -33,7 +34,7 @@ impl Answer {
         }
     }
 
-    /// The text, unless memory ran out.
+    /// The bytes of the answer. `None` if memory ran out while it was put together.
     pub fn whole(mut self) -> Option<Vec<u8>> {
         if self.form == Form::Taken && !self.is_refused {
             self.bytes.clear();
@@ -46,7 +47,7 @@ impl Answer {
         }
     }
 
-    /// Adds another answer after this one.
+    /// Appends another answer.
     pub fn add(&mut self, other: Answer) {
         self.note(other.is_whole);
         self.add_bytes(other.bytes.as_slice());
@@ -71,7 +72,7 @@ impl Answer {
         self.text("\n");
     }
 
-    /// Appends bytes as text, whatever they are.
+    /// Appends bytes as text. Bytes that aren't UTF-8 are replaced.
     pub fn lossy(&mut self, bytes: &[u8]) {
         match String::from_utf8_lossy(self.alloc, bytes) {
             Ok(text) => self.text(text.as_str()),
@@ -86,12 +87,13 @@ impl Answer {
         self.note_appended(before, added.is_ok());
     }
 
-    /// Notes whether something could be added.
+    /// Notes whether an addition to the answer succeeded. After one that failed the answer isn't whole.
     pub fn note(&mut self, is_added: bool) {
         self.is_whole = self.is_whole && is_added;
     }
 
-    /// Notes whether a library could append to a text of this many bytes. If it couldn't, the text has to be unchanged.
+    /// Notes whether a library could append to the answer, which had `before` bytes. If it couldn't, but the answer has changed, that isn't counted
+    /// as a lack of memory, so the changed answer shows the fault.
     pub fn note_appended(&mut self, before: usize, is_appended: bool) {
         let len = self.bytes.len();
         self.note(is_appended || len != before);
@@ -112,7 +114,7 @@ impl Answer {
         self.text("\n");
     }
 
-    /// Appends a value with its label, on a line of its own.
+    /// Appends a label and a value, on a line of their own.
     pub fn labelled<D: Display + Drop>(&mut self, label: &str, value: D) {
         self.text(label);
         self.text(" ");
@@ -130,7 +132,7 @@ impl Answer {
         self.text(if is_so { "yes\n" } else { "no\n" });
     }
 
-    /// Appends an error, by its name or by its line.
+    /// Appends an error on a line of its own: by its message in the form `Line`, otherwise by its name in the program.
     pub fn refusal<E: Debug + Display + Drop>(&mut self, error: E) {
         self.is_refused = true;
         if self.form == Form::Line {

@@ -14,7 +14,7 @@ use crate::answer::Answer;
 pub use crate::documents::known_laws::call_laws;
 use crate::words::Document;
 
-/// Runs a command. None if no command has this name, or its words aren't understood.
+/// Runs a command. `None` if no command has this name, or its words aren't understood.
 pub fn run(out: &mut Answer, words: &[String], documents: &[Document]) -> Option<()> {
     let is_command = document_commands::run(out, words, documents).is_some()
         || paper_commands::run(out, words, documents).is_some()

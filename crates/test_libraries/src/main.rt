@@ -1,5 +1,5 @@
-//! Makes the call that its words name, such as `paper a4`, and prints the answer. Words may be names of files, which are documents. Without a word it
-//! does nothing.
+//! Calls the library function that the words of the command line name, such as `paper a4`, and prints the answer. A word that names a file stands for
+//! the document in it. Without words, the program does nothing.
 #![tactic(auto)]
 
 mod answer;

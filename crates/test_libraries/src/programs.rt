@@ -11,7 +11,7 @@ use crate::words::{Document, count, text_of, word};
 use std::sync::Wait;
 use std::thread::Threads;
 
-/// Runs a command. None if no command has this name, or its words aren't understood.
+/// Runs a command. `None` if no command has this name, or its words aren't understood.
 pub fn run<R: Threads + Wait + Sync>(
     rt: &R,
     out: &mut Answer,

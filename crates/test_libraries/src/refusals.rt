@@ -1,5 +1,5 @@
-//! The answer of a command. With the library of `checks/refuse.c`, which refuses each growth in turn, the answer must stay the same or report a lack
-//! of memory.
+//! The answer of a command. With the library of `checks/refuse.c`, each growth of memory is refused in turn. The answer must then stay the same or
+//! report a lack of memory.
 use crate::answer::Answer;
 use crate::words::{Document, without_form};
 use crate::{documents, programs, specifications};
@@ -8,11 +8,11 @@ use std::sync::Wait;
 use std::thread::Threads;
 use test_tools::{has_refused, refuse};
 
-/// The limit of refused growths of a command, one after the other.
+/// The largest number of growths that are refused in turn for one command.
 const MOST_REFUSED: u32 = 1_000;
 
-/// The answer of a command, if there is one, once no growth of it is refused. A run in which a growth is refused has no answer, reports a lack of
-/// memory, or has the usual answer.
+/// The answer of a command, if there is one, from a run in which no growth is refused. A run in which a growth is refused must have no answer, report
+/// a lack of memory, or have the usual answer.
 pub fn answer_of<R: Threads + Wait + Sync>(
     rt: &R,
     alloc: Global,
@@ -50,14 +50,14 @@ fn answer_once<R: Threads + Wait + Sync>(
     if is_command { out.whole() } else { None }
 }
 
-/// Whether a call in which a growth is refused may have this answer: it reports a lack of memory, with status 3 if it has a status, or it is the
-/// usual one.
+/// Whether a run in which a growth is refused may have this answer. It may be the usual answer, or report a lack of memory, with status 3 if it has a
+/// status.
 fn is_fair(text: &[u8], usual: &[u8]) -> bool {
     let is_failure = text.starts_with(b"status 3\n") || !text.starts_with(b"status");
     text == usual || is_failure && reports_no_memory(text)
 }
 
-/// Whether an answer names an error for lack of memory, or has its message.
+/// Whether an answer has the name or the message of an error for lack of memory.
 fn reports_no_memory(text: &[u8]) -> bool {
     for start in 0..text.len() {
         let (_, rest) = text.split_at(start);

@@ -1,4 +1,4 @@
-//! Commands from the words of a specification to the sheets.
+//! Commands about specifications, from numbers and lengths to the sheets that they make.
 mod filled;
 mod law_trials;
 mod matrices;
@@ -11,7 +11,7 @@ mod specifications;
 
 use crate::answer::Answer;
 
-/// Runs a command. None if no command has this name, or its words aren't understood.
+/// Runs a command. `None` if no command has this name, or its words aren't understood.
 pub fn run(out: &mut Answer, words: &[String]) -> Option<()> {
     let is_command = measures::run(out, words).is_some()
         || specifications::run(out, words).is_some()

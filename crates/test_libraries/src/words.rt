@@ -7,14 +7,14 @@ use std::fs::File;
 use std::io;
 use std::io::Read;
 
-/// A document, by the name of its file.
+/// A document: the name of its file, and its bytes.
 #[derive(Drop)]
 pub struct Document {
     pub name: String,
     pub bytes: Vec<u8>,
 }
 
-/// The documents that words name.
+/// Reads the documents that words name. Words that name no readable file are skipped.
 pub fn documents_of(
     rt: &HostRuntime,
     alloc: Global,
@@ -33,7 +33,7 @@ pub fn documents_of(
     Ok(documents)
 }
 
-/// The words after `line` or `taken`, which choose the form of the answer.
+/// The words without `line` or `taken` at their start, which choose the form of the answer.
 pub fn without_form<'w>(out: &mut Answer, words: &'w [String]) -> &'w [String] {
     let form = match word(words, 0) {
         Some("line") => Form::Line,
@@ -51,7 +51,7 @@ pub fn word(words: &[String], at: usize) -> Option<&str> {
     Some(words.get(at)?.as_str())
 }
 
-/// A whole number.
+/// The whole number in the word at place `at`.
 pub fn number(words: &[String], at: usize) -> Option<i128> {
     number_in(word(words, at)?)
 }
@@ -63,12 +63,12 @@ pub fn number_in(text: &str) -> Option<i128> {
     }
 }
 
-/// A number, given in 10^-9.
+/// The number that a text gives in units of 10^-9.
 pub fn billionths(text: &str) -> Option<Number> {
     Number::new(i64::try_from(number_in(text)?).ok()?)
 }
 
-/// A number of pages, or another number of that size.
+/// The number of pages, or another number below 2^32, in the word at place `at`.
 pub fn count(words: &[String], at: usize) -> Option<u32> {
     count_in(word(words, at)?)
 }
@@ -77,7 +77,7 @@ pub fn count_in(text: &str) -> Option<u32> {
     u32::try_from(number_in(text)?).ok()
 }
 
-/// A paper: its name, or its sides as `WxH` in 10^-5 of a point, or in grains with a `g` at the end.
+/// The paper that the word at place `at` gives: by its name, or by its sides as `WxH` in 10^-5 of a point, or in grains with a `g` at the end.
 pub fn paper(words: &[String], at: usize) -> Option<Paper> {
     let text = word(words, at)?;
     if let Some(paper) = paper_by_name(text) {
@@ -91,7 +91,7 @@ pub fn paper(words: &[String], at: usize) -> Option<Paper> {
     Paper::new(length(width, unit)?, length(height, unit)?)
 }
 
-/// Papers by their names.
+/// The papers with these names. `None` if one of them is no paper's name.
 pub fn papers_of(alloc: Global, names: &[String]) -> Option<Vec<Paper>> {
     let mut papers = Vec::new(alloc);
     for name in names {
@@ -100,7 +100,7 @@ pub fn papers_of(alloc: Global, names: &[String]) -> Option<Vec<Paper>> {
     Some(papers)
 }
 
-/// The text of the document of this name.
+/// The bytes of the document that the word at place `at` names.
 pub fn text_of<'d>(documents: &'d [Document], words: &[String], at: usize) -> Option<&'d [u8]> {
     let name = word(words, at)?;
     for document in documents {
@@ -111,12 +111,12 @@ pub fn text_of<'d>(documents: &'d [Document], words: &[String], at: usize) -> Op
     None
 }
 
-/// A length of this many units, each of this many grains.
+/// The length that a text gives as a number of units. `unit` is the number of grains in a unit.
 pub fn length(text: &str, unit: i128) -> Option<Grains> {
     Grains::new(number_in(text)?.checked_mul(unit)?)
 }
 
-/// A text, which may be given as `repeat N TEXT BETWEEN FRONT BACK`; the last three may be left out.
+/// The text that a word gives. It may be `repeat N TEXT BETWEEN FRONT BACK`, which stands for a repeated text; the last three parts may be left out.
 pub fn long_text(alloc: Global, text: &str) -> Option<String> {
     if part(text, 0) != "repeat" {
         return String::from_str(alloc, text).ok();
@@ -127,12 +127,12 @@ pub fn long_text(alloc: Global, text: &str) -> Option<String> {
     repeated(alloc, [front, one, between, back], times as usize).ok()
 }
 
-/// The part of a text with this number, between spaces; empty after the last one.
+/// The part of a text at place `at`, if the text is split at its spaces. Empty if there is no such part.
 fn part(text: &str, at: usize) -> &str {
     text.split(' ').nth(at).unwrap_or("")
 }
 
-/// A text repeated this many times with another between the copies, after the front and before the back.
+/// A text repeated `times` times, with `between` between its copies, after the text `front` and before the text `back`.
 fn repeated(alloc: Global, parts: [&str; 4], times: usize) -> Result<String, NoMemory> {
     let [front, one, between, back] = parts;
     let ones = vec![in alloc; one; times]?;
@@ -140,7 +140,7 @@ fn repeated(alloc: Global, parts: [&str; 4], times: usize) -> Result<String, NoM
     [front, text.as_str(), back].concat(alloc)
 }
 
-/// A specification. If it is refused, the refusal is printed.
+/// The specification that the word at place `at` gives. If it is refused, the refusal is printed.
 pub fn specification(out: &mut Answer, words: &[String], at: usize) -> Option<Spec> {
     let word = word(words, at)?;
     let Some(text) = long_text(out.alloc, word) else {
@@ -156,7 +156,7 @@ pub fn specification(out: &mut Answer, words: &[String], at: usize) -> Option<Sp
     }
 }
 
-/// The first item of a specification.
+/// The first item of the specification that a text gives.
 pub fn item(alloc: Global, text: &str) -> Option<Item> {
     match read_spec(alloc, text) {
         Ok(spec) => spec.groups().first()?.first().copied(),
@@ -164,7 +164,7 @@ pub fn item(alloc: Global, text: &str) -> Option<Item> {
     }
 }
 
-/// A row of pages, and of blanks, which are `-`.
+/// The row that words give: the numbers of pages, and `-` for a blank.
 pub fn row(alloc: Global, words: &[String]) -> Option<Vec<Option<u32>>> {
     let mut row = Vec::new(alloc);
     for word in words {

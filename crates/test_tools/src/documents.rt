@@ -1,11 +1,11 @@
-//! Documents whose pages push and pop their numbers.
+//! Documents for tests, in which each page pushes its number and pops it.
 use std::alloc::{AllocError, Global};
 
-/// One page: `document_of` has the same.
+/// The document that `document_of` makes for one page.
 pub const ONE_PAGE: &str =
     "%!PS-Adobe-3.0\n%%Pages: 1\n%%EndComments\n%%Page: 1 1\n(0) pop\nshowpage\n%%Trailer\n%%EOF\n";
 
-/// Two pages: `document_of` has the same.
+/// The document that `document_of` makes for two pages.
 pub const TWO_PAGES: &str = "%!PS-Adobe-3.0\n\
     %%Pages: 2\n\
     %%EndComments\n\
@@ -18,7 +18,7 @@ pub const TWO_PAGES: &str = "%!PS-Adobe-3.0\n\
     %%Trailer\n\
     %%EOF\n";
 
-/// A document of this many pages, each of which pops its number, counted from 0.
+/// A document of `pages` pages. Each page pushes its number, counted from 0, and pops it. The only error is running out of memory.
 pub fn document_of(alloc: Global, pages: u32) -> Result<String, AllocError> {
     let mut text = String::new(alloc);
     for page in 0..pages {
@@ -32,8 +32,7 @@ fn numbered_page(alloc: Global, page: u32) -> Result<String, AllocError> {
     format!(in alloc; "%%Page: {number} {number}\n({page}) pop\nshowpage\n")
 }
 
-/// A document with this count of pages, and with this text between its preamble and its trailer: pages, or the
-/// sheets that are made of them.
+/// A document that declares `pages` pages, with `text` between its preamble and its trailer. The text is its pages, or the sheets of an output.
 pub(crate) fn document_with(alloc: Global, pages: u32, text: &str) -> Result<String, AllocError> {
     format!(in alloc; "%!PS-Adobe-3.0\n%%Pages: {pages}\n%%EndComments\n{text}%%Trailer\n%%EOF\n")
 }

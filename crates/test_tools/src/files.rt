@@ -2,7 +2,7 @@
 ghost use Rattle.std.specs.Prelude.{◌≡◌, option_map};
 ghost use Rattle.test_tools.specs.Files.{bytes_of};
 
-/// A file that can be read.
+/// A file in memory that can be read.
 #[derive(Clone, Copy)]
 pub struct GivenFile<'a> {
     pub name: &'a str,
@@ -11,7 +11,7 @@ pub struct GivenFile<'a> {
     pub is_regular: bool,
 }
 
-/// The bytes of the first file of this name.
+/// The bytes of the first file of this name. `None` if there is no such file.
 pub(crate) fn bytes_named<'a>(files: &[GivenFile<'a>], name: &str) -> Option<&'a [u8]>
     ensures { option_map (λ bytes. bytes.now) result ≡ bytes_of files.now name.now }
 {

@@ -1,4 +1,4 @@
-//! A world of any number of files.
+//! A world of files in memory, for tests.
 ghost use Rattle.std.specs.Prelude.{◌≡◌, ◌+◌, ◌<◌, ◌≤◌, [], Some, true, option_map};
 ghost use Rattle.std.specs.IoError.{error_kind};
 ghost use Rattle.world.specs.Worlds.{cause_of, failures_of};
@@ -13,7 +13,7 @@ use std::io;
 use std::io::ErrorKind;
 use world::{Failures, ReadSource, Refused, World, WriteOutput};
 
-/// A world of files that can be read. Standard input is the one named `-`, and empty if there is none.
+/// A world of files in memory that can be read. Standard input is the file named `-`; it is empty if there is no such file.
 #[derive(Drop)]
 pub struct Folder<'a> {
     alloc: Global,
@@ -24,7 +24,7 @@ pub struct Folder<'a> {
 }
 
 impl<'a> Folder<'a> {
-    /// A world of these files, whose output takes this much. It got no request yet.
+    /// A world of these files, whose output behaves as `takes` says. It has got no request yet.
     pub fn new(alloc: Global, files: &'a [GivenFile<'a>], takes: Takes) -> Folder<'a>
         ensures gives { ⟦<Folder<'a> as World>⟧.gives result ≡ (λ name. Some (read_by files.now name)) }
         ensures asked { (⟦<Folder<'a> as World>⟧.seen result).asked ≡ Some [] }
@@ -39,14 +39,14 @@ impl<'a> Folder<'a> {
         }
     }
 
-    /// The requests that it got, if all of them are remembered.
+    /// The requests that the world has got, in order, if all of them are remembered.
     pub fn trace(&self) -> &Trace
         ensures { accesses_in result.now ≡ (⟦<Folder<'a> as World>⟧.seen self.now).asked }
     {
         &self.trace
     }
 
-    /// The number of its failures: its refusals, and inputs that failed.
+    /// The number of the world's failures: requests that it refused, and inputs that failed.
     pub fn failures(&self) -> u64
         ensures { result ≡ (⟦<Folder<'a> as World>⟧.seen self.now).failures }
     {

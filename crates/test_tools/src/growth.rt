@@ -1,30 +1,32 @@
-//! The calls by which a test controls the library of `checks/refuse.c`, which refuses growth of memory.
+//! The calls by which a test controls the library of `checks/refuse.c`. That library refuses growths of memory, which are requests for new or more
+//! memory.
 use std::alloc::Global;
 
-/// More trials than any call needs.
+/// A number of trials that is larger than the number of growths of any call here.
 pub const MOST_GROWTHS: u32 = 5_000;
 
-/// A size that no machine has. The library grants it if a growth was refused after a larger size was asked for. Without the library there is no such
-/// memory.
+/// A size of memory that no machine has, in bytes. A request for a larger size tells the library which growth to refuse. A request for this size asks
+/// whether a growth was refused: the library grants it if so. Without the library it is always refused.
 const ASKED: usize = 1 << 62;
 
-/// Arranges that the growth with this number, counted from 1 from here on, is refused.
+/// Asks the library to refuse the growth with this number, counted from 1 from this call on.
 pub fn refuse(alloc: Global, number: u32) {
     drop(Vec::<u8>::with_capacity(alloc, ASKED + number as usize));
 }
 
-/// Whether a growth was refused. After this call none is.
+/// Whether a growth was refused. After this call the library refuses no growth.
 pub fn has_refused(alloc: Global) -> bool {
     Vec::<u8>::with_capacity(alloc, ASKED).is_ok()
 }
 
 /// A call in which a growth is refused.
 pub trait Refused<R> {
-    /// Makes the call with the growth of this number refused. Returns whether a growth was refused.
+    /// Makes the call while the growth with this number is refused. Returns whether a growth was refused.
     fn refuse(&self, rt: &R, alloc: Global, number: u32) -> bool;
 }
 
-/// Makes the call with each of its growths refused in turn, until none is. Returns whether that point was reached.
+/// Makes the call repeatedly, with its first growth refused, then its second, and so on, until no growth is refused. Returns whether that point was
+/// reached before `MOST_GROWTHS` calls.
 pub fn refuse_each<R, C: Refused<R>>(rt: &R, alloc: Global, call: &C) -> bool {
     for number in 1..MOST_GROWTHS {
         if !call.refuse(rt, alloc, number) {

@@ -1,4 +1,4 @@
-//! Outputs in memory.
+//! Outputs in memory, for tests.
 ghost use Rattle.std.specs.Prelude.{◌≡◌, IfOk, [], option_map, string_bytes, true};
 ghost use Rattle.world.specs.Outputs.{told_if};
 
@@ -10,17 +10,17 @@ use std::io::{ErrorKind, Write};
 /// The behaviour of an output.
 #[derive(Clone, Copy)]
 pub enum Takes {
-    /// It takes this number of bytes; a longer write fails.
+    /// It takes this number of bytes. A write that would go beyond that is cut there, and the next one fails.
     Bytes(usize),
-    /// It takes every byte, but only this number in a call.
+    /// It takes all bytes, but at most this number in each call.
     Pieces(usize),
-    /// It takes each byte, but can't be flushed.
+    /// It takes all bytes, but can't be flushed.
     NoFlush,
     /// It can't be created.
     Nothing,
 }
 
-/// The room that an output has from the start, in bytes, so that a short one needs no memory.
+/// The number of bytes for which an output has memory from the start, so that short texts can be written without more memory.
 const ROOM: usize = 4_096;
 
 /// An output: the name under which it was created, and the bytes written to it.
@@ -32,7 +32,7 @@ pub struct Written {
 }
 
 impl Written {
-    /// An empty output with this name; or why it can't be created.
+    /// An empty output with this name. The error is the cause if the output can't be created.
     pub fn new(alloc: Global, name: Option<&str>, takes: Takes) -> io::Result<Written>
         ensures empty { IfOk result (λ output. output.bytes.items ≡ []) }
         ensures named { IfOk result (λ output.

@@ -1,5 +1,5 @@
-//! Texts for the tests of several crates: documents of small pages and their sheets, and specifications; and growth of memory that is refused in
-//! turn.
+//! Tools for the tests of several crates: documents of small pages, their sheets, and specifications; a world of files in memory; and the calls by
+//! which a test has growths of memory refused in turn.
 #![tactic(auto)]
 
 mod documents;

@@ -1,8 +1,8 @@
-//! The output of runs: placed pages and sheets.
+//! The expected output of runs: placed pages and sheets.
 use super::documents::document_with;
 use std::alloc::{AllocError, Global};
 
-/// A page of `document_of`, placed on A4 by this matrix.
+/// The text of a page of `document_of`, placed on A4 by this matrix.
 fn placed(alloc: Global, matrix: &str, page: u32) -> Result<String, AllocError> {
     format!(in alloc;
         "userdict /ImposeSave save put\nuserdict /showpage {{}} put\n[{matrix}] concat\n\
@@ -11,18 +11,18 @@ fn placed(alloc: Global, matrix: &str, page: u32) -> Result<String, AllocError> 
     )
 }
 
-/// The sheet with this number, counted from 1, with these placed pages.
+/// The text of the sheet with this number, counted from 1, around these placed pages.
 fn sheet(alloc: Global, number: u32, pages: &str) -> Result<String, AllocError> {
     format!(in alloc; "%%Page: {number} {number}\n{pages}showpage\n")
 }
 
-/// The whole output with the page of `ONE_PAGE`, unmoved.
+/// The whole output of a run that leaves the page of `ONE_PAGE` where it is.
 pub fn one_up_output(alloc: Global) -> Result<String, AllocError> {
     let page = placed(alloc, "1 0 0 1 0 0", 0)?;
     document_with(alloc, 1, &sheet(alloc, 1, &page)?)
 }
 
-/// This many sheets, each of two pages of `document_of`, by `TWO_UP`.
+/// The texts of `sheets` sheets, each with two pages of `document_of`, placed by the specification `TWO_UP`.
 pub fn two_up_sheets(alloc: Global, sheets: u32) -> Result<String, AllocError> {
     let mut text = String::new(alloc);
     for place in 0..sheets {
@@ -32,12 +32,12 @@ pub fn two_up_sheets(alloc: Global, sheets: u32) -> Result<String, AllocError> {
     Ok(text)
 }
 
-/// The whole output with those sheets.
+/// The whole output of a run whose sheets are those of `two_up_sheets`.
 pub fn two_up_output(alloc: Global, sheets: u32) -> Result<String, AllocError> {
     document_with(alloc, sheets, &two_up_sheets(alloc, sheets)?)
 }
 
-/// This page and the next one, placed by `TWO_UP`.
+/// The text of this page and the next one, placed by the specification `TWO_UP`.
 fn two_up(alloc: Global, page: u32) -> Result<String, AllocError> {
     let next = page.saturating_add(1);
     let mut pair = placed(alloc, "0 0.7 -0.7 0 595.27559 0", page)?;

@@ -1,4 +1,4 @@
-//! The requests that a world got.
+//! The requests that a world has got.
 ghost use Rattle.std.specs.Prelude.{◌≡◌, ◌++◌, ◌∷◌, [], List, Some, IfOk, IfSome, map, option_map, string_bytes};
 ghost use Rattle.world.specs.Worlds.{Access};
 ghost use Rattle.test_tools.specs.Traces.{access_of, accesses_in};
@@ -12,14 +12,14 @@ pub struct Asked {
     pub name: Option<String>,
 }
 
-/// The requests that a world got, in order; none if there was no room for one of them.
+/// The requests that a world has got, in order. `None` if there was no memory for one of them.
 #[derive(Drop)]
 pub struct Trace {
     pub all: Option<Vec<Asked>>,
 }
 
 impl Trace {
-    /// No requests.
+    /// The trace of a world that has got no request.
     pub fn new(alloc: Global) -> Trace
         ensures { accesses_in result ≡ Some [] }
     {
@@ -28,7 +28,7 @@ impl Trace {
         }
     }
 
-    /// Adds a request.
+    /// Adds a request: to create an output if `creates`, otherwise to open an input. Without memory for it, all requests are forgotten.
     pub fn add(&mut self, alloc: Global, creates: bool, name: Option<&str>)
         ensures { IfSome (accesses_in self.new) (λ all. (before : List Access) × (accesses_in self.old ≡ Some before)
             × (all ≡ before ++ record { creates = creates; name = option_map (λ n. n.now) name.entry } ∷ [])) }
@@ -40,7 +40,7 @@ impl Trace {
     }
 }
 
-/// These requests with one more.
+/// The requests, with one more at the end.
 fn with(
     alloc: Global,
     mut all: Vec<Asked>,

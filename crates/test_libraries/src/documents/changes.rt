@@ -1,9 +1,9 @@
-//! Documents that are cut off, or changed by one byte.
+//! Documents that are cut off at each place, or changed in one byte at each place.
 use crate::answer::Answer;
 use crate::documents::cuts::counted;
 use std::alloc::{AllocError, Global};
 
-/// Prints the number of pages in the first bytes of a text, for each number of bytes.
+/// For each length, prints the number of pages in as many first bytes of a text.
 pub fn every_prefix(out: &mut Answer, text: &[u8]) {
     let mut ranges = Ranges::new(out.alloc);
     for len in 0..text.len() + 1 {
@@ -13,7 +13,7 @@ pub fn every_prefix(out: &mut Answer, text: &[u8]) {
     ranges.end(out);
 }
 
-/// Prints the number of pages of a text in which one byte is replaced by this one, for each place.
+/// For each place of a text, prints the number of pages of the text with the byte at this place replaced with `byte`.
 pub fn every_change(out: &mut Answer, text: &[u8], byte: &str) {
     let mut ranges = Ranges::new(out.alloc);
     for place in 0..text.len() {
@@ -26,7 +26,7 @@ pub fn every_change(out: &mut Answer, text: &[u8], byte: &str) {
     ranges.end(out);
 }
 
-/// A text with the first byte of its second part replaced.
+/// The text `front`, then `byte`, then `behind` without its first byte.
 fn changed(alloc: Global, front: &[u8], byte: &str, behind: &[u8]) -> Result<Vec<u8>, AllocError> {
     let mut changed = Vec::from_slice(alloc, front)?;
     changed.extend_from_slice(byte.as_bytes())?;
@@ -34,10 +34,10 @@ fn changed(alloc: Global, front: &[u8], byte: &str, behind: &[u8]) -> Result<Vec
     Ok(changed)
 }
 
-/// Answers by place, from 0. Neighbouring places with the same answer have one line.
+/// The answers for places, counted from 0. Neighbouring places with the same answer are printed on one line.
 #[derive(Drop)]
 struct Ranges {
-    /// The first of the places with the current answer.
+    /// The first of the last places with the same answer.
     first: usize,
     /// The next place, which has no answer yet.
     next: usize,
@@ -53,7 +53,7 @@ impl Ranges {
         }
     }
 
-    /// Counts the pages of the text for the next place.
+    /// Counts the pages of the text, and records the count as the answer for the next place.
     fn count(&mut self, out: &mut Answer, text: &[u8]) {
         let mut answer = Answer::new(out.alloc);
         counted(&mut answer, text);
@@ -72,7 +72,7 @@ impl Ranges {
         self.next = self.next.saturating_add(1);
     }
 
-    /// Prints the line of the last answer.
+    /// Prints the line of the last places with the same answer.
     fn end(&self, out: &mut Answer) {
         if let Some(last) = self.next.checked_sub(1) {
             out.show(format_args!("{}..{last} ", self.first));

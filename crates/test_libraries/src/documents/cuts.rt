@@ -1,9 +1,9 @@
-//! Documents that are cut.
+//! Documents that are cut into their parts: preamble, pages and trailer.
 use crate::answer::Answer;
 use dsc::{Body, Document, DscError, prepare};
 use std::alloc::{AllocError, Global};
 
-/// Prints the filtered preamble for this many sheets, each page with its body, and the filtered trailer; or why the text is refused.
+/// Prints the filtered preamble for `sheets` sheets, each page with its body, and the filtered trailer. If the text is refused, prints the reason.
 pub fn cut(out: &mut Answer, sheets: u32, text: &[u8]) {
     match Document::read(out.alloc, text) {
         Ok(document) => parts(out, sheets, &document, text),
@@ -30,7 +30,7 @@ fn filtered(out: &mut Answer, part: &str, text: Result<Vec<u8>, AllocError>) {
     }
 }
 
-/// Prints a page with its body and, if it differs, the result of preparing the page alone.
+/// Prints a page with its body. If preparing the page outside the document gives another result, prints that too.
 fn page_lines(out: &mut Answer, page: &[u8], body: Result<Body<'_>, AllocError>) {
     let body = body_line(out.alloc, body);
     let mut alone = Answer::new(out.alloc);
@@ -55,7 +55,8 @@ fn body_line(alloc: Global, body: Result<Body<'_>, AllocError>) -> Answer {
     line
 }
 
-/// Prints the body of a page, or why it has none; if the two calls that prepare it differ, both results.
+/// Prints the body of a page, or the reason why it has none. If the two functions that prepare a page (`prepare` and `Body::prepare`) differ, prints
+/// both results.
 pub fn bodies(out: &mut Answer, page: &[u8]) {
     let copied = copied_line(out.alloc, page);
     let held = held_line(out.alloc, page);
@@ -87,7 +88,7 @@ fn held_line(alloc: Global, page: &[u8]) -> Answer {
     line
 }
 
-/// Prints the numbers of a document's pages and of pages after its trailer; or why the text is refused.
+/// Prints the number of a document's pages, and the number of pages after its trailer if there are any. If the text is refused, prints the reason.
 pub fn counted(out: &mut Answer, text: &[u8]) {
     match Document::read(out.alloc, text) {
         Ok(document) => numbers(out, &document),
@@ -103,7 +104,7 @@ fn numbers(out: &mut Answer, document: &Document<'_>) {
     }
 }
 
-/// Prints the message of each refusal.
+/// Prints the message of each reason for which a document is refused.
 pub fn refusals(out: &mut Answer) {
     for refusal in [
         DscError::TooLong,

@@ -7,7 +7,7 @@ use guard::{RoomyText, guarded, put_guard, put_guard_before};
 use lengths::Paper;
 use std::alloc::{AllocError, Global};
 
-/// Prints the text with the guard inserted, for a paper if one is named, and the results of other ways to insert it that differ.
+/// Prints the text with the guard inserted, for a paper if one is named. Also says which other functions that insert the guard give another text.
 pub fn guard(out: &mut Answer, text: &[u8], words: &[String]) {
     let sheet = paper(words, 2);
     match guarded(out.alloc, text, sheet.as_ref()) {
@@ -32,7 +32,7 @@ fn compare(out: &mut Answer, copy: &[u8], text: &[u8], paper: Option<&Paper>) {
     }
 }
 
-/// Whether a text is this copy. It counts as the copy where memory ran out.
+/// Whether a text equals `copy`. A text for which memory ran out counts as equal.
 fn gives(out: &mut Answer, copy: &[u8], text: Result<Vec<u8>, AllocError>) -> bool {
     match text {
         Ok(text) => text.as_slice() == copy,
@@ -49,7 +49,7 @@ fn put_in_place(alloc: Global, text: &[u8], paper: Option<&Paper>) -> Result<Vec
     Ok(bytes)
 }
 
-/// A text after this many bytes of room.
+/// A text after `room` other bytes, which can be overwritten.
 fn behind_room(alloc: Global, room: usize, text: &[u8]) -> Result<Vec<u8>, AllocError>
     ensures { IfOk result (λ bytes. room ≤ vec_len bytes) }
 {
@@ -58,7 +58,7 @@ fn behind_room(alloc: Global, room: usize, text: &[u8]) -> Result<Vec<u8>, Alloc
     Ok(bytes)
 }
 
-/// Inserts the guard into a text with room before it, and returns the result.
+/// Inserts the guard into a text with `room` free bytes before it, and returns the result.
 fn put_behind(
     alloc: Global,
     room: usize,

@@ -1,6 +1,6 @@
-//! Laws that hold of all documents. The test is only that they can be called.
+//! Laws that hold for all documents. They are proved, so it is only tested that they can be called.
 
-/// Calls them.
+/// Calls each of the laws.
 pub fn call_laws() {
     dsc::laws::pages_stand_alone();
     dsc::laws::pages_have_bodies();

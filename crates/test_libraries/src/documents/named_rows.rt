@@ -1,4 +1,4 @@
-//! Rows that texts and choices name.
+//! Rows of pages that texts and choices name.
 ghost use Rattle.std.specs.Prelude.{◌≤◌};
 
 use crate::answer::Answer;
@@ -8,10 +8,10 @@ use sheet_plan::are_sides;
 use std::alloc::Global;
 use std::fmt::Display;
 
-/// More entries than a row may have.
+/// The smallest number of entries that is too large for a row.
 const TOO_MANY: u32 = 1_000_001;
 
-/// The most entries that are written out.
+/// The largest number of entries of a row that is printed whole.
 const FEW: usize = 20;
 
 /// Prints the row that a text names.
@@ -21,7 +21,7 @@ pub fn named(out: &mut Answer, words: &[String]) -> Option<()> {
     Some(())
 }
 
-/// Prints the row of a choice.
+/// Prints the row of pages that a choice gives.
 pub fn chosen(out: &mut Answer, words: &[String]) -> Option<()> {
     let pages = count(words, 1)?;
     let choice = choice_of(words.get(2..)?);
@@ -33,7 +33,7 @@ pub fn chosen(out: &mut Answer, words: &[String]) -> Option<()> {
     Some(())
 }
 
-/// Prints the row of a choice, in signatures if any are named.
+/// Prints the row of pages that a choice gives, in signatures if any are named.
 pub fn imposed(out: &mut Answer, words: &[String]) -> Option<()> {
     let (pages, signing) = (count(words, 1)?, word(words, 2)?);
     let choice = choice_of(words.get(3..)?);
@@ -64,7 +64,7 @@ fn signed(out: &mut Answer, pages: u32, choice: &Choice<'_>, signing: &str)
     }
 }
 
-/// A choice: the words `odd`, `even`, `backwards`, and ranges of pages.
+/// The choice that words give: `odd`, `even`, `backwards`, and ranges of pages.
 fn choice_of(words: &[String]) -> Choice<'_> {
     let mut choice = Choice {
         ranges: None,
@@ -82,7 +82,7 @@ fn choice_of(words: &[String]) -> Choice<'_> {
     choice
 }
 
-/// Prints the number of sides of signatures that are easy to fold.
+/// Prints the number of sides that `Signing::Auto` gives signatures, for a row with this number of entries.
 pub fn sides_for(out: &mut Answer, words: &[String]) -> Option<()> {
     let entries = count(words, 1)?;
     if 0 < entries && entries < TOO_MANY {
@@ -93,7 +93,7 @@ pub fn sides_for(out: &mut Answer, words: &[String]) -> Option<()> {
     Some(())
 }
 
-/// Prints a row in signatures of this many sides.
+/// Prints a row in signatures of a given number of sides.
 pub fn sewn(out: &mut Answer, words: &[String]) -> Option<()> {
     let sides = count(words, 1)?;
     let row = entries(out.alloc, word(words, 2)?)?;
@@ -105,7 +105,7 @@ pub fn sewn(out: &mut Answer, words: &[String]) -> Option<()> {
     Some(())
 }
 
-/// The entries of a row: pages by their numbers from 1, `-` for a blank, `1*9` for a page nine times.
+/// The entries of a row: pages by their numbers from 1, `-` for a blank, and `1*9` for page 1 nine times.
 pub fn entries(alloc: Global, text: &str) -> Option<Vec<Option<u32>>> {
     let mut row = Vec::new(alloc);
     for word in text.split_whitespace() {
@@ -117,7 +117,7 @@ pub fn entries(alloc: Global, text: &str) -> Option<Vec<Option<u32>>> {
     Some(row)
 }
 
-/// An entry, and the number of times that it occurs.
+/// An entry of a row, and the number of times that it occurs.
 fn entry_of(word: &str) -> Option<(Option<u32>, u32)> {
     if word == "-" {
         return Some((None, 1));
@@ -127,7 +127,7 @@ fn entry_of(word: &str) -> Option<(Option<u32>, u32)> {
     Some((Some(page), times.parse::<u32>().ok()?))
 }
 
-/// Prints a row, or why there is none.
+/// Prints a row, or the reason why there is none.
 fn told<E: Display + Drop>(out: &mut Answer, answer: Result<Vec<Option<u32>>, E>) {
     match answer {
         Ok(row) => row_line(out, row.as_slice()),
@@ -135,7 +135,7 @@ fn told<E: Display + Drop>(out: &mut Answer, answer: Result<Vec<Option<u32>>, E>
     }
 }
 
-/// Prints a row in reading order; of a long row three entries at each end, and the number of entries.
+/// Prints a row in reading order. Of a long row, prints the first three and the last three entries, and the number of entries.
 fn row_line(out: &mut Answer, row: &[Option<u32>]) {
     if row.len() <= FEW {
         show_entries(out, row);

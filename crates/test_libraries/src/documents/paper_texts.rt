@@ -1,4 +1,4 @@
-//! Documents, and the papers of their pages.
+//! The papers of documents and of their pages.
 use crate::answer::Answer;
 use crate::words::{paper, papers_of, word};
 use dsc::{Document, DscError, comment_value, trailer_box};
@@ -6,7 +6,7 @@ use lengths::{Paper, a4, paper_by_name};
 use papers::{Cut, cut_by, document_paper, first_instead_of, merge_near_sizes, page_papers};
 use std::alloc::Global;
 
-/// Appends a paper: its name if it is one of a few, otherwise its width and height in points.
+/// Appends a paper: its name if that is a3, a4, a5 or letter, otherwise its width and height in points.
 pub fn show_paper(out: &mut Answer, paper: &Paper) {
     for name in ["a3", "a4", "a5", "letter"] {
         if paper_by_name(name) == Some(*paper) {
@@ -18,7 +18,7 @@ pub fn show_paper(out: &mut Answer, paper: &Paper) {
     out.points(paper.height());
 }
 
-/// Prints the paper of a document where a4 is usual, and the comment that names it.
+/// Prints the paper of a document, if the default paper is a4, and the comment that names the paper.
 pub fn told(out: &mut Answer, text: &[u8]) {
     match document_paper(text, &a4()) {
         Some((paper, comment)) => {
@@ -29,7 +29,7 @@ pub fn told(out: &mut Answer, text: &[u8]) {
     }
 }
 
-/// Prints the paper of each page, where letter is usual.
+/// Prints the paper of each page, if the default paper is letter.
 pub fn home_papers(out: &mut Answer, text: &[u8], asked: Option<Paper>) -> Option<()> {
     let home = paper_by_name("letter")?;
     match papers_at(out.alloc, text, asked, &home) {
@@ -39,7 +39,7 @@ pub fn home_papers(out: &mut Answer, text: &[u8], asked: Option<Paper>) -> Optio
     Some(())
 }
 
-/// Prints the papers as which those of the pages count.
+/// Prints the papers of the pages, with papers of nearly the same size replaced by one of them.
 pub fn counted(out: &mut Answer, text: &[u8]) -> Option<()> {
     let home = paper_by_name("letter")?;
     match papers_at(out.alloc, text, None, &home) {
@@ -69,7 +69,7 @@ fn papers_at(
     }
 }
 
-/// Prints a line for each page.
+/// Prints a line with the page's number and paper for each page.
 fn paper_lines(out: &mut Answer, papers: &[Paper]) {
     for (page, paper) in papers.iter().enumerate() {
         out.text("page ");
@@ -84,7 +84,7 @@ fn paper_line(out: &mut Answer, paper: &Paper) {
     out.text("\n");
 }
 
-/// Prints which of these pages a paper cuts: the first and the last, their number, and the smallest paper that covers theirs.
+/// Prints which pages of these papers a paper cuts: the first and the last of them, their number, and the smallest paper that covers their papers.
 pub fn cutting(out: &mut Answer, words: &[String]) -> Option<()> {
     let sheet = paper(words, 1)?;
     let own = papers_of(out.alloc, words.get(2..)?)?;
@@ -103,7 +103,7 @@ fn cut_line(out: &mut Answer, cut: Option<Cut>) {
     }
 }
 
-/// Prints the first page's paper, if no page has this one.
+/// Prints the paper of the first page, if no page has the named paper.
 pub fn instead_of(out: &mut Answer, words: &[String]) -> Option<()> {
     let sheet = paper(words, 1)?;
     let own = papers_of(out.alloc, words.get(2..)?)?;
@@ -114,12 +114,12 @@ pub fn instead_of(out: &mut Answer, words: &[String]) -> Option<()> {
     Some(())
 }
 
-/// Prints the box in the trailer.
+/// Prints the value of the bounding box in the trailer.
 pub fn trailing_box(out: &mut Answer, text: &[u8]) {
     value(out, trailer_box(text));
 }
 
-/// Prints the value of a line that is a title.
+/// Prints the value of a line, if the line is a `%%Title:` comment.
 pub fn value_of_title(out: &mut Answer, words: &[String]) -> Option<()> {
     let line = word(words, 1)?.as_bytes();
     value(out, comment_value(line, b"%%Title", b"%%Title:"));

@@ -13,10 +13,10 @@ use sheet_plan::{MadeSheets, PlacedSlot};
 use std::alloc::Global;
 use std::fmt::Display;
 
-/// The most sheets that are written out.
+/// The largest number of sheets that are all printed.
 const FEW: u32 = 20;
 
-/// Prints the sheets of a row with each entry on its own.
+/// Prints the sheets of a row, with each entry on a sheet of its own.
 pub fn on_their_own(out: &mut Answer, words: &[String]) -> Option<()> {
     let (blank, row) = (paper(words, 1)?, word(words, 3)?);
     let (pages, names) = pages_and_names(word(words, 2)?)?;
@@ -29,13 +29,13 @@ pub fn on_their_own(out: &mut Answer, words: &[String]) -> Option<()> {
     Some(())
 }
 
-/// The number of pages, and the names of their papers: `5 a4 a3`.
+/// The number of pages, and the names of their papers. Both are in one text, such as `5 a4 a3`.
 fn pages_and_names(text: &str) -> Option<(u32, &str)> {
     let (pages, names) = text.split_once(' ')?;
     Some((pages.parse::<u32>().ok()?, names))
 }
 
-/// Prints the sheets of a specification on a row, of A3 for pages of A4; or why there are none.
+/// Prints the sheets that a specification makes from a row, with sheets of A3 and pages of A4, or the reason why there are none.
 pub fn by_specification(out: &mut Answer, words: &[String]) -> Option<()> {
     let Some(spec) = specification(out, words, 1) else {
         return Some(());
@@ -51,7 +51,7 @@ pub fn by_specification(out: &mut Answer, words: &[String]) -> Option<()> {
     Some(())
 }
 
-/// The papers of this many pages: the named ones in turn.
+/// The papers of `pages` pages. The named papers are taken in turn, from the first again after the last.
 fn papers_in_turn(alloc: Global, pages: u32, names: &str) -> Option<Vec<Paper>> {
     let turns = names.split_whitespace().count().max(1);
     let mut papers = Vec::new(alloc);
@@ -65,7 +65,7 @@ fn paper_at(names: &str, at: usize) -> Option<Paper> {
     paper_by_name(names.split_whitespace().nth(at)?)
 }
 
-/// The entries of a row, or `all` pages.
+/// The entries of a row. The text `all` gives all pages.
 fn row_of(alloc: Global, pages: u32, row: &str) -> Option<Vec<Option<u32>>> {
     match row {
         "all" => all_pages(alloc, pages).ok(),
@@ -73,7 +73,7 @@ fn row_of(alloc: Global, pages: u32, row: &str) -> Option<Vec<Option<u32>>> {
     }
 }
 
-/// Prints sheets, or why there are none.
+/// Prints sheets, or the reason why there are none.
 fn told<E: Display + Drop>(out: &mut Answer, made: Result<MadeSheets, E>) {
     match made {
         Ok(made) => sheet_lines(out, &made),
@@ -81,7 +81,7 @@ fn told<E: Display + Drop>(out: &mut Answer, made: Result<MadeSheets, E>) {
     }
 }
 
-/// Prints a line for each sheet; of many sheets two lines at each end, and the number of sheets.
+/// Prints a line for each sheet. Of many sheets, prints the first two and the last two, and the number of sheets.
 fn sheet_lines(out: &mut Answer, made: &MadeSheets) {
     let Ok(sheets) = u32::try_from(made.len()) else {
         return out.text("too many\n");
@@ -123,7 +123,7 @@ fn show_slot(out: &mut Answer, slot: Option<PlacedSlot<'_>>) {
     }
 }
 
-/// A turn in words, after a space.
+/// The name of a turn, after a space.
 fn turn_text(turn: Turn) -> &'static str {
     match turn {
         Turn::None => " upright",

@@ -1,4 +1,4 @@
-//! Runs over files in memory, whose bytes clauses know.
+//! Runs of pstops over files in memory. Contracts speak of the bytes of these files.
 ghost use Rattle.std.specs.Prelude.{◌≡◌, ◌<◌, map, string_bytes};
 ghost use Rattle.test_libraries.specs.InMemory.{HasWritten};
 
@@ -9,7 +9,8 @@ use std::sync::Wait;
 use std::thread::Threads;
 use test_tools::{Folder, GivenFile, Takes};
 
-/// Status 0 comes only if one file was written, with the name that the words give, and with exactly the bytes that are defined for the input file.
+/// Runs pstops. Its status is 0 only if one file was written, with the name that the words give, and with exactly the bytes that are defined for the
+/// input file.
 pub fn pstops_in_folder<'a, R: Threads + Wait + Sync>(
     rt: &R,
     alloc: Global,
@@ -22,7 +23,7 @@ pub fn pstops_in_folder<'a, R: Threads + Wait + Sync>(
     pstops(rt, alloc, words, Folder::new(alloc, files, takes))
 }
 
-/// Prints the requests that a folder got, in order, and the number of its failures.
+/// Prints the requests that a folder has got, in order, and the number of its failures.
 pub fn asked_for(out: &mut Answer, folder: &Folder<'_>) {
     let Some(all) = &folder.trace().all else {
         return out.note(false);

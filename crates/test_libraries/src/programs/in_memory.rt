@@ -7,14 +7,14 @@ use std::sync::Wait;
 use std::thread::Threads;
 use test_tools::{Folder, GivenFile, Takes};
 
-/// A page without a paper.
+/// A document with one page, which names no paper.
 const PAGE: GivenFile<'static> = GivenFile {
     name: "in.ps",
     bytes: b"%!PS-Adobe-3.0\n%%EndComments\n%%Page: 1 1\n(0) pop\nshowpage\n%%EOF\n",
     is_regular: true,
 };
 
-/// Prints the report for this value of `PAPERSIZE` and this text of `/etc/papersize`.
+/// Prints the report of impose for this value of `PAPERSIZE` and this text of `/etc/papersize`.
 pub fn at_home<R: Threads + Wait + Sync>(
     rt: &R,
     out: &mut Answer,
@@ -30,22 +30,22 @@ pub fn at_home<R: Threads + Wait + Sync>(
     report(rt, out, paper_size, &[PAGE, home], Takes::Bytes(10_000));
 }
 
-/// Prints the report for an output that takes each byte, but can't be flushed.
+/// Prints the report of impose for an output that takes all bytes, but can't be flushed.
 pub fn unflushed<R: Threads + Wait + Sync>(rt: &R, out: &mut Answer) {
     report(rt, out, "", &[PAGE], Takes::NoFlush);
 }
 
-/// Prints the report for an output that can't be created.
+/// Prints the report of impose for an output that can't be created.
 pub fn uncreated<R: Threads + Wait + Sync>(rt: &R, out: &mut Answer) {
     report(rt, out, "", &[PAGE], Takes::Nothing);
 }
 
-/// Prints the report for a missing input.
+/// Prints the report of impose for an input that doesn't exist.
 pub fn unread<R: Threads + Wait + Sync>(rt: &R, out: &mut Answer) {
     report(rt, out, "", &[], Takes::Bytes(10_000));
 }
 
-/// Prints the report for a page on a sheet of its own and, if no output was created, the requests that the folder got.
+/// Prints the report of impose for a page on a sheet of its own. If no output was created, also prints the requests that the folder has got.
 fn report<R: Threads + Wait + Sync>(
     rt: &R,
     out: &mut Answer,
@@ -69,7 +69,7 @@ fn report<R: Threads + Wait + Sync>(
         ended.request.as_ref(),
         words.as_slice(),
     );
-    // What is said of a fault is left out where memory runs out for it.
+    // The message about a fault is missing only if memory runs out for it.
     out.note(!said.is_empty());
     out.add_bytes(said.as_slice());
     if let Rest::World(folder) = &ended.rest {

@@ -1,4 +1,4 @@
-//! Faults that no small command line causes, by their names.
+//! Faults by their names, for tests of faults that no short command line causes.
 use dsc::DscError;
 use impose_cli::{ImposeFault, RequestFault};
 use imposer::RunError;
@@ -9,7 +9,7 @@ use sheet_plan::{MadeError, PlanError};
 use std::io;
 use std::io::ErrorKind;
 
-/// The fault with this name, which may have a number: `Spec.Syntax(12)`.
+/// The fault with this name. The name may have a number after it, as in `Spec.Syntax(12)`.
 pub fn fault_named(name: &str) -> Option<ImposeFault> {
     let (name, number) = match name.split_once('(') {
         None => (name, 0),

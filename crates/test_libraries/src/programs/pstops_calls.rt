@@ -1,4 +1,4 @@
-//! Calls of the command of pstops: faults, inputs that fail, and runs over files in memory.
+//! Calls of the library of the command pstops: faults, inputs that fail, and runs over files in memory.
 use crate::answer::Answer;
 use crate::programs::in_folder::{asked_for, pstops_in_folder};
 use crate::programs::made_faults::fault_named;
@@ -15,7 +15,7 @@ use std::sync::Wait;
 use std::thread::Threads;
 use test_tools::{GivenFile, ONE_PAGE, Takes, document_of};
 
-/// Prints the status and the line for the fault that the first word names.
+/// Prints the exit status and the message for the fault that the first word names.
 pub fn reported(out: &mut Answer, words: &[String]) -> Option<()> {
     let fault = pstops_fault_named(word(words, 0)?)?;
     match fault_line(out.alloc, &fault) {
@@ -41,7 +41,7 @@ fn pstops_fault_named(name: &str) -> Option<Fault> {
     }
 }
 
-/// Prints the number of bytes that are read of an input with this length, and whether they are the right ones.
+/// Prints the number of bytes that are read from an input with this length, and whether they are the bytes of the input.
 pub fn long_input(out: &mut Answer, len: u32) {
     let Ok(long) = vec![in out.alloc; b'%'; len as usize] else {
         return out.note(false);
@@ -56,7 +56,7 @@ pub fn long_input(out: &mut Answer, len: u32) {
     }
 }
 
-/// A reader of one page that gives seven bytes a call, fails at the call with this number, and counts its calls.
+/// A reader of a document with one page. It gives seven bytes in a call, fails at the call number `fails_at`, and counts its calls.
 #[derive(Drop)]
 struct Failing {
     rest: &'static [u8],
@@ -79,7 +79,7 @@ impl Read for Failing {
     }
 }
 
-/// Prints what is read by a reader that fails at the call with this number, and the number of its calls.
+/// Prints the bytes that are read from a reader that fails at the call with this number, and the number of its calls.
 pub fn failing_input(out: &mut Answer, fails_at: u32, is_interrupted: bool) {
     let cause = if is_interrupted {
         ErrorKind::Interrupted
@@ -102,8 +102,9 @@ pub fn failing_input(out: &mut Answer, fails_at: u32, is_interrupted: bool) {
     out.labelled("calls", reader.calls);
 }
 
-/// Prints the run of these words over one page in the file `in.ps`: status, line, and the output, or the requests that the folder got. The first word
-/// is what the output takes: `all`, `unflushed`, `nothing`, or a number of bytes in a call.
+/// Prints the outcome of running pstops with these words over a document with one page in the file `in.ps`: exit status, message, and the output, or
+/// the requests that the folder got if no output was created. The first word says how the output behaves: `all`, `unflushed`, `nothing`, or the
+/// number of bytes that it takes in a call.
 pub fn ran<R: Threads + Wait + Sync>(rt: &R, out: &mut Answer, words: &[String]) -> Option<()> {
     let (takes, words) = words.split_first()?;
     let takes = match takes.as_str() {
@@ -129,8 +130,8 @@ pub fn ran<R: Threads + Wait + Sync>(rt: &R, out: &mut Answer, words: &[String])
     Some(())
 }
 
-/// Prints the run of these words over a document into memory: status, line, and the bytes written. The first words are the number of pages, and the
-/// number of bytes for which there is room.
+/// Prints the outcome of running a request of pstops over a document, with the output in memory: exit status, message, and the bytes written. The
+/// first two words are the number of pages, and the number of bytes for which the output has room.
 pub fn request_ran<R: Threads + Wait + Sync>(
     rt: &R,
     out: &mut Answer,

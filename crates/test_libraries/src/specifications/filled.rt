@@ -26,7 +26,7 @@ pub fn run(out: &mut Answer, words: &[String]) -> Option<()> {
     }
 }
 
-/// Two columns and one row on A4, chosen for pages of that paper.
+/// Two columns and one row of cells on A4, for pages of A4.
 pub fn two_columns() -> Option<Setting>
     ensures { IfSome result (λ t. 2 ≤ size t.grid) }
 {
@@ -44,7 +44,7 @@ pub fn two_columns() -> Option<Setting>
     }
 }
 
-/// Prints the pages of sheets that are filled from a row in this way, with these papers.
+/// Prints the pages of the sheets that are filled from a row, in the way that the first word names. `papers` are the papers of the pages.
 fn filled(out: &mut Answer, words: &[String], papers: &[Paper]) -> Option<()> {
     let setting = two_columns()?;
     let (alloc, way) = (out.alloc, word(words, 1)?);
@@ -61,7 +61,7 @@ fn filled(out: &mut Answer, words: &[String], papers: &[Paper]) -> Option<()> {
     Some(())
 }
 
-/// Prints the pages of each sheet, or why there are none.
+/// Prints the pages of each sheet, or the reason why there are no sheets.
 fn tell(out: &mut Answer, made: Result<MadeSheets, ArrangementError>) {
     match made {
         Ok(made) => tell_sheets(out, &made),
@@ -76,7 +76,7 @@ fn tell_sheets(out: &mut Answer, made: &MadeSheets) {
     }
 }
 
-/// Prints the scale and the offset of a page in the second cell, in 10^-9.
+/// Prints the scale and the offset of a page of the named paper in the second cell, both in units of 10^-9.
 fn fitted(out: &mut Answer, words: &[String]) -> Option<()> {
     match two_columns()?.item(&paper(words, 1)?, 1) {
         Ok(item) => {
@@ -97,7 +97,7 @@ fn scale(out: &mut Answer, words: &[String]) -> Option<()> {
     Some(())
 }
 
-/// Two columns and one row of A4 sheets, with margins of 10 points and an overlap of 20.
+/// A poster of two columns and one row of A4 sheets, with margins of 10 points and an overlap of 20 points.
 fn two_tiles() -> Poster
     ensures { result.rows * result.columns ≤ 1_024 }
 {
@@ -110,7 +110,8 @@ fn two_tiles() -> Poster
     }
 }
 
-/// That poster; or one with the columns, the edge and the overlap that follow the page's paper.
+/// The poster of `two_tiles`. If numbers follow the page's paper, they are its number of columns, its edge and its overlap, the latter two in 10^-5
+/// of a point.
 fn told(words: &[String]) -> Option<Poster> {
     let mut poster = two_tiles();
     if word(words, 2).is_some() {
@@ -137,7 +138,7 @@ fn checked(out: &mut Answer, words: &[String]) -> Option<()> {
     Some(())
 }
 
-/// Prints the pages of a row, each on two such tiles; the second page has a paper of its own.
+/// Prints the offsets for the pages of a row, each on the two sheets of `two_tiles`. The second page has a paper of its own.
 fn posters(out: &mut Answer, words: &[String]) -> Option<()> {
     let papers = [a4(), paper(words, 1)?];
     let row = row(out.alloc, words.get(2..)?)?;

@@ -1,4 +1,4 @@
-//! The laws of layouts, tried on printed matrices by separate arithmetic: all numbers of pages on many papers.
+//! The laws of layouts, tried by separate arithmetic on printed matrices, for all numbers of pages up to 64 and some larger ones on many papers.
 use crate::answer::Answer;
 use crate::specifications::placed::{
     Kept, Placed, are_apart, are_in_order, are_inside, are_like, columns_of, largest, pages_of,
@@ -24,12 +24,12 @@ const PAPERS: [(&str, i64, i64); 8] = [
 /// Some of the numbers of pages from 65 to 1,024.
 const MANY: [u32; 5] = [65, 97, 256, 720, 1_024];
 
-/// Numbers of pages on sheets of other papers.
+/// The numbers of pages that are tried on sheets of other papers than the pages'.
 const SOME: [u32; 10] = [1, 2, 3, 4, 6, 8, 13, 16, 24, 64];
 
 const NOTHING: Kept = Kept { margin: 0, gap: 0 };
 
-/// 10 mm along the edges, and 5 mm between cells.
+/// Margins of 10 mm along the edges, and gaps of 5 mm between cells, in 10^-5 of a point.
 const MILLIMETRES: Kept = Kept {
     margin: 2_834_646,
     gap: 1_417_323,
@@ -65,7 +65,7 @@ fn up_to_64(alloc: Global) -> Option<Vec<u32>> {
 /// A paper by its name, and its sides in points.
 type Named = (&'static str, i64, i64);
 
-/// Layouts to try: these numbers of pages, or booklets.
+/// Layouts to try: `Pages` with these numbers of pages on a sheet, or booklets.
 #[derive(Clone, Copy)]
 enum Trial<'n> {
     Pages(&'n [u32], Kept),
@@ -88,7 +88,7 @@ fn tried(out: &mut Answer, trial: &Trial<'_>, on_own_paper: bool) {
     out.line(format_args!("{count} layouts, no fault"));
 }
 
-/// The number of layouts without a fault on this paper; None if one has a fault, which is printed.
+/// The number of layouts that were tried for this page and this sheet. `None` if one of them has a fault, which is printed.
 fn tried_on(out: &mut Answer, trial: &Trial<'_>, page: &Named, sheet: &Named) -> Option<u32> {
     match trial {
         Trial::Pages(numbers, kept) => pages_tried(out, numbers, *kept, page, sheet),
@@ -127,7 +127,7 @@ fn booklets_tried(out: &mut Answer, page: &Named, sheet: &Named) -> Option<u32> 
     Some(2)
 }
 
-/// The specification of n pages of one paper on a sheet of the other.
+/// The specification of `n` pages on a sheet.
 fn laid_out(alloc: Global, n: u32, papers: &Papers, kept: Kept) -> Option<Spec> {
     let mut arrangement = Arrangement::plain(Cells::AtLeast(n));
     if kept.margin != 0 {
@@ -153,7 +153,7 @@ fn papers_named(page: &str, sheet: &str) -> Option<Papers> {
     })
 }
 
-/// The fault of n pages of one paper on a sheet of the other.
+/// The fault of a layout of `n` pages on a sheet. Empty if it has none.
 fn fault_of(alloc: Global, n: u32, page: &Named, sheet: &Named, kept: Kept) -> &'static str {
     let Some(papers) = papers_named(page.0, sheet.0) else {
         return "no paper";
@@ -171,7 +171,7 @@ fn fault_of(alloc: Global, n: u32, page: &Named, sheet: &Named, kept: Kept) -> &
     }
 }
 
-/// The fault of n pages with these sides on a sheet with these sides.
+/// The fault of `n` placed pages. `page` and `sheet` are the sides of a page and of the sheet, in points. Empty if there is none.
 fn fault_among(
     pages: &[Placed],
     n: u32,
@@ -208,7 +208,7 @@ fn fault_line(out: &mut Answer, page: &Named, sheet: &Named, fault: &str) {
     out.line(format_args!("{} on {}: {fault}", page.0, sheet.0));
 }
 
-/// The fault of a booklet.
+/// The fault of the layout of a booklet. Empty if it has none.
 fn booklet_fault(alloc: Global, page: &Named, sheet: &Named, long_edge: bool) -> &'static str {
     let Some(papers) = papers_named(page.0, sheet.0) else {
         return "no paper";
@@ -229,7 +229,7 @@ fn booklet_fault(alloc: Global, page: &Named, sheet: &Named, long_edge: bool) ->
     fault_of_leaf(front.as_slice(), back.as_slice(), (sheet.1, sheet.2))
 }
 
-/// The fault of the sides of a leaf.
+/// The fault of the pages on the front and the back of a leaf. Empty if there is none.
 fn fault_of_leaf(front: &[Placed], back: &[Placed], sheet: (i64, i64)) -> &'static str {
     let Some(first) = front.first() else {
         return "no page";

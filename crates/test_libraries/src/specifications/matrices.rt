@@ -47,7 +47,7 @@ fn matrix(out: &mut Answer, item: &Item, paper: &Paper) {
     out.text("\n");
 }
 
-/// Prints the numbers of a matrix, in 10^-9, and its lengths, in grains.
+/// Prints the four numbers of a matrix, in units of 10^-9, and its two lengths, in grains.
 fn parts(out: &mut Answer, item: &Item, paper: &Paper) {
     let Matrix { a, b, c, d, tx, ty } = matrix_of(item, paper);
     for number in [a, b, c, d] {
@@ -62,7 +62,7 @@ fn applied(out: &mut Answer, item: &Item, paper: &Paper, point: (i32, i32)) {
     out.pair(x, y);
 }
 
-/// Prints the text before a page, appended to another text, and the text after it.
+/// Prints a line, then the text before a page, which the library appends to it, and the text after the page.
 fn page_texts(out: &mut Answer, item: &Item, paper: &Paper, border: Option<Grains>) {
     out.text("% page\n");
     let before = out.bytes.len();

@@ -57,7 +57,7 @@ fn unit(words: &[String]) -> Option<Unit> {
     }
 }
 
-/// Prints a number after a text, in full and as a specification has it.
+/// Prints a number twice, each time appended to an `@`: in full (`print_scale`), and as a page specification writes it (`print_number`).
 fn printed(out: &mut Answer, number: Number) {
     out.text("@");
     let before = out.bytes.len();
@@ -75,7 +75,7 @@ fn points(out: &mut Answer, length: Grains) {
     out.text("\n");
 }
 
-/// Prints the sides of a paper, in points.
+/// Prints the width and the height of a paper in whole points.
 fn named(out: &mut Answer, name: &str) {
     match paper_by_name(name) {
         Some(paper) => {

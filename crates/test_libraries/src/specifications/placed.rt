@@ -1,10 +1,10 @@
-//! Pages as their printed matrices place them on a sheet.
+//! The places of pages on a sheet, computed from their printed matrices.
 use lengths::Paper;
 use pagespec::Spec;
 use placement::{NoMemory, matrix_of, matrix_text};
 use std::alloc::Global;
 
-/// A rectangle, in 10^-9 of a point.
+/// A rectangle. Its edges are in 10^-9 of a point.
 #[derive(Clone, Copy)]
 struct Area {
     left: i64,
@@ -14,7 +14,7 @@ struct Area {
 }
 
 impl Area {
-    /// Whether a strip along a side, as wide as the gap, separates the two areas.
+    /// Whether a horizontal or vertical strip as wide as the gap separates the two areas.
     fn is_apart_from(self, other: Area, gap: i64) -> bool {
         self.right.saturating_add(gap) <= other.left
             || other.right.saturating_add(gap) <= self.left
@@ -23,8 +23,8 @@ impl Area {
     }
 }
 
-/// A placed page by its printed matrix: its place on the sheet, its place with the sheet held for reading, its scale in 10^-9, and its turn in
-/// quarters.
+/// A page as its printed matrix places it: its area on the sheet, its area when the sheet is held for reading, its scale in 10^-9, and its turn in
+/// quarter turns to the left.
 #[derive(Clone, Copy)]
 pub struct Placed {
     on_sheet: Area,
@@ -33,7 +33,7 @@ pub struct Placed {
     pub quarters: u32,
 }
 
-/// The numbers of a matrix's text, in 10^-9.
+/// The numbers in the text of a matrix, in units of 10^-9.
 fn numbers(alloc: Global, text: &[u8]) -> Result<Vec<i64>, NoMemory> {
     let mut row = Vec::new(alloc);
     let mut value: i64 = 0;
@@ -70,7 +70,7 @@ fn numbers(alloc: Global, text: &[u8]) -> Result<Vec<i64>, NoMemory> {
     Ok(row)
 }
 
-/// The area between two corners.
+/// The area between two opposite corners.
 fn between(one: (i64, i64), other: (i64, i64)) -> Area {
     Area {
         left: one.0.min(other.0),
@@ -80,7 +80,8 @@ fn between(one: (i64, i64), other: (i64, i64)) -> Area {
     }
 }
 
-/// The point to which a matrix with these numbers sends a point of the page, in points.
+/// The point of the sheet to which a matrix with these numbers sends a point of the page. The page's coordinates are in points, those of the result
+/// in 10^-9 of a point.
 fn sent(numbers: &[i64], x: i64, y: i64) -> Option<(i64, i64)> {
     match numbers {
         [a, b, c, d, tx, ty] => Some((
@@ -93,7 +94,7 @@ fn sent(numbers: &[i64], x: i64, y: i64) -> Option<(i64, i64)> {
     }
 }
 
-/// A point of the sheet held for reading, if pages are turned by this many quarters to the left.
+/// A point of the sheet when the sheet is held for reading. `quarters` is the number of quarter turns to the left by which its pages are turned.
 fn as_held(quarters: u32, point: (i64, i64)) -> (i64, i64) {
     let (x, y) = point;
     match quarters {
@@ -104,7 +105,7 @@ fn as_held(quarters: u32, point: (i64, i64)) -> (i64, i64) {
     }
 }
 
-/// The turn of a matrix, in quarters to the left, and its scale.
+/// The turn of a matrix, in quarter turns to the left, and its scale in 10^-9. `None` if the matrix does more than turn, scale and move a page.
 fn turn_of(numbers: &[i64]) -> Option<(u32, i64)> {
     let [a, b, c, d, _, _] = *numbers else {
         return None;
@@ -119,8 +120,8 @@ fn turn_of(numbers: &[i64]) -> Option<(u32, i64)> {
     }
 }
 
-/// The pages of a sheet of a specification, as their printed matrices place them, if there is such a sheet. A page
-/// has these sides, in points.
+/// The pages of a sheet that a specification makes, as their printed matrices place them. `sides` are the sides of a page, in points. The list is
+/// empty if there is no such sheet.
 pub fn pages_of(
     alloc: Global,
     spec: &Spec,
@@ -143,7 +144,7 @@ pub fn pages_of(
     Ok(pages)
 }
 
-/// The area in which a matrix with these numbers places a page with these sides, in points.
+/// The page that a matrix with these numbers places. `sides` are the sides of the page, in points.
 fn placed_by(numbers: &[i64], sides: (i64, i64)) -> Option<Placed> {
     let one = sent(numbers, 0, 0)?;
     let other = sent(numbers, sides.0, sides.1)?;
@@ -156,7 +157,7 @@ fn placed_by(numbers: &[i64], sides: (i64, i64)) -> Option<Placed> {
     })
 }
 
-/// Whether all pages are on a sheet with these sides, in points, within the margin, in 10^-9 of a point.
+/// Whether all pages are on a sheet with these sides, in points, and keep the margin to its edges, in 10^-9 of a point.
 pub fn are_inside(pages: &[Placed], sides: (i64, i64), margin: i64) -> bool {
     for page in pages {
         let area = page.on_sheet;
@@ -171,7 +172,7 @@ pub fn are_inside(pages: &[Placed], sides: (i64, i64), margin: i64) -> bool {
     true
 }
 
-/// Whether any two pages are apart by the gap, in 10^-9 of a point.
+/// Whether any two pages are at least the gap apart, in 10^-9 of a point.
 pub fn are_apart(pages: &[Placed], gap: i64) -> bool {
     for (k, page) in pages.iter().enumerate() {
         for (l, other) in pages.iter().enumerate() {
@@ -183,7 +184,8 @@ pub fn are_apart(pages: &[Placed], gap: i64) -> bool {
     true
 }
 
-/// The number of pages in the first row: those whose upper edges are as high as the first one's.
+/// The number of pages in the first row. They are the pages whose upper edges are as high as that of the first page, when the sheet is held for
+/// reading.
 pub fn columns_of(pages: &[Placed]) -> usize {
     let mut columns = 0usize;
     for page in pages {
@@ -196,7 +198,7 @@ pub fn columns_of(pages: &[Placed]) -> usize {
     columns
 }
 
-/// Whether the pages are in rows of this many columns, row by row and each from the left, with the sheet held for reading.
+/// Whether the pages fill rows of `columns` pages, from the top row down and each row from the left, when the sheet is held for reading.
 pub fn are_in_order(pages: &[Placed], columns: usize) -> bool {
     if columns == 0 {
         return false;
@@ -224,18 +226,19 @@ pub fn are_like(pages: &[Placed], quarters: u32, scale: i64) -> bool {
     true
 }
 
-/// The margin and the gap, in 10^-5 of a point.
+/// The margin along the edges of a sheet and the gap between cells, in 10^-5 of a point.
 #[derive(Clone, Copy)]
 pub struct Kept {
     pub margin: i64,
     pub gap: i64,
 }
 
-/// The largest scale, in 10^-9, at which pages fit the exact cells of a grid of this many or more, upright or turned.
+/// The largest scale, in 10^-9, at which pages fit the cells of a grid with at least `n` cells, on the upright or the turned sheet. Cells aren't
+/// rounded here. Sides are in points.
 pub fn largest(n: i64, page: (i64, i64), sheet: (i64, i64), kept: Kept) -> i64 {
     let mut best = 0i64;
     for rows in 1..n.saturating_add(1) {
-        // As few columns as are enough.
+        // The smallest number of columns that gives enough cells.
         let columns = n
             .saturating_add(rows)
             .saturating_sub(1)
@@ -250,7 +253,7 @@ pub fn largest(n: i64, page: (i64, i64), sheet: (i64, i64), kept: Kept) -> i64 {
     best
 }
 
-/// The largest scale, in 10^-9, at which this many sides of pages fit a side with this margin and gap.
+/// The largest scale, in 10^-9, at which `parts` sides of pages fit one side of a sheet with this margin and gap. Both sides are in points.
 fn room(whole: i64, parts: i64, side: i64, kept: Kept) -> i64 {
     let margins = kept.margin.saturating_mul(2);
     let gaps = kept.gap.saturating_mul(parts.saturating_sub(1));

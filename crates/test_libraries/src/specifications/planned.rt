@@ -6,7 +6,7 @@ use crate::words::{count, specification, word};
 use pagespec::{Item, Spec};
 use sheet_plan::{Plan, PlanError, are_sides};
 
-/// The number of entries of a list that are shown before the last one.
+/// The number of entries that are shown of a long list, before the last entry.
 const SHOWN: u32 = 12;
 
 pub fn run(out: &mut Answer, words: &[String]) -> Option<()> {
@@ -23,7 +23,7 @@ pub fn run(out: &mut Answer, words: &[String]) -> Option<()> {
     Some(())
 }
 
-/// Prints the plan of this many pages, in signatures of this many sides if they are named.
+/// Prints the plan of a specification for this number of pages, in signatures with this number of sides if it is given.
 fn planned(out: &mut Answer, spec: &Spec, pages: u32, sides: Option<u32>) -> Option<()> {
     let plan = match sides {
         None => Plan::new(out.alloc, spec, pages),
@@ -60,7 +60,7 @@ pub fn page_lists(out: &mut Answer, plan: &Plan<'_>) {
     sheet_lists(out, plan, What::Pages);
 }
 
-/// The content of a list of sheets.
+/// What a list shows of each sheet.
 #[derive(Clone, Copy)]
 enum What {
     Slots,
@@ -69,7 +69,7 @@ enum What {
     Missing,
 }
 
-/// Begins an entry of a list. Returns whether it is shown; the first ones and the last are.
+/// Begins an entry of a list with `count` entries. Returns whether the entry is shown: the first ones and the last one are.
 fn begin(out: &mut Answer, at: u32, count: u32, between: &str) -> bool {
     let is_last = count.saturating_sub(1) <= at;
     if SHOWN < at && !is_last {
@@ -85,7 +85,7 @@ fn begin(out: &mut Answer, at: u32, count: u32, between: &str) -> bool {
     true
 }
 
-/// Ends a list of this many entries.
+/// Ends a list with this number of entries.
 fn end(out: &mut Answer, count: u32) {
     out.text(if count == 0 { "none\n" } else { "\n" });
 }
@@ -130,13 +130,13 @@ fn slot_items(out: &mut Answer, plan: &Plan<'_>, sheet: u32)
     }
 }
 
-/// Prints the page that an item names.
+/// Prints the page that an item names, with a minus sign if the page is counted from the end.
 fn named_page(out: &mut Answer, item: &Item) {
     out.text(if item.from_end { "-" } else { "" });
     out.show(item.page);
 }
 
-/// Prints the slots without a page, for each group of slots.
+/// Prints the slots that aren't blank, as a hexadecimal number for each group of 64 slots: bit j stands for slot j of the group.
 fn missing(out: &mut Answer, plan: &Plan<'_>, sheet: u32)
     requires { sheet < length plan.now.sheets }
 {

@@ -1,4 +1,4 @@
-//! Lists and drawings of sheets, made before sheets are imposed.
+//! Lists and drawings of sheets, made without imposing them.
 use crate::answer::Answer;
 use crate::specifications::filled::two_columns;
 use crate::words::{count, length, paper, row, word};
@@ -19,7 +19,7 @@ pub fn run(out: &mut Answer, words: &[String]) -> Option<()> {
     }
 }
 
-/// Prints the list of a booklet of a row.
+/// Prints the list of the sheets of a booklet that is made from a row.
 fn booklet_plan(out: &mut Answer, words: &[String]) -> Option<()> {
     let (setting, most) = (two_columns()?, count(words, 1)?);
     let row = row(out.alloc, words.get(2..)?)?;
@@ -29,7 +29,7 @@ fn booklet_plan(out: &mut Answer, words: &[String]) -> Option<()> {
     Some(())
 }
 
-/// Prints the list of a row in cells; the second page has a paper of its own.
+/// Prints the list of the sheets that are filled from a row. The second page has a paper of its own.
 fn grid_plan(out: &mut Answer, words: &[String]) -> Option<()> {
     let (setting, most) = (two_columns()?, count(words, 1)?);
     let papers = [a4(), paper(words, 2)?, a4()];
@@ -47,7 +47,7 @@ fn reading(sides: Sides, setting: &Setting) -> Reading {
     Reading { sides, places }
 }
 
-/// Prints the list of sheets, up to this many of them.
+/// Prints the list of sheets, with at most `most` of them.
 fn tell(
     out: &mut Answer,
     made: Result<MadeSheets, ArrangementError>,
@@ -67,7 +67,7 @@ fn add(out: &mut Answer, text: Result<Vec<u8>, AllocError>) {
     }
 }
 
-/// Prints the drawing of a sheet of this paper with a page and a blank, folded half way up.
+/// Prints the drawing of a sheet of this paper that has a page and a blank, and a fold across its middle.
 fn folded_sheet(out: &mut Answer, paper: &Paper) -> Option<()> {
     let (alloc, fold) = (out.alloc, fold()?);
     match one_sheet(alloc, 2, paper) {
@@ -80,7 +80,7 @@ fn folded_sheet(out: &mut Answer, paper: &Paper) -> Option<()> {
     Some(())
 }
 
-/// A fold across a sheet that is 100 points wide and 200 points high.
+/// A horizontal fold across the middle of a sheet that is 100 points wide and 200 points high.
 fn fold() -> Option<Guide> {
     let (left, side) = (points("0")?, points("100")?);
     Some(Guide {
@@ -94,7 +94,7 @@ fn points(text: &str) -> Option<Grains> {
     length(text, 127_000_000_000)
 }
 
-/// A page as it is.
+/// The item that places a page without turning, scaling or moving it.
 const WHOLE: Item = Item {
     page: 0,
     from_end: false,
@@ -103,7 +103,7 @@ const WHOLE: Item = Item {
     offset: (Measure::ZERO, Measure::ZERO),
 };
 
-/// A sheet of this paper, with this page unmoved, and a blank.
+/// A sheet of this paper with two slots: this page, unmoved, and a blank.
 fn one_sheet(alloc: Global, page: u32, paper: &Paper) -> Result<MadeSheets, AllocError> {
     let mut sheets = MadeSheets::new(alloc);
     let placed = MadeSlot::Placed {

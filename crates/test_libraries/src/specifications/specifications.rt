@@ -1,4 +1,4 @@
-//! Specifications: readings, refusals, canonical texts.
+//! Commands that read specifications, and print their items, their refusals and their canonical texts.
 use crate::answer::Answer;
 use crate::words::{specification, word};
 use pagespec::{Item, Measure, NoMemory, Spec, SpecError, read_spec, write_spec};
@@ -23,7 +23,7 @@ pub fn run(out: &mut Answer, words: &[String]) -> Option<()> {
     Some(())
 }
 
-/// Prints the modulo, and the items of each group.
+/// Prints the modulo of a specification, and the items of each group.
 fn items(out: &mut Answer, spec: &Spec) {
     out.labelled("modulo", spec.modulo());
     for (number, group) in spec.groups().iter().enumerate() {
@@ -49,7 +49,7 @@ fn measure(out: &mut Answer, measure: Measure) {
     out.show(format_args!(" {number} {:?}", measure.unit));
 }
 
-/// Prints the canonical text.
+/// Prints the canonical text of a specification.
 pub fn written(out: &mut Answer, spec: &Spec) {
     match write_spec(out.alloc, spec) {
         Ok(text) => out.line(text.as_str()),
@@ -57,7 +57,7 @@ pub fn written(out: &mut Answer, spec: &Spec) {
     }
 }
 
-/// Prints the place at which a text is refused, by the refusal and by a slow search.
+/// Prints the byte at which a text is refused, once as the refusal gives it and once as a slow search finds it.
 fn syntax(out: &mut Answer, text: &str) {
     match read_spec(out.alloc, text) {
         Err(SpecError::Syntax(place)) => out.show(place),
@@ -70,7 +70,7 @@ fn syntax(out: &mut Answer, text: &str) {
     }
 }
 
-/// The longest prefix that begins some text of the grammar, found by trying each ending that a prefix may need.
+/// The length of the longest prefix of a text that begins some specification. It is found by trying each ending that a prefix may need.
 fn longest_prefix(alloc: Global, text: &str) -> Result<usize, NoMemory> {
     let mut longest = 0;
     for k in 0..text.len() + 1 {
@@ -83,7 +83,7 @@ fn longest_prefix(alloc: Global, text: &str) -> Result<usize, NoMemory> {
     Ok(longest)
 }
 
-/// Whether some ending completes it to a text of the grammar.
+/// Whether some ending completes the prefix to a specification that has no syntax error.
 fn goes_on(alloc: Global, prefix: &str) -> Result<bool, NoMemory> {
     for end in [
         "", "0", "0,0)", ",0)", "t,0)", "m,0)", "n,0)", "0)", ")", "t)", "m)", "n)",
@@ -95,7 +95,7 @@ fn goes_on(alloc: Global, prefix: &str) -> Result<bool, NoMemory> {
     Ok(false)
 }
 
-/// Whether a text with this ending is none of the grammar.
+/// Whether the prefix with this ending has a syntax error.
 fn is_stuck(alloc: Global, prefix: &str, end: &str) -> Result<bool, NoMemory> {
     let whole = [prefix, end].concat(alloc)?;
     match read_spec(alloc, whole.as_str()) {
