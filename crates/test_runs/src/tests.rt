@@ -1,4 +1,4 @@
-//! Parts that the trials share: options, large documents, a run with its report, and a table.
+//! Tools that the trials share: options, large documents, a run with its report, and a table.
 ghost use Rattle.std.specs.Prelude.{◌≡◌};
 ghost use Rattle.rules.specs.Sheets.{layout};
 ghost use Rattle.gather_table.specs.Shared.{opening_seat};
@@ -38,7 +38,7 @@ use std::sync::atomic::Ordering::SeqCst;
 use std::thread;
 use std::thread::Threads;
 
-/// The shares of a whole seat, and of a whole pass.
+/// The number of shares of a whole seat, and of a whole pass.
 const WHOLE: u64 = 4_294_967_296;
 
 /// The number of times that a wait yields before it runs out.
@@ -56,7 +56,7 @@ const PAGE_65_TIMES: &str = "\
     0+0+0+0+0+0+0+0+0+0+0+0+0+0+0\
 ";
 
-/// Waits until the word has reached this number, or some wait has run out. Counts a wait that runs out.
+/// Waits until `word` has reached `height`, or until some wait has run out. A wait that runs out is counted in `run_out`.
 fn wait_for(word: &AtomicUsize, height: usize, run_out: &AtomicUsize) {
     for _ in 0..YIELDS {
         if word.load(SeqCst) >= height || run_out.load(SeqCst) > 0 {
@@ -80,7 +80,7 @@ fn workers(preparers: u32, imposers: u32) -> Options {
     }
 }
 
-/// A document, the options of its run, and the numbers of preparers and imposers.
+/// A run to try: its document, its specification, and the numbers of preparers and imposers.
 #[derive(Drop)]
 struct Trial<'a> {
     document: &'a str,
@@ -114,7 +114,7 @@ fn report_of<R: Threads + Wait + Sync + Abort, G: Gate + Sync>(
     done(rt, run_into(rt, alloc, trial, gate, &mut sink))
 }
 
-/// This many pages of this many lines, each of nine bytes.
+/// A document of `pages` pages. Each page has `lines` lines of nine bytes.
 fn large_pages<R: Abort>(rt: &R, alloc: Global, pages: u32, lines: usize) -> String {
     let lines = done(rt, "% a line\n".repeat(alloc, lines));
     let mut text = done(rt, String::from_str(alloc, "%!PS-Adobe-3.0\n"));

@@ -1,4 +1,5 @@
-//! Workers that find no memory: workers that wait for the collector are told to stop, all threads end, and nothing is returned.
+//! Tests in which some workers find no memory. The workers that wait for the collector must be told to stop, all threads must end, and nothing must
+//! be returned.
 ghost use Rattle.std.specs.Prelude.{◌≡◌, ⊤};
 
 use super::checks::assert_that;
@@ -14,13 +15,13 @@ use std::thread::Threads;
 /// The number of workers of each kind.
 const WORKERS: u32 = 3;
 
-/// The shares of a worker; it holds nothing else.
+/// The things that a worker holds: here, only its shares.
 #[derive(Drop)]
 struct Held {
     shares: u64,
 }
 
-/// The ticket of an imposer; it sends nothing.
+/// The ticket with which an imposer sends sheets. It is empty, because no imposer here sends a sheet.
 #[derive(Drop)]
 struct Ticket {}
 
@@ -30,14 +31,14 @@ struct Collected {
     times: u32,
 }
 
-/// The objects that the threads share. Bit k of `preparers` means that preparer k finds no memory, and bit k of `imposers` that the kth imposer to
-/// begin finds none. Every other imposer waits until it is told to stop.
+/// The objects that the threads share. If bit k of `preparers` is set, preparer k finds no memory. If bit k of `imposers` is set, the imposer that
+/// begins as number k, counted from 0, finds none. Every other imposer waits until it is told to stop.
 #[derive(Drop)]
 struct Fates<'a, R> {
     rt: &'a R,
     preparers: usize,
     imposers: usize,
-    /// The number of preparers that have begun; the imposers have their own.
+    /// The number of preparers that have begun. `begun_imposers` is the number of imposers that have begun.
     begun_preparers: AtomicUsize,
     begun_imposers: AtomicUsize,
     /// The number of times that the imposers were told to stop.
@@ -63,7 +64,7 @@ impl<'a, R> Fates<'a, R> {
     }
 }
 
-/// Whether the bit of this number is set.
+/// Whether the bit with this number is set.
 fn has_bit(bits: usize, number: usize) -> bool {
     number < 32 && bits >> number & 1 == 1
 }
@@ -159,8 +160,8 @@ impl<'a, R> Collector<Collected> for Fates<'a, R> {
     }
 }
 
-/// Runs three workers of each kind with these fates. Returns the shares that came back, if all workers began, no wait ran out, the collector
-/// collected once before the imposers were told to stop, and they were told once.
+/// Runs three workers of each kind with these fates. Asserts that all workers begin, that no wait runs out, that the collector collects once, before
+/// the imposers are told to stop, and that they are told once. Returns the shares that come back, if any do.
 fn gather<R: Threads + Wait + Abort + Sync>(
     rt: &R,
     alloc: Global,
@@ -197,7 +198,7 @@ fn gather<R: Threads + Wait + Abort + Sync>(
     }
 }
 
-// The returned shares are as many as there were, or none.
+// If every worker finds memory, all shares come back; otherwise none do.
 #[test]
 fn a_worker_without_memory_lets_nobody_wait(rt: HostRuntime) {
     for preparers in 0..8usize {

@@ -1,4 +1,4 @@
-//! Each page of a document is delivered more than once, by one caller and by several at once. Each sheet is completed once.
+//! Tests in which each page of a document is delivered more than once, by one caller or by several at once. Each sheet must be completed once.
 ghost use Rattle.std.specs.Prelude.{◌<◌};
 
 use super::callers::gatherer::{Gatherer, Outcome, gatherer_of, outcome_of};
@@ -38,7 +38,7 @@ impl Sizes {
         self.all_slots().checked_div(self.places).unwrap_or(0)
     }
 
-    /// The number of groups of the sheets, if they are wide.
+    /// The number of slot groups of all sheets together. It is 0 for sheets with at most 64 slots, which have no groups to close.
     fn groups(self) -> u32 {
         if self.slots > 64 {
             self.sheets.saturating_mul(2)
@@ -48,8 +48,8 @@ impl Sizes {
     }
 }
 
-/// The first number of each kind of deed that is counted: pages stored, slots marked, groups filled, sheets completed, sheets imposed, faults. Slots
-/// and groups are numbered over all sheets.
+/// Each kind of deed is counted in a range of numbers that begins at its constant: pages stored, slots marked, groups filled, sheets completed,
+/// sheets imposed, faults. Slots and groups are numbered over all sheets.
 const STORED: usize = 0;
 
 const MARKED: usize = 1_000;
@@ -62,7 +62,7 @@ const IMPOSED: usize = 4_000;
 
 const WRONG: usize = 5_000;
 
-/// The deeds of all callers, and the number of each.
+/// The deeds of all callers, counted by kind and number.
 #[derive(Drop)]
 struct Done {
     sizes: Sizes,
@@ -71,7 +71,7 @@ struct Done {
 }
 
 impl Done {
-    /// No deed.
+    /// The counts before any deed.
     fn nothing<R: Abort>(rt: &R, alloc: Global, sizes: Sizes) -> Done {
         Done {
             sizes,
@@ -84,7 +84,7 @@ impl Done {
         self.deeds.add(deed.saturating_add(number as usize));
     }
 
-    /// Adds the reply to a mark of this slot, on this sheet.
+    /// Counts the reply to a mark of this slot, on this sheet.
     fn add_reply(&self, slot: u32, sheet: u32, reply: Reply) {
         match reply {
             Reply::Repeated => return,
@@ -98,7 +98,7 @@ impl Done {
         self.add(MARKED, slot);
     }
 
-    /// Adds the answer to a delivery of this page.
+    /// Counts the deeds in the answer to a delivery of this page.
     fn add_delivery(&self, page: u32, delivered: &Delivered<'_>) {
         if delivered.published == Published::Stored {
             self.add(STORED, page);
@@ -117,7 +117,8 @@ impl Done {
         }
     }
 
-    /// Delivers a page. It is a fault if that is refused, if a sheet is handed back, or if the answer has another index of the page than the table.
+    /// Delivers a page, and counts its deeds. A fault is counted if the delivery is refused, if a sheet is handed back, or if the answer and the
+    /// table have different indices for the page.
     fn deliver<R: Wait>(
         &self,
         rt: &R,
@@ -138,7 +139,7 @@ impl Done {
         self.add_delivery(page, &delivered);
     }
 
-    /// Delivers all pages. Every other caller begins with the last one.
+    /// Delivers all pages. Callers with an even number begin with the first page, the rest with the last one.
     fn deliver_all<R: Wait>(
         &self,
         rt: &R,
@@ -157,7 +158,7 @@ impl Done {
         }
     }
 
-    /// Takes the sheets of the job from the queue, and adds those with the right text. Returns whether the queue is then empty.
+    /// Takes the sheets of the job from the queue, imposes them, and counts those whose text is right. Returns whether the queue is then empty.
     fn take_all<R: Wait>(
         &self,
         rt: &R,
@@ -195,7 +196,7 @@ impl Done {
     }
 }
 
-/// This many further gatherers of the same job.
+/// `count` further gatherers of the same job.
 fn others_of<'s, 'j, 't, 'd, R: Abort>(
     rt: &R,
     alloc: Global,
@@ -210,7 +211,7 @@ fn others_of<'s, 'j, 't, 'd, R: Abort>(
     others
 }
 
-/// Each page is delivered by each of this many callers, in this many threads.
+/// A test in which each of `callers` callers delivers each page, in `threads` threads.
 #[derive(Clone, Copy)]
 struct Repeats {
     sizes: Sizes,
@@ -238,7 +239,7 @@ impl Repeats {
         );
     }
 
-    /// Asserts that the deeds are right, and that the queue gives each sheet once.
+    /// Delivers the pages. Asserts that each deed is done once, and that the queue gives each sheet once.
     fn look<R: Threads + Wait + Sync + Abort>(
         &self,
         rt: &R,
@@ -251,7 +252,7 @@ impl Repeats {
         assert_that(rt, noted.is_each_once());
     }
 
-    /// The same for a job, with room in the queue for each sheet once.
+    /// Makes this test with a job, and with a queue that has room for each sheet once.
     fn look_at_job<R: Threads + Wait + Sync + Abort>(
         &self,
         rt: &R,
@@ -265,7 +266,7 @@ impl Repeats {
         self.look(rt, alloc, &mut gatherer);
     }
 
-    /// The same for a document.
+    /// Makes this test with a document, whose pages are placed by a specification.
     fn look_at_document<R: Threads + Wait + Sync + Abort>(
         &self,
         rt: &R,
@@ -286,8 +287,8 @@ const SIXTY_FIVE_PAGES: &str = "\
     +36+37+38+39+40+41+42+43+44+45+46+47+48+49+50+51+52+53+54+55+56+57+58+59+60+61+62+63+64\
 ";
 
-/// Delivers each page by this many callers in this many threads: of one page, of two on a sheet, of two and ten such sheets whose slots share one
-/// word, of two sheets of 65 pages, and of one page 65 times.
+/// Makes the test with these numbers of callers and threads for several jobs: one page; two pages on a sheet; two and ten such sheets, whose slots
+/// share one word of the table; two sheets of 65 pages; and one page 65 times on a sheet.
 fn deliver_each<R: Threads + Wait + Sync + Abort>(
     rt: &R,
     alloc: Global,

@@ -14,10 +14,10 @@ use std::thread;
 use std::thread::Threads;
 use test_tools::{ONE_PAGE, document_of};
 
-/// More pages, and more sheets, than any document here has.
+/// The largest number of pages, and of sheets, that a document here has.
 const MOST_PAGES: u32 = 16;
 
-/// The steps that meet.
+/// The steps at which threads wait for each other.
 #[derive(Clone, Copy)]
 enum Steps {
     Pages,
@@ -35,7 +35,7 @@ impl Steps {
     }
 }
 
-/// A gate at which each of these steps waits until this many have entered. A bit for each page or sheet shows which have.
+/// A gate at which each of these steps waits until `height` of them have entered. A bit for each page or sheet shows whether its step has entered.
 #[derive(Drop)]
 struct Barrier {
     steps: Steps,
@@ -45,7 +45,7 @@ struct Barrier {
     run_out: AtomicUsize,
 }
 
-/// The bit of a page or a sheet; there are few of them.
+/// The bit of the page or sheet of a step. Numbers from `MOST_PAGES` on share one bit.
 fn bit_of(step: Step) -> usize {
     match step {
         Step::Deliver(number) | Step::Impose(number) if number < MOST_PAGES => 1 << number,
@@ -65,8 +65,8 @@ impl Gate for Barrier {
     fn after(&self, _step: Step) {}
 }
 
-/// Runs this many pages, each on a sheet, by this many workers that have to meet at these steps. Asserts that a step of each page or sheet is entered
-/// once, no wait runs out, and no sheet is made at the end.
+/// Runs `pages` pages, each on a sheet, with these numbers of preparers and imposers, which have to meet at these steps. Asserts that a step of each
+/// page or sheet is entered once, that no wait runs out, and that no sheet is made at the end.
 fn assert_met<R: Threads + Wait + Sync + Abort>(
     rt: &R,
     alloc: Global,
@@ -99,7 +99,7 @@ fn assert_met<R: Threads + Wait + Sync + Abort>(
     assert_that(rt, (report.sheets, report.swept) == (pages, 0));
 }
 
-// A page is delivered while a sheet is imposed, too.
+// In the last case, a page is delivered while a sheet is imposed.
 #[test]
 fn as_many_threads_run_as_were_asked_for(rt: HostRuntime) {
     for (steps, height, counts, pages) in [
@@ -132,28 +132,29 @@ fn short_runs_leave_no_sheet_to_the_end(rt: HostRuntime) {
     }
 }
 
-/// The side of the first look on which it waits.
+/// Whether the first look waits before or after it is made.
 #[derive(Clone, Copy, PartialEq, Eq)]
 enum Side {
     Before,
     After,
 }
 
-/// A gate that holds the searched page or sheet back until the first look waits on this side of it; the look waits until it has come. So a look that
-/// waits before it is made finds it, and one that waits afterwards has found nothing.
+/// A gate for a run with one sheet. The step that brings the sheet to the queue or the channel is held back until the first look there waits, before
+/// or after it is made. The look waits until the sheet has come. A look that waits before it is made therefore finds the sheet, and one that waits
+/// afterwards has found nothing.
 #[derive(Drop)]
 struct Late {
     look: Look,
     side: Side,
-    /// The number of looks that began; the next word counts those that ended.
+    /// The number of looks that have begun. `ended` is the number of those that have ended.
     begun: AtomicUsize,
     ended: AtomicUsize,
-    /// The number of looks that waited.
+    /// The number of looks that have waited.
     waited: AtomicUsize,
-    /// The number of pages or sheets that were begun; the next word counts those that came.
+    /// The number of steps that bring a sheet and have ended. `came` is the number of sheets that have come.
     worked: AtomicUsize,
     came: AtomicUsize,
-    /// The number of looks that had begun when it was found.
+    /// The number of looks that had begun when the sheet was found.
     found_by: AtomicUsize,
     run_out: AtomicUsize,
 }
@@ -173,7 +174,7 @@ impl Late {
         }
     }
 
-    /// Whether the step brings the searched page or sheet.
+    /// Whether the step brings the sheet to the place where the look searches.
     fn is_brought_by(&self, step: Step) -> bool {
         match self.look {
             Look::Queue => matches!(step, Step::Deliver(_)),
@@ -181,7 +182,7 @@ impl Late {
         }
     }
 
-    /// Lets the first look wait on this side of it until the searched page or sheet has come and the step that brought it has ended.
+    /// If the first look is to wait on this side, waits until the sheet has come and the step that brought it has ended.
     fn wait_at(&self, side: Side) {
         if side != self.side {
             return;
@@ -210,7 +211,7 @@ impl Gate for Late {
     fn after(&self, step: Step) {
         if self.is_brought_by(step) {
             self.worked.fetch_add(1, SeqCst);
-            // A sheet is sent after this step, before its imposer looks again.
+            // An imposer sends its sheet after this step, and before it looks again.
             if self.look == Look::Queue {
                 self.came.fetch_add(1, SeqCst);
             }
@@ -234,7 +235,7 @@ impl Gate for Late {
     }
 }
 
-/// A sink that takes all bytes. The second call has the only sheet.
+/// A sink that takes all bytes. Its second call writes the only sheet.
 #[derive(Drop)]
 struct OneSheet<'w> {
     late: &'w Late,

@@ -1,4 +1,4 @@
-//! Gatherings, also into sinks that fail: the output, the report, and seat and pass, which come back whole.
+//! Tests of gatherings, also into sinks that fail. They check the output, the report, and that the seat and the pass come back whole.
 ghost use Rattle.std.specs.Prelude.{◌≤◌, length};
 ghost use Rattle.imposer.specs.Gathering.{IsFreshPass};
 
@@ -17,8 +17,8 @@ use std::sync::Wait;
 use std::thread::Threads;
 use test_tools::{MOST_GROWTHS, TWO_UP, document_of, refuse, two_up_output};
 
-/// How a job is gathered: the numbers of workers, the room of the sink, the number of puts by right if puts are by right, and the number of the
-/// growth that is refused.
+/// How a job is gathered: the numbers of workers, the number of bytes for which the sink has room, the number of puts by right if the queue grants
+/// puts by right, and the number of the growth that is refused.
 #[derive(Clone, Copy)]
 pub(super) struct Way {
     pub(super) workers: Workers,
@@ -27,8 +27,8 @@ pub(super) struct Way {
     pub(super) refused: u32,
 }
 
-/// The outcome of a gathering: the answer, whether a page was left without a receipt, the shares of the seat and of the pass if they came back, and
-/// the output.
+/// The outcome of a gathering: its answer, whether a page was left without a receipt, the shares of the seat and of the pass if they came back, and
+/// the sink with the output.
 #[derive(Drop)]
 pub(super) struct Gathering {
     pub(super) outcome: Result<Report, RunError>,
@@ -37,7 +37,7 @@ pub(super) struct Gathering {
     pub(super) sink: MemorySink,
 }
 
-/// A queue for the sheets of a job, with room by right for this many puts, if puts are by right.
+/// A queue for the sheets of a job. If `puts` is given, the queue grants at least as many puts by right.
 fn queue_for<R: Abort>(rt: &R, alloc: Global, job: &Job<'_, '_>, puts: Option<u32>) -> (Ready, Pass)
     ensures pass { IsFreshPass result.0 result.1 }
     ensures room { length job.now.plan.sheets ≤ result.0.capacity }
@@ -112,7 +112,7 @@ pub(super) fn gather_pairs<R: Threads + Wait + Sync + Abort, G: Gate + Sync>(
     gather_at(rt, alloc, &job, way, gate)
 }
 
-/// The report on this many pages, two on a sheet, of which these bytes were written, and this many not.
+/// The expected outcome for `pages` pages, two on a sheet, if the bytes `written` of the output are written and the bytes `rest` aren't.
 fn outcome_of(pages: u32, written: &[u8], rest: &[u8]) -> Result<Report, RunError> {
     let bytes = written.len() as u64;
     if !rest.is_empty() {
@@ -127,7 +127,7 @@ fn outcome_of(pages: u32, written: &[u8], rest: &[u8]) -> Result<Report, RunErro
     })
 }
 
-/// Asserts the outcome of gathering this many pages, two on a sheet, by this many workers, into a sink with this room.
+/// Asserts the outcome of gathering `pages` pages, two on a sheet, with these numbers of workers, into a sink with room for `room` bytes.
 fn assert_gathered<R: Threads + Wait + Abort + Sync>(
     rt: &R,
     alloc: Global,

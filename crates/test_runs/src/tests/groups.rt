@@ -1,4 +1,4 @@
-//! Groups of sheets that come together: how they are written, and when their memory is given back.
+//! Tests of groups of sheets that come together: how they are written, and when their memory is given back.
 ghost use Rattle.std.specs.Prelude.{◌≡◌, ◌<◌, length};
 ghost use Rattle.sheet_text.specs.Jobs.{text_of};
 ghost use Rattle.sheet_writer.specs.Writing.{AreEarly, HaveTexts};
@@ -13,7 +13,7 @@ use std::alloc::{AllocError, Global};
 use std::io::{self, ErrorKind, Write};
 use std::process::Abort;
 
-/// The bodies of the four pages. This body, of the third page, isn't copied to its sheet.
+/// The bodies of the four pages. The body `long` of the third page isn't copied to its sheet, because it is long.
 const fn bodies(long: &str) -> [&str; 4] {
     [
         "(0) pop\nshowpage\n",
@@ -23,7 +23,7 @@ const fn bodies(long: &str) -> [&str; 4] {
     ]
 }
 
-/// A document of these pages.
+/// A document of these four pages.
 fn document_of_pages(alloc: Global, long: &str) -> Result<String, AllocError> {
     format!(in alloc;
         "%!PS-Adobe-3.0\n%%Pages: 4\n%%EndComments\n\
@@ -32,7 +32,7 @@ fn document_of_pages(alloc: Global, long: &str) -> Result<String, AllocError> {
     )
 }
 
-/// The text of a sheet with a page that isn't copied if it is long.
+/// The text of a sheet, put together from its parts. A page's body that is long is borrowed, not copied.
 fn put_together<'r, R: Abort>(
     rt: &R,
     alloc: Global,
@@ -53,7 +53,7 @@ fn put_together<'r, R: Abort>(
     text
 }
 
-/// The same text; the sheet's text has to be equal to it.
+/// The text that `put_together` makes. It must equal the text that `sheet_text` makes of the sheet.
 fn text_with<'r, R: Abort>(
     rt: &R,
     alloc: Global,
@@ -73,7 +73,7 @@ fn text_with<'r, R: Abort>(
     text
 }
 
-/// Adds a sheet to others.
+/// Adds the text of a sheet to the finished sheets.
 fn finish<'r, R: Abort>(
     rt: &R,
     alloc: Global,
@@ -90,7 +90,7 @@ fn finish<'r, R: Abort>(
     done(rt, finished.push(sheet, &mut text));
 }
 
-/// Puts these sheets as one group.
+/// Puts these sheets into the buffer as one group.
 fn put_sheets<'r, R: Abort>(
     rt: &R,
     alloc: Global,
@@ -113,7 +113,7 @@ fn put_sheets<'r, R: Abort>(
     early.put(finished);
 }
 
-/// A buffer into which these of the four sheets have come as one group.
+/// A buffer into which these sheets, of the four, have come as one group.
 fn early_with<'r, R: Abort>(
     rt: &R,
     alloc: Global,
@@ -199,8 +199,8 @@ fn calls_of_all<R: Abort>(
     calls.lengths
 }
 
-/// Writes two groups, each with every other sheet. Returns the next sheet and the length of the notes after each group: the first group is given back
-/// when its last sheet is written, and not before.
+/// Writes four sheets as two groups, 0 and 2, then 1 and 3. Returns the next sheet and the number of notes after each group. A group is given back
+/// only once its last sheet has been written.
 fn write_two_groups<R: Abort>(
     rt: &R,
     alloc: Global,
@@ -213,7 +213,7 @@ fn write_two_groups<R: Abort>(
 {
     let mut early = early_with(rt, alloc, job, bodies, &[0, 2]);
     let progress = write_early(job, sink, START, &mut early, given_back);
-    // What follows asks for this, and no helper's answer says it.
+    // The calls below require this, and no contract above states it.
     if progress.halted.is_some() {
         panic!(rt; "a sheet wasn't written");
     }
@@ -223,7 +223,7 @@ fn write_two_groups<R: Abort>(
     [first, (progress.next, given_back.sheets.len())]
 }
 
-/// Asserts that the groups are given back one after the other, with all bytes that were written.
+/// Writes the two groups. Asserts that they are given back one after the other, with all bytes that were written.
 fn two_groups<R: Abort>(
     rt: &R,
     alloc: Global,
@@ -245,7 +245,8 @@ fn two_groups<R: Abort>(
     sink
 }
 
-/// Asserts that if these of the four sheets came as one group, the others are made and counted, and all sheets and the trailer are written.
+/// Lets the sheets `came`, of the four, come as one group. Asserts that the rest of the sheets are made and counted, and that all sheets and the
+/// trailer are written.
 fn assert_rest<R: Abort>(
     rt: &R,
     alloc: Global,
@@ -266,10 +267,11 @@ fn assert_rest<R: Abort>(
     );
 }
 
-/// The lengths of the first two sheets together, of the third one's text before its page, of the page, of the text after it, and of the last sheet.
+/// The lengths of the calls that write the four sheets, in bytes: the first two sheets together, the third sheet's text before its page, the page,
+/// the text after it, and the last sheet.
 const LENGTHS: [usize; 5] = [434, 172, 4_809, 28, 217];
 
-/// Four pages, each on a sheet.
+/// The tests of a job with four pages, each on a sheet.
 #[derive(Drop)]
 struct Pages<'b> {
     bodies: [&'b str; 4],
@@ -287,7 +289,7 @@ impl<'b, R: Abort> Task<R, ()> for Pages<'b> {
     }
 }
 
-// Neighbours are written by one call, sheets given back with the last of them, and those that never came made.
+// Neighbouring sheets are written by one call, a group is given back with its last sheet, and sheets that never came are made.
 #[test]
 fn sheets_that_come_together(rt: HostRuntime) {
     let mut long = done(&rt, "(2) pop\n".repeat(rt.alloc(), 600));

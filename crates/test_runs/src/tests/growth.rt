@@ -1,13 +1,13 @@
-//! Calls, runs and gatherings in which each growth is refused in turn. The answer has to be out of memory, everything stays unchanged, and the output
-//! is a first part of the whole one. `callers::gatherers` does the same.
+//! Tests of calls, runs and gatherings in which each growth of memory is refused in turn. The answer must be that memory ran out, all objects must be
+//! unchanged, and the output must be the first bytes of the whole output. `callers::gatherers` makes the same tests of a gatherer.
 //!
-//! Run on their own, these trials find that nothing is refused, and compare each answer once. `checks/refused-calls` runs them with a library that
-//! refuses.
+//! If these tests run on their own, no growth is refused, and each answer is compared once. `checks/refused-calls` runs them with a library that
+//! refuses growths.
 mod joined_texts;
 mod runs;
 mod tables;
 
-/// The number of successive growths that weren't refused, after one more that was or wasn't.
+/// The number of successive growths that weren't refused, after one more growth.
 pub(super) fn unrefused_after(unrefused: u32, is_refused: bool) -> u32 {
     if is_refused {
         0

@@ -1,4 +1,4 @@
-//! A job for tests.
+//! Jobs for tests.
 use crate::tests::checks::done;
 use dsc::Document;
 use lengths::a4;
@@ -8,12 +8,12 @@ use sheet_text::Job;
 use std::alloc::Global;
 use std::process::Abort;
 
-/// A task that a test does with a job, and its result.
+/// A task that a test does with a job. `A` is the type of its result.
 pub(super) trait Task<R, A> {
     fn go(&self, rt: &R, alloc: Global, job: &Job<'_, '_>) -> A;
 }
 
-/// Does the task with the job of this document by this specification, on A4.
+/// Does the task with the job of placing this document's pages by this specification, on A4.
 pub(super) fn with_job<A, R: Abort, T: Task<R, A>>(
     rt: &R,
     alloc: Global,

@@ -1,5 +1,5 @@
-//! Threads that publish pages and mark their slots at the same time. The replies for a sheet depend on the threads that bring its pages, and on no
-//! other sheet.
+//! Tests of threads that publish pages and mark their slots at the same time. The replies for a sheet depend on the threads that bring its pages, and
+//! on no other sheet.
 ghost use Rattle.std.specs.Prelude.{◌≡◌};
 ghost use Rattle.rules.specs.Sheets.{layout};
 ghost use Rattle.gather_table.specs.Shared.{IsSeatOf};
@@ -68,7 +68,7 @@ impl<'s, 't, 'p> Bringer<'s, 't, 'p> {
     }
 }
 
-/// Brings the pages of these slots by two threads, and returns the replies to their marks.
+/// Lets two threads bring the pages of these slots at the same time, and returns the replies to their marks.
 fn bring_beside<R: Threads + Sync + Abort>(
     rt: &R,
     alloc: Global,
@@ -103,7 +103,7 @@ fn bring_beside<R: Threads + Sync + Abort>(
     [bringers[0].replies, bringers[1].replies]
 }
 
-/// Brings the pages of two pairs of slots many times over, and asserts that the replies are these or the exchanged ones.
+/// Lets two threads bring the pages of two pairs of slots many times, and asserts that the threads get these replies, in either order.
 fn assert_answered<R: Threads + Sync + Abort>(
     rt: &R,
     alloc: Global,

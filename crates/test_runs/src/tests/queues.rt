@@ -1,4 +1,4 @@
-//! The queue: passes with a part of the shares, and threads side by side.
+//! Tests of the queue: passes that have only some of the shares, and threads that use the queue at the same time.
 ghost use Rattle.handover.specs.Passes.{IsPassOf};
 
 use super::WHOLE;
@@ -51,7 +51,7 @@ fn puts_by_right_are_not_refused(rt: HostRuntime) {
     let mut other = ready.split_with_room(&mut pass, 1, 1);
     assert_that(&rt, (pass.room(), other.room()) == (1, 1));
     assert_put(&rt, &ready, &mut pass, 7, Ok(()));
-    // What room there is belongs to the other one, and a take gives none back.
+    // The room that is left belongs to the other pass, and a take gives no room back to a pass.
     assert_put(&rt, &ready, &mut pass, 8, Err(Full(8)));
     assert_taken(&rt, &ready, &mut pass, Some(7));
     assert_put(&rt, &ready, &mut pass, 8, Err(Full(8)));
@@ -64,7 +64,7 @@ fn puts_by_right_are_not_refused(rt: HostRuntime) {
     assert_taken(&rt, &ready, &mut whole, Some(9));
 }
 
-// A thread's pass of the queue.
+// The worker of one thread: the queue, and a pass of its own.
 #[derive(Drop)]
 struct Worker<'q> {
     ready: &'q Ready,
@@ -81,7 +81,7 @@ impl<'q> Worker<'q> {
         self.ready.take(rt, &mut self.pass)
     }
 
-    // Puts these sheets, each again if the queue was full.
+    // Puts these sheets into the queue. A put that finds the queue full is tried again.
     fn put_all<R: Wait>(&mut self, rt: &R, sheets: Range<u32>) {
         for sheet in sheets {
             for _ in rt.forever() {
@@ -93,7 +93,7 @@ impl<'q> Worker<'q> {
         }
     }
 
-    // Takes sheets until all threads have taken so many.
+    // Takes sheets until all threads together have taken `count`.
     fn take_until<R: Wait>(&mut self, rt: &R, taken: &Tally, count: usize) {
         for _ in rt.forever() {
             if taken.all() >= count {
@@ -106,7 +106,7 @@ impl<'q> Worker<'q> {
         }
     }
 
-    // The first two put a hundred sheets each, which the others take.
+    // The first two workers put a hundred sheets each, and the rest of the workers take them.
     fn work<R: Wait>(&mut self, rt: &R, number: usize, taken: &Tally) {
         match number {
             0 => self.put_all(rt, 0..100),
@@ -116,7 +116,7 @@ impl<'q> Worker<'q> {
     }
 }
 
-// Each works in a thread of its own.
+// Lets each worker work in a thread of its own.
 fn work_apart<R: Threads + Wait + Sync>(rt: &R, workers: &mut [Worker<'_>; 4], taken: &Tally) {
     for_each_mut(
         rt,

@@ -1,5 +1,5 @@
-//! A pass with room for half of the puts: the queue hands the first sheet back to a preparer, so its turn never comes, and the others are imposed
-//! without waiting for it.
+//! A test of a pass with room for half of the puts. The queue hands the first sheet back to a preparer, so the sheet's turn never comes. The other
+//! sheets must be imposed without waiting for it.
 use super::gatherings::{Gathering, Way, gather_pairs};
 use super::wait_for;
 use super::windows::six_pages;
@@ -16,8 +16,8 @@ use test_tools::MOST_GROWTHS;
 /// The number of sheets, of two pages each.
 const SHEETS: u32 = 3;
 
-/// A gate for two preparers, one with the even pages, the other with the odd ones. The page of the first sheet that is delivered last is odd, that of
-/// each other sheet even.
+/// A gate for two preparers, one with the even pages, the other with the odd ones. The first sheet is completed by its odd page, each other sheet by
+/// its even page.
 #[derive(Drop)]
 struct FirstSheetByTheSecond {
     /// The number of even pages that were delivered.
@@ -47,7 +47,8 @@ impl Gate for FirstSheetByTheSecond {
     }
 }
 
-/// Gathers the pages of a document by two workers of each kind with this gate and room for this many puts. No wait runs out.
+/// Gathers the pages of a document with two workers of each kind, with the gate `FirstSheetByTheSecond` and room for `puts` puts. Asserts that no
+/// wait runs out.
 fn gather_with_room<R: Threads + Wait + Abort + Sync>(
     rt: &R,
     alloc: Global,
@@ -81,8 +82,8 @@ fn swept_in(gathering: &Gathering) -> Option<u32> {
     }
 }
 
-// The first preparer may make a put for each of its pages. There is as much room as there are sheets, so the second one
-// has none; or twice as much.
+// The first preparer gets room for a put of each of its pages. If there is room for as many puts as there are sheets, the second preparer gets none;
+// with room for twice as many, both have enough.
 #[test]
 fn a_sheet_that_is_handed_back_is_not_waited_for(rt: HostRuntime) {
     let alloc = rt.alloc();

@@ -1,8 +1,8 @@
-//! Sets of a few numbers.
+//! Tests of sets of a few sheet numbers.
 use super::checks::{assert_that, done};
 use imposer::SheetSet;
 
-/// Takes the first number before each of these ends. Returns whether they are the expected ones.
+/// For each pair of an end and a number, takes the smallest number below the end from the set. Returns whether these are the expected numbers.
 fn are_taken(set: &mut SheetSet, wanted: &[(u32, Option<u32>)]) -> bool {
     for (end, number) in wanted {
         if set.take_first_before(*end) != *number {
@@ -12,7 +12,7 @@ fn are_taken(set: &mut SheetSet, wanted: &[(u32, Option<u32>)]) -> bool {
     true
 }
 
-// A smaller number comes first after larger ones were taken.
+// Numbers that are inserted after larger ones were taken also come out in order.
 #[test]
 fn numbers_come_out_in_order_before_an_end(rt: HostRuntime) {
     let mut set = SheetSet::new(rt.alloc());

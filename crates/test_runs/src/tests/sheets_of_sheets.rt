@@ -1,4 +1,4 @@
-//! A document is imposed three times over.
+//! Tests in which the output of a run is imposed again, and that output once more.
 use crate::tests::checks::{assert_that, done};
 use crate::tests::workers;
 use dsc::Document;
@@ -9,7 +9,7 @@ use std::sync::Wait;
 use std::thread::Threads;
 use test_tools::TWO_UP;
 
-/// Eight pages. Lines end in each of the three ways, and the last one doesn't end.
+/// A document of eight pages. Lines end in each of the three ways, and the last line has no end.
 const EIGHT_PAGES: &str = "%!PS-Adobe-3.0\r\n%%Pages: 8\r\n%%EndComments\r\n\
     %%Page: 1 1\n(a)\n\
     %%Page: 2 2\r(b)\r%%PageFonts: x\n\n\
@@ -20,7 +20,7 @@ const EIGHT_PAGES: &str = "%!PS-Adobe-3.0\r\n%%Pages: 8\r\n%%EndComments\r\n\
 /// A document whose only page leaves an embedded document open.
 const OPEN_PAGE: &str = "%!\n%%Page: 1 1\n%%BeginDocument: a\n";
 
-/// The output of a run. The run has to report the first two counts, of pages and sheets, and its output has the third number of pages.
+/// The output of a run. Asserts that `counts` are the numbers of pages and of sheets that the run reports, and the number of pages of its output.
 fn imposed<R: Threads + Wait + Sync + Abort>(
     rt: &R,
     alloc: Global,
@@ -36,7 +36,7 @@ fn imposed<R: Threads + Wait + Sync + Abort>(
     sink
 }
 
-// An open page hides the sheet after it.
+// In the last run, a page leaves an embedded document open, so the sheet after it isn't read as a page.
 #[test]
 fn each_run_has_the_sheets_of_the_last_one_as_its_pages(rt: HostRuntime) {
     let alloc = rt.alloc();

@@ -1,4 +1,4 @@
-//! Sinks and writers that fail at each call in turn.
+//! Tests of sinks and writers that fail at each call in turn.
 ghost use Rattle.std.specs.Prelude.{◌≡◌};
 
 use super::{Trial, run_into};
@@ -14,10 +14,10 @@ use test_tools::{ONE_PAGE, TWO_PAGES, TWO_UP, one_up_output, two_up_output};
 /// The numbers of preparers and of imposers.
 const COUNTS: [(u32, u32); 2] = [(1, 1), (2, 3)];
 
-/// The number of bytes that are taken in a call.
+/// The number of bytes that a sink or a writer here takes in a call.
 const PER_CALL: usize = 7;
 
-/// Two pages on a sheet, by these numbers of workers.
+/// A run of two pages on a sheet, with these numbers of workers.
 fn pair_by(counts: (u32, u32)) -> Trial<'static> {
     Trial {
         document: TWO_PAGES,
@@ -26,7 +26,7 @@ fn pair_by(counts: (u32, u32)) -> Trial<'static> {
     }
 }
 
-/// A sink in memory that counts the calls which it refuses.
+/// A sink in memory that counts the calls that it refuses.
 #[derive(Drop)]
 struct Refusing {
     memory: MemorySink,
@@ -45,8 +45,8 @@ impl Sink for Refusing {
     }
 }
 
-/// The number of bytes that a run writes to a sink. They are the first ones of its output, and the run reports their number. If it fails, the sink
-/// has refused one call and gets no other.
+/// The number of bytes that a run writes to a sink. Asserts that they are the first bytes of the output, that the run reports their number, and that
+/// the sink gets no call after one that it refuses.
 fn written_to<R: Threads + Wait + Sync + Abort>(
     rt: &R,
     alloc: Global,
@@ -71,7 +71,7 @@ fn written_to<R: Threads + Wait + Sync + Abort>(
     written.len()
 }
 
-// Room for each number of bytes that is too few, and one byte a call with room for all.
+// The sinks have room for each number of bytes up to the 273 bytes of the whole output. The last sink has room for all, and takes one byte in a call.
 #[test]
 fn the_first_bytes_are_written_before_a_failure(rt: HostRuntime) {
     let alloc = rt.alloc();
@@ -97,10 +97,10 @@ fn the_first_bytes_are_written_before_a_failure(rt: HostRuntime) {
     }
 }
 
-/// More calls of seven bytes than a pair needs.
+/// A number of calls of seven bytes that is more than enough for the output.
 const MOST_CALLS: u64 = 200;
 
-// At least 72 calls are needed.
+// The output has 503 bytes, so at least 72 calls of seven bytes are needed.
 #[test]
 fn nothing_is_written_after_a_failure(rt: HostRuntime) {
     let alloc = rt.alloc();
@@ -118,7 +118,7 @@ fn nothing_is_written_after_a_failure(rt: HostRuntime) {
     }
 }
 
-/// A writer that takes seven bytes a call, fails only at the call with this number, and counts its calls.
+/// A writer that takes seven bytes in a call, fails only at the call number `fails_at`, and counts its calls.
 #[derive(Drop)]
 struct Torn {
     cause: ErrorKind,
@@ -140,7 +140,7 @@ impl Write for Torn {
     }
 }
 
-/// Writes a pair to a writer that fails at this call for this cause. Returns the number of calls, if the run failed.
+/// Runs two pages on a sheet into a writer that fails at this call for this cause. Returns the number of the writer's calls, if the run failed.
 fn calls_of_torn<R: Threads + Wait + Sync>(
     rt: &R,
     alloc: Global,

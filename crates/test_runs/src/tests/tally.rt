@@ -5,7 +5,7 @@ use std::process::Abort;
 use std::sync::atomic::AtomicUsize;
 use std::sync::atomic::Ordering::SeqCst;
 
-/// The number of times that each number below an end came, and the number of all.
+/// For each number below an end, the number of times that it was added, and the number of all additions.
 #[derive(Drop)]
 pub(super) struct Tally {
     counts: Vec<AtomicUsize>,
@@ -13,7 +13,7 @@ pub(super) struct Tally {
 }
 
 impl Tally {
-    /// No number has come.
+    /// The counters for the numbers below `end`, before any number is added.
     pub(super) fn new<R: Abort>(rt: &R, alloc: Global, end: usize) -> Tally {
         let mut counts = Vec::new(alloc);
         for _ in 0..end {
@@ -33,12 +33,12 @@ impl Tally {
         self.all.fetch_add(1, SeqCst);
     }
 
-    /// The count of all numbers.
+    /// The number of all additions.
     pub(super) fn all(&self) -> usize {
         self.all.load(SeqCst)
     }
 
-    /// Whether each of this many numbers, from this one on, came once.
+    /// Whether each of `count` numbers, from `first` on, was added once.
     pub(super) fn are_once(&self, first: usize, count: usize) -> bool {
         for place in 0..count {
             match self.counts.as_slice().get(first.saturating_add(place)) {

@@ -1,4 +1,4 @@
-//! The memory that a text asks for.
+//! Tests of the memory that the text of a sheet asks for.
 use super::jobs::{Task, with_job};
 use crate::tests::checks::{assert_that, done};
 use sheet_text::{Job, Rope, begin_sheet, sheet_rope};
@@ -6,10 +6,11 @@ use std::alloc::Global;
 use std::process::Abort;
 use test_tools::ONE_PAGE;
 
-/// The room that the sheet's text is likely to need: 64 bytes, those of the document with the page, and 256 around it.
+/// The number of bytes that the sheet's text is likely to need: 64, the length of the document with its page, and 256 around the page.
 const LIKELY_ROOM: usize = 64 + ONE_PAGE.len() + 256;
 
-/// Whether the sheet's text asks for no more than that. A text begun in another's memory keeps that room, or has what it is likely to need.
+/// Asserts that the sheet's text asks for at most `LIKELY_ROOM` bytes. A text that is begun in memory of `before` bytes must keep that memory, or
+/// have the memory that it is likely to need.
 #[derive(Drop)]
 struct KeepsRoom {
     before: usize,

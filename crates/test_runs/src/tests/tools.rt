@@ -1,10 +1,10 @@
-//! Texts for the tests of several crates, each written out once.
+//! Tests of the texts that `test_tools` makes. Each is compared with a text that is written out.
 use crate::tests::checks::{assert_bytes, assert_that, done};
 use std::alloc::AllocError;
 use std::process::Abort;
 use test_tools::{ONE_PAGE, TWO_PAGES, document_of, same_items, two_up_sheets};
 
-/// Two pages side by side.
+/// A sheet with two pages side by side.
 const PAIR: &str = "%%Page: 1 1\n\
     userdict /ImposeSave save put\n\
     userdict /showpage {} put\n\

@@ -1,5 +1,5 @@
-//! Pages so large that only a few sheets lie in the window of those that may be imposed. The others wait until their turn is near, unless the next
-//! sheet to be written may never come.
+//! Tests with pages so large that only a few sheets lie in the window of those that may be imposed. The rest of the sheets wait until their turn is
+//! near, unless the next sheet to be written may never come.
 ghost use Rattle.std.specs.Prelude.{◌≡◌, None};
 
 use super::{Trial, large_pages, run_into, wait_for};
@@ -21,21 +21,21 @@ const PAGE_LEN: usize = 400_000;
 /// The pages in their order, each on a sheet of its own.
 const FORWARD: &str = "0";
 
-/// The same from the last one on.
+/// The pages from the last to the first, each on a sheet of its own.
 const BACKWARD: &str = "-0";
 
-/// The same in their order, and a sheet without a page after them.
+/// The pages in their order, each on a sheet of its own, and a sheet without a page after them.
 const BLANK_LAST: &str = "7:0,1,2,3,4,5,6";
 
-/// The same in their order, each four times on its sheet.
+/// The pages in their order, each four times on its sheet.
 const FOUR_TIMES: &str = "0+0+0+0";
 
-/// Six pages of comments.
+/// A document of six pages that have only comments.
 pub(super) fn six_pages<R: Abort>(rt: &R, alloc: Global) -> String {
     large_pages(rt, alloc, PAGES as u32, PAGE_LEN / 9 + 1)
 }
 
-/// Words that a run's threads show each other.
+/// Counters that the threads of a run share.
 #[derive(Drop)]
 pub(super) struct Words {
     /// The number of bytes that the sink took.
@@ -64,13 +64,13 @@ impl Words {
         }
     }
 
-    /// Waits until the word has reached this number, or some wait has run out.
+    /// Waits until `word` has reached `height`, or until some wait has run out.
     pub(super) fn wait_for(&self, word: &AtomicUsize, height: usize) {
         wait_for(word, height, &self.run_out);
     }
 }
 
-/// A sink that takes this many bytes and then fails. Others can read the number of bytes that it took.
+/// A sink that takes `room` bytes and then fails. Other threads can read the number of bytes that it has taken.
 #[derive(Drop)]
 pub(super) struct LimitedSink<'w> {
     words: &'w Words,
@@ -106,8 +106,8 @@ impl<'w> Sink for LimitedSink<'w> {
     }
 }
 
-/// A gate that delivers the page of the first sheet last: after all others were delivered, and as many sheets were imposed as lie in the window after
-/// the first. A sheet is imposed too early if it is a window or more ahead of what was written.
+/// A gate that delivers the page of the first sheet last: after all other pages are delivered, and after as many sheets are imposed as lie in the
+/// window behind the first one. It counts sheets that are imposed too early, a window or more ahead of those that are written.
 #[derive(Drop)]
 struct FirstSheetLast<'w> {
     words: &'w Words,
@@ -142,7 +142,8 @@ impl<'w> Gate for FirstSheetLast<'w> {
     }
 }
 
-/// Runs with the first sheet last, whose page is this one. Asserts that a worker imposes each of this many sheets, and none too early.
+/// Runs a trial in which `first_page`, the page of the first sheet, is delivered last. Asserts that workers impose all of the `sheets` sheets, and
+/// none too early.
 fn assert_in_turn<R: Threads + Wait + Sync + Abort>(
     rt: &R,
     alloc: Global,
@@ -167,9 +168,9 @@ fn assert_in_turn<R: Threads + Wait + Sync + Abort>(
     assert_that(rt, (report.sheets, report.swept) == (sheets, 0));
 }
 
-// The page of the first sheet has a preparer of its own, or it is the last one of the only preparer. A sheet without a page,
-// which is on the queue before all others, waits for its turn too. The pages that are on their sheets four times would all
-// lie in a window, but not the texts of their sheets.
+// The page of the first sheet has a preparer of its own, or it is the last one of the only preparer. A sheet without a page, which is in the queue
+// before all other sheets, waits for its turn too. Six pages that are each four times on a sheet would fit a window, but the texts of their sheets
+// don't.
 #[test]
 fn no_sheet_is_imposed_far_before_its_turn(rt: HostRuntime) {
     let six = six_pages(&rt, rt.alloc());
@@ -192,7 +193,7 @@ fn no_sheet_is_imposed_far_before_its_turn(rt: HostRuntime) {
     }
 }
 
-/// Whether a run into a sink with this room ends with a failed write after this many bytes, and no wait runs out.
+/// Whether a run into a sink that takes `room` bytes ends with a failed write after `room` bytes, and no wait runs out.
 fn is_stopped<R: Threads + Wait + Sync, G: Gate + Sync>(
     rt: &R,
     alloc: Global,
@@ -210,7 +211,7 @@ fn is_stopped<R: Threads + Wait + Sync, G: Gate + Sync>(
         && told == (1, 0)
 }
 
-/// Asserts this for runs with more and more room in their sinks.
+/// Asserts that a run is stopped in this way by sinks that take no bytes, some bytes, and more bytes.
 fn assert_stopped<R: Threads + Wait + Sync + Abort>(rt: &R, alloc: Global, trial: &Trial<'_>) {
     for room in [0usize, 500_000, 1_500_000] {
         let words = Words::new();
@@ -240,7 +241,7 @@ enum Waits {
     AfterSheet,
 }
 
-/// A gate that lets only the first sheet reach the collector before the sink has failed. The others wait here for that.
+/// A gate that lets only the first sheet reach the collector before the sink has failed. Until then, imposers of other sheets wait here.
 #[derive(Drop)]
 struct FailureFirst<'w> {
     words: &'w Words,

@@ -50,7 +50,8 @@ pub(crate) fn gatherer_of<'s, 'j, 't, 'd>(
 }
 
 impl<'s, 'j, 't, 'd> Gatherer<'s, 'j, 't, 'd> {
-    /// Delivers a page, in the memory of an earlier delivery's answers if there is one. Refused also for a page that the job lacks.
+    /// Delivers a page. If `answers` is given, the memory of those answers, from an earlier delivery, is used again. A page that the job doesn't have
+    /// is refused with `NoMemory`.
     pub(crate) fn deliver<R: Wait>(
         &mut self,
         rt: &R,
@@ -85,7 +86,7 @@ impl<'s, 'j, 't, 'd> Gatherer<'s, 'j, 't, 'd> {
         delivery.deliver(rt, &mut self.seat, &mut self.pass, prepared, answers)
     }
 
-    /// Prepares a page of the document. None if that is refused, or if there is no such page.
+    /// Prepares a page of the document. `None` if that is refused, or if there is no such page.
     pub(crate) fn prepare(&self, alloc: Global, page: u32) -> Option<Prepared<'d>> {
         let document = self.job.document();
         if page >= document.pages() {
@@ -94,7 +95,7 @@ impl<'s, 'j, 't, 'd> Gatherer<'s, 'j, 't, 'd> {
         Prepared::new(alloc, page, document.page(page)).ok()
     }
 
-    /// Prepares a page of the document and delivers it. None if that is refused, or if there is no such page.
+    /// Prepares a page of the document and delivers it. `None` if either is refused, or if there is no such page.
     pub(crate) fn deliver_page<R: Wait>(
         &mut self,
         rt: &R,
@@ -105,7 +106,7 @@ impl<'s, 'j, 't, 'd> Gatherer<'s, 'j, 't, 'd> {
         self.deliver(rt, alloc, prepared, None).ok()
     }
 
-    /// The missing slots of a sheet. None if the job has no such sheet.
+    /// The bits of the missing slots of a sheet, as the table's `look` gives them. `None` if the job has no such sheet.
     pub(crate) fn look(&mut self, sheet: u32) -> Option<u64> {
         if sheet >= self.job.sheets() {
             return None;
@@ -113,7 +114,7 @@ impl<'s, 'j, 't, 'd> Gatherer<'s, 'j, 't, 'd> {
         Some(self.table.look(&mut self.seat, sheet))
     }
 
-    /// The index of a page. None also if the job has no such page.
+    /// The index of a page. `None` if the page hasn't come, or if the job has no such page.
     pub(crate) fn page_at(&mut self, page: u32) -> Option<u32> {
         if page >= self.job.plan().pages() {
             return None;
@@ -121,7 +122,7 @@ impl<'s, 'j, 't, 'd> Gatherer<'s, 'j, 't, 'd> {
         self.table.page_at(&mut self.seat, page)
     }
 
-    /// Publishes a page at this index. None if the job has no such page.
+    /// Publishes a page at this index. `None` if the job has no such page.
     pub(crate) fn publish(&mut self, page: u32, index: u32) -> Option<Published> {
         if page >= self.job.plan().pages() {
             return None;
@@ -129,7 +130,7 @@ impl<'s, 'j, 't, 'd> Gatherer<'s, 'j, 't, 'd> {
         Some(self.table.publish(&mut self.seat, page, index))
     }
 
-    /// Marks a slot. None if it is blank or isn't there, or if its page has no index.
+    /// Marks a slot. `None` if the slot is blank or isn't there, or if its page has no index.
     pub(crate) fn mark(&mut self, sheet: u32, slot: u16) -> Option<Reply> {
         mark_checked(self.table, self.job.plan(), &mut self.seat, sheet, slot)
     }
@@ -144,7 +145,7 @@ impl<'s, 'j, 't, 'd> Gatherer<'s, 'j, 't, 'd> {
         self.ready.take(rt, &mut self.pass)
     }
 
-    /// A second gatherer of the same job, with one share. None if this one has no more than one.
+    /// A second gatherer of the same job, with one share of the seat and one of the pass. `None` if this gatherer has only one share of either.
     pub(crate) fn another(&mut self) -> Option<Gatherer<'s, 'j, 't, 'd>> {
         if self.seat.share() < 2 || self.pass.share() < 2 {
             return None;
@@ -161,7 +162,7 @@ impl<'s, 'j, 't, 'd> Gatherer<'s, 'j, 't, 'd> {
         })
     }
 
-    /// Imposes a sheet. None if it isn't complete, or if the job has no such sheet.
+    /// Imposes a sheet. `None` if the sheet isn't complete, or if the job has no such sheet.
     pub(crate) fn impose(self, alloc: Global, sheet: u32) -> Option<Result<Imposed, ImposeError>> {
         let Gatherer {
             job,
@@ -181,16 +182,16 @@ impl<'s, 'j, 't, 'd> Gatherer<'s, 'j, 't, 'd> {
 /// The outcome of imposing a sheet.
 #[derive(Clone, Copy, Debug, PartialEq, Eq)]
 pub(crate) enum Outcome {
-    /// It has its text.
+    /// The sheet has the right text.
     Imposed,
     OtherText,
     NotShown,
     NoMemory,
-    /// It isn't complete, or the job has no such sheet.
+    /// The sheet isn't complete, or the job has no such sheet.
     NotComplete,
 }
 
-/// The outcome for a sheet of this job that was imposed.
+/// The outcome for a sheet of this job that was imposed: whether its text is the one that `sheet_text` makes.
 fn outcome_of_text(
     alloc: Global,
     job: &Job<'_, '_>,

@@ -1,5 +1,5 @@
-//! One thread that gathers: pages on the shelf and in the table, sheets in the queue, deliveries and impositions, with each
-//! growth of each call refused in turn.
+//! Tests of a gatherer in one thread. It puts pages on the shelf and into the table, puts sheets into the queue, delivers pages and imposes sheets.
+//! Each growth of memory in each call is refused in turn.
 ghost use Rattle.handover.specs.Shelves.{IsOn};
 
 use super::gatherer::{Gatherer, gatherer_of, outcome_of};
@@ -45,7 +45,7 @@ fn show_unshelved(prepared: &Prepared<'_>, answer: &mut Vec<u8>) -> Result<(), A
     say(format_args!("NoMemory {}", prepared.page()), answer)
 }
 
-/// Delivers a page; on request once more, in the memory of the first delivery's answers.
+/// Delivers a page. If `is_again` is true, the page is delivered twice, the second time in the memory of the first delivery's answers.
 fn deliver<R: Wait>(
     rt: &R,
     alloc: Global,
@@ -63,7 +63,7 @@ fn deliver<R: Wait>(
     show_delivery(gatherer.deliver(rt, alloc, prepared, answers), answer)
 }
 
-/// A page with known number, bytes and body.
+/// The known number, bytes and body of a page.
 #[derive(Clone, Copy)]
 struct Known<'d> {
     page: u32,
@@ -76,7 +76,7 @@ fn is_known(found: &Prepared<'_>, known: Known<'_>) -> bool {
     found.page() == known.page && found.raw() == known.raw && found.body() == known.body
 }
 
-/// The index of a page that is read by its receipt, and found at its index with a receipt that reads it.
+/// The index of a page on the shelf. `None` unless the page is read by its receipt, and is found at its index with another receipt that reads it.
 fn index_on<'d>(shelf: &Shelf<'d>, receipt: &Receipt<'d>, known: Known<'_>) -> Option<u32>
     requires { IsOn shelf.now receipt.now }
 {
@@ -90,7 +90,7 @@ fn index_on<'d>(shelf: &Shelf<'d>, receipt: &Receipt<'d>, known: Known<'_>) -> O
     if is_found { Some(index) } else { None }
 }
 
-/// Puts a page of the document on the shelf, and returns its index.
+/// Puts a page of the document on the shelf, and appends its index.
 fn put<'d, R: Wait>(
     rt: &R,
     alloc: Global,
@@ -116,7 +116,7 @@ fn put<'d, R: Wait>(
     put_known(rt, shelf, prepared, known, answer)
 }
 
-/// Puts a known page on the shelf, and returns its index.
+/// Puts a known page on the shelf, and appends its index.
 fn put_known<'d, R: Wait>(
     rt: &R,
     shelf: &Shelf<'d>,
@@ -131,7 +131,7 @@ fn put_known<'d, R: Wait>(
     }
 }
 
-/// Puts a page on a shelf that also asks for room ahead. The page is put even if that growth is refused.
+/// Puts a page on the shelf at a moment when the shelf also asks for memory for later pages. The page is put even if that growth is refused.
 fn put_ahead<'d, R: Wait>(
     rt: &R,
     alloc: Global,
@@ -191,7 +191,7 @@ impl<'s, 'j, 't, 'd, R: Wait> Called<R> for Gatherer<'s, 'j, 't, 'd> {
     }
 }
 
-/// A story of a gatherer, with this room in the queue, in which the growth with this number is refused in each call.
+/// A story of a gatherer with room for `room` sheets in the queue. In each call of the story, the growth with this number is refused.
 #[derive(Drop)]
 struct Gathering<'s> {
     room: u32,
@@ -208,7 +208,7 @@ impl<'s, R: Wait + Abort> Task<R, bool> for Gathering<'s> {
     }
 }
 
-/// A story, after a line with the specification, the number of pages, and the number of sheets for which the queue has room.
+/// A story of a gatherer. Its first line has the specification, the number of pages, and the number of sheets for which the queue has room.
 #[derive(Drop)]
 struct Story<'s> {
     story: &'s str,
@@ -242,7 +242,7 @@ const TWICE: &str = "\
     page 0 = Some(0)\n\
 ";
 
-/// The same, in the memory of another delivery.
+/// The same page, delivered in the memory of another delivery's answers.
 const AGAIN: &str = "\
     0+0 1 1\n\
     again 0 = Held(0) [Repeated, Repeated] [] []\n\
@@ -280,7 +280,7 @@ const ANOTHER_PAGE: &str = "\
     impose 0 = NotShown\n\
 ";
 
-/// A shelf with the sheet's own page there.
+/// A shelf with the sheet's own page at that index.
 const OWN_PAGE: &str = "\
     0 2 1\n\
     put 0 = Some(0)\n\
@@ -291,8 +291,8 @@ const OWN_PAGE: &str = "\
     shown 4294967295 = None\n\
 ";
 
-/// A shelf asks for more room with its 29th page. If that is refused, it asks again with the page that needs the room, and this page is returned. The
-/// shelf still shows the others.
+/// A shelf asks for more room with its 29th page. If that is refused, it asks again with the page that needs the room; if it is refused again, this
+/// page is returned. The shelf still shows the earlier pages.
 const FILLED: &str = "\
     0 33 1\n\
     put 0 = Some(0)\n\
@@ -335,7 +335,7 @@ const FILLED: &str = "\
     shown 32 = Some(32)\n\
 ";
 
-/// A queue with room for two sheets. The page comes last, so that a call asks for memory.
+/// A queue with room for two sheets. A page is delivered at the end, so that one call of the story asks for memory.
 const IN_ORDER: &str = "\
     0 1 2\n\
     hand_on 7 = Ok(())\n\

@@ -1,4 +1,4 @@
-//! Runs: the report of each, and the refusals before anything is written.
+//! Tests of the reports of runs, and of runs that are refused before anything is written.
 use super::stories::{first_word, number, parts_of};
 use crate::tests::checks::{assert_bytes, assert_that, assert_told, done};
 use crate::tests::workers;
@@ -14,7 +14,8 @@ use std::sync::Wait;
 use std::thread::Threads;
 use test_tools::{TWO_UP, document_of, one_up_output, two_up_output};
 
-/// A document with this number of pages. Other words are texts that aren't documents, and a dash is the empty text.
+/// The input that a word gives. A number gives a document with as many pages, a dash gives the empty text, and another word is itself the input,
+/// which isn't a document.
 fn input_of(alloc: Global, word: &str) -> Result<String, NoMemory> {
     match word.parse::<u32>() {
         Ok(pages) => document_of(alloc, pages),
@@ -23,7 +24,8 @@ fn input_of(alloc: Global, word: &str) -> Result<String, NoMemory> {
     }
 }
 
-/// Asserts that the output of one page as it is, or of two pages on a sheet, is as expected. Other outputs are compared elsewhere.
+/// Asserts that the output is the expected one, if the run leaves one page unmoved or puts two pages on each sheet. Other outputs are compared
+/// elsewhere.
 fn assert_wanted<R: Abort>(rt: &R, alloc: Global, items: &str, report: &Report, written: &[u8]) {
     if items == TWO_UP {
         let wanted = done(rt, two_up_output(alloc, report.sheets));
@@ -46,7 +48,8 @@ fn shown(alloc: Global, report: &Report) -> Result<String, NoMemory> {
     format!(in alloc; "{pages} {sheets} {born} {swept} {bytes}")
 }
 
-/// The options in a line: the numbers of preparers and imposers, the sides of a signature, and the width of a border in grains. A dash means none.
+/// The options that a line gives: the numbers of preparers and imposers, the number of sides of a signature, and the width of a border in grains. A
+/// dash means none.
 fn options_of(settings: &str) -> Options {
     let mut words = settings.split(' ');
     let preparers = number(words.next());
@@ -58,7 +61,7 @@ fn options_of(settings: &str) -> Options {
     options
 }
 
-/// Runs over this input by this specification. Returns the report and the number of bytes written.
+/// Runs over this input with this specification. Returns the report or the error as text, and the number of bytes written.
 fn run_input<R: Threads + Wait + Sync + Abort>(
     rt: &R,
     alloc: Global,
@@ -78,8 +81,8 @@ fn run_input<R: Threads + Wait + Sync + Abort>(
     (done(rt, told), sink.bytes().len() as u64)
 }
 
-/// Asserts that the run of a line, which has the input, the options and the specification, has the outcome in the line: the report and the number of
-/// bytes written.
+/// Makes the run for which a line gives the input, the options and the specification. Asserts that its outcome is the one in the line: the report,
+/// and the number of bytes written.
 fn assert_run<R: Threads + Wait + Sync + Abort>(rt: &R, alloc: Global, line: &str) {
     let (words, answer) = parts_of(line);
     let (wanted, count) = answer.split_once(", ").unwrap_or((answer, ""));
@@ -95,7 +98,7 @@ fn assert_run<R: Threads + Wait + Sync + Abort>(rt: &R, alloc: Global, line: &st
     );
 }
 
-/// Numbers of pages, of sheets, of sheets without pages, of sheets made at the end, and of bytes.
+/// Runs with their reports: the numbers of pages, of sheets, of sheets without pages, of sheets made at the end, and of bytes.
 const REPORTS: &str = "\
     1 1 1 - - 0 = 1 1 0 0 273, 273\n\
     2 1 1 - - 2:0L@.7(21cm,0)+1L@.7(21cm,14.85cm) = 2 1 0 0 503, 503\n\
@@ -114,7 +117,7 @@ const REPORTS: &str = "\
     0+0+0+0+0+0+0+0+0+0+0+0+0+0+0 = 1 1 0 0 12817, 12817\n\
 ";
 
-/// Options are checked before the specification, and this is read before the input.
+/// Runs that are refused. Options are checked before the specification, and the specification is read before the input.
 const REFUSALS: &str = "\
     1 1 1 - 0 0 = Options, 0\n\
     1 1 1 - -1 0 = Options, 0\n\
@@ -145,7 +148,7 @@ fn reports(rt: HostRuntime) {
     }
 }
 
-/// Asserts that the refusal has this message.
+/// Asserts that the error has this message.
 fn assert_message<R: Abort, E: Display + Drop>(rt: &R, alloc: Global, error: E, message: &str) {
     let told = done(rt, format!(in alloc; "{error}"));
     assert_that(rt, told.as_str() == message);

@@ -1,4 +1,4 @@
-//! Seats of the shared table: two parts of a seat meet and are joined.
+//! Tests of seats of the shared table: a seat is split into two, which meet and are joined.
 use crate::tests::WHOLE;
 use crate::tests::checks::{assert_that, done};
 use gather_table::GatherTable;
@@ -7,8 +7,8 @@ use sheet_plan::Plan;
 use std::alloc::Global;
 use std::process::Abort;
 
-/// Publishes a page through one seat, if the plan has a page, and returns what the other seat finds after they have met. Their shares are those of
-/// the whole seat.
+/// Publishes a page through one of two seats, if the plan has a page, and returns the index that the other seat finds after the two have met. Asserts
+/// that the two seats together have the shares of the whole seat.
 fn found_by_the_other<R: Abort>(rt: &R, alloc: Global, plan: &Plan) -> Option<u32> {
     let (table, mut one) = done(rt, GatherTable::new(alloc, plan));
     let two = table.split(&mut one, 1);

@@ -1,4 +1,4 @@
-//! Stories: each line has a call and its answer.
+//! Stories, which are tests written as texts: each line has a call and its expected answer.
 use crate::tests::checks::{assert_told, done};
 use std::alloc::{AllocError, Global};
 use std::fmt::{Debug, Display};
@@ -6,9 +6,9 @@ use std::io::Write;
 use std::process::Abort;
 use test_tools::{has_refused, refuse};
 
-/// The calls of a story's lines.
+/// An object of which the lines of a story make calls.
 pub(crate) trait Called<R> {
-    /// Makes the call with these words, and appends its answer.
+    /// Makes the call that these words name, and appends its answer.
     fn call(
         &mut self,
         rt: &R,
@@ -18,11 +18,12 @@ pub(crate) trait Called<R> {
     ) -> Result<(), AllocError>;
 }
 
-/// Room for an answer, in bytes; no answer here is longer. It is reserved before a call, so only growths of the call are refused.
+/// The number of bytes that are reserved for an answer. No answer here is longer. They are reserved before a call, so that only growths of the call
+/// itself are refused.
 const ROOM: usize = 4_000;
 
-/// Makes the calls of a story, one a line, with the growth of this number refused in each. Returns whether one was refused. Each answer has to be
-/// that of its line.
+/// Makes the calls of a story, one for each line, and refuses the growth with this number in each call. Asserts that each answer is that of its line.
+/// Returns whether a growth was refused.
 pub(crate) fn tell<R: Abort, C: Called<R>>(
     rt: &R,
     alloc: Global,
@@ -42,8 +43,8 @@ pub(crate) fn tell<R: Abort, C: Called<R>>(
     is_refused
 }
 
-/// Makes a call with the growth of this number refused. Returns whether one was. Then the call has to report a lack of memory and leave everything
-/// unchanged, and is made again with memory.
+/// Makes a call with the growth with this number refused, and returns whether one was refused. If so, asserts that the call reports a lack of memory,
+/// and makes it again with memory; the refused call must have left everything unchanged.
 fn call_again<R: Abort, C: Called<R>>(
     rt: &R,
     alloc: Global,
@@ -68,7 +69,7 @@ fn call_again<R: Abort, C: Called<R>>(
     true
 }
 
-/// The words of a line, and their answer.
+/// The words of the call in a line, and the expected answer.
 pub(crate) fn parts_of(line: &str) -> (&str, &str) {
     line.split_once(" = ").unwrap_or((line, ""))
 }
@@ -91,7 +92,7 @@ pub(crate) fn number(word: Option<&str>) -> u32 {
     word.unwrap_or("").parse::<u32>().unwrap_or(0)
 }
 
-/// Appends a value in the form that programs have.
+/// Appends a value in its debug form.
 pub(crate) fn show<T: Debug + Drop>(value: T, answer: &mut Vec<u8>) -> Result<(), AllocError> {
     say(format_args!("{value:?}"), answer)
 }

@@ -1,4 +1,4 @@
-//! Both tables: the pages that have come, and the missing slots.
+//! Tests of both tables, the plain one and the shared one: the pages that have come, and the missing slots.
 ghost use Rattle.std.specs.Prelude.{◌≡◌, ◌<◌, IfSome, Some, length, slice_get, true};
 ghost use Rattle.rules.specs.Sheets.{layout};
 ghost use Rattle.gather_table.specs.Shared.{IsSeatOf};
@@ -78,8 +78,8 @@ fn close_checked(
     Some(table.close_group(seat, sheet, group))
 }
 
-// Both tables of a plan, whose calls are made beside each other. An answer is None if numbers are out of bounds, the slot is
-// blank, its page has no index, the sheet isn't wide, or a slot of the group to be closed is missing.
+// Both tables of a plan. Each call is made of both. An answer is `None` if a number is out of bounds, the slot is blank, its page has no index, the
+// sheet isn't wide, or a slot of the group to be closed is missing.
 #[derive(Drop)]
 struct Tables<'t, 'p> {
     plain: PlainTable<'p>,
@@ -157,7 +157,7 @@ impl<'t, 'p> Tables<'t, 'p> {
         (Some(plain), Some(shared))
     }
 
-    // The word and the first bit in which a sheet has its lane. Only the shared table has lanes.
+    // The word and the first bit of the lane of a sheet, which has the bits of its slots. Only the shared table has lanes.
     fn lane_of(&self, sheet: u32) -> Option<(u32, u8)> {
         if sheet >= self.plan.sheets() || self.plan.slots(sheet) > 64 {
             return None;
@@ -165,7 +165,7 @@ impl<'t, 'p> Tables<'t, 'p> {
         Some(self.shared.lane_of(sheet))
     }
 
-    // Marks these slots of the first sheet: the first that isn't answered Fresh.
+    // Marks the slots of the first sheet from `from` on and before `to`. Returns the first slot for which a reply isn't `Fresh`.
     fn not_fresh(&mut self, from: u32, to: u32) -> Option<u32> {
         for slot in from..to {
             if self.mark(0, slot) != (Some(Reply::Fresh), Some(Reply::Fresh)) {
@@ -176,7 +176,7 @@ impl<'t, 'p> Tables<'t, 'p> {
     }
 }
 
-// Shows what both tables answer.
+// Appends the answer of both tables, or that the two differ.
 fn show_both<T: Debug + PartialEq + Drop>(
     answers: Both<T>,
     answer: &mut Vec<u8>,
@@ -189,7 +189,7 @@ fn show_both<T: Debug + PartialEq + Drop>(
     }
 }
 
-// Makes a call of both tables. Sheets are the first one, but for lanes.
+// Makes a call of both tables. The sheet is the first one, except in calls about lanes.
 impl<'t, 'p, R> Called<R> for Tables<'t, 'p> {
     fn call(
         &mut self,
@@ -214,7 +214,7 @@ impl<'t, 'p, R> Called<R> for Tables<'t, 'p> {
     }
 }
 
-// Tells a story to both tables of a document of so many pages: the words of the shared table at its end.
+// Makes the calls of a story of both tables, for a specification and a number of pages. Returns the words of the shared table at the story's end.
 fn told<R: Abort>(rt: &R, alloc: Global, text: &str, pages: u32, story: &str) -> Vec<u64> {
     let spec = done(rt, read_spec(alloc, text));
     let plan = done(rt, Plan::new(alloc, &spec, pages));
@@ -244,7 +244,7 @@ fn words_of<R: Abort>(rt: &R, alloc: Global, tables: Tables<'_, '_>) -> Vec<u64>
     done(rt, shared.end(alloc, seat))
 }
 
-// Tells a story to both tables of a sheet with a page in each of so many slots.
+// Makes the calls of a story of both tables, for one sheet with the same page in each of `slots` slots.
 fn tell_of_slots<R: Abort>(rt: &R, alloc: Global, slots: u32, story: &str) {
     let text = done(rt, same_items(alloc, "0", slots));
     told(rt, alloc, &text, 1, story);
@@ -286,7 +286,7 @@ const PAGE_TO_64_SLOTS: &str = "\
     mark 64 = None\n\
 ";
 
-// One sheet with a page in each of its 65 slots, so one of two groups.
+// One sheet with the same page in each of its 65 slots. It has two groups, and the second has one slot.
 const PAGE_TO_65_SLOTS: &str = "\
     look = Some(3)\n\
     publish 0 0 = Some(Stored)\n\
@@ -303,7 +303,7 @@ const PAGE_TO_65_SLOTS: &str = "\
     mark 64 = Some(Repeated)\n\
 ";
 
-// 128 slots are two whole groups. They are filled and closed from the last one on.
+// 128 slots are two whole groups. The second group is filled and closed before the first.
 const PAGE_TO_128_SLOTS: &str = "\
     group 2 = None\n\
     look = Some(3)\n\
@@ -332,7 +332,7 @@ const PAGE_TO_128_SLOTS: &str = "\
     mark 128 = None\n\
 ";
 
-// 129 slots are two whole groups and one of a single slot. All are filled before the first is closed.
+// 129 slots are two whole groups and a group of one slot. All groups are filled before the first is closed.
 const PAGE_TO_129_SLOTS: &str = "\
     group 3 = None\n\
     look = Some(7)\n\
@@ -372,7 +372,7 @@ const PAGE_TO_129_SLOTS: &str = "\
     mark 129 = None\n\
 ";
 
-// One sheet with a page in each of its 4,096 slots.
+// One sheet with the same page in each of its 4,096 slots.
 const SIXTY_FOUR_GROUPS: &str = "\
     look = Some(18446744073709551615)\n\
     group 63 = Some(18446744073709551615)\n\
@@ -384,7 +384,7 @@ const PAGE_COMES: &str = "\
     publish 0 0 = Some(Stored)\n\
 ";
 
-// Adds the calls that fill a group of 64 slots and close it. `left` is what a look at the sheet shows then.
+// Adds the calls that fill a group of 64 slots and close it. `left` is the answer to a look at the sheet after that.
 fn push_group(story: &mut String, group: u32, left: u64) -> Result<(), AllocError> {
     let first = group.saturating_mul(64);
     let last = first.saturating_add(63);
@@ -417,7 +417,7 @@ const LAST_GROUP_OF_63_SLOTS: &str = "\
     mark 4095 = None\n\
 ";
 
-// 4,095 slots are 63 whole groups and one of 63 slots.
+// The story of 4,095 slots, which are 63 whole groups and a group of 63 slots.
 fn page_to_4095_slots<R: Abort>(rt: &R, alloc: Global) -> String {
     let mut story = done(rt, String::from_str(alloc, PAGE_COMES));
     let mut left = u64::MAX;
@@ -429,8 +429,8 @@ fn page_to_4095_slots<R: Abort>(rt: &R, alloc: Global) -> String {
     story
 }
 
-// One sheet with a page in each of so many slots. Of at most 64 the last mark completes the sheet; of more, groups of 64
-// are filled by marks and closed, and the last closing completes it.
+// One sheet with the same page in each of its slots. If there are at most 64 slots, the last mark completes the sheet. If there are more, marks fill
+// the groups of up to 64 slots, and closing the last group completes the sheet.
 #[test]
 fn a_page_in_every_slot(rt: HostRuntime) {
     let many = page_to_4095_slots(&rt, rt.alloc());
@@ -454,7 +454,8 @@ const PAGE_AFTER_A_BLANK_GROUP: &str = "\
     close 1 = Some(Completing)\n\
 ";
 
-// Of a sheet of two pages, or with 64 blank slots before its page, one page has come, and nobody has closed its group.
+// Stories at whose end one page has come and its slot is marked, but the sheet isn't complete: on a sheet of two pages, and on a sheet with 64 blank
+// slots before its page, whose group isn't closed.
 const SECOND_SLOT: &str = "\
     publish 0 5 = Some(Stored)\n\
     mark 1 = Some(Fresh)\n\
@@ -465,14 +466,14 @@ const LAST_SLOT: &str = "\
     mark 64 = Some(Fills(1))\n\
 ";
 
-// Sheets of two slots take turns.
+// Sheets of two slots. A word has the lanes of 32 of them.
 const PAIRS: &str = "\
     lane 0 = Some((0, 0))\n\
     lane 31 = Some((0, 62))\n\
     lane 32 = Some((1, 0))\n\
 ";
 
-// Sheets of two slots and of one by turns.
+// Sheets of two slots and of one slot alternate.
 const MIXED: &str = "\
     lane 40 = Some((0, 60))\n\
     lane 41 = Some((0, 62))\n\
@@ -480,13 +481,13 @@ const MIXED: &str = "\
     lane 43 = Some((1, 2))\n\
 ";
 
-// Sheets of 64 slots.
+// Sheets of 64 slots, each with a word of its own.
 const WHOLE_WORDS: &str = "\
     lane 0 = Some((0, 0))\n\
     lane 1 = Some((1, 0))\n\
 ";
 
-// A sheet of 2 slots, one of 65, and one of 2, over and over: 16 times 4 bits are a word.
+// A sheet of 2 slots, one of 65 slots and one of 2 slots, repeated. The two narrow sheets have 4 bits together, so 16 repetitions fill a word.
 const AMONG_WIDE_SHEETS: &str = "\
     lane 0 = Some((0, 0))\n\
     lane 1 = None\n\
@@ -497,20 +498,20 @@ const AMONG_WIDE_SHEETS: &str = "\
     lane 50 = Some((1, 2))\n\
 ";
 
-// A page behind 64 blanks.
+// A specification of a sheet with 64 blank slots and then a page, for a document of one page.
 const BEHIND_BLANKS: &str = "\
     2:1+1+1+1+1+1+1+1+1+1+1+1+1+1+1+1+1+1+1+1+1+1+1+1+1+1+1+1+1+1+1+1+1+1+1+1+1+1+1+1+1+1+1+1+1+1+1+1+1+\
     1+1+1+1+1+1+1+1+1+1+1+1+1+1+1+0\
 ";
 
-// Two pages, one in each of 65 slots, and the two again.
+// A specification of three sheets: two pages, then one of them in each of 65 slots, then the two again.
 const OF_65_AMONG_PAIRS: &str = "\
     2:0+1,0+0+0+0+0+0+0+0+0+0+0+0+0+0+0+0+0+0+0+0+0+0+0+0+0+0+0+0+0+0+0+0+0+0+0+0+0+0+0+0+0+0+0+0+0+0+0+\
     0+0+0+0+0+0+0+0+0+0+0+0+0+0+0+0+0+0,0+1\
 ";
 
-// The table has these words at the end of a story. The word of a page is its index and one more, and 0 if it hasn't come; the
-// bit of a slot is set in its lane. In the closing word, which comes before a wide sheet's groups, groups of blank slots are closed.
+// Each row has the words of the table at the end of its story. The word of a page is its index plus one, or 0 if the page hasn't come. In a lane, the
+// bits of marked and of blank slots are set. A wide sheet has a closing word before the words of its groups; in it, groups of blank slots are closed.
 #[test]
 fn two_pages_and_blank_slots(rt: HostRuntime) {
     let rows: [(&str, u32, &str, &[u64]); 5] = [

@@ -1,4 +1,4 @@
-//! A run over made sheets: pages and sheets with papers of their own, and lines in the header and on each sheet.
+//! A run with made sheets: pages and sheets with papers of their own, and added lines in the header and on each sheet.
 use crate::tests::checks::{assert_bytes, assert_that, done};
 use dsc::Document;
 use imposer::{Job, Lines, MemorySink, NoListener, Open, SheetExtras, Workers, run_plan};
@@ -11,8 +11,8 @@ use std::sync::Wait;
 use std::thread::Threads;
 use test_tools::TWO_PAGES;
 
-/// The first sheet has the second page on A4 and the first on A5; the other sheet has the first page. There is a line in the header and one at the
-/// end of each sheet.
+/// The expected output. The first sheet has the second page on A4 and the first page on A5; the other sheet has the first page. There is an added
+/// line in the header, and one at the end of each sheet.
 const OUTPUT: &str = "\
     %!PS-Adobe-3.0\n\
     %%Pages: 2\n\
@@ -57,7 +57,7 @@ const OUTPUT: &str = "\
     %%EOF\n\
 ";
 
-/// A page as it is, on this paper.
+/// A slot with an unmoved page, on this paper.
 fn placed_page(page: u32, paper: Paper) -> MadeSlot {
     MadeSlot::Placed {
         page,
@@ -72,7 +72,7 @@ fn placed_page(page: u32, paper: Paper) -> MadeSlot {
     }
 }
 
-/// Two pages with a blank between them, and one of them on a second sheet.
+/// A sheet of two pages with a blank between them, and a sheet with one of the pages.
 fn two_sheets<R: Abort>(rt: &R, alloc: Global) -> MadeSheets {
     let first = a4();
     let second = paper_by_name("a5").expect(rt, "a paper");
@@ -87,7 +87,7 @@ fn two_sheets<R: Abort>(rt: &R, alloc: Global) -> MadeSheets {
     sheets
 }
 
-/// The dress of sheets that report their papers and end with the same line.
+/// The dress of sheets that report their papers and all end with the same added line.
 fn lines<R: Abort>(rt: &R, alloc: Global) -> SheetExtras {
     let mut header = Lines::new(alloc);
     done(rt, header.push(b"%%DocumentMedia: x"));
@@ -101,7 +101,7 @@ fn lines<R: Abort>(rt: &R, alloc: Global) -> SheetExtras {
     }
 }
 
-/// Runs over a job of two pages on two sheets, and asserts the output.
+/// Runs a job with two pages on two sheets, and asserts the output.
 fn run_job<R: Threads + Wait + Sync + Abort>(rt: &R, alloc: Global, job: &Job<'_, '_>) {
     let workers = Workers {
         preparers: 1,
@@ -114,7 +114,7 @@ fn run_job<R: Threads + Wait + Sync + Abort>(rt: &R, alloc: Global, job: &Job<'_
     assert_that(rt, (report.pages, report.sheets, report.born) == (2, 2, 0));
 }
 
-/// The same over the two pages.
+/// Runs the job that puts the two pages on these sheets with this dress, and asserts the output.
 fn run_dressed<R: Threads + Wait + Sync + Abort>(
     rt: &R,
     alloc: Global,

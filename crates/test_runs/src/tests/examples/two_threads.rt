@@ -11,7 +11,7 @@ use std::sync::atomic::Ordering::SeqCst;
 use std::thread::Threads;
 use test_tools::TWO_PAGES;
 
-/// A gate at which the second page waits until all before it is written.
+/// A gate at which the delivery of the second page waits until the preamble and the first sheet are written.
 #[derive(Drop)]
 struct Written<'w> {
     words: &'w Words,
@@ -30,8 +30,8 @@ impl<'w> Gate for Written<'w> {
     fn after(&self, _step: Step) {}
 }
 
-/// Runs two pages on two sheets, the second page after the first sheet. Returns the number of waits that ran out, and the number of sheets made at
-/// the end.
+/// Runs two pages on two sheets. The second page is delivered after the first sheet is written. Returns the number of waits that ran out, and the
+/// number of sheets made at the end.
 fn run_written<R: Threads + Wait + Sync + Abort>(rt: &R, alloc: Global) -> (usize, u32) {
     let words = Words::new();
     let gate = Written { words: &words };
@@ -50,7 +50,7 @@ fn a_sheet_is_written_before_the_next_page_is_delivered(rt: HostRuntime) {
     assert_that(&rt, run_written(&rt, rt.alloc()) == (0, 0));
 }
 
-/// A gate that counts its calls before each step and each look, and those after them.
+/// A gate that counts its calls. The first counter of each pair is for calls before steps or looks, the second for calls after them.
 #[derive(Drop)]
 struct Counted {
     steps: [AtomicUsize; 2],
@@ -58,8 +58,8 @@ struct Counted {
     looks_at_channel: [AtomicUsize; 2],
 }
 
-/// The number that a step adds: one, in eight bits of the word that are its own. All steps that two pages on two sheets lack share the remaining
-/// bits.
+/// The number that a step adds to a counter. Each step of a run with two pages on two sheets has eight bits of the counter for itself. All other
+/// steps share the remaining bits.
 fn one_more(step: Step) -> usize {
     match step {
         Step::Deliver(0) => 1,
@@ -97,12 +97,12 @@ impl Gate for Counted {
     }
 }
 
-/// The counts before and after.
+/// The numbers of calls before and after.
 fn counts_of(words: &[AtomicUsize; 2]) -> (usize, usize) {
     (words[0].load(SeqCst), words[1].load(SeqCst))
 }
 
-/// Runs two pages on two sheets.
+/// Imposes two pages on two sheets, with this gate.
 fn run_counted<R: Threads + Wait + Sync + Abort>(rt: &R, alloc: Global, gate: &Counted) {
     let trial = Trial {
         document: TWO_PAGES,
@@ -112,8 +112,8 @@ fn run_counted<R: Threads + Wait + Sync + Abort>(rt: &R, alloc: Global, gate: &C
     report_of(rt, alloc, &trial, gate);
 }
 
-// How often somebody looks depends on the threads. Each of two sheets is found by a look, and each of two imposers ends
-// when one finds nothing.
+// The number of looks depends on the threads. At the queue there are at least four: each of two sheets is found by a look, and each of two imposers
+// ends when one of its looks finds nothing.
 #[test]
 fn a_gate_is_called_before_each_step_and_look_and_after_it(rt: HostRuntime) {
     let gate = Counted {

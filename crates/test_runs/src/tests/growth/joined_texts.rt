@@ -1,4 +1,4 @@
-//! Texts of several sheets in the same memory, and sheets that come before their turn, with each growth of each call refused in turn.
+//! Tests of texts of several sheets that share memory, and of sheets that come before their turn. Each growth of each call is refused in turn.
 use crate::tests::callers::stories::{Called, first_word, number, show, tell};
 use crate::tests::checks::{assert_that, done};
 use sheet_text::{Pieces, Rope, Texts};
@@ -8,8 +8,8 @@ use std::mem;
 use std::process::Abort;
 use test_tools::{Refused, has_refused, refuse, refuse_each};
 
-/// The objects of a story: texts of finished sheets, and sheets that came. A text is made in the same memory again and again, and then added to the
-/// others. Two slices aren't copied.
+/// The objects of a story: texts of finished sheets, and sheets that have come. Each text is made in the same memory as the one before, and then
+/// added to the finished ones. The slices `long` and `longer` are borrowed, not copied.
 #[derive(Drop)]
 struct InTexts<'r> {
     long: &'r [u8],
@@ -19,11 +19,12 @@ struct InTexts<'r> {
     early: ReorderBuffer<'r>,
 }
 
-/// The most pieces of a text that are shown.
+/// The largest number of pieces of a text that an answer shows.
 const MOST_PIECES: u32 = 20;
 
 impl<'r> InTexts<'r> {
-    /// Makes the text again of parts with a bar between them: bytes of its own, and slices by name.
+    /// Makes the text anew from parts with a bar between them. The names `long`, `longer` and `short` stand for slices that are appended as borrowed;
+    /// other parts are copied.
     fn write(&mut self, parts: &str) -> Result<(), AllocError> {
         let (long, longer) = (self.long, self.longer);
         self.text.clear();
@@ -39,14 +40,14 @@ impl<'r> InTexts<'r> {
         Ok(())
     }
 
-    /// The number of texts, the room of the next one, and its length.
+    /// The number of finished texts, and the capacity and the length of the next one, in bytes.
     fn sizes(&self) -> (usize, usize, Option<usize>) {
         let text = &self.text;
         (self.texts.len(), text.capacity(), text.pieces().len())
     }
 
-    /// Adds a sheet with such a text, which leaves its memory, and appends the number of sheets. If memory is refused, the number and the text are
-    /// unchanged.
+    /// Makes a text of these parts and adds it as a sheet, and appends the number of finished sheets. The text must be empty afterwards, and keep its
+    /// memory. If memory is refused, the number and the text must be unchanged.
     fn finish(&mut self, sheet: u32, parts: &str, answer: &mut Vec<u8>) -> Result<(), AllocError> {
         self.write(parts)?;
         let before = self.sizes();
@@ -61,7 +62,7 @@ impl<'r> InTexts<'r> {
         }
     }
 
-    /// Adds a sheet in reused memory. Returns whether it was added, and whether that asked for memory.
+    /// Adds a sheet in the memory of sheets that were cleared. Appends whether it was added, and whether that asked for memory.
     fn add_anew(
         &mut self,
         alloc: Global,
@@ -76,7 +77,7 @@ impl<'r> InTexts<'r> {
         show((is_added, has_refused(alloc)), answer)
     }
 
-    /// Puts the finished sheets as one group, and returns their number.
+    /// Puts the finished sheets into the buffer as one group, and returns their number.
     fn come(&mut self, alloc: Global) -> usize {
         let finished = mem::replace(&mut self.texts, Texts::new(alloc));
         let count = finished.len();
@@ -84,7 +85,7 @@ impl<'r> InTexts<'r> {
         count
     }
 
-    /// Takes the sheets that came with this one, and returns their number.
+    /// Takes the sheets that came together with this sheet from the buffer, and returns their number.
     fn take(&mut self, sheet: u32) -> usize {
         match self.early.take_written(sheet) {
             Some(written) => written.len(),
@@ -92,7 +93,8 @@ impl<'r> InTexts<'r> {
         }
     }
 
-    /// Joins up to `most` sheets from this one on, which has the index of its number. Appends the number of joined sheets, and their pieces.
+    /// Joins up to `most` finished sheets from this sheet on. The sheet's number is also its index. Appends the number of joined sheets, and their
+    /// pieces.
     fn join(&self, sheet: u32, most: u32, answer: &mut Vec<u8>) -> Result<(), AllocError> {
         if most == 0 {
             return show("no such text", answer);
@@ -104,7 +106,7 @@ impl<'r> InTexts<'r> {
         self.show_pieces(text, answer)
     }
 
-    /// Appends the text of a sheet that came.
+    /// Appends the text of a sheet that is in the buffer.
     fn text_of(&self, sheet: u32, answer: &mut Vec<u8>) -> Result<(), AllocError> {
         match self.early.joined(sheet, 1) {
             Some((_, text)) => self.show_pieces(text, answer),
@@ -124,7 +126,7 @@ impl<'r> InTexts<'r> {
         Ok(())
     }
 
-    /// A piece as it is shown; a slice by its name.
+    /// A piece as answers show it: the two long slices by their names, other pieces by their bytes.
     fn shown<'p>(&self, piece: &'p [u8]) -> &'p [u8] {
         if piece == self.long {
             b"long".as_slice()
@@ -135,7 +137,7 @@ impl<'r> InTexts<'r> {
         }
     }
 
-    /// Appends which of the first sheets are found.
+    /// Appends which of the first eight sheets are in the buffer.
     fn found(&self, answer: &mut Vec<u8>) -> Result<(), AllocError> {
         for sheet in 0..8u8 {
             if self.early.joined(u32::from(sheet), 1).is_some() {
@@ -174,7 +176,7 @@ impl<'r, R> Called<R> for InTexts<'r> {
     }
 }
 
-/// A story with this many places for early sheets.
+/// A story, for a buffer with `places` places for sheets that come before their turn.
 #[derive(Drop)]
 struct Story<'s> {
     places: u32,
@@ -228,7 +230,7 @@ const TEXTS: &str = "\
     joined 8 1 = 1 abcd long long ef\n\
 ";
 
-/// Neighbours without slices are in one piece.
+/// Neighbouring sheets without borrowed slices are joined into one piece.
 const NEIGHBOURS: &str = "\
     finish 0 ab = 1\n\
     finish 1 c = 2\n\
@@ -249,7 +251,8 @@ const NEIGHBOURS: &str = "\
     joined 0 9 = 1 text\n\
 ";
 
-/// A sheet that comes is at its place. Another sheet with the same place is dropped, and a request for it leaves the first one there.
+/// A sheet that comes lies at its place in the buffer. Another sheet with the same place is dropped, and taking that sheet leaves the first one
+/// there.
 const ONE_PLACE: &str = "\
     places = (2, 2)\n\
     finish 1 a = 1\n\
@@ -265,8 +268,8 @@ const ONE_PLACE: &str = "\
     found = \n\
 ";
 
-/// Sheets of a group lie at the place of the last one, and are dropped together if it is taken. A sheet whose own place belongs to another sheet
-/// counts as one that never came.
+/// The sheets of a group lie at the place of the last one, and are all dropped if that place is taken. A sheet whose own place belongs to another
+/// sheet counts as one that never came.
 const TOGETHER: &str = "\
     finish 1 = 1\n\
     finish 3 = 2\n\

@@ -1,4 +1,4 @@
-//! Whole runs and gatherings, over a sink that was made before.
+//! Tests of whole runs and gatherings, into a sink whose memory is reserved before.
 use crate::tests::checks::{assert_that, done};
 use crate::tests::gatherings::{Way, gather_pairs};
 use crate::tests::growth::unrefused_after;
@@ -11,7 +11,7 @@ use std::thread;
 use std::thread::Threads;
 use test_tools::{BOOKLET, MOST_GROWTHS, TWO_UP, document_of, has_refused, refuse, two_up_output};
 
-/// Room for an output, in bytes; no run here writes more.
+/// The number of bytes for which a sink has memory. No run here writes more.
 const ROOM: usize = 2_000_000;
 
 /// A gate that delays the delivery of the first page by this many yields. With a delay, sheets of other pages come earlier and wait for their turn.
@@ -36,14 +36,14 @@ const ON_TIME: Late = Late { yields: 0 };
 
 const LATE: Late = Late { yields: 1_000 };
 
-/// The end of a run or a gathering: the number of bytes that it reports as written, None if it finished; and whether a growth was refused.
+/// The end of a run: the number of bytes that it reports as written, `None` if it finished; and whether a growth was refused.
 #[derive(Clone, Copy)]
 struct Ended {
     written: Option<u64>,
     is_refused: bool,
 }
 
-/// The number of bytes that this answer reports as written; None for a run that finished.
+/// The number of bytes that this answer reports as written. `None` for a run that finished.
 fn written_by<R: Abort>(rt: &R, answer: &Result<Report, RunError>) -> Option<u64> {
     match answer {
         Ok(_) => None,
@@ -52,7 +52,7 @@ fn written_by<R: Abort>(rt: &R, answer: &Result<Report, RunError>) -> Option<u64
     }
 }
 
-/// Runs with the growth of this number refused. Returns the content of the sink, and the end of the run.
+/// Runs a trial with the growth with this number refused. Returns the sink and the end of the run.
 fn run_refused<R: Threads + Wait + Abort + Sync>(
     rt: &R,
     alloc: Global,
@@ -71,14 +71,14 @@ fn run_refused<R: Threads + Wait + Abort + Sync>(
     (sink, ended)
 }
 
-/// Whether a sink has all of the output after a run that finished, or else as many of its first bytes as were reported.
+/// Whether a sink has the whole output if the run finished, and otherwise as many of its first bytes as the run reported.
 fn is_written(output: &[u8], sink: &MemorySink, written: Option<u64>) -> bool {
     let wanted = written.unwrap_or(output.len() as u64);
     sink.bytes().len() as u64 == wanted && output.starts_with(sink.bytes())
 }
 
-/// Whether a run may end in this way, given whether a growth was refused. A run also finishes if it was refused the room for the number of a sheet
-/// that it holds.
+/// Whether a run may end in this way. A run may fail only if a growth was refused. It may finish only if none was, or if it `holds` sheets until
+/// their turn: then the growth may have been for the number of a sheet that is held.
 fn is_right(holds: bool, ended: Ended) -> bool {
     match ended.written {
         Some(_) => ended.is_refused,
@@ -86,7 +86,7 @@ fn is_right(holds: bool, ended: Ended) -> bool {
     }
 }
 
-/// Runs with the growth of this number refused. Returns whether one was.
+/// Runs a trial with the growth with this number refused, and asserts that it ends as it may. Returns whether a growth was refused.
 fn refuse_one<R: Threads + Wait + Abort + Sync>(
     rt: &R,
     alloc: Global,
@@ -101,7 +101,8 @@ fn refuse_one<R: Threads + Wait + Abort + Sync>(
     ended.is_refused
 }
 
-/// Refuses each growth of the run in turn. Threads grow in any order, so the end is reached when none of several successive numbers was refused.
+/// Refuses each growth of the run in turn. The order in which threads grow memory varies, so the end is reached only when no growth was refused for
+/// four successive numbers.
 fn refuse_each<R: Threads + Wait + Abort + Sync>(
     rt: &R,
     alloc: Global,
@@ -140,7 +141,7 @@ fn runs_by_few_and_by_many(rt: HostRuntime) {
     }
 }
 
-// Eight sheets of twelve lie in the window, of those with pages of 90,000 bytes.
+// With pages of 90,000 bytes, eight of the twelve sheets lie in the window.
 #[test]
 fn runs_whose_sheets_wait_for_their_turn(rt: HostRuntime) {
     let document = large_pages(&rt, rt.alloc(), 12, 10_000);
@@ -154,8 +155,8 @@ fn runs_whose_sheets_wait_for_their_turn(rt: HostRuntime) {
     }
 }
 
-// The first sheet's page is the last one of the only preparer, or is delivered late. Two sheets of six lie in the window; or
-// seventeen of 24, and an imposer sends two of them together.
+// The page of the first sheet is the last one of the only preparer, or is delivered late. Two of six sheets lie in the window, or seventeen of 24; of
+// those, an imposer sends two together.
 #[test]
 fn runs_whose_first_sheet_comes_last(rt: HostRuntime) {
     let huge = large_pages(&rt, rt.alloc(), 6, 33_333);
@@ -176,8 +177,8 @@ fn runs_whose_first_sheet_comes_last(rt: HostRuntime) {
     }
 }
 
-/// Gathers the pages of a document with the growth of this number refused. Returns whether one was. The sink has to have the first bytes of this
-/// output, and the tokens come back if all went well.
+/// Gathers the pages of a document with the growth with this number refused. Asserts that the sink has the first bytes of this output, and that the
+/// tokens come back if and only if no growth was refused. Returns whether one was.
 fn gather_refused<R: Threads + Wait + Abort + Sync>(
     rt: &R,
     alloc: Global,

@@ -1,4 +1,4 @@
-//! New tables, queues and shelves, some as large as the limits allow. With ample memory they can be made.
+//! Tests that make tables, queues and shelves, some of them as large as the limits allow. With enough memory all of them can be made.
 use crate::tests::PAGE_65_TIMES;
 use crate::tests::checks::{assert_that, done};
 use gather_table::{GatherTable, PlainTable};
@@ -10,14 +10,15 @@ use std::alloc::Global;
 use std::process::Abort;
 use test_tools::{BOOKLET, Refused, has_refused, refuse, refuse_each};
 
-/// Returns whether a growth was refused for this object. Then, and only then, it is an error.
+/// Returns whether a growth was refused while this object was made. Asserts that making it failed exactly in that case.
 fn is_refused<R: Abort, T: Drop, E: Drop>(rt: &R, alloc: Global, made: Result<T, E>) -> bool {
     let is_refused = has_refused(alloc);
     assert_that(rt, made.is_err() == is_refused);
     is_refused
 }
 
-/// Makes both tables of a plan, a queue for its sheets, a shelf, and places for sheets. Returns whether a growth of one of them was refused.
+/// Makes both tables of a plan, a queue for its sheets, a shelf, and a buffer for early sheets, with the growth with this number refused for each.
+/// Returns whether a growth of one of them was refused.
 fn make_all<R: Abort>(rt: &R, alloc: Global, number: u32, plan: &Plan<'_>) -> bool {
     refuse(alloc, number);
     let is_plain_refused = is_refused(rt, alloc, PlainTable::new(alloc, plan));
@@ -36,7 +37,7 @@ fn make_all<R: Abort>(rt: &R, alloc: Global, number: u32, plan: &Plan<'_>) -> bo
         || are_places_refused
 }
 
-/// The objects for this specification and this number of pages, which fill this number of sheets.
+/// The objects for this specification and this number of pages. The pages fill this number of sheets.
 #[derive(Clone, Copy)]
 struct Made<'t> {
     items: &'t str,
