@@ -81,7 +81,7 @@ fn idle_option(request: &ImposeRequest) -> Option<IdleOption>
     }
 }
 
-/// Whether the layout leaves each page on its own paper.
+/// Whether the layout puts each page on a sheet of the page's own paper.
 fn keeps_papers(layout: &Layout) -> bool
     ensures { result ≡ meaning.keeps_papers layout.now }
 {

@@ -41,7 +41,7 @@ pub struct Ended<W: World> {
 }
 
 impl<W: World> Ended<W> {
-    /// The exit status.
+    /// The exit status: 0 without a fault, otherwise the status of the fault.
     pub fn status(&self) -> u8
         ensures { result ≡ status_of self.now.outcome }
     {

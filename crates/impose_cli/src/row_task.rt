@@ -145,7 +145,7 @@ fn papers_of(
     Ok((found, document.into_parts()))
 }
 
-/// Whether all pages of the document have this paper, and sheets and cells are made for it.
+/// Whether all pages of the document have the paper `paper`, and sheets and cells are made for that paper.
 pub(crate) fn has_one_paper(
     alloc: Global,
     request: &ImposeRequest,

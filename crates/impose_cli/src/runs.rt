@@ -63,7 +63,7 @@ pub(crate) fn run_on_document<R: Threads + Wait + Sync, W: World>(
     }
 }
 
-// ---- on the row of a layout
+// ---- runs by a layout of a row
 
 /// Imposes a document by a layout that lays a row of pages on sheets.
 fn run_row<R: Threads + Wait + Sync, W: World>(
@@ -126,7 +126,7 @@ pub(crate) fn impose_job<R: Threads + Wait + Sync, W: World>(
     write_job(rt, alloc, &made, name, world)
 }
 
-// ---- by a specification
+// ---- runs by a specification
 
 /// Imposes a document by the specification that the request names.
 fn run_spec<R: Threads + Wait + Sync, W: World>(
@@ -244,7 +244,7 @@ fn reported(outcome: Result<Report, ImposeFault>, about: About) -> Result<Done, 
     }
 }
 
-// ---- what is written
+// ---- writing the sheets
 
 /// The size of the output's buffer, in bytes. Sheets that are smaller are gathered in it and written together.
 const WRITTEN_AT_ONCE: usize = 16_384;

@@ -37,11 +37,11 @@ enum Argument {
     Positional(&'static str, &'static str, &'static str),
     /// An option with a value.
     Valued(&'static str, &'static str, &'static str),
-    /// An option with a value, and with a letter.
+    /// An option with a value that also has a form of one letter.
     LetteredValued(char, &'static str, &'static str, &'static str),
     /// An option without a value.
     Flag(&'static str, &'static str),
-    /// An option without a value, with a letter.
+    /// An option without a value that also has a form of one letter.
     LetteredFlag(char, &'static str, &'static str),
 }
 

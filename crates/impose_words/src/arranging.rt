@@ -119,7 +119,7 @@ pub fn turned_named(text: &str) -> Option<Turned>
     }
 }
 
-/// No marks.
+/// The marks of a sheet on which none are drawn.
 pub(crate) const NO_MARKS: Marks = Marks {
     fold: false,
     cut: false,

@@ -6,9 +6,10 @@ use crate::sizes::length_in;
 use layouts::Free;
 use lengths::Grains;
 
-/// The margins of a sheet.
+/// The margins of a sheet, in grains.
 #[derive(Clone, Copy)]
 pub struct Margins {
+    /// The margins along the four edges of the sheet.
     pub free: Free,
     /// The margin along the edge at which leaves are bound, if it is named.
     pub inner: Option<Grains>,
@@ -57,7 +58,7 @@ impl Edges {
 }
 
 impl Margins {
-    /// These margins, without an inner one.
+    /// These margins along the four edges, without an inner margin.
     pub fn of(free: Free) -> Margins
         ensures { result ≡ meaning.margins_in free }
     {

@@ -91,7 +91,7 @@ impl Layout {
     }
 }
 
-/// The margins and gaps of sheets, the creep of leaves, the order in which cells are filled, and the scale of pages.
+/// The margins and gaps of sheets, the creep of leaves, the order in which cells are filled, and the scale of pages. All lengths are in grains.
 #[derive(Clone, Copy)]
 pub struct Spacing {
     /// The margins along the edges of sheets, the gaps between cells, and the trim of pages.
@@ -107,7 +107,7 @@ pub struct Spacing {
     pub order: Order,
     /// The scale of the pages; without it they are as large as possible.
     pub scale: Option<Number>,
-    /// Whether all pages have the scale of the largest paper among them.
+    /// Whether pages of smaller papers have the scale of pages of the largest paper, so that all pages have one scale.
     pub same_scale: bool,
 }
 
@@ -325,7 +325,7 @@ pub struct ImposeRequest {
     pub default_paper: Paper,
     /// The paper of the sheets, if the command line names it.
     pub sheet_paper: Option<Paper>,
-    /// The width of a border round each placed page, if one is requested.
+    /// The width of a border round each placed page, in grains, if a border is requested.
     pub border: Option<Grains>,
     /// The marks and numbers that are drawn on the sheets.
     pub marks: Marks,

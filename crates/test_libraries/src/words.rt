@@ -1,4 +1,4 @@
-//! The words of a command.
+//! Reads the words of a command.
 use crate::answer::{Answer, Form};
 use lengths::{Grains, NoMemory, Number, Paper, paper_by_name};
 use pagespec::{Item, Spec, read_spec};

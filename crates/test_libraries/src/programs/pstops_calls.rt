@@ -120,7 +120,7 @@ pub fn ran<R: Threads + Wait + Sync>(rt: &R, out: &mut Answer, words: &[String])
     }];
     let ended = pstops_in_folder(rt, out.alloc, words, &files, takes);
     out.labelled("status", ended.status);
-    // The line is left out where memory runs out for it.
+    // The message is missing only if memory runs out for it.
     out.note(ended.status == 0 || !ended.line.is_empty());
     out.lossy(ended.line.as_slice());
     match &ended.rest {
@@ -152,7 +152,7 @@ pub fn request_ran<R: Threads + Wait + Sync>(
     };
     let (status, line) = run_request(rt, alloc, &request, text.as_bytes(), &mut sink);
     out.labelled("status", status);
-    // The line is left out where memory runs out for it.
+    // The message is missing only if memory runs out for it.
     out.note(status != 3 || !line.is_empty());
     out.lossy(line.as_slice());
     out.lossy(sink.bytes());

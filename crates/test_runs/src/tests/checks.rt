@@ -13,12 +13,12 @@ pub(super) fn done<R: Abort, T: Drop, E: Drop>(rt: &R, answer: Result<T, E>) -> 
     }
 }
 
-/// Asserts that this holds.
+/// Asserts that the condition holds.
 pub(super) fn assert_that<R: Abort>(rt: &R, is_so: bool) {
     assert!(rt; is_so);
 }
 
-/// Asserts that the bytes are these.
+/// Asserts that the bytes found are the wanted ones.
 pub(super) fn assert_bytes<R: Abort>(rt: &R, found: &[u8], wanted: &[u8]) {
     assert_eq!(rt; found, wanted);
 }

@@ -128,7 +128,7 @@ fn early_with<'r, R: Abort>(
     early
 }
 
-/// Progress before the first byte.
+/// The progress of writing before the first byte.
 const START: Progress = Progress {
     next: 0,
     written: 0,

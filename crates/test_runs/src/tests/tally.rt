@@ -25,7 +25,7 @@ impl Tally {
         }
     }
 
-    /// Counts a number.
+    /// Counts an addition of this number.
     pub(super) fn add(&self, number: usize) {
         if let Some(count) = self.counts.as_slice().get(number) {
             count.fetch_add(1, SeqCst);
