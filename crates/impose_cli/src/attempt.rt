@@ -1,4 +1,4 @@
-//! The outcome of an attempt to write, and the world or output that is left after it.
+//! Attempts to write an output.
 ghost use Rattle.std.specs.Prelude.{◌≡◌, Err};
 ghost use Rattle.world.specs.declared.rest.Rest.TheVariants as rests;
 
@@ -12,7 +12,7 @@ pub(crate) struct Attempt<W: World, T> {
     pub rest: Rest<W, W::Output>,
 }
 
-/// An attempt that ended with a fault before an output was created, so the world is left.
+/// An attempt that ended with a fault before an output was created, and so left the world.
 pub(crate) fn refused_before<W: World, T>(fault: ImposeFault, world: W) -> Attempt<W, T>
     ensures outcome { result.outcome ≡ Err fault }
     ensures rest { result.rest ≡ rests.World world }

@@ -11,8 +11,8 @@ use lengths::Paper;
 use papers::{Comment, document_paper, first_comment, first_name, is_at_end};
 use row_runs::declared_page_count;
 
-/// The statements of a document about itself that messages mention: the number of its pages, and the name of its paper if no such paper is known. No
-/// memory is allocated.
+/// Finds the statements of a document about itself that messages mention: the number of its pages, and the name of its paper if no such paper is
+/// known. No memory is allocated.
 pub(crate) fn claims_of(request: &ImposeRequest, input: &[u8]) -> Claims
     ensures { meaning.IsToldBy request.now input.now result }
 {
@@ -83,7 +83,7 @@ fn is_name(comment: Comment) -> bool
     }
 }
 
-/// The text after the colon of the first `%%DocumentPaperSizes:` in these lines.
+/// The text after the colon of the first `%%DocumentPaperSizes:` in these lines. `None` if there is no such comment.
 fn names_value(lines: &[u8]) -> Option<&[u8]>
     ensures { option_map (λ value. value.now) result ≡ comment_value (codes "%%DocumentPaperSizes") (contents lines.now) }
 {

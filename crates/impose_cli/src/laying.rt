@@ -48,9 +48,10 @@ pub(crate) fn papers_for(request: &ImposeRequest, page_paper: &Paper) -> Papers
 /// How a task lays its row of pages on sheets.
 #[derive(Drop)]
 pub(crate) enum RowLaying {
-    /// As a layout other than a specification lays it.
+    /// The laying of a layout that isn't a specification.
     Plain(Laying<'static>),
-    /// By the specification that the request names. `sheet` is the paper of the sheets, and all pages are placed by the paper `page`.
+    /// The laying of the specification that the request names. `sheet` is the paper of the sheets, and `page` is the paper by which all pages are
+    /// placed.
     Named {
         spec: Spec,
         sheet: Paper,
@@ -59,7 +60,7 @@ pub(crate) enum RowLaying {
 }
 
 impl RowLaying {
-    /// The same laying as the type that the crate `row_runs` takes. It borrows the specification.
+    /// This laying, as the type that the crate `row_runs` takes. The result borrows the specification.
     pub(crate) fn lent(&self) -> Laying<'_>
         requires { MayBeLaidSo self.now }
         ensures is { IsLayingOf self.now result }
@@ -186,7 +187,8 @@ fn kept_free(layout: &Layout, spacing: &Spacing) -> Option<Free>
     }
 }
 
-/// Whether the margins are as equal as the layout needs: opposite margins in a zine and in a stack for both sides, and all margins in a poster.
+/// Whether the margins are equal where the layout needs it: opposite margins in a zine and in a stack that is printed on both sides, and all four
+/// margins in a poster.
 fn is_even_enough(layout: &Layout, free: &Free) -> bool
     ensures { result ≡ are_even_enough layout.now free.now }
 {

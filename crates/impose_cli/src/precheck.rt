@@ -134,7 +134,7 @@ fn fits_half_gap(margin: Grains, gap: Grains) -> bool
     0 < margin && gap.get() <= margin + margin
 }
 
-/// Checks that the text is page ranges, for a document without pages. A text that isn't page ranges for that document is none for any other.
+/// Checks the form of the page ranges. They are read for a document without pages: a text with a wrong form is refused there, as for every document.
 fn check_ranges(alloc: Global, choice: &PageChoice) -> Result<(), ImposeFault>
     ensures ranges { OnOk result (AreGoodRanges choice.now) }
     ensures refused { IfErr result (RefusesRanges choice.now) }

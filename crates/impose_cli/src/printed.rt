@@ -12,8 +12,8 @@ use impose_words::ImposeRequest;
 use imposer::Options;
 use std::alloc::{AllocError, Global};
 
-/// The specification on one line, a command line of pstops with it on the next line, then comments on the differences between pstops and impose.
-/// pstops draws a border along the edges of the whole page even if the page is trimmed, and it inserts no guard.
+/// The specification on one line, a command line of pstops with this specification on the next line, then comments on the differences between pstops
+/// and impose. pstops draws a border along the edges of the whole page even if the page is trimmed, and it inserts no guard.
 pub fn printed_task(
     alloc: Global,
     request: &ImposeRequest,
@@ -77,8 +77,8 @@ const TRIM_COMMENT: &[u8] =
 const GUARD_COMMENT: &[u8] =
     b"# impose also puts its guard into the document, which pstops doesn't\n";
 
-/// Appends a specification. It may stand in quotes, because no byte of it has a meaning for the shell there. A specification that begins with a minus
-/// sign gets its modulo, because pstops would take it for an option otherwise.
+/// Appends a specification. None of its bytes has a meaning inside a shell's single quotes, so it may stand there. A specification that begins with a
+/// minus sign gets its modulo, because pstops would otherwise take it for an option.
 fn append_spec(spec: &str, out: &mut Vec<u8>) -> Result<(), AllocError>
     ensures { OnOk result (out.new.items ≡ out.old.items ++ quoted_spec spec.now) }
 {

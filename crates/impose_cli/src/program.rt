@@ -53,7 +53,7 @@ impl<W: World> Ended<W> {
 }
 
 /// The whole program. It reads the command line, whose first word is the program's name. It finds the user's default paper from `paper_size`, the
-/// value of `PAPERSIZE`, and from /etc/papersize, and checks the request. Then it reads the whole input and closes it. Last it imposes the pages,
+/// value of `PAPERSIZE`, and from /etc/papersize, and checks the request. Then it reads the whole input and closes it. Finally it imposes the pages,
 /// prints the specification, or writes the list or the drawing of the sheets.
 ///
 /// The output is created only when nothing is left that could be refused. A refused request therefore creates no output, and the input and the output
@@ -152,7 +152,7 @@ fn carry_out<R: Threads + Wait + Sync, W: World>(
     }
 }
 
-/// Writes the kind of output that the request asks for, made from this input.
+/// Makes the kind of output that the request asks for from this input, and writes it.
 fn make<R: Threads + Wait + Sync, W: World>(
     rt: &R,
     alloc: Global,

@@ -290,7 +290,7 @@ fn papers_placed(
     }
 }
 
-/// The paper `one`, as often as there are papers in `own`.
+/// A list with the paper `one` for each of the papers `own`.
 fn all_of(alloc: Global, one: &Paper, own: &[Paper]) -> Result<Vec<Paper>, AllocError>
     ensures { IfOk result (λ papers. papers.items ≡ map (λ paper. one.now) own.now) }
 {
@@ -424,7 +424,7 @@ pub(crate) fn impose_task<R: Threads + Wait + Sync, W: World>(
     impose_job(rt, alloc, &job, name_of(&request.outfile), world)
 }
 
-/// The fault for an error of the run on a document of `pages` pages.
+/// The fault that reports an error of a run on a document of `pages` pages.
 pub(crate) fn asked_fault_of(error: SheetError, pages: u32) -> ImposeFault
     ensures { result ≡ asked_fault pages error }
 {

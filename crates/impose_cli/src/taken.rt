@@ -28,7 +28,7 @@ pub(crate) fn row_of_choice(
     }
 }
 
-/// The number of pages in the row that a choice gives. A page that is in the row several times counts once.
+/// The number of different pages in the row that a choice gives, for a document of `pages` pages.
 pub(crate) fn pages_of_choice(
     alloc: Global,
     pages: u32,
@@ -42,7 +42,7 @@ pub(crate) fn pages_of_choice(
     taken_count(alloc, row.as_slice(), pages)
 }
 
-/// The number of pages in a row, of a document of `pages` pages. A page that is in the row several times counts once.
+/// The number of different pages in a row, for a document of `pages` pages.
 pub(crate) fn taken_count(alloc: Global, row: &[Option<u32>], pages: u32) -> Result<u32, AllocError>
     ensures { IfOk result (λ count. count ≡ taken_below row.now pages) }
 {
@@ -54,7 +54,7 @@ pub(crate) fn taken_count(alloc: Global, row: &[Option<u32>], pages: u32) -> Res
     Ok(count)
 }
 
-/// The count, or one more if a page is taken.
+/// `count`, plus one if the page is taken.
 fn counted(count: u32, is_taken: bool) -> u32
     requires { count < u32.MAX }
     ensures { result ≡ count + (if is_taken then 1 else 0) }

@@ -388,7 +388,7 @@ fn spacing_of(layout: &Layout, found: &ArgMatches<'_>) -> Result<Spacing, Option
     })
 }
 
-/// The margins of a sheet; 0 without `--margin`. `None` if the option's value isn't margins.
+/// The margins of a sheet; 0 without `--margin`. `None` if the option's value names no margins.
 fn margins_of(found: &ArgMatches<'_>) -> Option<Margins>
     ensures { result ≡ margins_found (rows_of (found_of found.now)) }
 {
@@ -398,7 +398,7 @@ fn margins_of(found: &ArgMatches<'_>) -> Option<Margins>
     }
 }
 
-/// The gaps between cells; 0 without `--gap`. `None` if the option's value isn't gaps.
+/// The gaps between cells; 0 without `--gap`. `None` if the option's value names no gaps.
 fn gaps_of(found: &ArgMatches<'_>) -> Option<Free>
     ensures { result ≡ gaps_found (rows_of (found_of found.now)) }
 {

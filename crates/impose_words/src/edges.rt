@@ -15,7 +15,7 @@ pub struct Margins {
     pub inner: Option<Grains>,
 }
 
-/// The margins of the edges that a text names. An edge that isn't named has `None`.
+/// The margins of the edges that a text names, or `None` for an edge that it doesn't name.
 #[derive(Clone, Copy)]
 pub(crate) struct Edges {
     pub left: Option<Grains>,
@@ -185,7 +185,7 @@ fn with_edge(edges: Edges, name: &str, margin: Grains) -> Option<Edges>
     }
 }
 
-/// The margin as that of an edge. `None` if the edge has a margin already.
+/// The margin of an edge that had no margin before. `None` if it had one.
 fn once(before: Option<Grains>, margin: Grains) -> Option<Option<Grains>>
     ensures { result ≡ meaning.once before margin }
 {

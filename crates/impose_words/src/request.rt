@@ -48,7 +48,7 @@ pub enum Layout {
     /// All pages in order, placed by a page specification of pstops.
     Spec(String),
     /// A row of pages, placed by a page specification. The row is first put into signatures if `signing` names them. The page numbers in the
-    /// specification are places of the row.
+    /// specification count the places of the row.
     SpecRow {
         specs: String,
         signing: Option<Signing>,
@@ -249,7 +249,7 @@ fn some_gap(gap: Grains) -> Grains
 pub struct PageChoice {
     /// The page ranges as they are written. `None` for all pages.
     pub ranges: Option<String>,
-    /// Which of these pages are taken by their places: all, the first, third and so on, or the second, fourth and so on.
+    /// Which of these pages are taken, by their places: all of them; the first, the third and so on; or the second, the fourth and so on.
     pub part: Part,
     /// Whether the order is reversed.
     pub backwards: bool,
