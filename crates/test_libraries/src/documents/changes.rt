@@ -3,7 +3,7 @@ use crate::answer::Answer;
 use crate::documents::cuts::counted;
 use std::alloc::{AllocError, Global};
 
-/// For each length, prints the number of pages in as many first bytes of a text.
+/// Prints the number of pages in each prefix of a text.
 pub fn every_prefix(out: &mut Answer, text: &[u8]) {
     let mut ranges = Ranges::new(out.alloc);
     for len in 0..text.len() + 1 {
@@ -13,7 +13,7 @@ pub fn every_prefix(out: &mut Answer, text: &[u8]) {
     ranges.end(out);
 }
 
-/// For each place of a text, prints the number of pages of the text with the byte at this place replaced with `byte`.
+/// Prints the number of pages of each text that results if one byte of a text is replaced with `byte`.
 pub fn every_change(out: &mut Answer, text: &[u8], byte: &str) {
     let mut ranges = Ranges::new(out.alloc);
     for place in 0..text.len() {

@@ -1,4 +1,4 @@
-//! Runs of pstops over files in memory. Contracts speak of the bytes of these files.
+//! Runs of pstops over files in memory, whose bytes contracts can state.
 ghost use Rattle.std.specs.Prelude.{◌≡◌, ◌<◌, map, string_bytes};
 ghost use Rattle.test_libraries.specs.InMemory.{HasWritten};
 

@@ -252,7 +252,7 @@ impl Repeats {
         assert_that(rt, noted.is_each_once());
     }
 
-    /// Makes this test with a job, and with a queue that has room for each sheet once.
+    /// Makes the test of `look` with a job, and with a queue that has room for each sheet once.
     fn look_at_job<R: Threads + Wait + Sync + Abort>(
         &self,
         rt: &R,
@@ -266,7 +266,7 @@ impl Repeats {
         self.look(rt, alloc, &mut gatherer);
     }
 
-    /// Makes this test with a document, whose pages are placed by a specification.
+    /// Makes the test of `look` with a document, whose pages are placed by a specification.
     fn look_at_document<R: Threads + Wait + Sync + Abort>(
         &self,
         rt: &R,

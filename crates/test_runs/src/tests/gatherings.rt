@@ -17,8 +17,8 @@ use std::sync::Wait;
 use std::thread::Threads;
 use test_tools::{MOST_GROWTHS, TWO_UP, document_of, refuse, two_up_output};
 
-/// How a job is gathered: the numbers of workers, the number of bytes for which the sink has room, the number of puts by right if the queue grants
-/// puts by right, and the number of the growth that is refused.
+/// How a job is gathered: the numbers of workers, the number of bytes for which the sink has room, the number of puts that the queue guarantees, if
+/// it guarantees any (puts by right), and the number of the growth that is refused.
 #[derive(Clone, Copy)]
 pub(super) struct Way {
     pub(super) workers: Workers,
@@ -37,7 +37,7 @@ pub(super) struct Gathering {
     pub(super) sink: MemorySink,
 }
 
-/// A queue for the sheets of a job. If `puts` is given, the queue grants at least as many puts by right.
+/// A queue for the sheets of a job. If `puts` is given, the queue guarantees at least as many puts (puts by right).
 fn queue_for<R: Abort>(rt: &R, alloc: Global, job: &Job<'_, '_>, puts: Option<u32>) -> (Ready, Pass)
     ensures pass { IsFreshPass result.0 result.1 }
     ensures room { length job.now.plan.sheets ≤ result.0.capacity }

@@ -211,7 +211,7 @@ fn is_stopped<R: Threads + Wait + Sync, G: Gate + Sync>(
         && told == (1, 0)
 }
 
-/// Asserts that a run is stopped in this way by sinks that take no bytes, some bytes, and more bytes.
+/// Asserts that a failed write stops the run, for sinks that take 0, 500,000 and 1,500,000 bytes.
 fn assert_stopped<R: Threads + Wait + Sync + Abort>(rt: &R, alloc: Global, trial: &Trial<'_>) {
     for room in [0usize, 500_000, 1_500_000] {
         let words = Words::new();

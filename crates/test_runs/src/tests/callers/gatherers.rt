@@ -242,7 +242,7 @@ const TWICE: &str = "\
     page 0 = Some(0)\n\
 ";
 
-/// The same page, delivered in the memory of another delivery's answers.
+/// A page that is twice on one sheet, delivered in the memory of another delivery's answers.
 const AGAIN: &str = "\
     0+0 1 1\n\
     again 0 = Held(0) [Repeated, Repeated] [] []\n\
@@ -280,7 +280,7 @@ const ANOTHER_PAGE: &str = "\
     impose 0 = NotShown\n\
 ";
 
-/// A shelf with the sheet's own page at that index.
+/// A shelf with the sheet's own page at the index that the table has for it.
 const OWN_PAGE: &str = "\
     0 2 1\n\
     put 0 = Some(0)\n\

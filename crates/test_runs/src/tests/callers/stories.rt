@@ -6,7 +6,7 @@ use std::io::Write;
 use std::process::Abort;
 use test_tools::{has_refused, refuse};
 
-/// An object of which the lines of a story make calls.
+/// The object that the lines of a story call.
 pub(crate) trait Called<R> {
     /// Makes the call that these words name, and appends its answer.
     fn call(
@@ -43,8 +43,8 @@ pub(crate) fn tell<R: Abort, C: Called<R>>(
     is_refused
 }
 
-/// Makes a call with the growth with this number refused, and returns whether one was refused. If so, asserts that the call reports a lack of memory,
-/// and makes it again with memory; the refused call must have left everything unchanged.
+/// Makes a call while the growth with this number is refused, and returns whether one was refused. If so, asserts that the call reports a lack of
+/// memory, and makes it again with memory; the refused call must have left everything unchanged.
 fn call_again<R: Abort, C: Called<R>>(
     rt: &R,
     alloc: Global,

@@ -78,8 +78,8 @@ fn close_checked(
     Some(table.close_group(seat, sheet, group))
 }
 
-// Both tables of a plan. Each call is made of both. An answer is `None` if a number is out of bounds, the slot is blank, its page has no index, the
-// sheet isn't wide, or a slot of the group to be closed is missing.
+// Both tables of a plan. Each call is made on both tables. An answer is `None` if a number is out of bounds, the slot is blank, its page has no
+// index, the sheet isn't wide, or a slot of the group to be closed is missing.
 #[derive(Drop)]
 struct Tables<'t, 'p> {
     plain: PlainTable<'p>,
@@ -189,7 +189,7 @@ fn show_both<T: Debug + PartialEq + Drop>(
     }
 }
 
-// Makes a call of both tables. The sheet is the first one, except in calls about lanes.
+// Makes a call on both tables. The sheet is the first one, except in calls about lanes.
 impl<'t, 'p, R> Called<R> for Tables<'t, 'p> {
     fn call(
         &mut self,
@@ -214,7 +214,8 @@ impl<'t, 'p, R> Called<R> for Tables<'t, 'p> {
     }
 }
 
-// Makes the calls of a story of both tables, for a specification and a number of pages. Returns the words of the shared table at the story's end.
+// Makes the calls of a story on both tables, which are made for a specification and a number of pages. Returns the words of the shared table at the
+// story's end.
 fn told<R: Abort>(rt: &R, alloc: Global, text: &str, pages: u32, story: &str) -> Vec<u64> {
     let spec = done(rt, read_spec(alloc, text));
     let plan = done(rt, Plan::new(alloc, &spec, pages));
@@ -244,7 +245,7 @@ fn words_of<R: Abort>(rt: &R, alloc: Global, tables: Tables<'_, '_>) -> Vec<u64>
     done(rt, shared.end(alloc, seat))
 }
 
-// Makes the calls of a story of both tables, for one sheet with the same page in each of `slots` slots.
+// Makes the calls of a story on both tables, which are made for one sheet with the same page in each of `slots` slots.
 fn tell_of_slots<R: Abort>(rt: &R, alloc: Global, slots: u32, story: &str) {
     let text = done(rt, same_items(alloc, "0", slots));
     told(rt, alloc, &text, 1, story);

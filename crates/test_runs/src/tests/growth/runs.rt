@@ -52,7 +52,7 @@ fn written_by<R: Abort>(rt: &R, answer: &Result<Report, RunError>) -> Option<u64
     }
 }
 
-/// Runs a trial with the growth with this number refused. Returns the sink and the end of the run.
+/// Runs a trial while the growth with this number is refused. Returns the sink and the end of the run.
 fn run_refused<R: Threads + Wait + Abort + Sync>(
     rt: &R,
     alloc: Global,
@@ -77,8 +77,8 @@ fn is_written(output: &[u8], sink: &MemorySink, written: Option<u64>) -> bool {
     sink.bytes().len() as u64 == wanted && output.starts_with(sink.bytes())
 }
 
-/// Whether a run may end in this way. A run may fail only if a growth was refused. It may finish only if none was, or if it `holds` sheets until
-/// their turn: then the growth may have been for the number of a sheet that is held.
+/// Whether a run may end in this way. It may fail only if a growth was refused. If a growth was refused, it may finish only if it `holds` sheets
+/// until their turn, because the growth may have been for the number of a held sheet.
 fn is_right(holds: bool, ended: Ended) -> bool {
     match ended.written {
         Some(_) => ended.is_refused,
@@ -86,7 +86,7 @@ fn is_right(holds: bool, ended: Ended) -> bool {
     }
 }
 
-/// Runs a trial with the growth with this number refused, and asserts that it ends as it may. Returns whether a growth was refused.
+/// Runs a trial while the growth with this number is refused, and asserts that it ends as it may. Returns whether a growth was refused.
 fn refuse_one<R: Threads + Wait + Abort + Sync>(
     rt: &R,
     alloc: Global,
@@ -177,8 +177,8 @@ fn runs_whose_first_sheet_comes_last(rt: HostRuntime) {
     }
 }
 
-/// Gathers the pages of a document with the growth with this number refused. Asserts that the sink has the first bytes of this output, and that the
-/// tokens come back if and only if no growth was refused. Returns whether one was.
+/// Gathers the pages of a document while the growth with this number is refused. Asserts that the sink has the first bytes of this output, and that
+/// the tokens come back if and only if no growth was refused. Returns whether one was refused.
 fn gather_refused<R: Threads + Wait + Abort + Sync>(
     rt: &R,
     alloc: Global,

@@ -17,8 +17,8 @@ fn is_refused<R: Abort, T: Drop, E: Drop>(rt: &R, alloc: Global, made: Result<T,
     is_refused
 }
 
-/// Makes both tables of a plan, a queue for its sheets, a shelf, and a buffer for early sheets, with the growth with this number refused for each.
-/// Returns whether a growth of one of them was refused.
+/// Makes both tables of a plan, a queue for its sheets, a shelf, and a buffer for early sheets. While each of them is made, the growth with this
+/// number is refused. Returns whether a growth of one of them was refused.
 fn make_all<R: Abort>(rt: &R, alloc: Global, number: u32, plan: &Plan<'_>) -> bool {
     refuse(alloc, number);
     let is_plain_refused = is_refused(rt, alloc, PlainTable::new(alloc, plan));
