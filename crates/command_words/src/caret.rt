@@ -5,7 +5,7 @@ use std::alloc::{AllocError, Global};
 /// The number of bytes of a text that are shown before the place of a fault.
 const SHOWN_BEFORE: usize = 50;
 
-/// The number of bytes that are shown from that place on.
+/// The number of bytes of a text that are shown from the place of a fault onwards.
 const SHOWN_BEHIND: usize = 20;
 
 /// Two lines, each after a line end: the text around this place, and a caret below the place. If the text is cut off at an end, two dots stand there.

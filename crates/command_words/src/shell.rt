@@ -52,8 +52,8 @@ fn append_with_unit(number: Number, unit: &[u8], out: &mut Vec<u8>) -> Result<()
     out.extend_from_slice(unit)
 }
 
-/// A length as a number of units, of which 10^-9 are `grains` grains. None if this number would need more than nine decimals, or would be below 0, or
-/// 100,000 or more.
+/// A length as a number of units. One unit is 10^9 times `grains` grains. None if this number would need more than nine decimals, or would be below
+/// 0, or 100,000 or more.
 fn in_units(length: Grains, grains: u128) -> Option<Number>
     requires { 0 < grains }
     ensures { result ≡ meaning.in_units length grains }

@@ -40,8 +40,7 @@ pub fn cut_marks(alloc: Global, room: &Room, grid: Grid) -> Result<Vec<Stroke>, 
     Ok(strokes)
 }
 
-/// Marks for cutting a sheet that is folded, and not cut, between its cells. They are around the outer cells, and there are none unless all margins
-/// have room for half a gap.
+/// Marks for cutting around the outer cells of a sheet that is folded between its cells. There are none unless all margins have room for half a gap.
 pub fn outer_cut_marks(alloc: Global, room: &Room, grid: Grid) -> Result<Vec<Stroke>, AllocError>
     ensures { IfOk result (λ strokes. strokes.items ≡ outer_cut_of room.now grid) }
 {

@@ -35,8 +35,8 @@ pub fn own_moves_are_kept()
     ensures { OwnMovesAreKept }
 {}
 
-/// The moves of a pass are in one history of the queue. Each is there once, in the order in which they were made, and
-/// after all that the caller had seen.
+/// The moves of a pass are in one history of the queue. The history has each move once, in the order in which they
+/// were made, and after all that the caller had seen.
 pub fn moves_stand_in_one_history()
     ensures { MovesStandInOneHistory }
 {}
@@ -56,8 +56,8 @@ pub fn room_is_used_up()
 
 /// At every moment, the moves of all passes of a queue are in one history, even if the passes never met. The queue
 /// holds the sheets that were put and not yet taken in this history. No move belongs to two passes. The sheets in the
-/// queue, and the puts that may still be made by right, are together at most the capacity. Each pass with a share
-/// knows this capacity.
+/// queue, and the puts that are still guaranteed, are together at most the capacity. Each pass with a share knows this
+/// capacity.
 pub fn passes_stand_together()
     ensures { PassesStandTogether ⟦<HandoverHistory as Protocol<u32, PassKnowledge>>⟧.holds }
 {}

@@ -15,7 +15,8 @@ pub(crate) const WHOLE_SHARE: u64 = 4_294_967_296;
 pub struct Pass {
     pub(crate) token: crossbeam_queue::Pass<u32, PassKnowledge>,
     pub(crate) share: u64,
-    /// The number of puts that the queue will certainly accept from this pass. None if puts aren't made by right.
+    /// The number of puts that the queue will certainly accept from this pass. `None` in a queue that guarantees no
+    /// puts.
     pub(crate) room: Option<u32>,
 }
 
@@ -41,7 +42,8 @@ impl Pass {
         self.share
     }
 
-    /// The number of puts that the queue will certainly accept from this pass. It is 0 if puts aren't made by right.
+    /// The number of puts that the queue will certainly accept from this pass. It is 0 in a queue that guarantees no
+    /// puts.
     pub fn room(&self) -> u32
         ensures { result ≡ puts_in self.now.room }
     {

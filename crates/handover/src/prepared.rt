@@ -20,8 +20,8 @@ pub struct Prepared<'d> {
     kept: KeptBody<'d>,
 }
 
-/// How the body of a page is stored. A shelf keeps all pages until the run ends, so they must be small. Most bodies
-/// are the rest of their page, and need only the byte at which they begin.
+/// How the body of a page is stored. A shelf keeps all pages until the run ends, so each should take little memory.
+/// Most bodies are the rest of their page, and need only the byte at which they begin.
 #[derive(Drop)]
 enum KeptBody<'d> {
     Rest {

@@ -63,12 +63,12 @@ impl Ready {
         Ok((ready, pass))
     }
 
-    /// Makes a queue in which puts are made by right, and the pass that has all its shares. The pass has room for
-    /// `capacity` puts. This room can be split among several passes. While a pass has room, its puts are never
-    /// refused, and each put lowers its room by one. A pass without room is refused, unless it has all shares, because
-    /// free places in the queue may belong to other passes. Fails only if memory is refused.
+    /// Makes a queue that guarantees `capacity` puts (puts by right), and the pass that has all its shares. The pass
+    /// has room for `capacity` puts. This room can be split among several passes. While a pass has room, its puts are
+    /// never refused, and each put lowers its room by one. A pass without room is refused, unless it has all shares,
+    /// because free places in the queue may belong to other passes. Fails only if memory is refused.
     ///
-    /// A take gives no room back: `capacity` is the number of all puts that are ever made by right.
+    /// A take gives no room back: the queue never guarantees more than `capacity` puts in all.
     pub fn by_right(alloc: Global, capacity: u32) -> Result<(Ready, Pass), AllocError>
         requires { 0 < capacity }
         ensures capacity { IfOk result (λ made. made.0.capacity ≡ capacity) }
@@ -98,7 +98,7 @@ impl Ready {
         ensures full_only_at_capacity { OnErr result (pass.old.share ≡ whole_share
             → length (content pass.old.front) ≡ self.now.capacity) }
 
-        // A put by right isn't refused.
+        // A pass that has room isn't refused.
         ensures by_right { OnErr result (puts_in pass.old.room ≡ 0) }
     {
         if !may_put(pass.room, pass.share) {

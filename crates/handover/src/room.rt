@@ -1,5 +1,5 @@
-//! The room of a pass: the number of puts that the queue will certainly accept from it. It is `None` in a queue in
-//! which puts aren't made by right.
+//! The room of a pass: the number of puts that the queue will certainly accept from it. It is `None` in a queue that
+//! guarantees no puts.
 ghost use Rattle.std.specs.Prelude.{◌≡◌, ◌≢◌, ℕ, ◌+◌, ◌≤◌, Some, IsTrue, false};
 ghost use Rattle.rules.specs.Seats.{whole_share};
 ghost use Rattle.handover.specs.Queue.{Put};
@@ -7,8 +7,9 @@ ghost use Rattle.handover.specs.Passes.{puts_in, room_after, room_kept, room_giv
 
 use crate::pass::WHOLE_SHARE;
 
-/// Whether a pass with this room and this share may try to put a sheet. If puts are made by right, a pass without room
-/// may not, because free places in the queue may belong to other passes. A pass with all shares may always try.
+/// Whether a pass with this room and this share may try to put a sheet. In a queue that guarantees puts, a pass
+/// without room may not try, because free places in the queue may belong to other passes. A pass with all shares may
+/// always try.
 pub(crate) fn may_put(room: Option<u32>, share: u64) -> bool
     ensures may { IsTrue result → room ≡ Some 0 → share ≡ whole_share }
     ensures none_left { result ≡ false → (room ≡ Some 0) × (share ≢ whole_share) }

@@ -2,8 +2,8 @@
 use crossbeam_queue::protocol::Protocol;
 use std::marker::Model;
 
-/// What a pass knows: a history that its caller has seen, the caller's own moves in it, and the number of puts that it
-/// may make by right. Only contracts use this type; no value of it is ever made.
+/// What a pass knows: a history that its caller has seen, the caller's own moves in it, and the number of puts that
+/// the queue guarantees to it. Only contracts use this type; no value of it is ever made.
 pub struct PassKnowledge {
     nothing: (),
 }
@@ -18,7 +18,7 @@ impl Model for PassKnowledge {
 
 /// The rule of the queue. Between any two steps there is one history. The queue holds the sheets that were put and not
 /// yet taken in it, and each pass has seen a beginning of the history. The capacity is enough for the sheets in the
-/// queue and for all puts that may still be made by right.
+/// queue and for all puts that are still guaranteed.
 pub struct HandoverHistory;
 
 impl Protocol<u32, PassKnowledge> for HandoverHistory {

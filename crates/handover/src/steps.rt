@@ -67,7 +67,8 @@ impl<N: Picks> Split<PassKnowledge> for HistoryCut<N> {
     ghost right = { gets_of N.number (puts_in N.room) };
 }
 
-/// The join of two passes, and the step after it, in which the joined pass learns what the rule says about it.
+/// The join of two passes, and the step after the join, in which the joined pass learns what the rule says about
+/// passes.
 pub(crate) struct JoinPasses;
 
 impl Join<PassKnowledge> for JoinPasses {

@@ -53,7 +53,7 @@ fn unknown_name<'t>(usual: &Paper, input: &'t [u8]) -> Option<&'t [u8]>
     told_name(names_value(header)?)
 }
 
-/// The name at the start of a comment's value. `None` if the value is `(atend)`, which leaves it to the trailer. The trailer isn't read for names.
+/// The name at the start of a comment's value. `None` if the value is `(atend)`, which leaves the name to the trailer: trailers aren't read here.
 fn told_name(value: &[u8]) -> Option<&[u8]>
     ensures { option_map (λ name. name.now) result ≡ meaning.told_name value.now }
 {

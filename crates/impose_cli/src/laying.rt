@@ -77,7 +77,7 @@ impl RowLaying {
     }
 }
 
-/// How the layout of a request lays its row of pages on sheets. The error is the fault of the layout.
+/// How the layout of a request lays its row of pages on sheets. The error says why it can't.
 pub(crate) fn row_laying(
     alloc: Global,
     request: &ImposeRequest,
@@ -108,7 +108,7 @@ pub(crate) fn row_laying(
     }
 }
 
-/// The specification that this text gives. The error is the fault of the text.
+/// The specification that this text gives. The error says why the text can't be read.
 pub(crate) fn spec_named(alloc: Global, specs: &str) -> Result<Spec, ImposeFault>
     ensures taken { IfOk result (λ spec. Takes most_slots specs.now spec) }
     ensures refused { IfErr result (RefusesSpecification specs.now) }
@@ -119,7 +119,7 @@ pub(crate) fn spec_named(alloc: Global, specs: &str) -> Result<Spec, ImposeFault
     }
 }
 
-/// How the layout lays pages on sheets. `None` if the layout is a specification. The error is the fault of the layout.
+/// How the layout lays pages on sheets. `None` if the layout is a specification. The error says why it can't.
 pub(crate) fn laying_for(
     layout: &Layout,
     spacing: &Spacing,

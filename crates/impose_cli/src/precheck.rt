@@ -58,7 +58,7 @@ fn is_one_file(one: Option<&str>, other: Option<&str>) -> bool
     }
 }
 
-/// The first option that has no effect, or not the effect that its name promises: `--sheet` for sheets that keep the papers of their pages; an inner
+/// The first option that doesn't have the effect that its name promises. It may be `--sheet` for sheets that keep the papers of their pages; an inner
 /// margin where there is no inner edge, or where a left margin is named too; cut marks with an inner margin; cut marks without margins that have room
 /// for them.
 fn idle_option(request: &ImposeRequest) -> Option<IdleOption>

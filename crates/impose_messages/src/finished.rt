@@ -7,17 +7,17 @@ use papers::{Comment, Cut, Reach};
 /// The source of the pages' paper.
 #[derive(Clone, Copy)]
 pub enum PaperOrigin {
-    /// It was named on the command line.
+    /// The paper was named on the command line.
     Named,
-    /// This comment of the document's header names it.
+    /// This comment of the document's header names the paper.
     ByComment(Comment),
-    /// Nothing names it, so it is the paper at home.
+    /// Nothing names a paper, so it is the one at home.
     ByDefault,
-    /// It is that of the first page taken, since no page has the document's paper.
+    /// The paper is that of the first page taken, since no page has the document's paper.
     FirstPage,
 }
 
-/// The claims of a document about itself that are reported.
+/// The statements of a document about itself that messages mention.
 #[derive(Drop)]
 pub struct Claims {
     /// The number of pages that it declares, if it declares one.
@@ -34,7 +34,7 @@ pub struct Finished {
     pub page_paper: Paper,
     /// The source of the pages' paper.
     pub origin: PaperOrigin,
-    /// The pages that `--paper` cuts. By a specification they are among those that reach beyond it.
+    /// The pages that `--paper` cuts. If a specification places the pages, such pages are in `reach` instead.
     pub cut: Option<Cut>,
     /// The pages that reach beyond the papers by which they are placed.
     pub reach: Option<Reach>,

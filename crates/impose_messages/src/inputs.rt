@@ -49,7 +49,7 @@ fn unpacked_fault(input: &[u8]) -> ImposeFault
     }
 }
 
-/// Whether the first line of an input is that of an EPS, a drawing for a page of a document.
+/// Whether an input begins with the first line of an EPS file, which is a drawing to be put on a page.
 fn is_eps(input: &[u8]) -> bool
     ensures { result ≡ eps input.now }
 {

@@ -102,7 +102,7 @@ fn nearest_command(alloc: Global, word: &str) -> Result<Option<&'static str>, Al
     Ok(nearest)
 }
 
-/// The number of letters that differ between a word and a name: missing, added, replaced or exchanged ones. None if they are more than a third.
+/// The number of letters that are missing, added, replaced or exchanged in a word, compared with a name. None if they are over a third of the word.
 fn distance(alloc: Global, word: &str, name: &str) -> Result<Option<usize>, AllocError> {
     let word = word.strip_prefix("--").unwrap_or(word);
     let name = name.strip_prefix("--").unwrap_or(name);

@@ -276,7 +276,7 @@ pub(crate) fn push_reach(said: &mut ReportText, reach: &Reach)
     push_others(said, reach.pages.saturating_sub(1));
 }
 
-/// Appends how far a page reaches: to its upper right corner, and from its lower left one if that is negative.
+/// Appends how far a page reaches: to its upper right corner, and also from its lower left corner if that has a negative coordinate.
 fn push_edges(said: &mut ReportText, edges: &Edges)
     requires room { length said.old + 215 ≤ most_said }
     ensures text { said.new ≡ said.old ++ edges_text edges.now }

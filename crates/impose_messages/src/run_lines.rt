@@ -133,7 +133,7 @@ fn push_note_on(said: &mut ReportText, advice: &[u8], name: &str)
     said.push(b"\n");
 }
 
-/// Of a file that is named as something else than PostScript: that it is PostScript, and how to make that, but for the name.
+/// The advice on an output with the name of another format: that it holds PostScript, and how to convert that. The name itself isn't included.
 fn advice_on(name: &str) -> Option<&'static [u8]>
     ensures value { option_map (λ advice. advice.now) result ≡ advice_by_name name.now }
     ensures short { IfSome result (λ advice. length advice.now ≤ 100) }

@@ -98,7 +98,7 @@ pub(crate) const SIGNS: [Tip; 11] = [
     ),
 ];
 
-/// Tips on options that booklets lack, or that other programs name so.
+/// Tips on options that booklets don't have, or that have these names in other programs.
 pub(crate) const FOR_BOOKLETS: [Tip; 4] = [
     (
         &["--order"],

@@ -54,7 +54,7 @@ impl Shift {
 }
 
 impl Baton {
-    /// Turns for workers that handle pages of this average number of bytes. No worker has the turn yet.
+    /// Turns for workers that handle pages of `page_len` bytes on average. No worker has the turn yet.
     pub(crate) fn new(page_len: usize) -> Self {
         let len = (BYTES_OF_A_STINT / page_len.saturating_add(BYTES_BESIDE)).min(
             LONGEST_STINT,
@@ -91,7 +91,7 @@ impl Baton {
         self.taken.wake_one();
     }
 
-    /// Waits for the turn, for at most `MOST_NAPS` naps. Returns whether this worker has got it.
+    /// Waits for the turn, for at most `MOST_NAPS` naps. Returns whether this worker has the turn.
     fn wait<R: Wait>(&self, rt: &R) -> bool {
         for _ in 0..MOST_NAPS {
             if self.taken.compare_exchange(0, 1, SeqCst, SeqCst).is_ok() {

@@ -71,7 +71,7 @@ fn take_all<'r, R: Wait, T: SheetTexts, G: Gate, S: Sink>(
 }
 
 /// Takes one message from the channel and writes the sheets that are next in order. If there is no message, sleeps for a short time. Returns false if
-/// no message will come any more, or if nothing more may be written.
+/// no further message will come, or if nothing more may be written.
 fn take_turn<'r, R: Wait, T: SheetTexts, G: Gate, S: Sink>(
     rt: &R,
     input: &RunInput<'_, 'r, '_, '_, T, G>,

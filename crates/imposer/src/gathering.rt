@@ -61,9 +61,9 @@ pub struct Gathered<'d> {
 /// end, and are also written in order.
 ///
 /// The table must be one of the job's plan, the seat and the pass must be unused, and the queue must have room for every sheet. Each worker gets a
-/// seat and a pass of its own, and these are joined when the worker ends. If the pass has room by right for all puts of the preparers, each preparer
-/// gets the room that it needs, and the queue refuses no put. If the pass has less room by right, some puts are refused even though the queue isn't
-/// full, and the sheets of these puts are made at the end.
+/// seat and a pass of its own, and these are joined when the worker ends. If the pass has room for all puts of the preparers, each preparer gets the
+/// room that it needs, and the queue refuses no put. If the pass has less room, some puts are refused even though the queue isn't full, and the
+/// sheets of these puts are made at the end.
 pub fn gather<'j, 'd, R: Threads + Wait + Sync, G: Gate + Sync, S: Sink>(
     rt: &R,
     alloc: Global,

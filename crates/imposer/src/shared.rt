@@ -31,7 +31,7 @@ pub(crate) struct RunObjects<'s, 'r, 't, 'd, G> {
 #[derive(Drop)]
 pub(crate) struct Shared<'s, 'r, 't, 'd, G> {
     pub(crate) floor: RunObjects<'s, 'r, 't, 'd, G>,
-    /// Whether the queue has room by right for all puts, so that it refuses none.
+    /// Whether the queue guarantees all puts, so that it refuses none.
     pub(crate) by_right: bool,
     /// The number of preparers that haven't ended.
     pub(crate) preparers_left: AtomicU32,

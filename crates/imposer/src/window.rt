@@ -29,8 +29,8 @@ const BYTES_BESIDE: usize = 32;
 /// The greatest number of sheets in a window.
 const MOST_SHEETS: usize = 4_096;
 
-/// The least number of sheets in a window that is long. A long window moves by a quarter of its length at a time, and a worker that finds no work in
-/// it sleeps at once.
+/// The least number of sheets in a long window. Such a window moves by a quarter of its length at a time, and a worker that finds no work in it
+/// sleeps at once.
 const MANY_SHEETS: u32 = 256;
 
 /// In one message an imposer sends at most an eighth of a window's sheets, at most an eighth of its share of all sheets, and at least one sheet. So

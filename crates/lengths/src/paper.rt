@@ -8,7 +8,7 @@ use std::marker::Model;
 /// The number of grains in a point.
 const GRAINS_OF_POINT: i128 = 127_000_000_000;
 
-/// The longest side of a paper, in grains. It is the greatest length that a number of inches can name.
+/// The longest side that a paper may have, in grains: 99,999.999999999 inches.
 const LONGEST_SIDE: i128 = 914_399_999_999_990_856;
 
 /// A paper, by its width and height. Each side is from 1 to 914,399,999,999,990,856 grains long.

@@ -57,12 +57,13 @@ pub fn point_is_placeless()
     ensures { PointIsPlaceless }
 {}
 
-/// Operators that see no place are placeless, whatever they do.
+/// Operators that can't see where a page is placed are placeless, whatever else they do.
 pub fn tables_are_placeless()
     ensures { TablesArePlaceless }
 {}
 
-/// Operators that see no place are blind if they don't ask for the names that the sheet's text defines.
+/// Operators that can't see where a page is placed are blind if they don't ask for the names that the sheet's text
+/// defines.
 pub fn tables_are_blind()
     ensures { TablesAreBlind }
 {}
@@ -183,14 +184,14 @@ pub fn stores_see_no_matrices()
     ensures { StoresSeeNoMatrices }
 {}
 
-/// A table of operators on values is blind, also if it has other operators that don't ask for the names that the
-/// sheet's text defines.
+/// A table of operators on values is blind, even with other operators that don't ask for the names that the sheet's
+/// text defines.
 pub fn stores_are_blind()
     ensures { StoresAreBlind }
 {}
 
-/// A table of operators on values is placeless in guarded documents too, also if it has other operators that don't
-/// look at the contents of matrices.
+/// A table of operators on values is placeless in guarded documents too, even with other operators that don't look at
+/// the contents of matrices.
 pub fn stores_are_placeless_there()
     ensures { StoresArePlacelessThere }
 {}

@@ -49,7 +49,7 @@ pub fn read_spec(alloc: Global, text: &str) -> Result<Spec, SpecError>
     }
 }
 
-/// The modulo of a text (100,000 if it is larger), and its groups.
+/// The modulo and the groups of a text. A modulo above 100,000 counts as 100,000.
 fn read_written(alloc: Global, bytes: &[u8]) -> Result<(u32, ParsedGroups), Stop>
     ensures { MatchResult result (λ x. WrittenRead bytes.now x.0 x.1) (IsStop IsSpec spec_at bytes.now) }
 {
@@ -58,7 +58,7 @@ fn read_written(alloc: Global, bytes: &[u8]) -> Result<(u32, ParsedGroups), Stop
     Ok((modulo, parsed))
 }
 
-/// The modulo, which comes before a colon (100,000 if it is larger), and the text after the colon. If no modulo is written, it is 1.
+/// The modulo, which comes before a colon, and the text after the colon. A modulo above 100,000 counts as 100,000. If none is written, it is 1.
 fn split_modulo(bytes: &[u8]) -> (u32, &[u8])
     ensures { ModuloRead bytes.now (past_modulo bytes.now) result.0 result.1.now }
 {

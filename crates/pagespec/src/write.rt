@@ -125,7 +125,7 @@ fn append_scale_modifier(scale: Number, out: &mut Vec<u8>) -> Result<(), AllocEr
     print_number(scale, out)
 }
 
-/// Appends the offset in parentheses, unless it is 0 pt and 0 pt.
+/// Appends the offset in parentheses, unless both its lengths are 0 pt.
 fn append_offset(x: &Measure, y: &Measure, out: &mut Vec<u8>) -> Result<(), AllocError>
     ensures { OnOk result (out.new.items ≡ out.old.items ++ rules.offset_part (measure_of x.now) (measure_of y.now)) }
 {

@@ -27,7 +27,7 @@ fn first_word(text: &[u8]) -> &[u8]
     word_at(from_word(text))
 }
 
-/// The rest of a text, from its first word outside comments on.
+/// The part of a text that begins with its first word outside comments.
 fn from_word(text: &[u8]) -> &[u8]
     ensures { result.now ≡ meaning.from_word false text.now }
 {

@@ -202,7 +202,7 @@ fn append_page_in_slot(placed: Option<PlacedSlot<'_>>, out: &mut Vec<u8>) -> Res
     }
 }
 
-/// Appends a page where its item places it.
+/// Appends the drawing of a page, placed by its item.
 fn append_placed_page(
     page: u32,
     item: &Item,

@@ -27,7 +27,7 @@ pub struct Reading {
     pub places: Places,
 }
 
-/// Appends the places of a sheet.
+/// Appends the text that shows the places of a sheet and what is in each.
 pub(crate) fn append_places(
     sheets: &MadeSheets,
     places: &Places,

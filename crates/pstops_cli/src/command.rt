@@ -63,8 +63,8 @@ impl From<AllocError> for CommandFault {
 /// and 2 by default.
 ///
 /// If the words don't form such a command line, or a value of `-s`, `-j` or `-k` isn't in its range, the error is `BadWords`. Otherwise an unknown
-/// paper is reported first, as `UnknownPaper`. Then the first wrong value of `-w` and `-h`, which must be above 0, and of `-d`, which must not be
-/// below 0, is reported as `BadLength`. The order of the words doesn't matter.
+/// paper is reported first, as `UnknownPaper`. Then `BadLength` reports the first wrong value of `-w`, `-h` and `-d`, in this order and not in that
+/// of the words. Values of `-w` and `-h` must be above 0, and a value of `-d` must not be below 0.
 #[tactic(auto, using(crate::proofs::SimpleCommand::pstops_is_simple))]
 pub fn read_command(alloc: Global, words: &[String]) -> Result<Request, CommandFault>
     ensures taken { IfOk result (λ _. TakesWords (map string_bytes words.now)) }

@@ -27,7 +27,7 @@ pub(crate) fn strokes_of(
     }
 }
 
-/// The strokes on each side of a booklet's leaves, for the requested marks: at the fold, and around both halves.
+/// The strokes on each side of a booklet's leaves: fold marks and cut marks around both halves, each if requested.
 fn booklet_strokes(
     alloc: Global,
     marks: Marks,

@@ -117,8 +117,8 @@ pub fn leaf_sheets(
     }
 }
 
-/// The sheets of zines. Each sheet has eight entries on one side, is folded three times and is cut once. The first row of cells is rotated by 180
-/// degrees. The first page that can't be placed is reported.
+/// The sheets of zines. Each sheet has eight entries on one side, is folded three times and is cut once. Pages in the first row of cells are rotated
+/// by 180 degrees. The first page that can't be placed is reported.
 pub fn zine_sheets(
     alloc: Global,
     setting: &Setting,

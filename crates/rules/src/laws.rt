@@ -124,7 +124,8 @@ pub fn sheets_of_all()
     ensures { SheetsOfAll }
 {}
 
-/// Signatures whose size is chosen automatically have at most eight leaves each. Fewer than four blanks for each signature fill them up.
+/// Signatures whose size is chosen automatically have at most eight leaves each. In all they have fewer blanks than four times the number of
+/// signatures.
 pub fn auto_signatures()
     ensures { AutoSignatures }
 {}

@@ -197,7 +197,7 @@ impl<'s, 'r, 't, 'd> Imposition<'s, 'r, 't, 'd> {
         Ok(found.page)
     }
 
-    /// Whether the entry is page `page` of the document. Its bytes are compared with the document's, unless it was put as the document's own.
+    /// Whether the entry is page `page` of the document. Bytes are compared with the document's, unless the page was put as one of this document's.
     fn is_page(&self, found: &Shelved<'_, 'd>, page: u32) -> bool
         requires in_document { page < length (pages self.now.job.now.units) }
         requires own { IsTrue found.now.is_own → IsOwn self.now.shelf.now found.now.page.now }

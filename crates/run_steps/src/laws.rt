@@ -44,8 +44,7 @@ pub fn completed_are_few()
     ensures { CompletedAreFew }
 {}
 
-/// If the pass has room for the sheets that a delivery completes, none of them is handed back. Each put is then made by right, and lowers the room of
-/// the pass by 1.
+/// If the pass has room for the sheets that a delivery completes, none of them is handed back. Each put then lowers the room of the pass by 1.
 pub fn none_handed_back()
     ensures { NoneHandedBack }
 {}

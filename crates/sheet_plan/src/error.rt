@@ -1,7 +1,7 @@
 //! Why a plan is refused.
 use thiserror::Error;
 
-/// Why the sheets of a specification can't be planned for a number of pages. The limits are tested in the order of this enum, before any memory is
+/// Why the sheets of a specification can't be planned for this number of pages. The limits are tested in the order of this enum, before any memory is
 /// requested.
 #[derive(Clone, Copy, Debug, PartialEq, Eq, Error)]
 pub enum PlanError {
@@ -19,7 +19,7 @@ pub enum PlanError {
     NoMemory,
 }
 
-/// Why sheets that a caller made can't be planned for a number of pages. The faults are looked for in the order of this enum, before any memory is
+/// Why sheets that a caller made can't be planned for this number of pages. The faults are looked for in the order of this enum, before any memory is
 /// requested. Sheets are counted from 0.
 #[derive(Clone, Copy, Debug, PartialEq, Eq, Error)]
 pub enum MadeError {

@@ -12,7 +12,7 @@ use pagespec::{Item, Measure, Turn};
 use std::alloc::{AllocError, Global};
 use std::marker::Model;
 
-/// The number of placings, from the first one on, that are compared with a new one before it is kept.
+/// A new placing is compared with this many of the first placings before it is kept.
 const FEW: u32 = 64;
 
 /// The item of a blank slot. It places nothing.

@@ -57,7 +57,7 @@ fn is_fair(text: &[u8], usual: &[u8]) -> bool {
     text == usual || is_failure && reports_no_memory(text)
 }
 
-/// Whether an answer has the name or the message of an error for lack of memory.
+/// Whether an answer contains the name or the message of an error that reports a lack of memory.
 fn reports_no_memory(text: &[u8]) -> bool {
     for start in 0..text.len() {
         let (_, rest) = text.split_at(start);

@@ -9,7 +9,7 @@ pub const MOST_GROWTHS: u32 = 5_000;
 /// whether a growth was refused: the library grants it if so. Without the library it is always refused.
 const ASKED: usize = 1 << 62;
 
-/// Asks the library to refuse the growth with this number, counted from 1 from this call on.
+/// Asks the library to refuse the growth with this number. The first growth after this call has number 1.
 pub fn refuse(alloc: Global, number: u32) {
     drop(Vec::<u8>::with_capacity(alloc, ASKED + number as usize));
 }

@@ -1,4 +1,4 @@
-//! The requests that a world has got.
+//! The requests that a world has received.
 ghost use Rattle.std.specs.Prelude.{◌≡◌, ◌++◌, ◌∷◌, [], List, Some, IfOk, IfSome, map, option_map, string_bytes};
 ghost use Rattle.world.specs.Worlds.{Access};
 ghost use Rattle.test_tools.specs.Traces.{access_of, accesses_in};
@@ -12,14 +12,14 @@ pub struct Asked {
     pub name: Option<String>,
 }
 
-/// The requests that a world has got, in order. `None` if there was no memory for one of them.
+/// The requests that a world has received, in order. `None` if there was no memory for one of them.
 #[derive(Drop)]
 pub struct Trace {
     pub all: Option<Vec<Asked>>,
 }
 
 impl Trace {
-    /// The trace of a world that has got no request.
+    /// The trace of a world that has received no request.
     pub fn new(alloc: Global) -> Trace
         ensures { accesses_in result ≡ Some [] }
     {

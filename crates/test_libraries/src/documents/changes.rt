@@ -34,7 +34,7 @@ fn changed(alloc: Global, front: &[u8], byte: &str, behind: &[u8]) -> Result<Vec
     Ok(changed)
 }
 
-/// The answers for places, counted from 0. Neighbouring places with the same answer are printed on one line.
+/// The answer for each place of a text, counted from 0. Neighbouring places with the same answer are printed on one line.
 #[derive(Drop)]
 struct Ranges {
     /// The first of the last places with the same answer.

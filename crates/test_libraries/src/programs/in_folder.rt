@@ -23,7 +23,7 @@ pub fn pstops_in_folder<'a, R: Threads + Wait + Sync>(
     pstops(rt, alloc, words, Folder::new(alloc, files, takes))
 }
 
-/// Prints the requests that a folder has got, in order, and the number of its failures.
+/// Prints the requests that a folder has received, in order, and the number of its failures.
 pub fn asked_for(out: &mut Answer, folder: &Folder<'_>) {
     let Some(all) = &folder.trace().all else {
         return out.note(false);

@@ -45,7 +45,7 @@ pub fn unread<R: Threads + Wait + Sync>(rt: &R, out: &mut Answer) {
     report(rt, out, "", &[], Takes::Bytes(10_000));
 }
 
-/// Prints the report of impose for a page on a sheet of its own. If no output was created, also prints the requests that the folder has got.
+/// Prints the report of impose for a page on a sheet of its own. If no output was created, also prints the requests that the folder has received.
 fn report<R: Threads + Wait + Sync>(
     rt: &R,
     out: &mut Answer,

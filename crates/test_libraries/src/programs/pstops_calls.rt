@@ -56,7 +56,7 @@ pub fn long_input(out: &mut Answer, len: u32) {
     }
 }
 
-/// A reader of a document with one page. It gives seven bytes in a call, fails at the call number `fails_at`, and counts its calls.
+/// A reader of a document with one page. It gives seven bytes per call, fails at call number `fails_at`, and counts its calls.
 #[derive(Drop)]
 struct Failing {
     rest: &'static [u8],
@@ -103,8 +103,8 @@ pub fn failing_input(out: &mut Answer, fails_at: u32, is_interrupted: bool) {
 }
 
 /// Prints the outcome of running pstops with these words over a document with one page in the file `in.ps`: exit status, message, and the output, or
-/// the requests that the folder got if no output was created. The first word says how the output behaves: `all`, `unflushed`, `nothing`, or the
-/// number of bytes that it takes in a call.
+/// the requests that the folder received if no output was created. The first word says how the output behaves: `all`, `unflushed`, `nothing`, or the
+/// number of bytes that it takes per call.
 pub fn ran<R: Threads + Wait + Sync>(rt: &R, out: &mut Answer, words: &[String]) -> Option<()> {
     let (takes, words) = words.split_first()?;
     let takes = match takes.as_str() {

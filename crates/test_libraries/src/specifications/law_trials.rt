@@ -88,7 +88,7 @@ fn tried(out: &mut Answer, trial: &Trial<'_>, on_own_paper: bool) {
     out.line(format_args!("{count} layouts, no fault"));
 }
 
-/// The number of layouts that were tried for this page and this sheet. `None` if one of them has a fault, which is printed.
+/// Tries the layouts for this page and this sheet, and returns their number. `None` if one of them has a fault, which is printed.
 fn tried_on(out: &mut Answer, trial: &Trial<'_>, page: &Named, sheet: &Named) -> Option<u32> {
     match trial {
         Trial::Pages(numbers, kept) => pages_tried(out, numbers, *kept, page, sheet),

@@ -18,7 +18,7 @@ use std::thread::Threads;
 use test_tools::{MOST_GROWTHS, TWO_UP, document_of, refuse, two_up_output};
 
 /// How a job is gathered: the numbers of workers, the number of bytes for which the sink has room, the number of puts that the queue guarantees, if
-/// it guarantees any (puts by right), and the number of the growth that is refused.
+/// it guarantees any, and the number of the growth that is refused.
 #[derive(Clone, Copy)]
 pub(super) struct Way {
     pub(super) workers: Workers,
@@ -37,7 +37,7 @@ pub(super) struct Gathering {
     pub(super) sink: MemorySink,
 }
 
-/// A queue for the sheets of a job. If `puts` is given, the queue guarantees at least as many puts (puts by right).
+/// A queue for the sheets of a job. If `puts` is given, the queue guarantees at least as many puts.
 fn queue_for<R: Abort>(rt: &R, alloc: Global, job: &Job<'_, '_>, puts: Option<u32>) -> (Ready, Pass)
     ensures pass { IsFreshPass result.0 result.1 }
     ensures room { length job.now.plan.sheets ≤ result.0.capacity }
@@ -127,7 +127,8 @@ fn outcome_of(pages: u32, written: &[u8], rest: &[u8]) -> Result<Report, RunErro
     })
 }
 
-/// Asserts the outcome of gathering `pages` pages, two on a sheet, with these numbers of workers, into a sink with room for `room` bytes.
+/// Gathers `pages` pages, two on a sheet, with these numbers of workers, into a sink with room for `room` bytes. Asserts that the outcome and the
+/// written bytes are right, and that the seat and the pass come back with all shares.
 fn assert_gathered<R: Threads + Wait + Abort + Sync>(
     rt: &R,
     alloc: Global,

@@ -14,7 +14,7 @@ use test_tools::{ONE_PAGE, TWO_PAGES, TWO_UP, one_up_output, two_up_output};
 /// The numbers of preparers and of imposers.
 const COUNTS: [(u32, u32); 2] = [(1, 1), (2, 3)];
 
-/// The number of bytes that a sink or a writer here takes in a call.
+/// The largest number of bytes that a sink or a writer here takes in one call.
 const PER_CALL: usize = 7;
 
 /// A run of two pages on a sheet, with these numbers of workers.
@@ -71,7 +71,7 @@ fn written_to<R: Threads + Wait + Sync + Abort>(
     written.len()
 }
 
-// The sinks have room for each number of bytes up to the 273 bytes of the whole output. The last sink has room for all, and takes one byte in a call.
+// The sinks have room for each number of bytes up to the 273 bytes of the whole output. The last sink has room for all, and takes one byte per call.
 #[test]
 fn the_first_bytes_are_written_before_a_failure(rt: HostRuntime) {
     let alloc = rt.alloc();
@@ -118,7 +118,7 @@ fn nothing_is_written_after_a_failure(rt: HostRuntime) {
     }
 }
 
-/// A writer that takes seven bytes in a call, fails only at the call number `fails_at`, and counts its calls.
+/// A writer that takes at most seven bytes per call, fails only at call number `fails_at`, and counts its calls.
 #[derive(Drop)]
 struct Torn {
     cause: ErrorKind,

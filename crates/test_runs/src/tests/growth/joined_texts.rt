@@ -93,8 +93,8 @@ impl<'r> InTexts<'r> {
         }
     }
 
-    /// Joins up to `most` finished sheets from this sheet on. The sheet's number is also its index. Appends the number of joined sheets, and their
-    /// pieces.
+    /// Joins up to `most` finished sheets, beginning with this sheet. The sheet's number is also its index. Appends the number of joined sheets, and
+    /// their pieces.
     fn join(&self, sheet: u32, most: u32, answer: &mut Vec<u8>) -> Result<(), AllocError> {
         if most == 0 {
             return show("no such text", answer);
