@@ -8,8 +8,8 @@ const SHOWN_BEFORE: usize = 50;
 /// The number of bytes of a text that are shown from the place of a fault onwards.
 const SHOWN_BEHIND: usize = 20;
 
-/// Two lines, each after a line end: the text around this place, and a caret below the place. If the text is cut off at an end, two dots stand there.
-/// A hidden character is shown as a question mark. The result is empty if the place is past the end of the text.
+/// Two lines, each after a line end: the text around this place, and a caret below the place. An end at which the text is cut off is shown as two
+/// dots. A hidden character is shown as a question mark. The result is empty if the place is past the end of the text.
 pub fn caret_below(alloc: Global, text: &str, place: usize) -> Result<String, AllocError> {
     if place > text.len() {
         return Ok(String::new(alloc));

@@ -116,7 +116,7 @@ fn has_room_round(room: &Room) -> bool
     beside && above
 }
 
-/// Whether this margin is there and has room for half of this gap, both in 10^-5 of a point.
+/// Whether this margin isn't 0 and has room for half of this gap, both in 10^-5 of a point.
 fn has_half_gap(edge: u64, gap: u64) -> bool
     requires { edge ≤ 10_000_000_000 }
     ensures { result ≡ has_room_of edge gap }

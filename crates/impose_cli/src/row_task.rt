@@ -120,7 +120,7 @@ struct FoundPapers {
     taken: u32,
 }
 
-/// The papers of a document's pages, and the document's parts. The error is the reason why the document is refused.
+/// The papers of a document's pages, and the document's parts. The error says why the document is refused.
 fn papers_of(
     alloc: Global,
     request: &ImposeRequest,
@@ -246,7 +246,7 @@ fn paper_of_row(request: &ImposeRequest, input: &[u8], taken: &[Paper]) -> (Pape
     }
 }
 
-/// The paper as which `paper` counts beside `taken`, the papers of the row's pages. In a selection, papers of nearly the same size count as one, so
+/// The paper that stands for `paper` among `taken`, the papers of the row's pages. In a selection, papers of nearly the same size count as one, so
 /// that blank sheets get the same paper as sheets with pages. In other layouts it is `paper` itself.
 fn counted_paper(
     alloc: Global,

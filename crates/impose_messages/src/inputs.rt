@@ -1,4 +1,4 @@
-//! Inputs that are no documents.
+//! Inputs that aren't documents.
 ghost use Rattle.std.specs.Prelude.{◌≡◌};
 ghost use Rattle.impose_messages.specs.Inputs.{is_eps as eps, refused_document as document_fault, of_other_input, of_unpacked, packing_of as packed_by};
 

@@ -20,7 +20,7 @@ use std::io;
 
 const OUT_OF_MEMORY: &str = "out of memory";
 
-/// The message about a fault, without a line end. The request is there if the command line was accepted.
+/// The message about a fault, without a line end. The request is given if the command line was accepted.
 pub fn fault_text(
     alloc: Global,
     fault: &ImposeFault,

@@ -13,7 +13,7 @@ pub(crate) fn tip_in(tips: &[Tip], word: &str) -> Option<&'static str> {
     None
 }
 
-/// Tips where the first argument of a command is missing.
+/// Tips for a command without its first argument.
 pub(crate) const MISSING: [Tip; 7] = [
     (
         &["nup"],

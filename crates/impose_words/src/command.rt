@@ -580,7 +580,7 @@ fn part_of(odd: bool, even: bool) -> Option<Part>
     }
 }
 
-/// The name of the output file. A name that begins with a minus sign is refused, because it is most likely an option that comes too late.
+/// The name of the output file. A name that begins with a minus sign is refused, because it is most likely a misplaced option.
 fn outfile_of(alloc: Global, found: &ArgMatches<'_>) -> Result<Option<String>, RequestFault>
     ensures asked { IfOk result (λ outfile.
         file_asked (given opt.Outfile (rows_of (found_of found.now))) ≡ option_map string_bytes outfile) }

@@ -195,7 +195,7 @@ fn once(before: Option<Grains>, margin: Grains) -> Option<Option<Grains>>
     }
 }
 
-/// The text before the first character `at`, and the text after it. `None` if the character isn't there.
+/// The text before the first character `at`, and the text after it. `None` if the text doesn't contain the character.
 fn cut_at(text: &str, at: char) -> Option<(&str, &str)>
     requires { at < 128 }
     ensures { option_map (λ x. (x.0.now, x.1.now)) result ≡ meaning.cut_at at text.now }

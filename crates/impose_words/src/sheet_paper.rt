@@ -27,7 +27,7 @@ fn paper_for_pages(layout: &Layout, page_paper: &Paper) -> Paper
     }
 }
 
-/// A paper held upright: it is no wider than high.
+/// A paper held upright, so that it isn't wider than it is high.
 fn held_upright(paper: &Paper) -> Paper
     ensures { result ≡ meaning.held_upright paper.now }
 {

@@ -92,7 +92,7 @@ fn take_turn<'r, R: Wait, T: SheetTexts, G: Gate, S: Sink>(
 {
     let shared = input.shared;
     let channel = input.channel;
-    // The count is read before the channel. If it is 0, the last message of the last imposer is in the channel by then.
+    // The count is read before the channel. If it is 0, the last message of the last imposer is already in the channel.
     let none_left = shared.imposers_left.load(SeqCst) == 0;
     shared.floor.gate.before_look(Look::Channel);
     let received = channel

@@ -283,7 +283,7 @@ fn put_blank_sheets<R: Wait, G: Gate>(
     ensures put { (back : List ℕ) × HandedOn shared.now.floor.ready.now sheets.now back pass.old pass.new }
 {
     for k in 0..sheets.len() {
-        // If the queue refuses a sheet, the collector makes the sheet at the end. So imposers mustn't wait until it is written.
+        // If the queue refuses a sheet, the collector makes the sheet at the end. So imposers must not wait until it is written.
         if shared.floor.ready.put(rt, pass, sheets[k]).is_err() {
             shared.window.lift();
         }

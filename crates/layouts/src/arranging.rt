@@ -169,7 +169,7 @@ pub(crate) fn leaf_order(right_to_left: bool) -> Order
     }
 }
 
-/// The sheet with its margins and gaps, or the reason why it is refused.
+/// The sheet with its margins and gaps. If it is refused, the error says why.
 pub(crate) fn sheet_in(papers: &Papers, free: &Free) -> Result<Room, ArrangementError>
     ensures page { IsTrue (is_paper papers.now.page.width papers.now.page.height) }
     ensures sheet { IsTrue (is_paper papers.now.sheet.width papers.now.sheet.height) }
@@ -212,7 +212,7 @@ pub fn check_room(sheet: &Paper, free: &Free) -> Result<(), ArrangementError>
     }
 }
 
-/// The scale of pages, in 10^-9, in cells that allow at most the scale `largest`. If pages can't have it, the result is the reason why.
+/// The scale of pages, in 10^-9, in cells that allow at most the scale `largest`. If pages can't have it, the error says why.
 pub(crate) fn scale_found(
     room: &Room,
     asked: Option<Number>,

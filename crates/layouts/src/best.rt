@@ -42,8 +42,8 @@ fn best_grid(page: &Paper, room: &Room, n: u32) -> Grid
     )
 }
 
-/// The best grid of at least n cells whose pages are turned if `turned` is true, and else upright. If several grids are equally good, it is the one
-/// with the fewest columns.
+/// The best grid of at least n cells whose pages are turned if `turned` is true, and otherwise upright. If several grids are equally good, it is the
+/// one with the fewest columns.
 fn best_of(page: &Paper, room: &Room, turned: bool, n: u32) -> Grid
     requires shown { IsTrue (is_shown page.now room.now) }
     requires cells { (0 < n) × (n ≤ most_on_sheet) }

@@ -74,7 +74,7 @@ impl Setting {
     }
 
     /// The setting for a booklet, with the two halves of a sheet as its cells. It is refused if pages of the paper in `papers` don't fit into the
-    /// halves. The fold is at the same place for pages of every paper.
+    /// halves. The fold is in the same place for pages of every paper.
     pub fn of_binding(papers: &Papers, binding: &Binding) -> Result<Setting, ArrangementError>
         ensures page { IsPaper papers.now.page }
         ensures sheet { IsPaper papers.now.sheet }
@@ -191,7 +191,7 @@ impl Setting {
             && !self.grid.turned
     }
 
-    /// The scale of pages that have this paper, in 10^-9, or the reason why they can't have one.
+    /// The scale of pages that have this paper, in 10^-9. If they can't have one, the error says why.
     fn scale_found(&self, page_paper: &Paper) -> Result<u64, ArrangementError>
         ensures page { IsPaper page_paper.now }
         ensures sheet { IsPaper self.now.room.paper }

@@ -1,9 +1,9 @@
 //! Laws of a PostScript machine with further operators, of sheets on several papers and with strokes (marks and lines
 //! for notes), and of two real documents (docs/PICTURES.md, 'Further operators').
 //!
-//! An operator is placeless if its result in a placed state is its result in the state itself, placed. It is blind if
-//! it is placeless and doesn't ask for the names that the sheet's text defines. The premises are in docs/PICTURES.md.
-//! Each function states one law in its contract, and does nothing.
+//! An operator is placeless if its result in a placed state is the placed form of its result in the state itself. It
+//! is blind if it is placeless and doesn't ask for the names that the sheet's text defines. The premises are in
+//! docs/PICTURES.md. Each function states one law in its contract, and does nothing.
 ghost use Rattle.open_pictures.specs.Blindness.{PlacelessRunsPreambles};
 ghost use Rattle.open_pictures.specs.Documents.{OpenMadeSheetsShowThePages, OpenOwnPicture, OpenSheetsShowThePages};
 ghost use Rattle.open_pictures.specs.DocumentRun.{OpenSheetsShowTheDocument};
@@ -24,18 +24,18 @@ ghost use Rattle.open_pictures.specs.Barcode.{BarcodeIsShown};
 ghost use Rattle.open_pictures.specs.Groff.{GroffIsShown};
 
 /// With further operators that are placeless, if the machine goes from one state to another by itself, it also goes
-/// from the first state, placed, to the second state, placed.
+/// from the placed first state to the placed second state.
 pub fn open_placing_commutes()
     ensures { OpenPlacingCommutes }
 {}
 
 /// With further operators that are placeless, a placed page paints on the sheet the picture that it paints by itself,
-/// placed.
+/// in its place.
 pub fn open_page_is_placed()
     ensures { OpenPageIsPlaced }
 {}
 
-/// With further operators that are placeless, each sheet is printed with the pictures of its pages, placed.
+/// With further operators that are placeless, each sheet is printed with the pictures of its pages in their places.
 pub fn open_sheets_are_printed()
     ensures { OpenSheetsArePrinted }
 {}
@@ -47,7 +47,7 @@ pub fn open_own_picture()
 {}
 
 /// With further operators that are blind, a machine that runs an output prints, sheet by sheet, the pictures that the
-/// document's own pages print, placed.
+/// document's own pages print, each in its place.
 pub fn open_sheets_show_the_pages()
     ensures { OpenSheetsShowThePages }
 {}
@@ -79,14 +79,14 @@ pub fn open_made_sheets_show_the_pages()
     ensures { OpenMadeSheetsShowThePages }
 {}
 
-/// Operators that are placeless may also be used by the preamble. A preamble may have others too, which look at their
-/// place.
+/// Operators that are placeless may also be used by the preamble. A preamble may also have other operators, which look
+/// at their place.
 pub fn placeless_runs_preambles()
     ensures { PlacelessRunsPreambles }
 {}
 
 /// With further operators that are blind, if the pages of a document are independent, a machine that runs an output
-/// prints, sheet by sheet, the pictures that the document itself prints, placed.
+/// prints, sheet by sheet, the pictures that the document itself prints, each in its place.
 pub fn open_sheets_show_the_document()
     ensures { OpenSheetsShowTheDocument }
 {}
@@ -105,19 +105,19 @@ pub fn tables_are_placeless_there()
 {}
 
 /// A placed page of a guarded document with further operators paints on the sheet the picture that it paints by
-/// itself, placed.
+/// itself, in its place.
 pub fn open_guarded_page_is_placed()
     ensures { OpenGuardedPageIsPlaced }
 {}
 
 /// A machine that runs an output of a document with the guard in its preamble prints the pictures that the pages paint
-/// by themselves, placed. Pages may have further operators.
+/// by themselves, each in its place. Pages may have further operators.
 pub fn open_guarded_sheets_show_the_pages()
     ensures { OpenGuardedSheetsShowThePages }
 {}
 
 /// A machine that runs what impose makes of a guarded document by a specification prints the pictures of its pages,
-/// placed. Pages may have further operators that are placeless in guarded documents.
+/// each in its place. Pages may have further operators that are placeless in guarded documents.
 pub fn open_guarded_document_is_shown()
     ensures { OpenGuardedDocumentIsShown }
 {}
@@ -135,13 +135,13 @@ pub fn answers_see_no_matrices()
 {}
 
 /// If a document has a `showpage` of its own, its placed pages paint on the sheet the pictures that they paint by
-/// themselves, placed. Pages may have further operators.
+/// themselves, each in its place. Pages may have further operators.
 pub fn open_own_page_is_placed()
     ensures { OpenOwnPageIsPlaced }
 {}
 
 /// A machine that runs what impose makes, by a specification, of a document with a `showpage` of its own prints, sheet
-/// by sheet, the pictures that the pages paint by themselves, placed. Pages may have further operators.
+/// by sheet, the pictures that the pages paint by themselves, each in its place. Pages may have further operators.
 pub fn open_own_showpage_is_shown()
     ensures { OpenOwnShowpageIsShown }
 {}
@@ -153,14 +153,14 @@ pub fn open_own_made_document_is_shown()
 {}
 
 /// If a document leaves the `showpage` of userdict empty, its placed pages paint on the sheet the pictures that they
-/// paint by themselves, placed. Pages may have further operators.
+/// paint by themselves, each in its place. Pages may have further operators.
 pub fn open_silenced_page_is_placed()
     ensures { OpenSilencedPageIsPlaced }
 {}
 
 /// A machine that runs what impose makes, by a specification, of a document that leaves the `showpage` of userdict
-/// empty prints, sheet by sheet, the pictures that the pages paint by themselves, placed. Pages may have further
-/// operators.
+/// empty prints, sheet by sheet, the pictures that the pages paint by themselves, each in its place. Pages may have
+/// further operators.
 pub fn open_silenced_document_is_shown()
     ensures { OpenSilencedDocumentIsShown }
 {}
@@ -214,7 +214,7 @@ pub fn device_size_is_set()
 {}
 
 /// A machine that runs anything that impose writes of a document with the guard prints, sheet by sheet, the pictures
-/// that the document's pages paint by themselves, placed. The strokes of a sheet come after its pages.
+/// that the document's pages paint by themselves, each in its place. The strokes of a sheet come after its pages.
 pub fn dressed_document_is_shown()
     ensures { DressedDocumentIsShown }
 {}
@@ -226,7 +226,7 @@ pub fn open_dressed_document_is_shown()
 {}
 
 /// A machine that runs anything that impose writes of a document without the guard prints, sheet by sheet, the
-/// pictures that the document's own pages print, placed. The strokes of a sheet come after its pages.
+/// pictures that the document's own pages print, each in its place. The strokes of a sheet come after its pages.
 pub fn dressed_sheets_show_the_pages()
     ensures { DressedSheetsShowThePages }
 {}
@@ -236,14 +236,14 @@ pub fn open_dressed_sheets_show_the_pages()
     ensures { OpenDressedSheetsShowThePages }
 {}
 
-/// A machine that runs an output of barcode.ps prints the pictures of its three pages, placed. Only comments may be
-/// added to the sheets.
+/// A machine that runs an output of barcode.ps prints the pictures of its three pages, each in its place. Only
+/// comments may be added to the sheets.
 pub fn barcode_is_shown()
     ensures { BarcodeIsShown }
 {}
 
-/// A machine that runs an output of groff.ps prints the pictures of its two pages, placed. Only comments may be added
-/// to the sheets.
+/// A machine that runs an output of groff.ps prints the pictures of its two pages, each in its place. Only comments
+/// may be added to the sheets.
 pub fn groff_is_shown()
     ensures { GroffIsShown }
 {}

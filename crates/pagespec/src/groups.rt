@@ -93,7 +93,7 @@ fn read_bare_item(bytes: &[u8]) -> Result<ParsedItem, ParseStop>
     })
 }
 
-/// Reads the groups at the start of a text, and returns the text after them too.
+/// Reads the groups at the start of a text, and also returns the text after them.
 fn read_groups(alloc: Global, bytes: &[u8]) -> Result<(ParsedGroups, Rest<'_>), Stop>
     ensures { MatchResult result (λ x. GroupsRead bytes.now x.0 x.1.text.now
         × StuckAfter AreWholeGroups groups_at bytes.now x.1.text.now x.1.stuck.left)

@@ -81,7 +81,7 @@ pub(crate) struct ParsedItem {
     pub modifiers: Modifiers,
 }
 
-/// Reads the item at the start of a text, and returns the text after it too.
+/// Reads the item at the start of a text, and also returns the text after it.
 pub(crate) fn read_item(bytes: &[u8]) -> Result<(ParsedItem, Rest<'_>), ParseStop>
     ensures { MatchResult result (λ x. ItemRead bytes.now x.0 x.1.text.now
         × StuckAfter IsItem item_at bytes.now x.1.text.now x.1.stuck.left)
@@ -113,7 +113,7 @@ pub(crate) fn split_minus(bytes: &[u8]) -> (bool, &[u8])
     }
 }
 
-/// Reads the modifiers at the start of a text, and returns the text after them too.
+/// Reads the modifiers at the start of a text, and also returns the text after them.
 pub(crate) fn read_modifiers(bytes: &[u8]) -> (Modifiers, Rest<'_>)
     ensures read { ModifiersRead bytes.now result.0 result.1.text.now }
     ensures stuck { StuckAfter AreSomeModifiers (λ t. Some (modifiers_at (length t) t))

@@ -28,18 +28,18 @@ ghost use Rattle.pictures.specs.Lines.{AskingShows, AsksUserdict, ClipIsThePages
 ghost use Rattle.pictures.specs.Lines.{DeviceIsHanded, DeviceIsLeft, GraphicsAreThePages, GuardedTwice, LoadedShowpage};
 ghost use Rattle.pictures.specs.Lines.{MatrixIsThePages, OuterIsKept, PageIsLeft, SaveSaves, ShowpageStaysAName};
 
-/// If the machine goes from one state to another by itself, it also goes from the first state, placed, to the second
-/// state, placed.
+/// If the machine goes from one state to another by itself, it also goes from the placed first state to the placed
+/// second state.
 pub fn placing_commutes()
     ensures { PlacingCommutes }
 {}
 
-/// A placed page paints on the sheet the picture that it paints by itself, placed.
+/// A placed page paints on the sheet the picture that it paints by itself, in its place.
 pub fn page_is_placed()
     ensures { PageIsPlaced }
 {}
 
-/// Each sheet is printed with the pictures of its pages, placed.
+/// Each sheet is printed with the pictures of its pages in their places.
 pub fn sheets_are_printed()
     ensures { SheetsArePrinted }
 {}
@@ -56,7 +56,7 @@ pub fn opening_is_cut()
     ensures { OpeningIsCut }
 {}
 
-/// A machine that runs an output prints the sheets in order, each with the pictures of its pages, placed.
+/// A machine that runs an output prints the sheets in order, each with the pictures of its pages in their places.
 pub fn output_is_printed()
     ensures { OutputIsPrinted }
 {}
@@ -77,7 +77,8 @@ pub fn own_picture()
     ensures { OwnPicture }
 {}
 
-/// A machine that runs an output prints, sheet by sheet, the pictures that the document's own pages print, placed.
+/// A machine that runs an output prints, sheet by sheet, the pictures that the document's own pages print, each in its
+/// place.
 pub fn sheets_show_the_pages()
     ensures { SheetsShowThePages }
 {}
@@ -89,7 +90,7 @@ pub fn pages_are_printed()
 {}
 
 /// If the pages of a document are independent, a machine that runs an output prints, sheet by sheet, the pictures that
-/// the document itself prints, placed.
+/// the document itself prints, each in its place.
 pub fn sheets_show_the_document()
     ensures { SheetsShowTheDocument }
 {}
@@ -111,7 +112,7 @@ pub fn preamble_runs_alike()
 {}
 
 /// A machine that runs an output of made sheets prints, sheet by sheet, the pictures that the document's own pages
-/// print, placed. The lines added to the sheets must be comments.
+/// print, each in its place. The lines added to the sheets must be comments.
 pub fn made_sheets_show_the_pages()
     ensures { MadeSheetsShowThePages }
 {}
@@ -225,18 +226,18 @@ pub fn by_itself_as_the_operators()
     ensures { ByItselfAsTheOperators }
 {}
 
-/// A placed page of a guarded document paints on the sheet the picture that it paints by itself, placed.
+/// A placed page of a guarded document paints on the sheet the picture that it paints by itself, in its place.
 pub fn guarded_page_is_placed()
     ensures { GuardedPageIsPlaced }
 {}
 
-/// Each sheet of a guarded document is printed with the pictures of its pages, placed.
+/// Each sheet of a guarded document is printed with the pictures of its pages in their places.
 pub fn guarded_sheets_are_printed()
     ensures { GuardedSheetsArePrinted }
 {}
 
 /// A machine that runs an output of a guarded document prints, sheet by sheet, the pictures that the pages paint by
-/// themselves, placed.
+/// themselves, each in its place.
 pub fn guarded_sheets_show_the_pages()
     ensures { GuardedSheetsShowThePages }
 {}
@@ -252,7 +253,7 @@ pub fn stays_guarded()
 {}
 
 /// A machine that runs what impose makes of a document by a specification prints, sheet by sheet, the pictures that
-/// the pages paint by themselves, placed.
+/// the pages paint by themselves, each in its place.
 pub fn guarded_document_is_shown()
     ensures { GuardedDocumentIsShown }
 {}
@@ -268,25 +269,25 @@ pub fn telling_is_quiet()
 {}
 
 /// A machine that runs what impose makes of a document in any layout prints the pictures that the document's pages
-/// paint by themselves, placed. The sheets must be reported as having one paper.
+/// paint by themselves, each in its place. The sheets must be reported as having one paper.
 pub fn made_document_is_shown()
     ensures { MadeDocumentIsShown }
 {}
 
 /// If a document has a `showpage` of its own in a dictionary on the stack, its placed pages paint on the sheet the
-/// pictures that they paint by themselves, placed.
+/// pictures that they paint by themselves, each in its place.
 pub fn own_page_is_placed()
     ensures { OwnPageIsPlaced }
 {}
 
-/// Each sheet of a document with a `showpage` of its own is printed with the pictures of its pages, placed. The first
-/// sheet must have a page.
+/// Each sheet of a document with a `showpage` of its own is printed with the pictures of its pages in their places.
+/// The first sheet must have a page.
 pub fn own_sheets_are_printed()
     ensures { OwnSheetsArePrinted }
 {}
 
 /// A machine that runs what impose makes, by a specification, of a document with a `showpage` of its own prints, sheet
-/// by sheet, the pictures that the pages paint by themselves, placed. The first sheet must have a page.
+/// by sheet, the pictures that the pages paint by themselves, each in its place. The first sheet must have a page.
 pub fn own_showpage_is_shown()
     ensures { OwnShowpageIsShown }
 {}
@@ -303,20 +304,20 @@ pub fn showpage_is_put_back()
 {}
 
 /// If a document leaves the `showpage` of userdict empty, its placed pages paint on the sheet the pictures that they
-/// paint by themselves, placed.
+/// paint by themselves, each in its place.
 pub fn silenced_page_is_placed()
     ensures { SilencedPageIsPlaced }
 {}
 
-/// Each sheet of a document that leaves the `showpage` of userdict empty is printed with the pictures of its pages,
-/// placed. The first sheet must have a page.
+/// Each sheet of a document that leaves the `showpage` of userdict empty is printed with the pictures of its pages in
+/// their places. The first sheet must have a page.
 pub fn silenced_sheets_are_printed()
     ensures { SilencedSheetsArePrinted }
 {}
 
 /// A machine that runs what impose makes, by a specification, of a document that leaves the `showpage` of userdict
-/// empty prints, sheet by sheet, the pictures that the pages paint by themselves, placed. The first sheet must have a
-/// page.
+/// empty prints, sheet by sheet, the pictures that the pages paint by themselves, each in its place. The first sheet
+/// must have a page.
 pub fn silenced_document_is_shown()
     ensures { SilencedDocumentIsShown }
 {}
@@ -338,7 +339,7 @@ pub fn stays_taking_sheets()
     ensures { StaysTakingSheets }
 {}
 
-/// A sheet of another document that is placed as a page paints its own picture, placed.
+/// A sheet of another document that is placed as a page paints its own picture, in its place.
 pub fn sheet_is_placed()
     ensures { SheetIsPlaced }
 {}
@@ -349,13 +350,14 @@ pub fn sheet_is_composed()
     ensures { SheetIsComposed }
 {}
 
-/// If the sheets of one run are imposed again, each new sheet is printed with the pictures of its sheets, placed.
+/// If the sheets of one run are imposed again, each new sheet is printed with the pictures of its sheets in their
+/// places.
 pub fn sheets_of_sheets_are_printed()
     ensures { SheetsOfSheetsArePrinted }
 {}
 
-/// A machine that runs what impose makes of the output of an earlier run prints the sheets of the earlier run, placed.
-/// Both runs are those of specifications.
+/// A machine that runs what impose makes of the output of an earlier run prints the sheets of the earlier run, each in
+/// its place. Both runs are those of specifications.
 pub fn two_runs_are_shown()
     ensures { TwoRunsAreShown }
 {}
@@ -370,7 +372,7 @@ pub fn sheets_are_taken_within()
     ensures { SheetsAreTakenWithin }
 {}
 
-/// If pages are imposed any number of times, each sheet is printed with the pictures of its sheets, placed.
+/// If pages are imposed any number of times, each sheet is printed with the pictures of its sheets in their places.
 pub fn nests_are_printed()
     ensures { NestsArePrinted }
 {}

@@ -56,7 +56,7 @@ fn way_at(ways: &[Way], number: usize) -> &Way
     &ways[number]
 }
 
-/// Appends the line of a way. In place of the first way that isn't listed, one line stands for all ways left out.
+/// Appends the line of a way. The line of the first way that isn't listed says only that there are other ways.
 fn append_way_line(number: usize, way: &Way, out: &mut Vec<u8>) -> Result<(), AllocError>
     ensures { OnOk result (out.new.items ≡ out.old.items ++ way_line number way.now) }
 {

@@ -29,7 +29,7 @@ pub fn turned_stands()
 {}
 
 /// If pages lie between the margins of a sheet and apart from each other, they also do so after left and right margins are exchanged on backs
-/// (`stands`). Fitted pages have their offsets in points, as this needs (`points`).
+/// (`stands`). Fitted pages have their offsets in points, which this law needs (`points`).
 pub fn swapped_stands()
     ensures stands { SwappedStands }
     ensures points { FittedAreInPoints }
@@ -46,8 +46,8 @@ pub fn turned_stays_in_cell()
     ensures { TurnedStaysInCell }
 {}
 
-/// Where the pages are on the sheets that are written. If no page is turned, pages stand as they are laid, and on backs between the margins of the
-/// back (`stand`). If also no margins are exchanged, pages are in the places of the laying (`places`). Whether turned or not, each page lies in its
+/// Where the pages are on the sheets that are written. If no page is turned, pages are where they are laid, and on backs between the margins of the
+/// back (`stand`). If no margins are exchanged either, pages are in the places of the laying (`places`). Whether turned or not, each page lies in its
 /// cell (`cells`), and pages that aren't trimmed lie between the margins and apart from each other (`room`). Cells, stacks and zines (`read`) and
 /// booklets (`bound`) are read in the order of the row.
 pub fn written_keeps_place()

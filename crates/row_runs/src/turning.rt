@@ -51,8 +51,8 @@ fn all_papers(alloc: Global, turn: Turn, papers: &[Paper]) -> Result<Vec<Paper>,
     Ok(turned)
 }
 
-/// The same sheets, with all pages turned. Until then the sheets must be laid for pages with the turned papers. If `swap` is given, its left and
-/// right margins are exchanged on backs, and pages there are shifted before they are turned.
+/// The same sheets, with all pages turned. The given sheets must be laid for pages with the turned papers. If `swap` is given, its left and right
+/// margins are exchanged on backs, and pages there are shifted before they are turned.
 pub(crate) fn turned_sheets(
     alloc: Global,
     turn: Turn,

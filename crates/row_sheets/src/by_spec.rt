@@ -95,7 +95,7 @@ fn push_block(
     Ok(())
 }
 
-/// Fills `slots` anew, with those of a group.
+/// Replaces the content of `slots` with the slots of a group.
 fn fill_sheet(
     slots: &mut Vec<MadeSlot>,
     on: &SpecOnRow<'_>,

@@ -65,8 +65,8 @@ pub fn creeping_booklet_sheets(
     }
 }
 
-/// The reason why the leaves can't be made. It is that of the first page in the row that can't be placed in its half. If all pages can be placed,
-/// there is not enough memory.
+/// Why the leaves can't be made: the fault of the first page in the row that can't be placed in its half, or a lack of memory if all pages can be
+/// placed.
 fn first_refusal(
     setting: &Setting,
     papers: &[Paper],

@@ -167,8 +167,8 @@ fn fill_cells(
     }
 }
 
-/// The reason why the cells can't be filled. It is that of the first page in the row that can't be placed, on whichever sheet it would be. If all
-/// pages can be placed, there is not enough memory.
+/// Why the cells can't be filled: the fault of the first page in the row that can't be placed, on whichever sheet it would be, or a lack of memory if
+/// all pages can be placed.
 fn first_refusal(setting: &Setting, papers: &[Paper], row: &[Option<u32>]) -> ArrangementError
     requires { 0 < size setting.now.grid }
     ensures { IsRefusedFor (filling setting.now papers.now) row.now result }
@@ -241,7 +241,7 @@ fn filled(
     Ok(made)
 }
 
-/// Fills `slots` anew, with those of the next sheet.
+/// Replaces the content of `slots` with the slots of the next sheet.
 fn fill_slots(
     slots: &mut Vec<MadeSlot>,
     made: &MadeSheets,

@@ -115,7 +115,7 @@ pub(crate) fn push_poster(
     Ok(())
 }
 
-/// How a page of this paper lies on the tiles, or the reason why it can't.
+/// How a page of this paper lies on the tiles. If it can't, the error says why.
 fn laid_on(poster: &Poster, page_paper: &Paper) -> Result<PosterFit, PosterError>
     ensures value { IfOk result (λ laid. laid ≡ laid_of page_paper.now poster.now) }
     ensures tiles { IfOk result (λ laid. poster.now.rows * poster.now.columns ≤ most_tiles) }

@@ -29,8 +29,7 @@ pub fn poster_row_sheets(
     }
 }
 
-/// The reason why the posters can't be made. It is that of the first page that can't be a poster. If all pages can be one, there is not enough
-/// memory.
+/// Why the posters can't be made: the fault of the first page that can't be a poster, or a lack of memory if all pages can be one.
 fn first_refusal(poster: &Poster, papers: &[Paper], row: &[Option<u32>]) -> PosterError
     ensures { IsNoPosterFor poster.now papers.now row.now result }
 {

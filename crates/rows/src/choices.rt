@@ -50,7 +50,7 @@ pub fn chosen_row(
     }
 }
 
-/// The number of entries in the row before a part is kept, or the reason why there is no row.
+/// The number of entries in the row before a part is kept. If there is no row, the error says why.
 fn named_count(pages: u32, ranges: Option<&[u8]>) -> Result<usize, RowError>
     requires { pages ≤ most_entries }
     ensures row { IfOk result (λ n. named_row pages (ranges_text ranges.entry) ≡ Ok (named_found pages ranges.entry)) }

@@ -21,7 +21,7 @@ pub(crate) struct Tally {
     pub entries: u64,
 }
 
-/// The number of entries in the row that a text names, or the reason why it names no row.
+/// The number of entries in the row that a text names. If it names no row, the error says why.
 pub(crate) fn entry_count(pages: u32, text: &[u8]) -> Result<usize, RowError>
     ensures row { IfOk result (λ n. row_of_text pages text.now ≡ Ok (row_found pages text.now)) }
     ensures count { IfOk result (λ n. n ≡ length (row_found pages text.now)) }

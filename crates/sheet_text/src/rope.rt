@@ -19,7 +19,7 @@ pub struct Rope<'r> {
     pub(crate) slices: Vec<Borrowed<'r>>,
 }
 
-/// A borrowed slice. It stands before the owned byte with index `at`, or after all owned bytes if there is no such byte.
+/// A borrowed slice. It comes before the owned byte with index `at`, or after all owned bytes if there is no such byte.
 #[derive(Clone, Copy)]
 pub(crate) struct Borrowed<'r> {
     pub(crate) at: usize,

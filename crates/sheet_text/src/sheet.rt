@@ -164,7 +164,7 @@ fn append_slot(
 }
 
 /// Appends the page in this slot: the text that opens it, this prepared body, and the text that closes it. The body is borrowed, not copied, if it
-/// has 4,096 bytes or more. The slot mustn't be blank; if it is, the appended text isn't specified.
+/// has 4,096 bytes or more. The slot must not be blank; if it is, the appended text isn't specified.
 pub fn append_placed<'r>(
     text: &mut Rope<'r>,
     openings: &mut Openings,

@@ -91,7 +91,7 @@ pub fn paper(words: &[String], at: usize) -> Option<Paper> {
     Paper::new(length(width, unit)?, length(height, unit)?)
 }
 
-/// The papers with these names. `None` if one of them is no paper's name.
+/// The papers with these names. `None` if one of them isn't the name of a paper.
 pub fn papers_of(alloc: Global, names: &[String]) -> Option<Vec<Paper>> {
     let mut papers = Vec::new(alloc);
     for name in names {

@@ -55,8 +55,8 @@ fn body_line(alloc: Global, body: Result<Body<'_>, AllocError>) -> Answer {
     line
 }
 
-/// Prints the body of a page, or the reason why it has none. If the two functions that prepare a page (`prepare` and `Body::prepare`) differ, prints
-/// both results.
+/// Prints the body of a page, or why the page has none. If the two functions that prepare a page (`prepare` and `Body::prepare`) differ, prints both
+/// results.
 pub fn bodies(out: &mut Answer, page: &[u8]) {
     let copied = copied_line(out.alloc, page);
     let held = held_line(out.alloc, page);

@@ -127,7 +127,7 @@ fn entry_of(word: &str) -> Option<(Option<u32>, u32)> {
     Some((Some(page), times.parse::<u32>().ok()?))
 }
 
-/// Prints a row, or the reason why there is none.
+/// Prints a row, or why there is none.
 fn told<E: Display + Drop>(out: &mut Answer, answer: Result<Vec<Option<u32>>, E>) {
     match answer {
         Ok(row) => row_line(out, row.as_slice()),

@@ -35,7 +35,7 @@ fn pages_and_names(text: &str) -> Option<(u32, &str)> {
     Some((pages.parse::<u32>().ok()?, names))
 }
 
-/// Prints the sheets that a specification makes from a row, with sheets of A3 and pages of A4, or the reason why there are none.
+/// Prints the sheets that a specification makes from a row, with sheets of A3 and pages of A4, or prints why there are none.
 pub fn by_specification(out: &mut Answer, words: &[String]) -> Option<()> {
     let Some(spec) = specification(out, words, 1) else {
         return Some(());
@@ -73,7 +73,7 @@ fn row_of(alloc: Global, pages: u32, row: &str) -> Option<Vec<Option<u32>>> {
     }
 }
 
-/// Prints sheets, or the reason why there are none.
+/// Prints sheets, or why there are none.
 fn told<E: Display + Drop>(out: &mut Answer, made: Result<MadeSheets, E>) {
     match made {
         Ok(made) => sheet_lines(out, &made),

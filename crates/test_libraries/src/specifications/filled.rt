@@ -61,7 +61,7 @@ fn filled(out: &mut Answer, words: &[String], papers: &[Paper]) -> Option<()> {
     Some(())
 }
 
-/// Prints the pages of each sheet, or the reason why there are no sheets.
+/// Prints the pages of each sheet, or why there are no sheets.
 fn tell(out: &mut Answer, made: Result<MadeSheets, ArrangementError>) {
     match made {
         Ok(made) => tell_sheets(out, &made),

@@ -58,7 +58,7 @@ fn papers(words: &[String]) -> Option<Papers> {
     })
 }
 
-/// Prints a specification, or the reason why there is none.
+/// Prints a specification, or why there is none.
 fn tell<E: Debug + Display + Drop>(out: &mut Answer, made: Result<Spec, E>) -> Option<()> {
     match made {
         Ok(spec) => written(out, &spec),

@@ -15,7 +15,7 @@ use std::thread::Threads;
 /// The number of workers of each kind.
 const WORKERS: u32 = 3;
 
-/// The things that a worker holds: here, only its shares.
+/// The tokens of a worker. In these tests they are only its shares.
 #[derive(Drop)]
 struct Held {
     shares: u64,

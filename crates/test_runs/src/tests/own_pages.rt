@@ -16,7 +16,7 @@ use std::sync::atomic::AtomicUsize;
 use std::sync::atomic::Ordering::SeqCst;
 use std::thread::{Threads, for_each_mut};
 
-/// The number of times that the threads begin anew.
+/// The number of times that the threads are started.
 const ROUNDS: u32 = 1_000;
 
 /// Two slots, each with its sheet and its place there.

@@ -130,7 +130,7 @@ impl<'s, 'j, 't, 'd> Gatherer<'s, 'j, 't, 'd> {
         Some(self.table.publish(&mut self.seat, page, index))
     }
 
-    /// Marks a slot. `None` if the slot is blank or isn't there, or if its page has no index.
+    /// Marks a slot. `None` if the slot is blank or doesn't exist, or if its page has no index.
     pub(crate) fn mark(&mut self, sheet: u32, slot: u16) -> Option<Reply> {
         mark_checked(self.table, self.job.plan(), &mut self.seat, sheet, slot)
     }

@@ -79,7 +79,7 @@ pub(crate) fn first_word(words: &str) -> (&str, &str) {
     words.split_once(' ').unwrap_or((words, ""))
 }
 
-/// The name of a call, and the first two numbers after it, 0 where there is none.
+/// The name of a call, and the first two numbers after it. A missing number is 0.
 pub(crate) fn call_of(words: &str) -> (&str, u32, u32) {
     let mut words = words.split(' ');
     let name = words.next().unwrap_or("");

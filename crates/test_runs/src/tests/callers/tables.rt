@@ -26,7 +26,7 @@ fn has_group(plan: &Plan, sheet: u32, group: u8) -> bool
     slots > 64 && 64 * u16::from(group) < slots
 }
 
-// The page of a slot, if the slot is there and isn't blank.
+// The page of a slot, if the slot exists and isn't blank.
 pub(crate) fn page_in(plan: &Plan, sheet: u32, slot: u16) -> Option<u32>
     ensures sheet { IfSome result (λ _. sheet < length (layout plan.now).sheets) }
     ensures slot { IfSome result (λ page. slice_get (slots (layout plan.now) sheet) slot ≡ Some (Some page)) }

@@ -251,7 +251,7 @@ const NEIGHBOURS: &str = "\
     joined 0 9 = 1 text\n\
 ";
 
-/// A sheet that comes lies at its place in the buffer. Another sheet with the same place is dropped, and taking that sheet leaves the first one
+/// A sheet that comes lies in its place in the buffer. Another sheet with the same place is dropped, and taking that sheet leaves the first one
 /// there.
 const ONE_PLACE: &str = "\
     places = (2, 2)\n\
