@@ -154,7 +154,7 @@ page_tile p papers page n = record {
   slots = Placed page (tile_item (poster_paper p papers page) p (n % p.columns) (p.rows - (n / p.columns + 1))) (poster_paper p papers page) ∷ [];
 }
 
-abbrev tiles_in : Poster → ℕ
+abbrev pub tiles_in : Poster → ℕ
 tiles_in p = p.rows * p.columns
 
 entry_even : (p : Poster) (papers : List Paper) (entry : Option ℕ) → HaveSlots 1 (entry_tiles p papers entry)
@@ -171,7 +171,7 @@ entry_count : (p : Poster) (papers : List Paper) (entry : Option ℕ) → length
 entry_count p papers None = length-map-range_with_len (blank_tile p) 0 (tiles_in p)
 entry_count p papers (Some page) = length-map-range_with_len (page_tile p papers page) 0 (tiles_in p)
 
-tiles_count : (p : Poster) (papers : List Paper) (row : Row) → length (row_tiles p papers row) ≡ length row * tiles_in p
+pub tiles_count : (p : Poster) (papers : List Paper) (row : Row) → length (row_tiles p papers row) ≡ length row * tiles_in p
 tiles_count p papers [] = let z : 0 ≡ 0 * tiles_in p = omega arith in z
 tiles_count p papers (e ∷ es) =
     ap length (flat_map-cons (entry_tiles p papers) e es)

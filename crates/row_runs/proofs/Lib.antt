@@ -6,6 +6,7 @@ mod TrailerLines
 mod Outside
 mod Alone
 mod Counted
+mod AsMany
 mod OneScale
 mod NotLaid
 mod Turned

@@ -1,6 +1,6 @@
 -- Places that can be written once pages are moved and turned.
-use Rattle.std.proofs.Common.{arith, ◌≡◌, ◌∙◌, ℕ, zero, suc, ◌+◌, ◌<◌, ◌≤◌, ◌^◌, Bool, true, false, true≢false, List, [], ◌∷◌, Option, Some, ap, refl, sym, subst, length, take, FitsSigned, to_z, of_z}
-use Rattle.std.specs.Prelude.{ℤ, pos, nat_abs, ◌&&◌, slice_get}
+use Rattle.std.proofs.Common.{arith, inl, inr, ◌⊎◌, ◌≡◌, ◌∙◌, ℕ, zero, suc, ◌+◌, ◌<◌, ◌≤◌, ◌^◌, Bool, true, false, true≢false, List, [], ◌∷◌, Option, Some, ap, ap₂, refl, sym, subst, length, take, FitsSigned, to_z, of_z}
+use Rattle.std.specs.Prelude.{ℤ, pos, nat_abs, ◌%◌, ◌==◌, ◌&&◌, if◌then◌else◌, IsOk, None, slice_get}
 use Rattle.std.specs.List.{list_all}
 use Rattle.std.proofs.lemmas.Bool.{false_from_ne_true, leb-true}
 use Rattle.std.proofs.lemmas.Bool.Decides.{nat_tests}
@@ -9,9 +9,9 @@ use Rattle.std.proofs.lemmas.Option.{none-some, same_Some}
 use mir.Syntax.{w64}
 use Rattle.rules.specs.Numbers.{greatest_number}
 use Rattle.rules.specs.Papers.{Paper}
-use Rattle.rules.specs.Placement.{turned}
-use Rattle.rules.specs.Run.{most_pages}
-use Rattle.rules.specs.Specification.{Item, Measure, Turn}
+use Rattle.rules.specs.Placement.{Point, turned}
+use Rattle.rules.specs.Run.{most_pages, most_sheets}
+use Rattle.rules.specs.Specification.{Item, Measure, Turn, Upright, Left, Half, Right}
 use Rattle.lengths.specs.Ranges.{FitsNumber}
 use Rattle.layouts.specs.Placed.{Room}
 use Rattle.rules.specs.Made.{MadeSheet, MadeSlot}
@@ -20,15 +20,16 @@ use Rattle.sheet_plan.specs.OfSheets.{slots_at}
 use Rattle.sheet_plan.specs.declared.error.MadeError.TheVariants as plan
 use Rattle.sheet_plan.proofs.Accepted.{too_many_sheets}
 use Rattle.row_runs.specs.SwappedMargins.{swapped_room_on}
-use Rattle.row_runs.specs.Reaching.{IsNotReached, are_reached, are_reached_from, is_writable_offset, is_slot_reached}
+use Rattle.row_runs.specs.Reaching.{IsNotReached, are_reached, are_reached_from, is_changed, is_writable_offset, is_slot_reached}
 use Rattle.row_runs.specs.Turning.{turn_sum, turned_corner, shifted, scaled_length, turned_item}
-use Rattle.row_runs.specs.Runs.{RefusesRun, swapped_room_for, page_count}
+use Rattle.row_runs.specs.Numbers.{are_numbers_reached}
+use Rattle.row_runs.specs.Runs.{RefusesRun, are_laid_in_reach, have_numbers_in_reach, swapped_room_for, page_count}
 use Rattle.row_runs.specs.Sheets.{AreAsked}
 use Rattle.row_runs.specs.declared.error.SheetError.{SheetError}
 use Rattle.row_runs.specs.declared.error.SheetError.TheVariants as error
 use Rattle.row_runs.specs.declared.run.RowJob.{RowJob}
 use Rattle.row_runs.proofs.Turned.{turned_refused}
-use Rattle.row_runs.proofs.Turns.{item_at, item_is, point}
+use Rattle.row_runs.proofs.Turns.{item_at, item_is, no_farther, nowhere, point}
 
 -- ---- one offset
 
@@ -37,6 +38,44 @@ is_near_if m fits = grind (arith, nat_tests)
 
 pub is_far_if : (m : Measure) → (FitsNumber m.number → ⊥) → is_writable_offset m ≡ false
 is_far_if m never = false_from_ne_true (is_writable_offset m) (λ is. never (leb-true (nat_abs m.number) greatest_number is))
+
+-- ---- what isn't changed
+
+pub unchanged_turn : (t : Turn) (m : Option Room) → is_changed t m ≡ false → t ≡ Upright
+unchanged_turn Upright m e = refl
+unchanged_turn Left m e = absurd (true≢false e)
+unchanged_turn Half m e = absurd (true≢false e)
+unchanged_turn Right m e = absurd (true≢false e)
+
+pub unchanged_room : (t : Turn) (m : Option Room) → is_changed t m ≡ false → m ≡ None
+unchanged_room Upright None e = refl
+unchanged_room Upright (Some room) e = absurd (true≢false e)
+unchanged_room Left m e = absurd (true≢false e)
+unchanged_room Half m e = absurd (true≢false e)
+unchanged_room Right m e = absurd (true≢false e)
+
+one_or_none : (b : Bool) → is_changed Upright (if b then None else None) ≡ false
+one_or_none true = refl
+one_or_none false = refl
+
+-- on no sheet
+pub unchanged_on : (t : Turn) (m : Option Room) (s : ℕ) → is_changed t m ≡ false → is_changed t (swapped_room_on m s) ≡ false
+unchanged_on Upright None s e = one_or_none (s % 2 == 1)
+unchanged_on Upright (Some room) s e = absurd (true≢false e)
+unchanged_on Left m s e = absurd (true≢false e)
+unchanged_on Half m s e = absurd (true≢false e)
+unchanged_on Right m s e = absurd (true≢false e)
+
+pub changed_if : (c b : Bool) → b ≡ false → (c ≡ false → b ≡ true) → c ≡ true
+changed_if true b is never = refl
+changed_if false b is never = absurd (true≢false (sym (never refl) ∙ is))
+
+-- what is moved on backs alone is changed if pages are turned too
+pub changed_more : (t : Turn) (m : Option Room) → is_changed Upright m ≡ true → is_changed t m ≡ true
+changed_more Upright m e = e
+changed_more Left m e = refl
+changed_more Half m e = refl
+changed_more Right m e = refl
 
 -- ---- one item
 
@@ -72,6 +111,20 @@ turned_is turn paper item w h a b x y t mx my w_small h_small a_small b_small x_
     t_is
     (mx_is ∙ ap (λ (z : ℤ). shifted z item.x) in_x)
     (my_is ∙ ap (λ (z : ℤ). shifted z item.y) in_y)
+
+-- what isn't turned isn't moved either
+pub nowhere_upright : (turn t : Turn) (w h a b x y : ℤ) → a ≡ (turned_corner turn w h).x → b ≡ (turned_corner turn w h).y
+    → x ≡ (turned t (point (word a) (word b))).x → y ≡ (turned t (point (word a) (word b))).y → turn ≡ Upright → (word x ≡ pos 0) × (word y ≡ pos 0)
+nowhere_upright turn t w h a b x y a_is b_is x_is y_is up =
+    let nothing = word_is (pos 0) (omega arith) in
+    let in_a : word a ≡ pos 0 = ap word (a_is ∙ ap (λ k. (turned_corner k w h).x) up) ∙ nothing in
+    let in_b : word b ≡ pos 0 = ap word (b_is ∙ ap (λ k. (turned_corner k w h).y) up) ∙ nothing in
+    let at = ap₂ (λ p q. turned t (point p q)) in_a in_b ∙ nowhere t in
+    (ap word (x_is ∙ ap (λ (p : Point). p.x) at) ∙ nothing, ap word (y_is ∙ ap (λ (p : Point). p.y) at) ∙ nothing)
+
+-- what isn't moved isn't too far
+pub unmoved_near : (by : ℤ) (m : Measure) → FitsNumber m.number → by ≡ pos 0 → is_writable_offset (shifted by m) ≡ true
+unmoved_near by m fits none = ap is_writable_offset (no_farther by m none) ∙ is_near_if m fits
 
 -- ---- all of a list
 
@@ -179,7 +232,7 @@ laid_too_far j laid (error.Sheets (plan.SlotsOutOfRange sheet)) few asked h = ab
 laid_too_far j laid (error.Sheets plan.TooManyPlaces) few asked h = absurd h
 laid_too_far j laid (error.Sheets (plan.NoSuchPage sheet)) few asked h = absurd h
 laid_too_far j laid (error.Sheets plan.NoMemory) few asked h = absurd h
-laid_too_far j laid error.OutOfReach few asked h = (laid, asked, rw h.1 refl)
+laid_too_far j laid error.OutOfReach few asked h = (h.0, laid, asked, rw h.2 refl)
 laid_too_far j laid (error.Row e) few asked h = absurd h
 laid_too_far j laid (error.Arrangement e) few asked h = absurd h
 laid_too_far j laid (error.Poster e) few asked h = absurd h
@@ -191,3 +244,37 @@ pub reach_refused : (j : RowJob) (n : ℕ) (m : Option Room) (laid : List MadeSh
 reach_refused j n m laid e count swap few asked h =
     laid_too_far j laid e (subst (λ k. k ≤ most_pages) count few) (subst (λ k. AreAsked k j.papers.now j.asked laid) count asked)
     (subst (λ r. IsNotReached (turn_of j.turn) r laid e) swap h)
+
+-- ---- numbers
+
+-- few sheets are refused only if they are changed
+pub far_is_changed : (t : Turn) (m : Option Room) (made : List MadeSheet) (e : SheetError) → length made ≤ most_sheets → IsNotReached t m made e → is_changed t m ≡ true
+far_is_changed t m made (error.Sheets plan.TooManySheets) few h = absurd (omega (arith, few, h))
+far_is_changed t m made (error.Sheets plan.TooManyPages) few h = absurd h
+far_is_changed t m made (error.Sheets (plan.SlotsOutOfRange sheet)) few h = absurd h
+far_is_changed t m made (error.Sheets plan.TooManyPlaces) few h = absurd h
+far_is_changed t m made (error.Sheets (plan.NoSuchPage sheet)) few h = absurd h
+far_is_changed t m made (error.Sheets plan.NoMemory) few h = absurd h
+far_is_changed t m made error.OutOfReach few h = h.0
+far_is_changed t m made (error.Row e) few h = absurd h
+far_is_changed t m made (error.Arrangement e) few h = absurd h
+far_is_changed t m made (error.Poster e) few h = absurd h
+far_is_changed t m made error.NoMemory few h = absurd h
+
+-- what a refusal of the numbers says of a run
+pub numbers_refused : (j : RowJob) (n : ℕ) (m : Option Room) (laid : List MadeSheet) (e : SheetError) → n ≡ page_count j → m ≡ swapped_room_for j
+    → AreAsked n j.papers.now j.asked laid
+    → (e ≡ error.NoMemory) ⊎ ((e ≡ error.OutOfReach) × (is_changed Upright m ≡ true) × (are_numbers_reached n j.papers.now j.asked m j.marks.numbers ≡ false)) → RefusesRun j e
+numbers_refused j n m laid e count swap asked (inl none) =
+    let same = subst (λ k. AreAsked k j.papers.now j.asked laid) count asked in
+    subst (RefusesRun j) (sym none) (subst IsOk (sym same.is_chosen) refl)
+numbers_refused j n m laid e count swap asked (inr far) =
+    let same = subst (λ k. AreAsked k j.papers.now j.asked laid) count asked in
+    let never = subst (λ k. are_numbers_reached (page_count j) j.papers.now j.asked k j.marks.numbers ≡ false) swap
+    (subst (λ k. are_numbers_reached k j.papers.now j.asked m j.marks.numbers ≡ false) count far.2) in
+    subst (RefusesRun j) (sym far.0) (
+      changed_more (turn_of j.turn) (swapped_room_for j) (subst (λ k. is_changed Upright k ≡ true) swap far.1),
+      laid,
+      same,
+      and_false (are_laid_in_reach j laid) (have_numbers_in_reach j) never,
+    )

@@ -40,7 +40,7 @@ twice_farther a b c m e =
     let n : (m.number +ℤ (pos 10_000 *ℤ a)) +ℤ (pos 10_000 *ℤ b) ≡ m.number +ℤ (pos 10_000 *ℤ c) = omega (arith, ints, e) in
     ap (λ z. record { number = z; unit = m.unit }) n
 
-nowhere : (t : Turn) → turned t (point (pos 0) (pos 0)) ≡ point (pos 0) (pos 0)
+pub nowhere : (t : Turn) → turned t (point (pos 0) (pos 0)) ≡ point (pos 0) (pos 0)
 nowhere Upright = refl
 nowhere Left = refl
 nowhere Half = refl

@@ -5,7 +5,7 @@ use Rattle.std.specs.List.{list_all}
 use Rattle.rules.specs.Numbers.{greatest_number}
 use Rattle.rules.specs.Papers.{Paper}
 use Rattle.rules.specs.Run.{most_sheets}
-use Rattle.rules.specs.Specification.{Item, Measure, Turn}
+use Rattle.rules.specs.Specification.{Item, Measure, Turn, Upright}
 use Rattle.rules.specs.Made.{MadeSlot, Blank, Placed, MadeSheet}
 use Rattle.layouts.specs.Placed.{Room}
 use Rattle.sheet_plan.specs.declared.error.MadeError.TheVariants as plan
@@ -44,8 +44,15 @@ are_reached_from turn swap s (sheet ∷ made) =
 abbrev pub are_reached : Turn → Option Room → List MadeSheet → Bool
 are_reached turn swap made = are_reached_from turn swap 0 made
 
--- a refusal says that there are more sheets than can be planned, or that there aren't and a page isn't reached
+-- pages are turned, or moved on backs
+abbrev pub is_changed : Turn → Option Room → Bool
+is_changed Upright None = false
+is_changed turn swap = true
+
+-- a refusal says that there are more sheets than can be planned, or that there aren't and a page isn't reached, which is so only
+-- of pages that are turned or moved
 abbrev pub IsNotReached : Turn → Option Room → List MadeSheet → SheetError → Type 0
 IsNotReached turn swap made (error.Sheets plan.TooManySheets) = most_sheets < length made
-IsNotReached turn swap made error.OutOfReach = (length made ≤ most_sheets) × (are_reached turn swap made ≡ false)
+IsNotReached turn swap made error.OutOfReach =
+    (is_changed turn swap ≡ true) × (length made ≤ most_sheets) × (are_reached turn swap made ≡ false)
 IsNotReached turn swap made other = ⊥

@@ -8,7 +8,7 @@ use Rattle.layouts.specs.Placed.{Room}
 use Rattle.pagespec.specs.Items.{turn_of}
 use Rattle.row_runs.specs.Turning.{turned_sheet}
 use Rattle.row_runs.specs.SwappedMargins.{swapped_room_in, swapped}
-use Rattle.row_runs.specs.Reaching.{are_reached}
+use Rattle.row_runs.specs.Reaching.{are_reached, is_changed}
 use Rattle.sheet_plan.specs.MadeRefusals.{RefusesMade}
 use Rattle.row_runs.specs.SheetsRuns.{told_output}
 use Rattle.row_runs.specs.Sheets.{AreAsked, MayBeAsked, row_chosen}
@@ -38,6 +38,10 @@ turned_on j laid = map (turned_sheet (turn_of j.turn)) (swapped (swapped_room_fo
 -- each page that is laid so can be written once it is moved and turned
 abbrev pub are_laid_in_reach : RowJob → (laid : List MadeSheet) → Bool
 are_laid_in_reach j laid = are_reached (turn_of j.turn) (swapped_room_for j) laid
+
+-- pages are turned, or moved on backs: as they are laid, each has its place within reach
+abbrev pub are_changed : RowJob → Bool
+are_changed j = is_changed (turn_of j.turn) (swapped_room_for j)
 
 -- each number of a page is within reach once it is moved
 abbrev pub have_numbers_in_reach : RowJob → Bool
@@ -79,13 +83,14 @@ abbrev pub output_on : RowJob → List MadeSheet → List ℕ
 output_on j made = told_output (border_on j) (drawn_of j) made j.document.now
 
 -- a refusal names the first fault: of the row; if there is one, of a page in its cell or as a poster; if its pages have their places, of
--- the sheets, or that a page or its number would come out of reach. Out of memory comes after the checks of the row
+-- the sheets, or that a page that is turned or moved, or its number, would come out of reach. Out of memory comes after the
+-- checks of the row
 abbrev pub RefusesRun : RowJob → SheetError → Type 0
 RefusesRun j (error.Row e) = sheets.RefusesAsked (page_count j) j.papers.now j.asked (error.Row e)
 RefusesRun j (error.Arrangement e) = sheets.RefusesAsked (page_count j) j.papers.now j.asked (error.Arrangement e)
 RefusesRun j (error.Poster e) = sheets.RefusesAsked (page_count j) j.papers.now j.asked (error.Poster e)
 RefusesRun j (error.Sheets e) =
     (laid : List MadeSheet) × AreAsked (page_count j) j.papers.now j.asked laid × RefusesMade (page_count j) (turned_on j laid) e
-RefusesRun j error.OutOfReach = (laid : List MadeSheet) × AreAsked (page_count j) j.papers.now j.asked laid
+RefusesRun j error.OutOfReach = (are_changed j ≡ true) × (laid : List MadeSheet) × AreAsked (page_count j) j.papers.now j.asked laid
     × ((are_laid_in_reach j laid && have_numbers_in_reach j) ≡ false)
 RefusesRun j error.NoMemory = IsOk (row_chosen (page_count j) j.asked)

@@ -1,8 +1,11 @@
 //! The page numbers that are drawn on sheets.
-ghost use Rattle.std.specs.Prelude.{◌≡◌, ◌≤◌, ◌<◌, ◌⊎◌, ℕ, IfErr, IfOk, Option, Some, false, length, map, slice_get};
+ghost use Rattle.std.specs.Prelude.{◌≡◌, ◌≤◌, ◌<◌, ◌⊎◌, ℕ, IfErr, IfOk, Option, Some, false, length, map, slice_get, true};
 ghost use Rattle.rules.specs.Choice.{most_entries};
+ghost use Rattle.rules.specs.Run.{most_sheets};
+ghost use Rattle.rules.specs.Specification.{Upright};
 ghost use Rattle.row_runs.specs.Numbers.{are_numbers_reached, below_middle as below_of, place_named, numbers_asked, paper_in as paper_of_entry, places_by};
 ghost use Rattle.row_runs.specs.Numbers.{named_places_from, sheet_paper as sheet_paper_of};
+ghost use Rattle.row_runs.specs.Reaching.{is_changed};
 ghost use Rattle.row_runs.specs.Sheets.{MayBeAsked, row_chosen};
 
 use crate::error::SheetError;
@@ -32,9 +35,11 @@ pub(crate) fn numbers_on(
 ) -> Result<Option<Numbers>, SheetError>
     requires pages { pages ≤ most_entries }
     requires asked { MayBeAsked asked.now }
+    requires few { length (places_by papers.now asked.now (row_chosen pages asked.now)) ≤ most_sheets }
     ensures made { IfOk result (λ numbers. numbers ≡ numbers_asked pages papers.now asked.now swap.now how) }
     ensures refused { IfErr result (λ error. (error ≡ SheetError.NoMemory)
-        ⊎ ((error ≡ SheetError.OutOfReach) × (are_numbers_reached pages papers.now asked.now swap.now how ≡ false))) }
+        ⊎ ((error ≡ SheetError.OutOfReach) × (is_changed Upright swap.now ≡ true)
+        × (are_numbers_reached pages papers.now asked.now swap.now how ≡ false))) }
 {
     let Some(how) = how else {
         return Ok(None);

@@ -39,7 +39,8 @@ pub(crate) fn check_reach(
 
 fn are_reached(turn: Turn, swap: &Option<Room>, sheets: &MadeSheets) -> bool
     requires { length sheets.now ≤ most_sheets }
-    ensures { result ≡ meaning.are_reached (turn_of turn) swap.now sheets.now }
+    ensures reached { result ≡ meaning.are_reached (turn_of turn) swap.now sheets.now }
+    ensures unchanged { meaning.is_changed (turn_of turn) swap.now ≡ false → result ≡ true }
 {
     for sheet in 0..sheets.len() as u32 {
         if !is_sheet_reached(turn, &swapped_room_on(swap, sheet), sheets, sheet) {
@@ -51,7 +52,8 @@ fn are_reached(turn: Turn, swap: &Option<Room>, sheets: &MadeSheets) -> bool
 
 fn is_sheet_reached(turn: Turn, swap: &Option<Room>, sheets: &MadeSheets, sheet: u32) -> bool
     requires { sheet < length sheets.now }
-    ensures { result ≡ list_all (meaning.is_slot_reached (turn_of turn) swap.now) (slots_at sheets.now sheet) }
+    ensures reached { result ≡ list_all (meaning.is_slot_reached (turn_of turn) swap.now) (slots_at sheets.now sheet) }
+    ensures unchanged { meaning.is_changed (turn_of turn) swap.now ≡ false → result ≡ true }
 {
     for slot in 0..sheets.slots(sheet) {
         if !is_slot_reached(turn, swap, sheets.placed(sheet, slot)) {
@@ -62,7 +64,8 @@ fn is_sheet_reached(turn: Turn, swap: &Option<Room>, sheets: &MadeSheets, sheet:
 }
 
 fn is_slot_reached(turn: Turn, swap: &Option<Room>, slot: Option<PlacedSlot<'_>>) -> bool
-    ensures { result ≡ meaning.is_slot_reached (turn_of turn) swap.now (placed_of slot.entry) }
+    ensures reached { result ≡ meaning.is_slot_reached (turn_of turn) swap.now (placed_of slot.entry) }
+    ensures unchanged { meaning.is_changed (turn_of turn) swap.now ≡ false → result ≡ true }
 {
     match slot {
         None => true,

@@ -1,9 +1,10 @@
 //! Turns pages before they are placed.
-ghost use Rattle.std.specs.Prelude.{◌≡◌, ◌^◌, ◌<◌, ◌≤◌, IfOk, IfSome, IsTrue, OnOk, is_some, length, map, nat_abs, pos, true};
+ghost use Rattle.std.specs.Prelude.{◌≡◌, ◌^◌, ◌<◌, ◌≤◌, IfOk, IfSome, IsTrue, OnOk, false, is_some, length, map, nat_abs, pos, true};
 ghost use Rattle.std.specs.List.{list_all};
 ghost use Rattle.rules.specs.Papers.{is_side};
 ghost use Rattle.rules.specs.Placement.{turned as turned_point};
 ghost use Rattle.rules.specs.Run.{most_sheets};
+ghost use Rattle.rules.specs.Specification.{Upright};
 ghost use Rattle.pagespec.specs.Items.{item_of, measure_of, turn_of};
 ghost use Rattle.sheet_plan.specs.OfSheets.{placed_of, slot_of, slots_at};
 ghost use Rattle.row_runs.specs.SwappedMargins.{swapped, moved_item as moved_of, moved_slot};
@@ -136,6 +137,7 @@ pub(crate) fn changed_item(
     ensures value { IfSome result (λ changed.
         item_of changed ≡ meaning.turned_item (turn_of turn) paper.now (moved_of swap.now (item_of item.now))) }
     ensures reached { is_some result ≡ reaching.is_item_reached (turn_of turn) swap.now paper.now (item_of item.now) }
+    ensures unchanged { reaching.is_changed (turn_of turn) swap.now ≡ false → is_some result ≡ true }
 {
     let moved = moved_item(swap, item)?;
     turned_item(turn, paper, &moved)
@@ -145,6 +147,7 @@ pub(crate) fn changed_item(
 fn turned_item(turn: Turn, paper: &Paper, item: &Item) -> Option<Item>
     ensures value { IfSome result (λ turned. item_of turned ≡ meaning.turned_item (turn_of turn) paper.now (item_of item.now)) }
     ensures near { is_some result ≡ reaching.is_turned_near (turn_of turn) paper.now (item_of item.now) }
+    ensures upright { turn_of turn ≡ Upright → is_some result ≡ true }
 {
     let width = scaled_length(item.scale, paper.width());
     let height = scaled_length(item.scale, paper.height());
@@ -230,6 +233,7 @@ pub(crate) fn shifted(by: i64, measure: Measure) -> Option<Measure>
     requires { nat_abs by ≤ 10 ^ 17 }
     ensures value { IfSome result (λ moved. measure_of moved ≡ meaning.shifted by (measure_of measure)) }
     ensures near { is_some result ≡ reaching.is_writable_offset (meaning.shifted by (measure_of measure)) }
+    ensures stays { by ≡ pos 0 → is_some result ≡ true }
 {
     let number = i128::from(measure.number.billionths()) + 10_000 * i128::from(by);
     match i64::try_from(number) {

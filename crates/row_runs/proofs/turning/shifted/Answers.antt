@@ -6,7 +6,7 @@ use Rattle.rules.specs.Papers.{LengthUnit}
 use Rattle.rules.specs.Specification.{Measure}
 use Rattle.lengths.specs.Ranges.{FitsNumber}
 use Rattle.lengths.specs.Units.{length_unit}
-use Rattle.row_runs.proofs.Reach.{is_far_if, is_near_if}
+use Rattle.row_runs.proofs.Reach.{is_far_if, is_near_if, unmoved_near}
 use Rattle.row_runs.proofs.turning.shifted.Goals as goal
 
 abbrev in_unit : ℤ → LengthUnit → Measure
@@ -73,3 +73,11 @@ returns-in_err-new-in-Ok-clause-near c =
     let whole : c.in-Ok.number ≡ m +ℤ (pos 10_000 *ℤ by) = c.in-Ok.ensures.1 ∙ (rw (c.from.ensures, c.from-2.ensures, c.billionths.ensures.value) (simp to_z-of_z)) in
     ap is_some c.from_residual.ensures ∙ sym (is_far_if (in_unit (m +ℤ (pos 10_000 *ℤ by)) (length_unit c.args.measure.unit))
     (λ near. true≢false (sym (c.in_err-new-in-Ok.ensures.fits.1 (subst FitsNumber (sym (plain ∙ whole)) near)))))
+
+pub returns-in-Err-clause-stays : goal.returns-in-Err-clause-stays
+returns-in-Err-clause-stays c none =
+    returns-in-Err-clause-near c ∙ unmoved_near c.args.by (in_unit c.args.measure.number (length_unit c.args.measure.unit)) c.billionths.ensures.in_range none
+
+pub returns-in_err-new-in-Ok-clause-stays : goal.returns-in_err-new-in-Ok-clause-stays
+returns-in_err-new-in-Ok-clause-stays c none =
+    returns-in_err-new-in-Ok-clause-near c ∙ unmoved_near c.args.by (in_unit c.args.measure.number (length_unit c.args.measure.unit)) c.billionths.ensures.in_range none

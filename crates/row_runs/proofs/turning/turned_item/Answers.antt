@@ -4,7 +4,7 @@ use Rattle.rules.specs.Specification.{Item, Turn}
 use Rattle.pagespec.specs.Items.{item_of, measure_of, turn_of}
 use Rattle.row_runs.specs.Reaching.{is_writable_offset}
 use Rattle.row_runs.specs.Turning.{turn_sum, shifted, scaled_length}
-use Rattle.row_runs.proofs.Reach.{turned_is, word}
+use Rattle.row_runs.proofs.Reach.{nowhere_upright, turned_is, word}
 use Rattle.row_runs.proofs.turning.turned_item.Goals as goal
 
 pub returns-clause-value : goal.returns-clause-value
@@ -53,3 +53,17 @@ returns-in_err-shifted-2-clause-near c =
     (c.scaled_length-height.ensures.value ∙ ap (λ (s : ℤ). pos (scaled_length item.scale s)) c.height.ensures.value)
     c.turned_corner-x.ensures.x c.turned_corner-x.ensures.y c.turned_by-right.ensures.x c.turned_by-right.ensures.y refl refl refl in
     ap is_some c.from_residual-in_err-shifted-2.ensures ∙ c.in_err-shifted-2.ensures.near ∙ ap (λ (b : Bool). b && is_writable_offset (shifted (word c.turned_by-right.result.1) item.y)) c.in_ok-shifted.ensures.near ∙ ap (λ (i : Item). is_writable_offset i.x && is_writable_offset i.y) whole
+
+pub returns-in_err-shifted-clause-upright : goal.returns-in_err-shifted-clause-upright
+returns-in_err-shifted-clause-upright c up =
+    let item = item_of c.args.item.now in
+    let still = nowhere_upright (turn_of c.args.turn) item.turn _ _ c.turned_corner-x.result.0 c.turned_corner-x.result.1 c.turned_by-right.result.0 c.turned_by-right.result.1
+    c.turned_corner-x.ensures.x c.turned_corner-x.ensures.y c.turned_by-right.ensures.x c.turned_by-right.ensures.y up in
+    ap is_some c.from_residual.ensures ∙ c.in_err-shifted.ensures.stays still.0
+
+pub returns-in_err-shifted-2-clause-upright : goal.returns-in_err-shifted-2-clause-upright
+returns-in_err-shifted-2-clause-upright c up =
+    let item = item_of c.args.item.now in
+    let still = nowhere_upright (turn_of c.args.turn) item.turn _ _ c.turned_corner-x.result.0 c.turned_corner-x.result.1 c.turned_by-right.result.0 c.turned_by-right.result.1
+    c.turned_corner-x.ensures.x c.turned_corner-x.ensures.y c.turned_by-right.ensures.x c.turned_by-right.ensures.y up in
+    ap is_some c.from_residual-in_err-shifted-2.ensures ∙ c.in_err-shifted-2.ensures.stays still.1

@@ -11,7 +11,8 @@ use Rattle.row_runs.specs.Reaching.{are_reached}
 use Rattle.row_runs.specs.Turning.{turned_sheet}
 use Rattle.layouts.proofs.Fitting.{handed_on}
 use Rattle.row_runs.specs.Runs.{RefusesRun}
-use Rattle.row_runs.proofs.Reach.{reach_refused}
+use Rattle.row_runs.proofs.AsMany.{places_few}
+use Rattle.row_runs.proofs.Reach.{numbers_refused, reach_refused}
 use Rattle.row_runs.proofs.Refused.{run_refused}
 use Rattle.row_runs.proofs.run.RowJob.lay.Goals as goal
 
@@ -25,6 +26,16 @@ returns-in_err-check_reach-clause-refused c =
     handed_on c.from_residual-in_err-check_reach.result c.in_err-check_reach.field-0.0 (RefusesRun c.args.self.now) c.from_residual-in_err-check_reach.ensures.1
     (reach_refused c.args.self.now c.pages-count.result c.swapped_room_in-swap.result c.in_ok-sheets.sheets c.in_err-check_reach.field-0.0 c.pages-count.ensures.count
     c.swapped_room_in-swap.ensures c.pages-count.ensures.few c.in_ok-sheets.ensures.made c.in_err-check_reach.ensures.refused)
+
+pub numbers_on-requires-clause-few : goal.numbers_on-requires-clause-few
+numbers_on-requires-clause-few c =
+    places_few c.pages-count.result c.args.self.now.papers.now c.args.self.now.asked c.in_ok-sheets.sheets c.in_ok-sheets.ensures.made c.in_ok-check_reach.ensures.few
+
+pub returns-in_err-numbers-clause-refused : goal.returns-in_err-numbers-clause-refused
+returns-in_err-numbers-clause-refused c =
+    handed_on c.from_residual-in_err-numbers.result c.in_err-numbers.field-0.0 (RefusesRun c.args.self.now) c.from_residual-in_err-numbers.ensures.1
+    (numbers_refused c.args.self.now c.pages-count.result c.swapped_room_in-swap.result c.in_ok-sheets.sheets c.in_err-numbers.field-0.0 c.pages-count.ensures.count
+    c.swapped_room_in-swap.ensures c.in_ok-sheets.ensures.made c.in_err-numbers.ensures.refused)
 
 pub returns-in-Ok-dress_of-clause-turned : goal.returns-in-Ok-dress_of-clause-turned
 returns-in-Ok-dress_of-clause-turned c = record {
