@@ -1,4 +1,5 @@
-//! What clap says of a mistake. Its errors have a kind and this text alone, so what rests on the wording is here:
+//! The text with which clap describes a mistake in the command line. A clap error has only a kind and this text, so all code that depends on clap's
+//! wording is in this module. Two examples of the text:
 //!
 //!     error: unexpected argument '--bodrer' found           error: unrecognized subcommand 'bookelt'
 //!
@@ -7,12 +8,12 @@
 //!
 //!     Usage: impose nup --border <LENGTH> <N> [INFILE [OUTFILE]]
 
-/// The word that an error about an unknown argument or subcommand refuses.
+/// The word that clap refuses as an unknown argument or subcommand. It is empty if the text has no word in quotes.
 pub(crate) fn refused_word(text: &str) -> &str {
     quoted(text).unwrap_or("")
 }
 
-/// The option that clap takes to be meant; its usage is then that of this option.
+/// The option that clap suggests in place of an unknown one, if it suggests one. Clap's usage line is then about this option.
 pub(crate) fn option_meant(text: &str) -> Option<&str> {
     let (_, tip) = text.split_once(SIMILAR_OPTION)?;
     quoted(tip)
@@ -20,19 +21,21 @@ pub(crate) fn option_meant(text: &str) -> Option<&str> {
 
 const SIMILAR_OPTION: &str = "  tip: a similar argument exists: ";
 
-/// Whether a line is a tip that is left out: to use another word, or to put an option after `--`, where it would be taken for a file.
+/// Whether a line is one of clap's tips that the message leaves out. Such a tip names a similar word, or advises to put an option after `--`, where
+/// it would be taken for a file.
 pub(crate) fn is_tip_left_out(line: &str) -> bool {
     line.starts_with("  tip: to pass ")
         || line.starts_with("  tip: a similar ")
         || line.starts_with("  tip: some similar ")
 }
 
-/// The beginnings of the usage line and of the last line.
+/// The beginning of clap's usage line.
 pub(crate) const USAGE: &str = "Usage:";
 
+/// The beginning of the last line of clap's text.
 pub(crate) const POINTER: &str = "For more information";
 
-/// The text between the first two quotes.
+/// The text between the first two single quotes, if there are two.
 fn quoted(text: &str) -> Option<&str> {
     let (_, behind) = text.split_once("'")?;
     let (word, _) = behind.split_once("'")?;

@@ -7,7 +7,7 @@ use lengths::Paper;
 #[derive(Clone, Copy)]
 pub(crate) struct Context<'r> {
     pub(crate) infile: Option<&'r str>,
-    /// The output file; None for standard output, and for products without a file.
+    /// The name of the output file. `None` for standard output, and for a request that prints a specification or a plan.
     pub(crate) written: Option<&'r str>,
     pub(crate) ranges: &'r str,
     pub(crate) spec: &'r str,
@@ -19,7 +19,7 @@ pub(crate) struct Context<'r> {
 }
 
 impl<'r> Context<'r> {
-    /// The context of a command line that is refused.
+    /// The context for a command line that is refused, and so makes no request.
     pub(crate) const NONE: Context<'static> = Context {
         infile: None,
         written: None,

@@ -1,4 +1,4 @@
-//! Faults: why nothing, or only a part, was imposed.
+//! Faults: the reasons why `impose` writes no output, or only part of it.
 use impose_words::RequestFault;
 use imposer::RunError;
 use layouts::ArrangementError;
@@ -8,7 +8,7 @@ use sheet_plan::MadeError;
 use std::alloc::AllocError;
 use std::io;
 
-/// The compression of a file, as its first bytes show.
+/// The compression of a file, recognised by the file's first bytes.
 #[derive(Clone, Copy)]
 pub enum Compression {
     Gzip,
@@ -17,52 +17,52 @@ pub enum Compression {
     Zip,
 }
 
-/// An option without effect, or with another effect than it names.
+/// An option that has no effect, or not the effect that its name promises.
 #[derive(Clone, Copy)]
 pub enum IdleOption {
-    /// `--sheet`, although each page stays on its own paper.
+    /// `--sheet`, although the layout leaves each page on a sheet of the page's own size.
     Sheet,
-    /// Cut marks, although no margin has room for them.
+    /// Cut marks, although the margins have no room for them.
     CutMarks,
-    /// A margin at the inner edge, although sheets have no inner edge.
+    /// A margin at the inner edge, although sheets of this layout have no inner edge.
     Inner,
-    /// A left margin beside one at the inner edge, which is the left edge of fronts.
+    /// A left margin beside one at the inner edge. The inner edge of fronts is their left edge, so the left margin would have no effect.
     Left,
-    /// Cut marks, which are alike on fronts and backs, with margins that aren't.
+    /// Cut marks together with a margin at the inner edge. Cut marks are the same on fronts and backs, but such margins differ.
     InnerMarks,
 }
 
-/// Why nothing, or only a part, was imposed.
+/// The reason why `impose` writes no output, or only part of it.
 #[derive(Drop)]
 pub enum ImposeFault {
-    /// The command line is refused.
+    /// The command line is refused, or it asks for help or for the version.
     Command(RequestFault),
-    /// There is no such layout.
+    /// The pages can't be laid out as requested.
     Layout(ArrangementError),
-    /// There is no such poster.
+    /// A page can't be made into the requested poster.
     Poster(PosterError),
-    /// There is no such row of pages.
+    /// The page ranges and choices give no row of pages.
     Row(RowError),
-    /// The document has this number of pages, and lacks some of the range at this place of the text.
+    /// The document has only `pages` pages, and so lacks pages of the range at byte `place` of the page ranges.
     NoSuchPage {
         place: usize,
         pages: u32,
     },
-    /// A turned page would be placed 100,000 points or more away.
+    /// A page would be moved by 100,000 points or more, because it is on the back of a leaf or turned.
     OutOfReach,
-    /// The sheets of the row can't be planned.
+    /// The sheets made from the row can't be planned.
     Sheets(MadeError),
     /// No specification can express the request.
     NoSpecification,
-    /// A specification is requested, but not all pages have one paper.
+    /// The specification is to be printed, but not all pages have the same paper.
     SeveralPapers,
-    /// An option has no effect.
+    /// An option has no effect, or not the effect that its name promises.
     Idle(IdleOption),
     /// The drawing of the sheets would overwrite the input.
     OverInput,
-    /// The input couldn't be opened or read, with the system's cause if it gave one.
+    /// The input couldn't be opened or read. The cause is the system's error, if the system gave one.
     Read(Option<io::Error>),
-    /// The run was refused or failed, except for a failed write.
+    /// The run was refused or failed. `Write` is for a write that failed.
     Run(RunError),
     /// The input is empty.
     NoInput,
@@ -70,17 +70,17 @@ pub enum ImposeFault {
     Pdf,
     /// The input is compressed.
     Compressed(Compression),
-    /// The input is an EPS with a preview before it.
+    /// The input is an EPS file in DOS format, in which binary data comes before the PostScript.
     DosEps,
-    /// The input is an EPS without `%%Page:` comments.
+    /// The input is an EPS file without `%%Page:` comments.
     Eps,
-    /// The input is a text of two bytes a letter.
+    /// The input begins with a byte order mark of UTF-16.
     Utf16,
-    /// The input begins with a printer's job language.
+    /// The input begins with the escape sequence that starts a printer job language (PJL).
     JobLanguage,
-    /// The input is longer than a document may be.
+    /// The input is longer than 2^30 bytes, the most that a document may have.
     TooLong,
-    /// The output couldn't be created, or a write failed after this number of bytes, with the system's cause if it gave one.
+    /// The output couldn't be created, or a write failed after `written` bytes. The cause is the system's error, if the system gave one.
     Write {
         written: u64,
         cause: Option<io::Error>,
@@ -91,7 +91,7 @@ impl ImposeFault {
     ghost use Rattle.std.specs.Prelude.{◌≡◌};
     ghost use Rattle.impose_messages.specs.Faults.{without_memory};
 
-    /// Out of memory before anything was written.
+    /// The fault of running out of memory before anything was written.
     pub fn no_memory() -> ImposeFault
         ensures { result ≡ without_memory }
     {

@@ -1,52 +1,52 @@
-//! Results of requests.
+//! The results of requests that have been carried out.
 use crate::shown::ShownName;
 use imposer::Report;
 use lengths::Paper;
 use papers::{Comment, Cut, Reach};
 
-/// The source of the pages' paper.
+/// Where the paper of the pages comes from.
 #[derive(Clone, Copy)]
 pub enum PaperOrigin {
-    /// The paper was named on the command line.
+    /// The command line names it.
     Named,
     /// This comment of the document's header names the paper.
     ByComment(Comment),
-    /// Nothing names a paper, so it is the one at home.
+    /// Neither the command line nor the document names a paper, so it is the user's default paper.
     ByDefault,
-    /// The paper is that of the first page taken, since no page has the document's paper.
+    /// No page that is imposed has the document's paper, so it is the paper of the first page that is imposed.
     FirstPage,
 }
 
-/// The statements of a document about itself that messages mention.
+/// Statements that a document makes about itself in comments, as far as messages mention them.
 #[derive(Drop)]
 pub struct Claims {
-    /// The number of pages that it declares, if it declares one.
+    /// The number of pages that the document declares, if it declares one.
     pub pages: Option<usize>,
-    /// The name of its paper in the form in which it is shown, if the name is unknown.
+    /// The name of the document's paper as messages show it, if no paper of this name is known.
     pub unknown: Option<ShownName>,
 }
 
-/// The facts about a request that was carried out.
+/// Facts about a request whose sheets have been written, for the report.
 #[derive(Drop)]
 pub struct Finished {
     pub report: Report,
     /// The paper of the pages.
     pub page_paper: Paper,
-    /// The source of the pages' paper.
+    /// Where the paper of the pages comes from.
     pub origin: PaperOrigin,
-    /// The pages that `--paper` cuts. If a specification places the pages, such pages are in `reach` instead.
+    /// The pages that `--paper` cuts. If a specification places the pages, this is `None`, and `reach` includes such pages.
     pub cut: Option<Cut>,
-    /// The pages that reach beyond the papers by which they are placed.
+    /// The pages that reach beyond the papers by which they are placed on sheets.
     pub reach: Option<Reach>,
     /// The number of pages after the document's trailer, which aren't imposed.
     pub behind: usize,
-    /// The number of the document's pages that are taken, each counted once.
+    /// The number of the document's pages that are imposed. A page that is imposed several times counts once.
     pub taken: u32,
-    /// The document's claims about itself.
+    /// The statements that the document makes about itself.
     pub told: Claims,
 }
 
-/// The result of a request.
+/// The result of a request that has been carried out.
 #[derive(Drop)]
 pub enum Done {
     /// The pages were imposed.

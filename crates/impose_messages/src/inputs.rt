@@ -1,4 +1,4 @@
-//! Inputs that aren't documents.
+//! Faults for inputs that aren't documents.
 ghost use Rattle.std.specs.Prelude.{◌≡◌};
 ghost use Rattle.impose_messages.specs.Inputs.{is_eps as eps, refused_document as document_fault, of_other_input, of_unpacked, packing_of as packed_by};
 
@@ -6,8 +6,9 @@ use crate::fault::{Compression, ImposeFault};
 use dsc::DscError;
 use imposer::RunError;
 
-/// The fault of a document. An empty input, a PDF, a compressed file, a printer's job and an EPS without pages each have a fault of their own. So has
-/// an input that is too long itself; another may become too long by the guard.
+/// The fault for an input that can't be read as a document. An empty input, a PDF, a compressed file, a printer's job, a UTF-16 text, an EPS file in
+/// DOS format and an EPS file without pages each have a fault of their own. So has an input that is itself longer than a document may be. A document
+/// that only its guard makes too long gets its fault from the run.
 pub fn refused_document(error: DscError, input: &[u8]) -> ImposeFault
     ensures { result ≡ document_fault error input.now }
 {
@@ -19,6 +20,7 @@ pub fn refused_document(error: DscError, input: &[u8]) -> ImposeFault
     }
 }
 
+/// The fault for an input that doesn't begin as PostScript does.
 fn not_postscript(input: &[u8]) -> ImposeFault
     ensures { result ≡ of_other_input input.now }
 {
@@ -34,7 +36,7 @@ fn not_postscript(input: &[u8]) -> ImposeFault
     }
 }
 
-/// The same for an input that is neither empty nor a PDF nor compressed.
+/// The fault for an input that doesn't begin as PostScript does, and is neither empty nor a PDF nor compressed.
 fn unpacked_fault(input: &[u8]) -> ImposeFault
     ensures { result ≡ of_unpacked input.now }
 {
@@ -49,7 +51,7 @@ fn unpacked_fault(input: &[u8]) -> ImposeFault
     }
 }
 
-/// Whether an input begins with the first line of an EPS file, which is a drawing to be put on a page.
+/// Whether an input begins as an EPS file does (Adobe Technical Note 5002). An EPS file is a picture to be put on a page of a document.
 fn is_eps(input: &[u8]) -> bool
     ensures { result ≡ eps input.now }
 {
@@ -59,7 +61,7 @@ fn is_eps(input: &[u8]) -> bool
         || input.starts_with(b"%!PS-Adobe-3.1 EPSF-")
 }
 
-/// The compression of an input, as its first bytes show.
+/// The compression of an input, recognised by its first bytes. `None` if they show none.
 fn packing_of(input: &[u8]) -> Option<Compression>
     ensures { result ≡ packed_by input.now }
 {

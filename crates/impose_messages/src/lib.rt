@@ -1,4 +1,4 @@
-//! The messages with which impose ends, and its exit status.
+//! The messages that `impose` prints at its end, and its exit status for each fault.
 #![tactic(auto)]
 
 mod clap_text;

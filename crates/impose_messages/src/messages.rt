@@ -20,7 +20,7 @@ use std::io;
 
 const OUT_OF_MEMORY: &str = "out of memory";
 
-/// The message about a fault, without a line end. The request is given if the command line was accepted.
+/// The message about a fault, without a line end. `request` is `None` if the command line was refused. The only error is running out of memory.
 pub fn fault_text(
     alloc: Global,
     fault: &ImposeFault,
@@ -61,7 +61,7 @@ pub fn fault_text(
     String::from_str(alloc, message)
 }
 
-/// The message about a range of pages that the document lacks.
+/// The message about a page range with pages that the document doesn't have.
 fn no_page_text(
     alloc: Global,
     place: usize,
@@ -93,7 +93,7 @@ fn read_text(
     }
 }
 
-/// The message about an output that couldn't be written after this number of bytes.
+/// The message about an output that couldn't be created, or of which only `written` bytes could be written. It ends with the cause, if one is known.
 fn write_fault_text(
     alloc: Global,
     written: u64,
@@ -118,7 +118,7 @@ const SEVERAL_PAPERS: &str =
 const OVER_INPUT: &str =
     ", which is read: name another file, as sheets.svg, or - for standard output";
 
-/// The message about an option without effect.
+/// The message about an option that has no effect, or not the effect that its name promises.
 fn idle_message(option: IdleOption) -> &'static str {
     match option {
         IdleOption::Sheet => {
@@ -136,7 +136,7 @@ fn idle_message(option: IdleOption) -> &'static str {
     }
 }
 
-/// The message about an input that isn't a document, for use after its name.
+/// The message about an input that isn't a document, for use after the input's name. `None` if the fault isn't about such an input.
 fn input_message(fault: &ImposeFault) -> Option<&'static str> {
     let message = match fault {
         ImposeFault::NoInput => " is empty; name a file with a PostScript document, or pipe one in",
@@ -159,13 +159,13 @@ fn input_message(fault: &ImposeFault) -> Option<&'static str> {
         ImposeFault::JobLanguage =>
             " begins with a printer's job language, not with %!; cut that off: sed -n '/^%!/,$p' in.ps | impose .. -",
         ImposeFault::TooLong => " is longer than 1,073,741,824 bytes; split it first",
-        // The others aren't of inputs.
+        // The remaining faults aren't about the contents of an input.
         _ => return None,
     };
     Some(message)
 }
 
-/// The name of the input between these texts.
+/// The name of the input, with the text `before` in front of it and the text `behind` after it.
 fn input_text(
     alloc: Global,
     before: &str,
@@ -176,7 +176,7 @@ fn input_text(
     joined_texts(alloc, &[before, name.as_str(), behind])
 }
 
-/// The name of a file in the form in which it is shown; without a name that of the standard stream.
+/// The name of a file as messages show it. If the file has no name, it is a standard stream, and the result is `stream`.
 fn file_name(alloc: Global, name: Option<&str>, stream: &str) -> Result<String, AllocError> {
     match name {
         None => String::from_str(alloc, stream),
@@ -188,7 +188,7 @@ fn file_name(alloc: Global, name: Option<&str>, stream: &str) -> Result<String, 
     }
 }
 
-/// The message about a write that failed after this number of bytes.
+/// The message about a write that failed after `written` bytes, without the cause.
 fn written_text(alloc: Global, written: u64, context: &Context<'_>) -> Result<String, AllocError> {
     let name = file_name(alloc, context.written, "standard output")?;
     let name = name.as_str();
@@ -206,7 +206,8 @@ fn with_cause(alloc: Global, text: &str, cause: &Option<io::Error>) -> Result<St
     }
 }
 
-/// The message about a command line that is refused. None for words that the command doesn't take, which `words_text` is for.
+/// The message about a command line that is refused, without a line end. It is empty for words that the command doesn't take, because `words_text`
+/// makes the message about those.
 pub fn command_text(alloc: Global, fault: &RequestFault) -> Result<String, AllocError> {
     let message = match fault {
         RequestFault::Words(_) => "",
@@ -234,13 +235,13 @@ fn product_option(option: ProductOption) -> &'static str {
     }
 }
 
-/// The message, and the text with a caret below the place of the fault.
+/// The message, followed by the text and by a caret below byte `place` of the text.
 fn shown(alloc: Global, message: &str, text: &str, place: usize) -> Result<String, AllocError> {
     let caret = caret_below(alloc, text, place)?;
     joined_texts(alloc, &[message, caret.as_str()])
 }
 
-/// The message about ranges that make no row.
+/// The message about page ranges that give no row of pages.
 fn row_text(alloc: Global, error: &RowError, context: &Context<'_>) -> Result<String, AllocError> {
     let ranges = context.ranges;
     let (message, place) = match error {
@@ -261,7 +262,8 @@ fn row_text(alloc: Global, error: &RowError, context: &Context<'_>) -> Result<St
 const NO_ENTRIES: &str =
     "page ranges: no page is left by --odd or --even; pages are counted from 1";
 
-/// The message about ranges that can't go on at this place. The text may be a file that stands where the ranges of a selection belong.
+/// The message about page ranges with a syntax error at byte `place`. If the text after `select` looks like a file, the message says that page ranges
+/// come before the file.
 fn no_range_text(alloc: Global, context: &Context<'_>, place: usize) -> Result<String, AllocError> {
     let ranges = context.ranges;
     if context.is_selection && looks_like_file(ranges) {
@@ -277,7 +279,7 @@ fn no_range_text(alloc: Global, context: &Context<'_>, place: usize) -> Result<S
 const NO_RANGES: &str =
     "page ranges: they come before the file, and 1- are all pages: impose select 1- in.ps out.ps";
 
-/// The message about pages that can't be laid out. It differs if a scale is requested.
+/// The message about pages that can't be laid out. If their scale is out of range, it depends on whether the request names a scale.
 fn layout_text(
     alloc: Global,
     error: &ArrangementError,
@@ -308,7 +310,7 @@ fn layout_text(
     String::from_str(alloc, message)
 }
 
-/// Why a booklet's sheet would fold along its longer edge. Only one that is named is wider than high.
+/// Why a booklet's sheet would fold along its longer edge. A sheet can be wider than high only if `--sheet` names it.
 fn fold_text(alloc: Global, context: &Context<'_>) -> Result<String, AllocError> {
     let reason = match context.sheet {
         Some(sheet) if sheet.width() > sheet.height() => "the sheet is wider than high, and",
@@ -320,7 +322,7 @@ fn fold_text(alloc: Global, context: &Context<'_>) -> Result<String, AllocError>
 const FOLD: &str =
     " would fold along its longer edge: name another sheet, as --sheet a4, or use nup 2";
 
-/// The message about pages that can't be such a poster.
+/// The message about a page that can't be made into the requested poster.
 fn poster_message(error: &PosterError) -> &'static str {
     match error {
         PosterError::TilesOutOfRange =>
@@ -335,7 +337,7 @@ fn poster_message(error: &PosterError) -> &'static str {
     }
 }
 
-/// The message about a row with too many sheets.
+/// The message about sheets that can't be planned, most often because they are too many.
 fn sheets_message(error: &MadeError) -> &'static str {
     match error {
         MadeError::TooManyPages => "the document has more than 1,000,000 pages: split it first",
@@ -376,7 +378,8 @@ fn plan_message(error: &PlanError) -> &'static str {
     }
 }
 
-/// The message about a document that is refused. The run reports a document as too long only if its guard makes it so.
+/// The message about a document that is refused. An input that is itself too long has a fault of its own (`TooLong`), so a document that is too long
+/// here is so only because of its guard.
 fn document_text(
     alloc: Global,
     error: &DscError,
@@ -441,10 +444,10 @@ fn spec_message(error: &SpecError, spec: &str) -> &'static str {
     }
 }
 
-/// The most sheets of a specification.
+/// The largest number of sheets that a specification may have.
 const MOST_GROUPS: u32 = 10_000;
 
-/// The place of a specification's fault, if it is at one place.
+/// The byte of the specification at which its fault is. `None` if the fault is at no single place.
 fn spec_place(error: &SpecError, spec: &str) -> Option<usize> {
     match error {
         SpecError::Syntax(at) => Some(*at),

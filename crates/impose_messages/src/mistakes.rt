@@ -1,4 +1,4 @@
-//! Messages about words that the command doesn't take.
+//! Messages about words of the command line that the command doesn't take.
 use crate::clap_text::{POINTER, USAGE, is_tip_left_out, option_meant, refused_word};
 use crate::other_programs::{FOR_COMMANDS, OF_OTHERS};
 use crate::shown::{is_shown_whole, joined_texts, push_all, push_shown, shown_word};
@@ -10,14 +10,15 @@ use clap::error::ErrorKind;
 use std::alloc::{AllocError, Global};
 use strsim::osa_distance;
 
-/// The message about words that the command doesn't take; the first is the program's name. It is clap's text, with a tip on the refused word in place
-/// of clap's own. Control characters are replaced, and long words are cut.
+/// The message about a command line with words that the command doesn't take. `words` is the whole command line, with the program's name first. The
+/// message is clap's text, with a tip on the refused word in place of clap's own tip. Control characters are replaced, and long words are cut. The
+/// only error is running out of memory.
 pub fn words_text(alloc: Global, error: &Error, words: &[String]) -> Result<String, AllocError> {
     let mut text = format!(in alloc; "{error}")?;
     for word in words {
         let word = word.as_str();
         text = with_shown(alloc, text, word)?;
-        // What comes after an equals sign, or after a letter, is shown for itself.
+        // Clap may also quote only what comes after an equals sign or after `-p`, so this part is replaced too.
         text = match word.split_once("=") {
             Some((_, value)) => with_shown(alloc, text, value)?,
             None => with_shown(alloc, text, word.strip_prefix("-p").unwrap_or(word))?,
@@ -34,7 +35,7 @@ pub fn words_text(alloc: Global, error: &Error, words: &[String]) -> Result<Stri
     }
 }
 
-/// The text, with a word in it replaced by the form in which it is shown.
+/// The text, with a word replaced wherever it occurs by the form in which messages show it.
 fn with_shown(alloc: Global, text: String, word: &str) -> Result<String, AllocError> {
     if is_shown_whole(word) {
         return Ok(text);
@@ -43,7 +44,8 @@ fn with_shown(alloc: Global, text: String, word: &str) -> Result<String, AllocEr
     text.as_str().replace(alloc, word, shown.as_str())
 }
 
-/// Clap's text with this tip, if it isn't empty, above the usage, or above the last line if there is none.
+/// Clap's text with `tip` inserted above the usage, or above the last line if there is no usage. An empty tip isn't inserted. Clap's own tips are
+/// left out, and so is the usage unless `keeps_usage` is true.
 fn with_tip(alloc: Global, text: &str, tip: &str, keeps_usage: bool) -> Result<String, AllocError> {
     let mut out = String::new(alloc);
     let mut is_told = tip.is_empty();
@@ -66,7 +68,7 @@ fn with_tip(alloc: Global, text: &str, tip: &str, keeps_usage: bool) -> Result<S
     Ok(out)
 }
 
-/// The hint at a similar command or option; empty if there is none.
+/// The tip that names a similar command or option. It is empty if no name is similar.
 fn likeness(alloc: Global, kind: ErrorKind, text: &str) -> Result<String, AllocError> {
     let word = refused_word(text);
     let (what, like) = match kind {
@@ -87,7 +89,7 @@ const COMMANDS: [&str; 9] = [
     "nup", "booklet", "zine", "cards", "stack", "notes", "poster", "select", "spec",
 ];
 
-/// The command whose name is most similar to the word.
+/// The command whose name is most similar to the word, if one is similar.
 fn nearest_command(alloc: Global, word: &str) -> Result<Option<&'static str>, AllocError> {
     let mut nearest = None;
     let mut least = usize::MAX;
@@ -102,7 +104,8 @@ fn nearest_command(alloc: Global, word: &str) -> Result<Option<&'static str>, Al
     Ok(nearest)
 }
 
-/// The number of letters that are missing, added, replaced or exchanged in a word, compared with a name. None if they are over a third of the word.
+/// The number of letters that are missing, added, replaced or exchanged between a word and a name, without `--` before either. It is 0 if they differ
+/// only in case. `None` if it is more than a third of the word's letters, so that the two aren't similar.
 fn distance(alloc: Global, word: &str, name: &str) -> Result<Option<usize>, AllocError> {
     let word = word.strip_prefix("--").unwrap_or(word);
     let name = name.strip_prefix("--").unwrap_or(name);
@@ -120,10 +123,10 @@ fn distance(alloc: Global, word: &str, name: &str) -> Result<Option<usize>, Allo
     }
 }
 
-/// Words with more letters resemble no name.
+/// The largest number of letters with which a word can be similar to a name. Longer words aren't compared.
 const MOST_COMPARED: usize = 30;
 
-/// The cure for a mistake of this kind in these words, if one is known beyond clap's.
+/// The tip on a mistake of this kind in the command line, if one is known that is better than clap's.
 fn tip(kind: ErrorKind, text: &str, words: &[String]) -> Option<&'static str> {
     let [_, command, behind @ ..] = words else {
         return None;
@@ -146,7 +149,7 @@ fn is_command(word: &str) -> bool {
     COMMANDS.iter().any(|name| *name == word)
 }
 
-/// The tip on a word in place of the command.
+/// The tip on a word that stands in place of the command, if one is known.
 fn tip_on_command(word: &str) -> Option<&'static str> {
     if word.starts_with("-") {
         Some("options come after the command, as in: impose nup 2 -q in.ps out.ps")
@@ -172,7 +175,7 @@ fn is_command_and_number(word: &str) -> bool {
     })
 }
 
-/// The tip on an unknown option.
+/// The tip on an unknown option, if one is known.
 fn tip_on_option(command: &str, behind: &[String], word: &str) -> Option<&'static str> {
     let (before, whole) = in_place(behind, word);
     let value = whole.strip_prefix("-").unwrap_or("");
@@ -201,8 +204,8 @@ fn tip_on_option(command: &str, behind: &[String], word: &str) -> Option<&'stati
     others.or(tip_in(OF_OTHERS.as_slice(), word))
 }
 
-/// For an option as clap names it, the word before it, and the whole word with it, such as `-d1` for `-d` and `--frame=1` for `--frame`. Both are
-/// empty if it is among other letters, as `-d` in `-qd1`.
+/// Finds the word of the command line that begins with an option as clap names it, such as `-d1` for `-d` and `--frame=1` for `--frame`. Returns the
+/// word before it and the word itself. Both are empty if no word begins with the option: in `-qd1`, the option `-d` comes after another letter.
 fn in_place<'w>(behind: &'w [String], option: &str) -> (&'w str, &'w str) {
     let mut before = "";
     for word in behind {
@@ -217,7 +220,7 @@ fn in_place<'w>(behind: &'w [String], option: &str) -> (&'w str, &'w str) {
     ("", "")
 }
 
-/// The tip on a word after all files.
+/// The tip on a word that comes after the names of both files.
 fn tip_on_file(command: &str, behind: &[String]) -> &'static str {
     let first = behind.first().map_or("", |word| word.as_str());
     let ranges = behind.iter().filter(|word| is_range(word.as_str())).count();
@@ -237,13 +240,13 @@ fn tip_on_file(command: &str, behind: &[String]) -> &'static str {
     }
 }
 
-/// Whether a word is most likely a range of pages or a number.
+/// Whether a word is most likely a range of pages or a number: it has a digit, and nothing but digits, minus signs, commas and underscores.
 pub(crate) fn is_range(word: &str) -> bool {
     word.chars().any(|letter| letter.is_ascii_digit())
         && word.chars().all(|letter| letter.is_ascii_digit() || matches!(letter, '-' | ',' | '_'))
 }
 
-/// Whether a word is most likely the name of a file.
+/// Whether a word is most likely the name of a file: it has a slash, or one of a few endings such as `.ps`.
 pub(crate) fn looks_like_file(word: &str) -> bool {
     word.ends_with(".ps")
         || word.ends_with(".eps")

@@ -1,7 +1,7 @@
-//! Tips on words of other programs.
+//! Tips on commands and options of other programs.
 use crate::tips::Tip;
 
-/// Words in place of a command, which other programs have or people expect.
+/// Tips on words that stand in place of a command. Other programs have a command of this name, or people expect it.
 pub(crate) const FOR_COMMANDS: [Tip; 15] = [
     (
         &["rotate", "turn"],
@@ -75,7 +75,7 @@ pub(crate) const FOR_COMMANDS: [Tip; 15] = [
     ),
 ];
 
-/// Options of other programs.
+/// Tips on options of other programs.
 pub(crate) const OF_OTHERS: [Tip; 42] = [
     (
         &["--rotate", "--angle", "--rotation"],

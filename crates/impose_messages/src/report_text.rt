@@ -8,10 +8,10 @@ use lengths::{Grains, print_points};
 use std::alloc::{AllocError, Global};
 use std::marker::Model;
 
-/// The room for a report, in bytes; no report is longer.
+/// The number of bytes that are reserved for a report. No report is longer.
 const MOST_SAID: usize = 8_192;
 
-/// The text of a report. Its room is reserved before a run, so no line is lost for lack of memory.
+/// The text of a report. Memory for all of it is reserved before the run, so no line is lost for lack of memory.
 #[derive(Drop)]
 pub struct ReportText {
     text: Vec<u8>,
@@ -29,7 +29,7 @@ impl Model for ReportText {
 }
 
 impl ReportText {
-    /// An empty text.
+    /// An empty text, with memory reserved for a whole report. The only error is that memory is refused.
     pub fn new(alloc: Global) -> Result<ReportText, AllocError>
         ensures { IfOk result (λ text. text ≡ []) }
     {
@@ -63,7 +63,7 @@ impl ReportText {
         ensures text { self.new ≡ self.old ++ points_text points }
         ensures short { length self.new ≤ length self.old + 50 }
     {
-        // Each length is in range, so its text is short.
+        // This call tells the prover that the length is in range, and so that its text is short.
         let _ = points.get();
         match print_points(points, &mut self.text) {
             Ok(()) => {}
@@ -71,7 +71,7 @@ impl ReportText {
         }
     }
 
-    /// Its bytes.
+    /// The bytes of the text.
     pub fn into_bytes(self) -> Vec<u8>
         ensures { result.items ≡ self }
     {

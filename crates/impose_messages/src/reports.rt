@@ -15,7 +15,7 @@ use layouts::is_of_size;
 use lengths::{Grains, Paper};
 use papers::{Comment, Cut, Edges, Reach};
 
-/// Appends the report.
+/// Appends the report: the counts, the paper of the pages and where it comes from, and the size of the sheets if it differs.
 pub(crate) fn push_report(said: &mut ReportText, done: &Finished, request: &ImposeRequest)
     requires room { length said.old + 693 ≤ most_said }
     ensures text { said.new ≡ said.old ++ report_text done.now request.now }
@@ -33,7 +33,7 @@ pub(crate) fn push_report(said: &mut ReportText, done: &Finished, request: &Impo
     );
 }
 
-/// The size of the sheets, if they have another paper than the pages.
+/// Appends the size of the sheets, if it differs from that of the pages' paper.
 fn push_sheets(said: &mut ReportText, sheet: &Paper, page_paper: &Paper)
     requires room { length said.old + 118 ≤ most_said }
     ensures text { said.new ≡ said.old ++ sheets_text sheet.now page_paper.now }
@@ -55,7 +55,7 @@ fn push_sheet(said: &mut ReportText, sheet: &Paper)
     said.push(b" pt");
 }
 
-/// Appends the numbers of pages, blanks, sheets, leaves and bytes.
+/// Appends the numbers of pages, blanks, sheets, leaves and bytes. Numbers of blanks and leaves are left out if they aren't known or don't apply.
 fn push_counts(said: &mut ReportText, taken: u32, report: &Report, request: &ImposeRequest)
     requires room { length said.old + 396 ≤ most_said }
     ensures text { said.new ≡ said.old ++ counts_text taken report.now request.now }
@@ -71,7 +71,7 @@ fn push_counts(said: &mut ReportText, taken: u32, report: &Report, request: &Imp
     said.push_number(u128::from(report.bytes));
 }
 
-/// The number of pages, after the number of those that are taken if not all are.
+/// Appends the number of the document's pages. If only some of them are imposed, it comes after their number, as in `3 of 8`.
 fn push_page_count(said: &mut ReportText, taken: u32, pages: u32)
     requires room { length said.old + 84 ≤ most_said }
     ensures text { said.new ≡ said.old ++ page_count_text taken pages }
@@ -84,7 +84,8 @@ fn push_page_count(said: &mut ReportText, taken: u32, pages: u32)
     said.push_number(u128::from(pages));
 }
 
-/// The number of places without a page, if all sheets have equally many places and each page is in one.
+/// The number of places on the sheets that have no page. It is 0 if the request chooses pages, or if sheets of the layout have no fixed number of
+/// places, each for one page.
 fn blanks_of(request: &ImposeRequest, report: &Report) -> u128
     ensures { result ≡ blanks_in request.now report.now }
 {
@@ -95,7 +96,7 @@ fn blanks_of(request: &ImposeRequest, report: &Report) -> u128
     places.saturating_sub(u128::from(report.pages))
 }
 
-/// The number of places of a sheet, if all sheets have equally many.
+/// The number of places on each sheet, if the layout has a fixed number of them, each for one page. Otherwise 0.
 fn places_on(layout: &Layout) -> u64
     ensures { result ≡ places_in layout.now }
 {
@@ -121,7 +122,7 @@ fn push_blanks(said: &mut ReportText, blanks: u128)
     said.push_number(blanks);
 }
 
-/// Appends the number of leaves, if sheets are printed on both sides.
+/// Appends the number of leaves, if sheets are printed on both sides of leaves.
 fn push_leaves(said: &mut ReportText, request: &ImposeRequest, sheets: u32)
     requires room { length said.old + 160 ≤ most_said }
     ensures text { said.new ≡ said.old ++ (if are_sides_of request.now.layout request.now.spacing
@@ -135,7 +136,7 @@ fn push_leaves(said: &mut ReportText, request: &ImposeRequest, sheets: u32)
     push_counted(said, u128::from(leaves), b" (1 leaf)", b" (", b" leaves)");
 }
 
-/// Appends a count: `one` if it is 1, or else the number between the texts before and after it.
+/// Appends a count: the text `one` if the count is 1, otherwise the number between the texts `before` and `behind`.
 fn push_counted(said: &mut ReportText, count: u128, one: &[u8], before: &[u8], behind: &[u8])
     requires few { length one.now + length before.now + length behind.now ≤ 120 }
     requires room { length said.old + 160 ≤ most_said }
@@ -152,7 +153,7 @@ fn push_counted(said: &mut ReportText, count: u128, one: &[u8], before: &[u8], b
     }
 }
 
-/// Whether every two sheets are a leaf.
+/// Whether every two sheets are the front and the back of a leaf.
 fn prints_leaves(request: &ImposeRequest) -> bool
     ensures { result ≡ are_sides_of request.now.layout request.now.spacing }
 {
@@ -165,7 +166,7 @@ fn prints_leaves(request: &ImposeRequest) -> bool
     }
 }
 
-/// Appends both sides of a paper, in points.
+/// Appends the width and the height of a paper, in points.
 fn push_size(said: &mut ReportText, paper: &Paper)
     requires room { length said.old + 103 ≤ most_said }
     ensures text { said.new ≡ said.old ++ paper_size_text paper.now }
@@ -184,7 +185,7 @@ fn push_sides(said: &mut ReportText, width: Grains, height: Grains)
     said.push_points(height);
 }
 
-/// Appends that the name of the document's paper is unknown.
+/// Appends the message that the document names an unknown paper.
 pub(crate) fn push_unknown(said: &mut ReportText, name: &ShownName)
     requires room { length said.old + 141 ≤ most_said }
     ensures text { said.new ≡ said.old ++ unknown_message name.now }
@@ -194,7 +195,7 @@ pub(crate) fn push_unknown(said: &mut ReportText, name: &ShownName)
     said.push(name.as_slice());
 }
 
-/// Appends the pages that `--paper` cuts.
+/// Appends the message about the pages that `--paper` cuts: which pages, how large they are, and how large the named paper is.
 pub(crate) fn push_cut(said: &mut ReportText, cut: &Cut, named: &Paper)
     requires room { length said.old + 367 ≤ most_said }
     ensures text { said.new ≡ said.old ++ cut_message cut.now named.now }
@@ -208,7 +209,7 @@ pub(crate) fn push_cut(said: &mut ReportText, cut: &Cut, named: &Paper)
     push_size(said, named);
 }
 
-/// The pages that are cut, counted from 1.
+/// Appends which pages are cut, counted from 1.
 fn push_cut_pages(said: &mut ReportText, cut: &Cut)
     requires room { length said.old + 136 ≤ most_said }
     ensures text { said.new ≡ said.old ++ cut_pages_text cut.now }
@@ -229,7 +230,7 @@ fn push_cut_pages(said: &mut ReportText, cut: &Cut)
     }
 }
 
-/// Appends a number of pages, with the first and the last of them.
+/// Appends how many pages there are, and the numbers of the first and the last of them.
 fn push_some_pages(said: &mut ReportText, pages: usize, first: u128, last: u128)
     requires room { length said.old + 136 ≤ most_said }
     ensures text { said.new ≡ said.old ++ some_pages_text pages first last }
@@ -249,7 +250,7 @@ fn page_number(page: usize) -> u128
     page as u128 + 1
 }
 
-/// Appends the size of the page that is cut, or the size that several reach.
+/// Appends the size of the page that is cut. If several pages are cut, it is the size of the smallest paper that covers them all.
 fn push_cut_size(said: &mut ReportText, cut: &Cut)
     requires room { length said.old + 109 ≤ most_said }
     ensures text { said.new ≡ said.old ++ cut_size_text cut.now }
@@ -261,7 +262,7 @@ fn push_cut_size(said: &mut ReportText, cut: &Cut)
     push_size(said, &cut.paper);
 }
 
-/// Appends the first page that reaches beyond the paper by which it is placed, and the number of others.
+/// Appends the message about pages that reach beyond the papers by which they are placed: how far the first one reaches, and the number of the rest.
 pub(crate) fn push_reach(said: &mut ReportText, reach: &Reach)
     requires room { length said.old + 536 ≤ most_said }
     ensures text { said.new ≡ said.old ++ reach_message reach.now }
@@ -276,7 +277,7 @@ pub(crate) fn push_reach(said: &mut ReportText, reach: &Reach)
     push_others(said, reach.pages.saturating_sub(1));
 }
 
-/// Appends how far a page reaches: to its upper right corner, and also from its lower left corner if that has a negative coordinate.
+/// Appends how far a page reaches, in points: to its upper right corner, and from its lower left corner if a coordinate of that is negative.
 fn push_edges(said: &mut ReportText, edges: &Edges)
     requires room { length said.old + 215 ≤ most_said }
     ensures text { said.new ≡ said.old ++ edges_text edges.now }
@@ -290,7 +291,7 @@ fn push_edges(said: &mut ReportText, edges: &Edges)
     }
 }
 
-/// Appends how far a page reaches: from its lower left to its upper right corner.
+/// Appends how far a page reaches, in points: from its lower left to its upper right corner.
 fn push_corners(said: &mut ReportText, edges: &Edges)
     requires room { length said.old + 215 ≤ most_said }
     ensures text { said.new ≡ said.old ++ corners_text edges.now }
@@ -302,7 +303,7 @@ fn push_corners(said: &mut ReportText, edges: &Edges)
     push_sides(said, edges.right, edges.top);
 }
 
-/// Appends the number of other pages that reach beyond their papers.
+/// Appends the number of further pages that reach beyond their papers, if there are any.
 fn push_others(said: &mut ReportText, pages: usize)
     requires room { length said.old + 160 ≤ most_said }
     ensures text { said.new ≡ said.old ++ others_text pages }
@@ -320,7 +321,7 @@ fn push_others(said: &mut ReportText, pages: usize)
     );
 }
 
-/// Appends the number of pages after the document's trailer.
+/// Appends the message about the pages after the document's trailer, which aren't imposed.
 pub(crate) fn push_behind(said: &mut ReportText, pages: usize)
     requires room { length said.old + 160 ≤ most_said }
     ensures text { said.new ≡ said.old ++ behind_message pages }
@@ -335,7 +336,7 @@ pub(crate) fn push_behind(said: &mut ReportText, pages: usize)
     );
 }
 
-/// Appends the number of pages that the document declares, and the number found.
+/// Appends the message that the document declares one number of pages and has another.
 pub(crate) fn push_told(said: &mut ReportText, told: usize, found: usize)
     requires room { length said.old + 357 ≤ most_said }
     ensures text { said.new ≡ said.old ++ told_message told found }
@@ -348,7 +349,7 @@ pub(crate) fn push_told(said: &mut ReportText, told: usize, found: usize)
     said.push(told_advice(told, found));
 }
 
-/// That pages are missing, or that there are more than the document says.
+/// The end of the message: whether the document is complete, if pages are missing; otherwise, that all pages are counted.
 fn told_advice(told: usize, found: usize) -> &'static [u8]
     ensures value { result.now ≡ advice_told told found }
     ensures short { length result.now ≤ 17 }
@@ -360,7 +361,7 @@ fn told_advice(told: usize, found: usize) -> &'static [u8]
     }
 }
 
-/// This of a file, by its name as it is shown.
+/// Appends the note on an output file: its name, the advice, and the name again. `name` is the file's name as messages show it.
 pub(crate) fn push_note(said: &mut ReportText, advice: &[u8], name: &str)
     requires short { length advice.now ≤ 100 }
     requires few { length name.now ≤ 1_002 }
@@ -373,7 +374,7 @@ pub(crate) fn push_note(said: &mut ReportText, advice: &[u8], name: &str)
     said.push(name.as_bytes());
 }
 
-/// The source of the pages' paper, in words.
+/// Where the paper of the pages comes from, in words.
 fn origin_text(origin: PaperOrigin) -> &'static [u8]
     ensures value { result.now ≡ text_of_origin origin }
     ensures short { length result.now ≤ 60 }

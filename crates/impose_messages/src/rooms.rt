@@ -9,7 +9,8 @@ use layouts::{HUNDRED_THOUSANDTH, Room, extent, grains, in_grains};
 use lengths::{Grains, Paper, print_points};
 use std::alloc::{AllocError, Global};
 
-/// The message about margins and gaps without room for pages: their lengths, the size of the sheet, and what the margins leave of it.
+/// The message about margins and gaps that leave no room for pages. It gives their lengths, the size of the sheet, and the size that the margins
+/// leave, all in points. The only error is running out of memory.
 pub(crate) fn no_room_text(alloc: Global, room: &Room) -> Result<String, AllocError>
     ensures { IfOk result (λ text. string_bytes text ≡ text_of_no_room room.now) }
 {
@@ -25,7 +26,7 @@ pub(crate) fn no_room_text(alloc: Global, room: &Room) -> Result<String, AllocEr
     )
 }
 
-/// That gaps take all that margins leave; empty if margins leave nothing.
+/// The part of the message that says that gaps take all the room that the margins leave. It is empty if the margins leave none.
 fn gaps_text(alloc: Global, room: &Room) -> Result<String, AllocError>
     ensures { IfOk result (λ text. string_bytes text ≡ text_of_gaps room.now) }
 {
@@ -36,7 +37,7 @@ fn gaps_text(alloc: Global, room: &Room) -> Result<String, AllocError>
     format!(in alloc; ", and gaps of {gaps} pt none of that")
 }
 
-/// Whether margins leave a part of both sides.
+/// Whether margins leave some of the sheet's width and some of its height.
 fn leaves_some(room: &Room) -> bool
     ensures { result ≡ leaves_some_of room.now }
 {
@@ -45,7 +46,7 @@ fn leaves_some(room: &Room) -> bool
     0 < width.get() && 0 < height.get()
 }
 
-/// Two lengths in 10^-5 of a point.
+/// The text of two lengths, in points. The arguments are in units of 10^-5 of a point.
 fn lengths_text(alloc: Global, across: u64, up: u64) -> Result<String, AllocError>
     requires across { across ≤ 20_000_000_000 }
     requires up { up ≤ 20_000_000_000 }
@@ -54,7 +55,7 @@ fn lengths_text(alloc: Global, across: u64, up: u64) -> Result<String, AllocErro
     sides_text(alloc, in_grains(across), in_grains(up))
 }
 
-/// The rest of a side without this length in 10^-5 of a point.
+/// The length of a side without the length `taken`, which is in units of 10^-5 of a point. It is 0 if nothing is left of the side.
 fn left_of(length: Grains, taken: u64) -> Grains
     requires side { IsTrue (is_side length) }
     requires taken { taken ≤ 20_000_000_000 }
@@ -64,7 +65,7 @@ fn left_of(length: Grains, taken: u64) -> Grains
     grains(i128::from(left))
 }
 
-/// Both sides of a paper, in points.
+/// The text of a paper's width and height, in points.
 fn size_text(alloc: Global, paper: &Paper) -> Result<String, AllocError>
     ensures { IfOk result (λ text. string_bytes text ≡ text_of_size paper.now) }
 {
@@ -87,7 +88,7 @@ fn points_text(alloc: Global, length: Grains) -> Result<String, AllocError>
     text_of_ascii(text)
 }
 
-/// These ASCII bytes as a text. Bytes that aren't ASCII are refused like a lack of memory.
+/// The bytes as a text. Callers pass only ASCII. Bytes that aren't UTF-8 would be refused with the error that also reports a lack of memory.
 fn text_of_ascii(bytes: Vec<u8>) -> Result<String, AllocError>
     ensures value { IfOk result (λ text. string_bytes text ≡ bytes.items) }
     ensures other { OnErr result (¬ (IsUtf8 bytes.items)) }

@@ -1,4 +1,4 @@
-//! The lines of a finished run.
+//! The lines that are printed about a finished run.
 ghost use Rattle.std.specs.Prelude.{◌≡◌, ◌+◌, ◌≤◌, ◌++◌, IfSome, Some, length, option_map, string_bytes};
 ghost use Rattle.impose_messages.specs.Rooms.{most_said};
 ghost use Rattle.impose_messages.specs.Said.{AddsNote, advice_on as advice_by_name, behind_text, cut_text, line_of, note_text as text_of_note};
@@ -14,7 +14,7 @@ use impose_words::ImposeRequest;
 use lengths::Paper;
 use papers::{Cut, Reach};
 
-/// Appends the lines of a finished run, except the one about its output's name.
+/// Appends all lines about a finished run, except the one about the name of the output file (`push_note_line`).
 pub(crate) fn push_lines(said: &mut ReportText, done: &Finished, request: &ImposeRequest)
     requires room { length said.old + 2_308 ≤ most_said }
     ensures text { said.new ≡ said.old ++ run_lines done.now request.now }
@@ -107,7 +107,7 @@ fn push_told_line(said: &mut ReportText, told: Option<usize>, found: u32)
     said.push(b"\n");
 }
 
-/// The line that the output is PostScript, if it is named as something else.
+/// Appends the line that says that the output is PostScript, if the output's name is that of another kind of file, such as `out.pdf`.
 pub(crate) fn push_note_line(said: &mut ReportText, request: &ImposeRequest)
     requires room { length said.old + 2_200 ≤ most_said }
     ensures { AddsNote (option_map string_bytes request.now.outfile) said.old said.new }
@@ -121,7 +121,7 @@ pub(crate) fn push_note_line(said: &mut ReportText, request: &ImposeRequest)
     }
 }
 
-/// The line about a file of this name, as it is shown.
+/// Appends the line about the output file. `name` is the file's name as messages show it.
 fn push_note_on(said: &mut ReportText, advice: &[u8], name: &str)
     requires short { length advice.now ≤ 100 }
     requires few { length name.now ≤ 1_002 }
@@ -133,7 +133,8 @@ fn push_note_on(said: &mut ReportText, advice: &[u8], name: &str)
     said.push(b"\n");
 }
 
-/// The advice on an output with the name of another format: that it holds PostScript, and how to convert that. The name itself isn't included.
+/// The advice about an output file whose name ends as that of another kind of file, such as `.pdf`. It says that the file holds PostScript, and how
+/// to make a file of that kind. The line has the file's name before and after this text.
 fn advice_on(name: &str) -> Option<&'static [u8]>
     ensures value { option_map (λ advice. advice.now) result ≡ advice_by_name name.now }
     ensures short { IfSome result (λ advice. length advice.now ≤ 100) }

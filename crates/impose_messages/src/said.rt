@@ -13,10 +13,11 @@ use impose_words::{ImposeRequest, RequestFault};
 use std::alloc::{AllocError, Global};
 use std::io::ErrorKind;
 
-/// The text for standard error at the end of the program. After sheets it is the report with its lines, unless the request is quiet. After a fault it
-/// is the message, unless the reader of the output has closed it. Otherwise it is empty; help and version go to standard output.
+/// The text for standard error at the end of the program. If sheets were written, it is the report with all its lines, unless the request is quiet.
+/// If there is a fault, it is the message about the fault, unless the fault is that the reader of the output has closed it. Otherwise it is empty;
+/// help and version go to standard output.
 ///
-/// The report is put into a text that was made before the run, so it is whole.
+/// Memory for `report` was reserved before the run, so the report is complete even if no memory is left.
 pub fn text_said(
     alloc: Global,
     report: ReportText,
@@ -37,7 +38,7 @@ pub fn text_said(
     }
 }
 
-/// The message about a finished run, with all its lines.
+/// The report on a finished run, with all its lines. It is empty if the request is quiet.
 fn text_of_run(report: ReportText, done: &Finished, request: &ImposeRequest) -> Vec<u8>
     requires empty { report ≡ [] }
     ensures { SaysRun done.now request.now result.items }
@@ -51,7 +52,7 @@ fn text_of_run(report: ReportText, done: &Finished, request: &ImposeRequest) -> 
     said.into_bytes()
 }
 
-/// The message about a fault; empty without memory for it.
+/// The message about a fault. It is empty for help and version, if the reader of the output has closed it, and if memory for the message is refused.
 pub fn text_of_fault(
     alloc: Global,
     fault: &ImposeFault,
@@ -70,7 +71,7 @@ pub fn text_of_fault(
     said
 }
 
-/// The message about words that the command doesn't take; empty for help and version.
+/// The message about words that the command doesn't take. It is empty for help and version, and if memory for the message is refused.
 fn text_of_words(alloc: Global, error: &WordsError, words: &[String]) -> String
     ensures { SaysWords error.now (string_bytes result) }
 {
@@ -81,7 +82,7 @@ fn text_of_words(alloc: Global, error: &WordsError, words: &[String]) -> String
     }
 }
 
-/// Whether the reader of the output has closed it.
+/// Whether the fault is that the reader of the output has closed it (a broken pipe).
 fn is_broken_pipe(fault: &ImposeFault) -> bool
     ensures { result ≡ is_broken_pipe fault.now }
 {
@@ -94,7 +95,7 @@ fn is_broken_pipe(fault: &ImposeFault) -> bool
     }
 }
 
-/// Adds a line with this message, if there is memory for both.
+/// Adds the message as a line, if there was memory for the message and there is memory for the line.
 fn add_line(alloc: Global, said: &mut String, message: Result<String, AllocError>)
     ensures { AddsText (IsMadeLine message) (string_bytes said.old) (string_bytes said.new) }
 {

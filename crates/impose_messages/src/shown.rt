@@ -7,16 +7,16 @@ use command_words::is_hidden;
 use std::alloc::{AllocError, Global};
 use std::marker::Model;
 
-/// The most characters of a word, or bytes of a document's name, that are shown.
+/// The largest number of characters of a word, or of bytes of a name from a document, that messages show.
 const MOST_SHOWN: usize = 100;
 
-/// A word or a name without hidden characters, which are written as `\u{1b}`, and cut after its first hundred characters;
-/// two dots are in place of what is cut off.
+/// A word or a name as messages show it. Hidden characters are written as escapes such as `\u{1b}`. After the first hundred characters, the rest is
+/// replaced with two dots.
 pub(crate) fn shown_word(alloc: Global, word: &str) -> Result<String, AllocError> {
     String::from_str(alloc, shown_in_place(word).as_str())
 }
 
-/// The same without memory of its own. There is room for a hundred characters of ten bytes, and two dots.
+/// A word as `shown_word` gives it, without allocating memory. There is room for a hundred characters, each of at most ten bytes, and two dots.
 pub(crate) fn shown_in_place(word: &str) -> ArrayString<1_002> {
     let mut shown = ArrayString::new();
     for (count, letter) in word.chars().enumerate() {
@@ -29,7 +29,7 @@ pub(crate) fn shown_in_place(word: &str) -> ArrayString<1_002> {
     shown
 }
 
-/// A character as it is shown; a hidden one as it is written in a program.
+/// A character as messages show it. A hidden character is written as an escape such as `\u{1b}`.
 fn shown_letter(letter: char) -> ArrayString<10> {
     let mut shown = ArrayString::new();
     if is_hidden(letter) {
@@ -42,13 +42,13 @@ fn shown_letter(letter: char) -> ArrayString<10> {
     shown
 }
 
-/// Appends a character as it is shown.
+/// Appends a character as messages show it.
 pub(crate) fn push_shown(shown: &mut String, letter: char) -> Result<(), AllocError> {
     shown.push_str(shown_letter(letter).as_str())
 }
 
-/// A document's name as it is shown: its start, with a question mark for each byte that isn't printable ASCII, and two dots if there is more. It
-/// takes no memory.
+/// A name from a document, such as a paper's, as messages show it: its first hundred bytes, with a question mark in place of each byte that isn't
+/// printable ASCII, and two dots if the name is longer. It allocates no memory.
 #[derive(Drop)]
 pub struct ShownName {
     text: ArrayVec<u8, 102>,
@@ -63,7 +63,7 @@ impl Model for ShownName {
 }
 
 impl ShownName {
-    /// The form in which this name is shown.
+    /// The form in which messages show a name.
     pub fn of(name: &[u8]) -> ShownName
         ensures { result ≡ shown_name name.now }
     {
@@ -76,7 +76,7 @@ impl ShownName {
         ShownName { text }
     }
 
-    /// Its bytes.
+    /// The bytes to show, at most 102.
     pub(crate) fn as_slice(&self) -> &[u8]
         ensures value { result.now ≡ self.now }
         ensures short { length result.now ≤ 102 }
@@ -85,7 +85,7 @@ impl ShownName {
     }
 }
 
-/// The start of a name, as it is shown.
+/// The first bytes of a name as messages show them.
 fn shown_front(front: &[u8]) -> ArrayVec<u8, 102>
     requires few { length front.now ≤ 100 }
     ensures { result.items ≡ map byte_shown front.now }
@@ -97,26 +97,26 @@ fn shown_front(front: &[u8]) -> ArrayVec<u8, 102>
     shown
 }
 
-/// A byte of a name; a question mark if it isn't printable ASCII.
+/// A byte of a name as messages show it: a question mark in place of a byte that isn't printable ASCII.
 fn shown_byte(b: u8) -> u8
     ensures { result ≡ byte_shown b }
 {
     if 32 <= b && b <= 126 { b } else { b'?' }
 }
 
-/// Whether a word is shown unchanged.
+/// Whether a word has at most a hundred bytes and no hidden characters, so that messages show it unchanged.
 pub(crate) fn is_shown_whole(word: &str) -> bool {
     word.len() <= MOST_SHOWN && !word.chars().any(|letter| is_hidden(letter))
 }
 
-/// These texts, one after another.
+/// The texts, joined in order.
 pub(crate) fn joined_texts(alloc: Global, texts: &[&str]) -> Result<String, AllocError> {
     let mut joined = String::new(alloc);
     push_all(&mut joined, texts)?;
     Ok(joined)
 }
 
-/// Appends these texts.
+/// Appends the texts in order.
 pub(crate) fn push_all(out: &mut String, texts: &[&str]) -> Result<(), AllocError> {
     for text in texts {
         out.push_str(*text)?;

@@ -11,8 +11,8 @@ use row_sheets::PosterError;
 use rows::RowError;
 use sheet_plan::MadeError;
 
-/// The exit status of a fault. It is 1 if the specification, layout, document or plan is refused, 2 if the command line or an option is, and 3 if
-/// memory, reading or writing failed. Help and version have 0.
+/// The exit status of a fault. It is 1 if the page ranges, specification, layout, document or plan is refused, 2 if the command line or an option is
+/// refused, and 3 if memory ran out or reading or writing failed. It is 0 for help and version.
 pub fn fault_status(fault: &ImposeFault) -> u8
     ensures { result ≡ status_of_fault fault.now }
 {

@@ -1,9 +1,9 @@
 //! Tips on words that the command doesn't take.
 
-/// Words and the tip on them. Options are written as clap names them (`-d` of `-d1`).
+/// A list of words, and the tip that is printed if one of them is refused. Options are written as clap names them, such as `-d` for `-d1`.
 pub(crate) type Tip = (&'static [&'static str], &'static str);
 
-/// The tip on a word, if there is one.
+/// The tip on a word, if the list has one.
 pub(crate) fn tip_in(tips: &[Tip], word: &str) -> Option<&'static str> {
     for (words, tip) in tips {
         if words.iter().any(|known| *known == word) {
@@ -13,7 +13,7 @@ pub(crate) fn tip_in(tips: &[Tip], word: &str) -> Option<&'static str> {
     None
 }
 
-/// Tips for a command without its first argument.
+/// Tips for a command whose first argument is missing.
 pub(crate) const MISSING: [Tip; 7] = [
     (
         &["nup"],
@@ -45,7 +45,7 @@ pub(crate) const MISSING: [Tip; 7] = [
     ),
 ];
 
-/// Tips on a value with a minus after an option, or as a command's first argument.
+/// Tips on a value that begins with a minus sign, after an option or as the first argument of a command.
 pub(crate) const SIGNS: [Tip; 11] = [
     (
         &[
@@ -98,7 +98,7 @@ pub(crate) const SIGNS: [Tip; 11] = [
     ),
 ];
 
-/// Tips on options that booklets don't have, or that have these names in other programs.
+/// Tips on options that `booklet` doesn't have, or that other programs call by another name.
 pub(crate) const FOR_BOOKLETS: [Tip; 4] = [
     (
         &["--order"],
@@ -118,7 +118,7 @@ pub(crate) const FOR_BOOKLETS: [Tip; 4] = [
     ),
 ];
 
-/// The same for selections.
+/// Tips on options that `select` doesn't have, or that other programs call by another name.
 pub(crate) const FOR_SELECTIONS: [Tip; 4] = [
     (
         &["--pages"],
@@ -138,7 +138,7 @@ pub(crate) const FOR_SELECTIONS: [Tip; 4] = [
     ),
 ];
 
-/// The same for specifications.
+/// Tips on options that `spec` doesn't have, or that other programs call by another name.
 pub(crate) const FOR_SPECIFICATIONS: [Tip; 4] = [
     (
         &["--plan", "--preview"],
@@ -158,7 +158,7 @@ pub(crate) const FOR_SPECIFICATIONS: [Tip; 4] = [
     ),
 ];
 
-/// Tips on options that only some commands have, for the other commands.
+/// Tips on options that only some commands have, for use with a command that doesn't have them.
 pub(crate) const OF_COMMANDS: [Tip; 15] = [
     (
         &["--order"],

@@ -9,7 +9,7 @@ use impose_words::{
 use papers::{PaperError, read_paper};
 use std::alloc::{AllocError, Global};
 
-/// The message about a text that isn't a value of the option or argument.
+/// The message about a text that the option or argument doesn't take as its value.
 pub(crate) fn value_text(
     alloc: Global,
     option: OptionId,
@@ -79,7 +79,7 @@ fn is_value(option: OptionId, text: &str) -> bool {
     }
 }
 
-/// The message about a text that would be a value with points before its decimals.
+/// The message about a text that has commas where decimal points belong. `pointed` is the text with points, which would be a value.
 fn decimals_text(
     alloc: Global,
     option: OptionId,
@@ -100,7 +100,7 @@ fn decimals_text(
 
 const UNITS_IN_LISTS: &str = "; in a list each length has its unit, 0 too";
 
-/// The message about a text that isn't a length or a list of lengths. It may only lack a unit.
+/// The message about a text that isn't a length or a list of lengths. If only a unit is missing, the message says where.
 fn length_text(alloc: Global, option: OptionId, text: &str) -> Result<String, AllocError> {
     match part_without_unit(text, matches!(option, OptionId::Margin | OptionId::Gap)) {
         Some(part) => no_unit_text(alloc, option, text, part),
@@ -108,7 +108,8 @@ fn length_text(alloc: Global, option: OptionId, text: &str) -> Result<String, Al
     }
 }
 
-/// The text, or the first length in it, alone or after the name of an edge, that only lacks its unit.
+/// The part of the text that only lacks its unit, if there is one: the whole text, or else the first such length in a list. In a list, a length may
+/// stand alone or after the name of an edge.
 fn part_without_unit(text: &str, may_be_list: bool) -> Option<&str> {
     if lacks_unit(text, false) && !text.starts_with("-") {
         return Some(text);
@@ -128,7 +129,7 @@ fn part_without_unit(text: &str, may_be_list: bool) -> Option<&str> {
     None
 }
 
-/// The message about a text in which this part lacks a unit.
+/// The message about a text in which `part` lacks a unit.
 fn no_unit_text(
     alloc: Global,
     option: OptionId,
@@ -154,7 +155,7 @@ fn no_unit_text(
     Ok(said)
 }
 
-/// The message about a text that isn't margins. An edge may be named twice.
+/// The message about a text that doesn't give margins. If it names an edge twice, the message says which.
 fn margin_text(alloc: Global, text: &str) -> Result<String, AllocError> {
     let Some(edge) = edge_named_twice(text) else {
         return length_text(alloc, OptionId::Margin, text);
@@ -164,7 +165,7 @@ fn margin_text(alloc: Global, text: &str) -> Result<String, AllocError> {
     format!(in alloc; "'{shown}' after --margin names {edge} twice: name each edge once")
 }
 
-/// The message about a text that isn't a first number, or that comes without `--numbers`.
+/// The message about a text after `--numbers-from` that isn't a whole number, or that comes without `--numbers`.
 fn first_number_text(alloc: Global, text: &str) -> Result<String, AllocError> {
     if whole_number(text).is_none() {
         return refused_text(alloc, OptionId::NumbersFrom, text);
@@ -192,7 +193,7 @@ fn edge_named_twice(text: &str) -> Option<&str> {
     None
 }
 
-/// The message that an option doesn't take this text, with the cure.
+/// The message that an option doesn't take this text, with advice on what to give.
 fn refused_text(alloc: Global, option: OptionId, text: &str) -> Result<String, AllocError> {
     let (what, advice) = value_refusal(option);
     let shown = shown_word(alloc, text)?;
@@ -204,7 +205,7 @@ fn refused_text(alloc: Global, option: OptionId, text: &str) -> Result<String, A
     )
 }
 
-/// The kind of value that an option takes, and the cure.
+/// What the message calls a refused value of this option, and its advice on what to give.
 fn value_refusal(option: OptionId) -> (&'static str, &'static str) {
     match option {
         OptionId::Paper | OptionId::Sheet => ("size", "a side is zero, negative or too long"),
@@ -247,7 +248,7 @@ fn value_refusal(option: OptionId) -> (&'static str, &'static str) {
     }
 }
 
-/// The message about page ranges after `-p`, which psselect takes.
+/// The message about page ranges after `-p`, which is psselect's option for them, but gives a paper here.
 fn ranges_text(alloc: Global, text: &str) -> Result<String, AllocError> {
     let text = shown_word(alloc, text)?;
     format!(in alloc;
@@ -297,7 +298,7 @@ fn may_have_unit(alloc: Global, text: &str) -> Result<bool, AllocError> {
     Ok(read_paper(with_unit.as_str().as_bytes()).is_ok())
 }
 
-/// The message about an option in place of a file.
+/// The message about an output file whose name begins with a minus, as options do.
 fn outfile_text(alloc: Global, text: &str) -> Result<String, AllocError> {
     let text = shown_word(alloc, text)?;
     let text = text.as_str();
@@ -306,7 +307,7 @@ fn outfile_text(alloc: Global, text: &str) -> Result<String, AllocError> {
     joined_texts(alloc, &["OUTFILE '", text, advice, text])
 }
 
-/// The message about marks that only booklets have.
+/// The message about marks that the command doesn't draw. If fold marks are among them, it says that only booklets are folded.
 fn cut_marks_text(alloc: Global, text: &str) -> Result<String, AllocError> {
     let shown = shown_word(alloc, text)?;
     let shown = shown.as_str();
@@ -320,7 +321,8 @@ fn cut_marks_text(alloc: Global, text: &str) -> Result<String, AllocError> {
     )
 }
 
-/// The message about a text that isn't a signature.
+/// The message about a text that isn't the number of sides of a signature. For a number between 4 and 1,000,000 it names the two nearest multiples of
+/// four.
 fn signature_text(alloc: Global, text: &str) -> Result<String, AllocError> {
     match whole_number(text) {
         Some(sides) if 4 < sides && sides < 1_000_000 => {
@@ -334,7 +336,8 @@ fn signature_text(alloc: Global, text: &str) -> Result<String, AllocError> {
     }
 }
 
-/// The message about a text after a command that isn't a number of cells. A file may stand in its place.
+/// The message about a text after a command that isn't a number of pages or a grid. If the text looks like a file, the message says that the number
+/// or grid is missing before it.
 fn cells_text(alloc: Global, command: CellCommand, text: &str) -> Result<String, AllocError> {
     let shown = shown_word(alloc, text)?;
     let shown = shown.as_str();
@@ -351,7 +354,8 @@ fn cells_text(alloc: Global, command: CellCommand, text: &str) -> Result<String,
     Ok(said)
 }
 
-/// The name of a command, its beginning, the value that is missing after it, and the note that the value comes there.
+/// For the message about a missing argument: the name of a command, the command with an example of its argument, a phrase for the argument, and the
+/// phrase that says that the argument comes after the command.
 fn command_named(command: CellCommand) -> (&'static str, &'static str, &'static str, &'static str) {
     let (name, example) = match command {
         CellCommand::NUp => ("nup", "nup 2"),
@@ -371,7 +375,7 @@ fn command_named(command: CellCommand) -> (&'static str, &'static str, &'static 
     )
 }
 
-/// The kind of text that follows a command, and an example.
+/// What the message calls a refused argument of this command, and its advice on what to give.
 fn bad_cells(command: CellCommand, is_grid: bool) -> (&'static str, &'static str) {
     match command {
         CellCommand::Notes => ("bad number of pages", "one from 1 to 512, as 3"),
