@@ -28,7 +28,7 @@ Examples:
   impose-pdf booklet in.pdf out.pdf   a booklet of a PDF";
 
 /// An argument of a subcommand. Its texts are its name (for an option, the text after `--`), the name of its value in the help if it has a value, and
-/// its help. An option that also has a form of one letter has the letter first.
+/// its help. An option with a letter has that first.
 #[derive(Clone, Copy)]
 enum Argument {
     /// A required word.

@@ -127,7 +127,7 @@ pub(crate) const NO_MARKS: Marks = Marks {
     numbers: None,
 };
 
-/// The marks that the text names for a booklet: at the fold, where the margins are cut off, or both.
+/// The marks that the text names for a booklet: where it is folded, where its margins are cut off, or both.
 pub(crate) fn booklet_marks_named(text: &str) -> Option<Marks>
     ensures { result ≡ meaning.booklet_marks_named text.now }
 {

@@ -388,7 +388,7 @@ fn spacing_of(layout: &Layout, found: &ArgMatches<'_>) -> Result<Spacing, Option
     })
 }
 
-/// The margins of a sheet; 0 without `--margin`. `None` if the option's value names no margins.
+/// The margins of a sheet; 0 without `--margin`. `None` if the option's value isn't margins.
 fn margins_of(found: &ArgMatches<'_>) -> Option<Margins>
     ensures { result ≡ margins_found (rows_of (found_of found.now)) }
 {
@@ -398,7 +398,7 @@ fn margins_of(found: &ArgMatches<'_>) -> Option<Margins>
     }
 }
 
-/// The gaps between cells; 0 without `--gap`. `None` if the option's value names no gaps.
+/// The gaps between cells; 0 without `--gap`. `None` if the option's value isn't gaps.
 fn gaps_of(found: &ArgMatches<'_>) -> Option<Free>
     ensures { result ≡ gaps_found (rows_of (found_of found.now)) }
 {
@@ -580,7 +580,7 @@ fn part_of(odd: bool, even: bool) -> Option<Part>
     }
 }
 
-/// The name of the output file. A name that begins with a minus sign is refused, because it is most likely a misplaced option.
+/// The name of the output file. A name that begins with a minus sign is refused, because it is most likely an option that comes too late.
 fn outfile_of(alloc: Global, found: &ArgMatches<'_>) -> Result<Option<String>, RequestFault>
     ensures asked { IfOk result (λ outfile.
         file_asked (given opt.Outfile (rows_of (found_of found.now))) ≡ option_map string_bytes outfile) }

@@ -15,7 +15,7 @@ pub struct Margins {
     pub inner: Option<Grains>,
 }
 
-/// The margins of the edges that a text names, or `None` for an edge that it doesn't name.
+/// The margins of the edges that a text names. An edge that isn't named has `None`.
 #[derive(Clone, Copy)]
 pub(crate) struct Edges {
     pub left: Option<Grains>,
@@ -185,7 +185,7 @@ fn with_edge(edges: Edges, name: &str, margin: Grains) -> Option<Edges>
     }
 }
 
-/// The margin of an edge that had no margin before. `None` if it had one.
+/// The margin as that of an edge. `None` if the edge has a margin already.
 fn once(before: Option<Grains>, margin: Grains) -> Option<Option<Grains>>
     ensures { result ≡ meaning.once before margin }
 {
@@ -195,7 +195,7 @@ fn once(before: Option<Grains>, margin: Grains) -> Option<Option<Grains>>
     }
 }
 
-/// The text before the first character `at`, and the text after it. `None` if the text doesn't contain the character.
+/// The text before the first character `at`, and the text after it. `None` if the character isn't there.
 fn cut_at(text: &str, at: char) -> Option<(&str, &str)>
     requires { at < 128 }
     ensures { option_map (λ x. (x.0.now, x.1.now)) result ≡ meaning.cut_at at text.now }

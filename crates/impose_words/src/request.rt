@@ -48,7 +48,7 @@ pub enum Layout {
     /// All pages in order, placed by a page specification of pstops.
     Spec(String),
     /// A row of pages, placed by a page specification. The row is first put into signatures if `signing` names them. The page numbers in the
-    /// specification count the places of the row.
+    /// specification are places of the row.
     SpecRow {
         specs: String,
         signing: Option<Signing>,
@@ -91,7 +91,7 @@ impl Layout {
     }
 }
 
-/// The margins and gaps of sheets, the creep of leaves, the order in which cells are filled, and the scale of pages. All lengths are in grains.
+/// The margins and gaps of sheets, the creep of leaves, the order in which cells are filled, and the scale of pages.
 #[derive(Clone, Copy)]
 pub struct Spacing {
     /// The margins along the edges of sheets, the gaps between cells, and the trim of pages.
@@ -249,7 +249,7 @@ fn some_gap(gap: Grains) -> Grains
 pub struct PageChoice {
     /// The page ranges as they are written. `None` for all pages.
     pub ranges: Option<String>,
-    /// Which of these pages are taken, by their places: all of them; the first, the third and so on; or the second, the fourth and so on.
+    /// Which of these pages are taken by their places: all, the first, third and so on, or the second, fourth and so on.
     pub part: Part,
     /// Whether the order is reversed.
     pub backwards: bool,
