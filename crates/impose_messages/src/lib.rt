@@ -1,15 +1,11 @@
 //! The messages that `impose` prints at its end, and its exit status for each fault.
 #![tactic(auto)]
 
-mod clap_text;
 mod context;
 mod fault;
 mod finished;
 mod inputs;
 mod messages;
-mod mistakes;
-mod nearest;
-mod other_programs;
 mod report_text;
 mod reports;
 mod rooms;
@@ -17,15 +13,13 @@ mod run_lines;
 mod said;
 mod shown;
 mod statuses;
-mod tips;
-mod values;
 
 pub use fault::{Compression, IdleOption, ImposeFault};
 pub use finished::{Claims, Done, Finished, PaperOrigin};
 pub use inputs::refused_document;
 pub use messages::{command_text, fault_text};
-pub use mistakes::words_text;
 pub use report_text::ReportText;
 pub use said::{text_of_fault, text_said};
 pub use shown::ShownName;
 pub use statuses::fault_status;
+pub use suggestions::words_text;

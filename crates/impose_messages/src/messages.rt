@@ -2,10 +2,7 @@
 
 use crate::context::Context;
 use crate::fault::{Compression, IdleOption, ImposeFault};
-use crate::mistakes::{is_range, looks_like_file};
 use crate::rooms::no_room_text;
-use crate::shown::{joined_texts, shown_word};
-use crate::values::value_text;
 use command_words::{caret_below, group_place, item_place, large_place, range_place};
 use dsc::DscError;
 use impose_words::{ImposeRequest, ProductOption, RequestFault};
@@ -17,6 +14,7 @@ use rows::RowError;
 use sheet_plan::{MadeError, PlanError};
 use std::alloc::{AllocError, Global};
 use std::io;
+use suggestions::{is_range, joined_texts, looks_like_file, shown_word, value_text};
 
 const OUT_OF_MEMORY: &str = "out of memory";
 

@@ -9,10 +9,11 @@ use crate::report_text::ReportText;
 use crate::reports::{
     push_behind, push_cut, push_note, push_reach, push_report, push_told, push_unknown,
 };
-use crate::shown::{ShownName, shown_in_place};
+use crate::shown::ShownName;
 use impose_words::ImposeRequest;
 use lengths::Paper;
 use papers::{Cut, Reach};
+use suggestions::shown_in_place;
 
 /// Appends all lines about a finished run, except the one about the name of the output file (`push_note_line`).
 pub(crate) fn push_lines(said: &mut ReportText, done: &Finished, request: &ImposeRequest)

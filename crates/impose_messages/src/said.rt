@@ -5,13 +5,13 @@ ghost use Rattle.impose_messages.specs.Said.{AddsText, IsMadeLine, SaysEnding, S
 use crate::fault::ImposeFault;
 use crate::finished::{Done, Finished};
 use crate::messages::fault_text;
-use crate::mistakes::words_text;
 use crate::report_text::ReportText;
 use crate::run_lines::{push_lines, push_note_line};
 use clap::Error as WordsError;
 use impose_words::{ImposeRequest, RequestFault};
 use std::alloc::{AllocError, Global};
 use std::io::ErrorKind;
+use suggestions::words_text;
 
 /// The text for standard error at the end of the program. If sheets were written, it is the report with all its lines, unless the request is quiet.
 /// If there is a fault, it is the message about the fault, unless the fault is that the reader of the output has closed it. Otherwise it is empty;

@@ -1,51 +1,10 @@
-//! Words and names in the form in which messages show them.
+//! Names from documents in the form in which reports show them.
 ghost use Rattle.std.specs.Prelude.{◌≡◌, ◌≤◌, ◌++◌, length, map};
 ghost use Rattle.impose_messages.specs.Said.{shown_byte as byte_shown, shown_name};
 
-use arrayvec::{ArrayString, ArrayVec};
-use command_words::is_hidden;
-use std::alloc::{AllocError, Global};
+use arrayvec::ArrayVec;
 use std::marker::Model;
-
-/// The largest number of characters of a word, or of bytes of a name from a document, that messages show.
-const MOST_SHOWN: usize = 100;
-
-/// A word or a name as messages show it. Hidden characters are written as escapes such as `\u{1b}`. After the first hundred characters, the rest is
-/// replaced with two dots.
-pub(crate) fn shown_word(alloc: Global, word: &str) -> Result<String, AllocError> {
-    String::from_str(alloc, shown_in_place(word).as_str())
-}
-
-/// A word as `shown_word` gives it, without allocating memory. There is room for a hundred characters, each of at most ten bytes, and two dots.
-pub(crate) fn shown_in_place(word: &str) -> ArrayString<1_002> {
-    let mut shown = ArrayString::new();
-    for (count, letter) in word.chars().enumerate() {
-        if count >= MOST_SHOWN {
-            let _ = shown.try_push_str("..");
-            return shown;
-        }
-        let _ = shown.try_push_str(shown_letter(letter).as_str());
-    }
-    shown
-}
-
-/// A character as messages show it. A hidden character is written as an escape such as `\u{1b}`.
-fn shown_letter(letter: char) -> ArrayString<10> {
-    let mut shown = ArrayString::new();
-    if is_hidden(letter) {
-        for part in letter.escape_unicode() {
-            let _ = shown.try_push(part);
-        }
-    } else {
-        let _ = shown.try_push(letter);
-    }
-    shown
-}
-
-/// Appends a character as messages show it.
-pub(crate) fn push_shown(shown: &mut String, letter: char) -> Result<(), AllocError> {
-    shown.push_str(shown_letter(letter).as_str())
-}
+use suggestions::MOST_SHOWN;
 
 /// A name from a document, such as a paper's, as messages show it: its first hundred bytes, with a question mark in place of each byte that isn't
 /// printable ASCII, and two dots if the name is longer. It allocates no memory.
@@ -102,24 +61,4 @@ fn shown_byte(b: u8) -> u8
     ensures { result ≡ byte_shown b }
 {
     if 32 <= b && b <= 126 { b } else { b'?' }
-}
-
-/// Whether a word has at most a hundred bytes and no hidden characters, so that messages show it unchanged.
-pub(crate) fn is_shown_whole(word: &str) -> bool {
-    word.len() <= MOST_SHOWN && !word.chars().any(|letter| is_hidden(letter))
-}
-
-/// The texts, joined in order.
-pub(crate) fn joined_texts(alloc: Global, texts: &[&str]) -> Result<String, AllocError> {
-    let mut joined = String::new(alloc);
-    push_all(&mut joined, texts)?;
-    Ok(joined)
-}
-
-/// Appends the texts in order.
-pub(crate) fn push_all(out: &mut String, texts: &[&str]) -> Result<(), AllocError> {
-    for text in texts {
-        out.push_str(*text)?;
-    }
-    Ok(())
 }

@@ -10,7 +10,7 @@ use papers::{PaperError, read_paper};
 use std::alloc::{AllocError, Global};
 
 /// The message about a text that the option or argument doesn't take as its value.
-pub(crate) fn value_text(
+pub fn value_text(
     alloc: Global,
     option: OptionId,
     text: &str,

@@ -241,13 +241,13 @@ fn tip_on_file(command: &str, behind: &[String]) -> &'static str {
 }
 
 /// Whether a word is most likely a range of pages or a number: it has a digit, and nothing but digits, minus signs, commas and underscores.
-pub(crate) fn is_range(word: &str) -> bool {
+pub fn is_range(word: &str) -> bool {
     word.chars().any(|letter| letter.is_ascii_digit())
         && word.chars().all(|letter| letter.is_ascii_digit() || matches!(letter, '-' | ',' | '_'))
 }
 
 /// Whether a word is most likely the name of a file: it has a slash, or one of a few endings such as `.ps`.
-pub(crate) fn looks_like_file(word: &str) -> bool {
+pub fn looks_like_file(word: &str) -> bool {
     word.ends_with(".ps")
         || word.ends_with(".eps")
         || word.ends_with(".pdf")

@@ -1,0 +1,14 @@
+//! What to type in place of words and values that the command doesn't take.
+#![tactic(auto)]
+
+mod clap_text;
+mod mistakes;
+mod nearest;
+mod other_programs;
+mod shown;
+mod tips;
+mod values;
+
+pub use mistakes::{is_range, looks_like_file, words_text};
+pub use shown::{MOST_SHOWN, joined_texts, shown_in_place, shown_word};
+pub use values::value_text;
