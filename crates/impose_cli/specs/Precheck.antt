@@ -19,7 +19,7 @@ use Rattle.layouts.specs.Grids.{cells_per_sheet}
 use Rattle.layouts.specs.Refusals.{why_no_room}
 use Rattle.layouts.specs.declared.arrangement.Free.{Free}
 use Rattle.impose_messages.specs.declared.fault.IdleOption.{IdleOption}
-use Rattle.impose_messages.specs.declared.fault.IdleOption.TheVariants.{Sheet, CutMarks, Inner, InnerMarks, Left}
+use Rattle.impose_messages.specs.declared.fault.IdleOption.TheVariants.{Outfile, Sheet, CutMarks, Inner, InnerMarks, Left}
 use Rattle.impose_messages.specs.declared.fault.ImposeFault.{ImposeFault}
 use Rattle.impose_messages.specs.declared.fault.ImposeFault.TheVariants as fault
 
@@ -68,6 +68,12 @@ RefusesRanges c f = (text : List ℕ) × (at : ℕ) × (option_map string_bytes 
 
 -- ---- options that would do nothing
 
+-- sheets are shown in place of being imposed
+abbrev pub shows_sheets : Product → Bool
+shows_sheets product.Plan = true
+shows_sheets (product.Picture file) = true
+shows_sheets other = false
+
 -- each page is left on its own paper
 abbrev pub keeps_papers : Layout → Bool
 keeps_papers layout.Selection = true
@@ -100,14 +106,16 @@ abbrev pub has_two_left : Layout → Spacing → Bool
 has_two_left (layout.NUp cells) s = is_some s.inner && not (int_eq s.free.left (pos 0))
 has_two_left other s = false
 
--- the first such option: a paper for sheets that keep their own; a margin at an edge that there isn't, or that has another; marks
--- that aren't where that margin is; and marks outside of pages that have no room for them (RULES, 16, step 4)
+-- the first such option: a file for sheets that are only shown; a paper for sheets that keep their own; a margin at an edge that
+-- there isn't, or that has another; marks that aren't where that margin is; and marks outside of pages that have no room for them
+-- (RULES, 16, step 4)
 abbrev pub idle_option : ImposeRequest → Option IdleOption
-idle_option r = if keeps_papers r.layout && is_some r.sheet_paper then Some Sheet
+idle_option r = if shows_sheets r.product && is_some r.outfile then Some Outfile
+    else (if keeps_papers r.layout && is_some r.sheet_paper then Some Sheet
     else (if is_some r.spacing.inner && not (is_bound r.layout) then Some Inner
     else (if has_two_left r.layout r.spacing then Some Left
     else (if r.marks.cut && is_some r.spacing.inner then Some InnerMarks
-    else (if r.marks.cut && (is_cut_outside r.layout && not (has_margins r.spacing.free)) then Some CutMarks else None))))
+    else (if r.marks.cut && (is_cut_outside r.layout && not (has_margins r.spacing.free)) then Some CutMarks else None)))))
 
 -- ---- a file that is read and written
 

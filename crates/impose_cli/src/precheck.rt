@@ -58,13 +58,15 @@ fn is_one_file(one: Option<&str>, other: Option<&str>) -> bool
     }
 }
 
-/// The first option that doesn't have the effect that its name promises. It may be `--sheet` for sheets that keep the papers of their pages; an inner
-/// margin where there is no inner edge, or where a left margin is named too; cut marks with an inner margin; cut marks without margins that have room
+/// The first option or file without effect, or with another effect than it names: an output file beside `--plan` or `--preview`; a paper for sheets
+/// that keep their own; a margin at an edge that is missing or has another margin; cut marks that don't fit an inner margin; cut marks without a margin
 /// for them.
 fn idle_option(request: &ImposeRequest) -> Option<IdleOption>
     ensures { result ≡ meaning.idle_option request.now }
 {
-    if keeps_papers(&request.layout) && request.sheet_paper.is_some() {
+    if shows_sheets(&request.product) && request.outfile.is_some() {
+        Some(IdleOption::Outfile)
+    } else if keeps_papers(&request.layout) && request.sheet_paper.is_some() {
         Some(IdleOption::Sheet)
     } else if request.spacing.inner.is_some() && !is_bound(&request.layout) {
         Some(IdleOption::Inner)
@@ -79,6 +81,13 @@ fn idle_option(request: &ImposeRequest) -> Option<IdleOption>
     } else {
         None
     }
+}
+
+/// Whether the product shows the sheets, so that they aren't written.
+fn shows_sheets(product: &Product) -> bool
+    ensures { result ≡ meaning.shows_sheets product.now }
+{
+    matches!(product, Product::Plan | Product::Picture(_))
 }
 
 /// Whether the layout puts each page on a sheet of the page's own paper.

@@ -20,6 +20,8 @@ pub enum Compression {
 /// An option that has no effect, or not the effect that its name promises.
 #[derive(Clone, Copy)]
 pub enum IdleOption {
+    /// An output file for the sheets, although `--plan` or `--preview` only shows them.
+    Outfile,
     /// `--sheet`, although the layout leaves each page on a sheet of the page's own size.
     Sheet,
     /// Cut marks, although the margins have no room for them.

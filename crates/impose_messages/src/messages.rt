@@ -98,7 +98,12 @@ fn write_fault_text(
     cause: &Option<io::Error>,
     context: &Context<'_>,
 ) -> Result<String, AllocError> {
-    let text = written_text(alloc, written, context)?;
+    let name = file_name(alloc, context.written, "standard output")?;
+    let text = if written == 0 {
+        format!(in alloc; "cannot write {name}")?
+    } else {
+        format!(in alloc; "cannot write {name} after {written} bytes")?
+    };
     with_cause(alloc, text.as_str(), cause)
 }
 
@@ -119,6 +124,10 @@ const OVER_INPUT: &str =
 /// The message about an option that has no effect, or not the effect that its name promises.
 fn idle_message(option: IdleOption) -> &'static str {
     match option {
+        IdleOption::Outfile => {
+            "--plan and --preview only show the sheets, so nothing would be written to OUTFILE: leave it out, and impose in a \
+            run without them"
+        }
         IdleOption::Sheet => {
             "select leaves each page on a sheet of its own size, so --sheet does nothing: for another paper use \
             impose nup 1 --sheet a4 --pages 1-3 in.ps out.ps"
@@ -183,17 +192,6 @@ fn file_name(alloc: Global, name: Option<&str>, stream: &str) -> Result<String, 
             "'' (a file without a name; - is standard input or output)",
         ),
         Some(name) => shown_word(alloc, name),
-    }
-}
-
-/// The message about a write that failed after `written` bytes, without the cause.
-fn written_text(alloc: Global, written: u64, context: &Context<'_>) -> Result<String, AllocError> {
-    let name = file_name(alloc, context.written, "standard output")?;
-    let name = name.as_str();
-    if written == 0 {
-        joined_texts(alloc, &["cannot write ", name])
-    } else {
-        format!(in alloc; "cannot write {name} after {written} bytes")
     }
 }
 
@@ -359,7 +357,7 @@ fn run_text(alloc: Global, error: &RunError, context: &Context<'_>) -> Result<St
         RunError::NoMemory { written } => {
             return format!(in alloc; "out of memory after {written} bytes");
         }
-        RunError::Write { written } => return written_text(alloc, *written, context),
+        RunError::Write { written } => return write_fault_text(alloc, *written, &None, context),
     };
     String::from_str(alloc, message)
 }
