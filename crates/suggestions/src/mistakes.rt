@@ -1,12 +1,14 @@
 //! Messages about words of the command line that the command doesn't take.
 use crate::clap_text::{POINTER, USAGE, is_tip_left_out, option_meant, refused_word};
-use crate::other_programs::{FOR_COMMANDS, OF_OTHERS};
+use crate::other_programs::{FOR_COMMANDS, tip_on_other};
 use crate::shown::{is_shown_whole, joined_texts, push_all, push_shown, shown_word};
 use crate::tips::{
-    FOR_BOOKLETS, FOR_SELECTIONS, FOR_SPECIFICATIONS, MISSING, OF_COMMANDS, SIGNS, tip_in,
+    FOR_BOOKLETS, FOR_POSTERS, FOR_SELECTIONS, FOR_SPECIFICATIONS, MISSING, OF_COMMANDS, SIGNS,
+    tip_in,
 };
 use clap::Error;
 use clap::error::ErrorKind;
+use impose_words::size_named;
 use std::alloc::{AllocError, Global};
 use strsim::osa_distance;
 
@@ -151,12 +153,13 @@ fn is_command(word: &str) -> bool {
 
 /// The tip on a word that stands in place of the command, if one is known.
 fn tip_on_command(word: &str) -> Option<&'static str> {
-    if word.starts_with("-") {
-        Some("options come after the command, as in: impose nup 2 -q in.ps out.ps")
+    if begins_with_digit(word.strip_prefix("-").unwrap_or(word)) {
+        Some("a command comes before its number, as in: impose nup 2 in.ps out.ps")
+    } else if word.starts_with("-") {
+        let own = "options come after the command, as in: impose nup 2 -q in.ps out.ps";
+        Some(tip_on_other(word).unwrap_or(own))
     } else if looks_like_file(word) {
         Some("a command comes before the files, as in: impose booklet in.ps out.ps")
-    } else if begins_with_digit(word) {
-        Some("a command comes before its number, as in: impose nup 2 in.ps out.ps")
     } else if is_command_and_number(word) {
         Some("a blank is between a command and its number, as in: impose nup 2 in.ps out.ps")
     } else {
@@ -170,7 +173,10 @@ pub(crate) fn begins_with_digit(word: &str) -> bool {
 
 fn is_command_and_number(word: &str) -> bool {
     COMMANDS.iter().any(|name| match word.strip_prefix(*name) {
-        Some(rest) => begins_with_digit(rest),
+        Some(rest) => begins_with_digit(rest.trim_start_matches(|sign: char| matches!(
+            sign,
+            '=' | ':' | '-'
+        ))),
         None => false,
     })
 }
@@ -183,8 +189,15 @@ fn tip_on_option(command: &str, behind: &[String], word: &str) -> Option<&'stati
         let on_option = tip_in(SIGNS.as_slice(), before);
         return on_option.or(tip_in(SIGNS.as_slice(), command));
     }
+    if behind
+        .iter()
+        .any(|whole| is_long_name(whole.as_str(), word))
+    {
+        return Some("an option of several letters begins with two minus signs, as in: --quiet");
+    }
     let own = match command {
         "booklet" => tip_in(FOR_BOOKLETS.as_slice(), word),
+        "poster" => tip_in(FOR_POSTERS.as_slice(), word),
         "select" => tip_in(FOR_SELECTIONS.as_slice(), word),
         "spec" => tip_in(FOR_SPECIFICATIONS.as_slice(), word),
         _ => None,
@@ -201,7 +214,21 @@ fn tip_on_option(command: &str, behind: &[String], word: &str) -> Option<&'stati
         return Some("a file whose name begins with a minus is written with its folder: ./-in.ps");
     }
     let others = tip_in(OF_COMMANDS.as_slice(), word);
-    others.or(tip_in(OF_OTHERS.as_slice(), word))
+    others.or(tip_on_other(word))
+}
+
+/// Whether a word is the name of an option after a single minus sign, and clap refuses this letter of it, such as `-u` of `-quiet`. A word such as
+/// `-pa4` is excluded, because a paper follows `-p`.
+fn is_long_name(word: &str, letter: &str) -> bool {
+    let (Some(name), Some(letter)) = (word.strip_prefix("-"), letter.strip_prefix("-")) else {
+        return false;
+    };
+    name.len() > 2
+        && !name.starts_with(|first: char| matches!(first, '-' | 'p'))
+        && name.contains(letter)
+        && name
+            .chars()
+            .all(|letter| letter.is_ascii_lowercase() || letter == '-')
 }
 
 /// Finds the word of the command line that begins with an option as clap names it, such as `-d1` for `-d` and `--frame=1` for `--frame`. Returns the
@@ -223,6 +250,7 @@ fn in_place<'w>(behind: &'w [String], option: &str) -> (&'w str, &'w str) {
 /// The tip on a word that comes after the names of both files.
 fn tip_on_file(command: &str, behind: &[String]) -> &'static str {
     let first = behind.first().map_or("", |word| word.as_str());
+    let second = behind.get(1).map_or("", |word| word.as_str());
     let ranges = behind.iter().filter(|word| is_range(word.as_str())).count();
     if matches!(command, "booklet" | "zine") && is_range(first) {
         "no number comes after booklet or zine, as in: impose zine in.ps out.ps; leaves are folded some at a time by --signature 16"
@@ -230,6 +258,10 @@ fn tip_on_file(command: &str, behind: &[String]) -> &'static str {
         "ranges are one word, as in: impose select 1,3,5-8 in.ps out.ps"
     } else if ranges > 1 && behind.iter().any(|word| word.as_str() == "--pages") {
         "ranges are one word, as in: --pages 1,3,5-8"
+    } else if command != "spec" && is_range(first) && is_range(second) {
+        "columns and rows are one word, as in: impose nup 2x3 in.ps out.ps"
+    } else if has_stray_paper(behind) {
+        "the paper of the sheets comes after --sheet, as in: --sheet a4"
     } else if behind
         .iter()
         .any(|word| matches!(word.as_str(), "pt" | "mm" | "cm" | "in"))
@@ -240,6 +272,19 @@ fn tip_on_file(command: &str, behind: &[String]) -> &'static str {
     }
 }
 
+/// Whether a word is a paper that doesn't follow an option for papers.
+fn has_stray_paper(behind: &[String]) -> bool {
+    let mut last = "";
+    for word in behind {
+        let word = word.as_str();
+        if size_named(word).is_some() && !matches!(last, "-p" | "--paper" | "--sheet") {
+            return true;
+        }
+        last = word;
+    }
+    false
+}
+
 /// Whether a word is most likely a range of pages or a number: it has a digit, and nothing but digits, minus signs, commas and underscores.
 pub fn is_range(word: &str) -> bool {
     word.chars().any(|letter| letter.is_ascii_digit())
@@ -248,9 +293,12 @@ pub fn is_range(word: &str) -> bool {
 
 /// Whether a word is most likely the name of a file: it has a slash, or one of a few endings such as `.ps`.
 pub fn looks_like_file(word: &str) -> bool {
-    word.ends_with(".ps")
-        || word.ends_with(".eps")
-        || word.ends_with(".pdf")
-        || word.ends_with(".gz")
-        || word.contains("/")
+    has_file_ending(word) || word.contains("/")
+}
+
+/// Whether a word ends as the names of documents do.
+pub(crate) fn has_file_ending(word: &str) -> bool {
+    [".ps", ".eps", ".pdf", ".gz"]
+        .iter()
+        .any(|ending| word.ends_with(*ending))
 }

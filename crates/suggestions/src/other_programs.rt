@@ -1,8 +1,25 @@
 //! Tips on commands and options of other programs.
-use crate::tips::Tip;
+use crate::tips::{Tip, tip_in};
 
 /// Tips on words that stand in place of a command. Other programs have a command of this name, or people expect it.
-pub(crate) const FOR_COMMANDS: [Tip; 15] = [
+pub(crate) const FOR_COMMANDS: [Tip; 20] = [
+    (&["version"], "the version is printed by: impose --version"),
+    (
+        &["info", "show", "list", "plan", "preview"],
+        "sheets are listed by --plan, as in: impose nup 2 --plan in.ps",
+    ),
+    (
+        &["insert", "add", "blank"],
+        "a blank page is named among the others, as in: impose select 1,blank,2- in.ps out.ps",
+    ),
+    (
+        &["convert", "pdf"],
+        "PDFs are put on sheets by: impose-pdf booklet in.pdf out.pdf",
+    ),
+    (
+        &["tile"],
+        "several pages are put on a sheet by: impose nup 2 in.ps out.ps; a page over several sheets by: impose poster 2x2 in.ps out.ps",
+    ),
     (
         &["rotate", "turn"],
         "pages are turned by --turn, as to the left by: impose select 1- --turn left in.ps out.ps",
@@ -46,7 +63,7 @@ pub(crate) const FOR_COMMANDS: [Tip; 15] = [
         "a booklet is made by: impose booklet in.ps out.ps",
     ),
     (
-        &["psnup", "pdfnup", "pdfjam", "tile", "combine"],
+        &["psnup", "pdfnup", "pdfjam", "combine"],
         "several pages are put on a sheet by: impose nup 2 in.ps out.ps",
     ),
     (
@@ -70,13 +87,64 @@ pub(crate) const FOR_COMMANDS: [Tip; 15] = [
         "pages are numbered by: impose select 1- --numbers 10pt in.ps out.ps",
     ),
     (
-        &["print", "lp", "lpr"],
+        &["print", "lp", "lpr", "duplex"],
         "sheets are printed by: impose booklet in.ps | lp -o sides=two-sided-short-edge",
     ),
 ];
 
+/// The tip on an option of other programs, if one is known.
+pub(crate) fn tip_on_other(word: &str) -> Option<&'static str> {
+    tip_in(OF_OTHERS.as_slice(), word).or(tip_on_further(word))
+}
+
+fn tip_on_further(word: &str) -> Option<&'static str> {
+    tip_in(FURTHER.as_slice(), word)
+}
+
 /// Tips on options of other programs.
-pub(crate) const OF_OTHERS: [Tip; 42] = [
+const OF_OTHERS: [Tip; 24] = [
+    (
+        &["--no-crop", "--no-trim", "--nocrop"],
+        "pages are trimmed by --trim alone: leave this option out",
+    ),
+    (
+        &["--no-landscape", "--portrait"],
+        "a sheet is upright unless its paper is named with -landscape, as in: --sheet a4",
+    ),
+    (
+        &[
+            "--collate",
+            "--printer",
+            "--dpi",
+            "--resolution",
+            "--quality",
+            "--gray",
+            "--grayscale",
+            "--color",
+            "--colour",
+        ],
+        "options of the printer are given to lp, as in: impose booklet in.ps | lp -o sides=two-sided-short-edge",
+    ),
+    (
+        &[
+            "--watermark",
+            "--stamp",
+            "--title",
+            "--header",
+            "--footer",
+            "--text",
+            "--font",
+        ],
+        "page numbers are the only text that is drawn, as in: impose nup 2 --numbers 10pt in.ps out.ps",
+    ),
+    (
+        &["--lines"],
+        "notes draws lines without an option, as in: impose notes 3 in.ps out.ps",
+    ),
+    (
+        &["--no-guard", "--noguard"],
+        "the guard is left out by --unguarded",
+    ),
     (
         &["--rotate", "--angle", "--rotation"],
         "pages are turned by --turn, as to the left by: impose select 1- --turn left in.ps out.ps",
@@ -90,7 +158,7 @@ pub(crate) const OF_OTHERS: [Tip; 42] = [
         "each page is on a sheet several times by: impose cards 2 in.ps out.ps; and the document several times after itself by --pages 1-,1-",
     ),
     (
-        &["--blank"],
+        &["--blank", "--insert"],
         "a blank page is named among the others, as in: --pages 1,blank,2-",
     ),
     (
@@ -156,6 +224,10 @@ pub(crate) const OF_OTHERS: [Tip; 42] = [
         &["-m", "-t", "-i", "--margins"],
         "the edges of sheets are kept free by --margin, as in: impose nup 2 --margin 1cm in.ps out.ps",
     ),
+];
+
+/// Further tips of this kind. One table of all would be longer than the prover takes in a function.
+const FURTHER: [Tip; 24] = [
     (
         &[
             "--inner-margin",
@@ -165,7 +237,6 @@ pub(crate) const OF_OTHERS: [Tip; 42] = [
             "--left-margin",
             "--right-margin",
             "--inner",
-            "--binding",
         ],
         "margins are named by their edges, as in: impose nup 1 --margin inner=2cm,top=1cm in.ps out.ps",
     ),
@@ -224,11 +295,17 @@ pub(crate) const OF_OTHERS: [Tip; 42] = [
         "marks to cut are drawn by --marks cut, as in: impose cards 8 --gap 4mm --marks cut in.ps out.ps",
     ),
     (
-        &["--fold-marks", "--foldmarks"],
+        &["--fold-marks", "--foldmarks", "--fold"],
         "marks to fold are drawn by: impose booklet --marks fold in.ps out.ps",
     ),
     (
-        &["--right-to-left", "--righttoleft", "--binding-edge"],
+        &[
+            "--right-to-left",
+            "--righttoleft",
+            "--binding",
+            "--binding-side",
+            "--binding-edge",
+        ],
         "pages go from right to left by --rtl, as in: impose booklet --rtl in.ps out.ps",
     ),
     (
@@ -242,7 +319,7 @@ pub(crate) const OF_OTHERS: [Tip; 42] = [
         "which sides are printed is for the printer to know, as in: impose booklet in.ps | lp -o sides=two-sided-short-edge",
     ),
     (
-        &["--tumble"],
+        &["--tumble", "--long", "--flip-long-edge"],
         "a booklet flips on the short edge; on the long one by: impose booklet --long-edge in.ps out.ps",
     ),
     (
@@ -252,6 +329,8 @@ pub(crate) const OF_OTHERS: [Tip; 42] = [
             "--fit-page",
             "--fit-to-page",
             "--shrink",
+            "--scale-to-fit",
+            "--autoscale",
             "--noautoscale",
             "--no-scale",
             "--actual-size",
@@ -268,8 +347,10 @@ pub(crate) const OF_OTHERS: [Tip; 42] = [
     ),
     (
         &[
+            "--first",
             "--first-page",
             "--firstpage",
+            "--last",
             "--last-page",
             "--lastpage",
             "--from",
@@ -301,7 +382,7 @@ pub(crate) const OF_OTHERS: [Tip; 42] = [
         "booklet is a command: impose booklet in.ps out.ps",
     ),
     (
-        &["--poster", "--tile", "--tiles"],
+        &["--poster", "--poster-size", "--tile", "--tiles"],
         "poster is a command: impose poster 2x2 in.ps out.ps",
     ),
     (

@@ -46,7 +46,12 @@ pub(crate) const MISSING: [Tip; 7] = [
 ];
 
 /// Tips on a value that begins with a minus sign, after an option or as the first argument of a command.
-pub(crate) const SIGNS: [Tip; 11] = [
+pub(crate) const SIGNS: [Tip; 13] = [
+    (
+        &["--turn"],
+        "a turn has a name, as in: --turn left (by 90 degrees)",
+    ),
+    (&["--turned"], "a side has a name, as in: --turned left"),
     (
         &[
             "--margin",
@@ -99,7 +104,11 @@ pub(crate) const SIGNS: [Tip; 11] = [
 ];
 
 /// Tips on options that `booklet` doesn't have, or that other programs call by another name.
-pub(crate) const FOR_BOOKLETS: [Tip; 4] = [
+pub(crate) const FOR_BOOKLETS: [Tip; 5] = [
+    (
+        &["--nup", "-N", "--up"],
+        "a booklet always has two pages on each side of a leaf: leave this option out",
+    ),
     (
         &["--order"],
         "the order of a booklet is that in which one reads it; one that is bound at the right takes --rtl",
@@ -115,6 +124,18 @@ pub(crate) const FOR_BOOKLETS: [Tip; 4] = [
     (
         &["--scale"],
         "pages of a booklet are as large as they fit: name larger sheets, as in: impose booklet --sheet a3 in.ps out.ps",
+    ),
+];
+
+/// Tips on options that `poster` doesn't have, or that other programs call by another name.
+pub(crate) const FOR_POSTERS: [Tip; 2] = [
+    (
+        &["--scale", "--size", "--poster-size"],
+        "the size of a poster follows from its sheets: give other columns and rows, as in: impose poster 3x3 in.ps out.ps",
+    ),
+    (
+        &["--gap", "--spacing"],
+        "sheets of posters overlap, as in: impose poster 2x2 --overlap 1cm in.ps out.ps",
     ),
 ];
 

@@ -1,6 +1,6 @@
 //! Messages about values that options and arguments don't take.
-use crate::mistakes::{begins_with_digit, is_range, looks_like_file};
-use crate::nearest::{begins_as_size, nearest_names};
+use crate::mistakes::{begins_with_digit, has_file_ending, is_range, looks_like_file};
+use crate::nearest::nearest_names;
 use crate::shown::{joined_texts, push_all, shown_word};
 use impose_words::{
     CellCommand, OptionId, gaps_named, lacks_unit, length_with_unit, margins_named, parse_number,
@@ -10,17 +10,18 @@ use papers::{PaperError, read_paper};
 use std::alloc::{AllocError, Global};
 
 /// The message about a text that the option or argument doesn't take as its value.
-pub fn value_text(
-    alloc: Global,
-    option: OptionId,
-    text: &str,
-) -> Result<String, AllocError> {
+pub fn value_text(alloc: Global, option: OptionId, text: &str) -> Result<String, AllocError> {
     let pointed = with_points(alloc, text)?;
     if pointed.as_str() != text && is_value(option, pointed.as_str()) {
         return decimals_text(alloc, option, text, pointed.as_str());
     }
     match option {
-        OptionId::Paper if is_range(text) && text.contains("-") => ranges_text(alloc, text),
+        OptionId::Count(command) => cells_text(alloc, command, text),
+        OptionId::Outfile => outfile_text(alloc, text),
+        OptionId::Preview => refused_text(alloc, option, text),
+        _ if has_file_ending(text) => no_value_text(alloc, option, text),
+        OptionId::Paper if is_range(text) && (text.contains("-") || text.contains(",")) =>
+            ranges_text(alloc, text),
         OptionId::Paper | OptionId::Sheet => paper_text(alloc, option, text),
         OptionId::Margin => margin_text(alloc, text),
         OptionId::Border
@@ -29,16 +30,25 @@ pub fn value_text(
         | OptionId::Overlap
         | OptionId::Gap
         | OptionId::Numbers => { length_text(alloc, option, text) }
-        OptionId::Count(command) => cells_text(alloc, command, text),
         OptionId::CutMarks => cut_marks_text(alloc, text),
-        OptionId::Outfile => outfile_text(alloc, text),
         OptionId::Signature => signature_text(alloc, text),
         OptionId::NumbersFrom => first_number_text(alloc, text),
         OptionId::Order | OptionId::Turn | OptionId::Turned | OptionId::Scale => refused_text(
             alloc, option, text,
         ),
-        OptionId::BookletMarks | OptionId::Preview => refused_text(alloc, option, text),
+        OptionId::BookletMarks => refused_text(alloc, option, text),
     }
+}
+
+/// The message about a file after an option whose value is missing.
+fn no_value_text(alloc: Global, option: OptionId, text: &str) -> Result<String, AllocError> {
+    let text = shown_word(alloc, text)?;
+    let id = option.id();
+    let advice = match option {
+        OptionId::Paper | OptionId::Sheet => "name a paper such as a4",
+        _ => value_refusal(option).1,
+    };
+    format!(in alloc; "the value of --{id} is missing before '{text}': {advice}")
 }
 
 /// The text, with a point in place of each comma between two digits.
@@ -240,10 +250,11 @@ fn value_refusal(option: OptionId) -> (&'static str, &'static str) {
         ),
         OptionId::BookletMarks => ("unknown marks", "give fold, cut or fold,cut"),
         OptionId::CutMarks => ("unknown marks", "give cut"),
-        OptionId::Trim | OptionId::Creep | OptionId::Overlap => (
+        OptionId::Trim => (
             "bad length",
-            "give it as 5mm, .2in or 14pt",
+            "give one length for all edges, such as 5mm, .2in or 14pt",
         ),
+        OptionId::Creep | OptionId::Overlap => ("bad length", "give it as 5mm, .2in or 14pt"),
         OptionId::Count(_) | OptionId::Outfile => ("bad value", "see impose --help"),
     }
 }
@@ -280,9 +291,14 @@ fn unknown_paper_text(alloc: Global, option: OptionId, text: &str) -> Result<Str
     let shown = shown_word(alloc, text)?;
     let shown = shown.as_str();
     let option = option.id();
-    if begins_as_size(text) {
+    if begins_with_digit(text) {
         return format!(in alloc;
             "unknown paper '{shown}' after --{option}: name a size such as 210x297mm, or a paper such as a4"
+        );
+    }
+    if matches!(text, "landscape" | "portrait") {
+        return format!(in alloc;
+            "unknown paper '{shown}' after --{option}: name the paper too, as a4-landscape, or a4, which is upright"
         );
     }
     let names = nearest_names(alloc, text)?;
