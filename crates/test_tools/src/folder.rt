@@ -2,7 +2,7 @@
 ghost use Rattle.std.specs.Prelude.{◌≡◌, ◌+◌, ◌<◌, ◌≤◌, [], Some, true, option_map};
 ghost use Rattle.std.specs.IoError.{error_kind};
 ghost use Rattle.world.specs.Worlds.{cause_of, failures_of};
-ghost use Rattle.test_tools.specs.Files.{is_regular, read_by};
+ghost use Rattle.test_tools.specs.Files.{is_named, is_regular, read_by};
 ghost use Rattle.test_tools.specs.Traces.{accesses_in};
 
 use crate::files::{GivenFile, bytes_named};
@@ -63,6 +63,8 @@ impl<'a> World for Folder<'a> {
 
     ghost regular = { λ folder name. Some (is_regular folder.files.now name) };
 
+    ghost same = { λ _ input name. Some (is_named input name) };
+
     ghost tells = { λ _. true };
 
     ghost seen = { λ folder. record {
@@ -93,6 +95,7 @@ impl<'a> World for Folder<'a> {
         ensures asked { (⟦<Folder<'a> as World>⟧.seen self.new).asked ≡ (⟦<Folder<'a> as World>⟧.seen self.old).asked }
         ensures counted { self.new.failures.count ≡ self.old.failures.count + failures_of source.entry }
         ensures again { ⟦<Folder<'a> as World>⟧.gives self.new ≡ ⟦<Folder<'a> as World>⟧.gives self.old }
+        ensures same { ⟦<Folder<'a> as World>⟧.same self.new ≡ ⟦<Folder<'a> as World>⟧.same self.old }
         ensures tells { ⟦<Folder<'a> as World>⟧.tells self.new ≡ ⟦<Folder<'a> as World>⟧.tells self.old }
     {
         self.failures.close(source)
@@ -102,6 +105,13 @@ impl<'a> World for Folder<'a> {
         self.files
             .iter()
             .any(|file| file.is_regular && file.name == name)
+    }
+
+    fn is_input(&self, input: Option<&str>, file: &str) -> bool {
+        match input {
+            Some(name) => name == file,
+            None => false,
+        }
     }
 
     fn create(self, name: Option<&str>) -> Result<WriteOutput<Written>, Refused<Folder<'a>>> {

@@ -9,6 +9,7 @@ use crate::source::ReadSource;
 use crate::world::{Refused, World};
 use std::fs::{File, Files};
 use std::io::{Read, Stdin, Stdout, Write};
+use std::os::unix::fs::MetadataExt;
 use std::{fs, io};
 
 /// The world of the machine on which the program runs: its files and standard streams.
@@ -33,6 +34,9 @@ pub enum HostOutput<F> {
     File(F),
     Standard(Stdout),
 }
+
+/// The name by which the system knows the file that is standard input.
+const STANDARD_INPUT: &str = "/dev/stdin";
 
 impl<'a, R: Files> Host<'a, R> {
     /// The world with these files and standard streams. It has not failed yet.
@@ -76,6 +80,7 @@ impl<'a, R: Files> World for Host<'a, R> {
         ensures asked { (⟦<Host<'a, R> as World>⟧.seen self.new).asked ≡ (⟦<Host<'a, R> as World>⟧.seen self.old).asked }
         ensures counted { self.new.failures.count ≡ self.old.failures.count + failures_of source }
         ensures again { ⟦<Host<'a, R> as World>⟧.gives self.new ≡ ⟦<Host<'a, R> as World>⟧.gives self.old }
+        ensures same { ⟦<Host<'a, R> as World>⟧.same self.new ≡ ⟦<Host<'a, R> as World>⟧.same self.old }
         ensures tells { ⟦<Host<'a, R> as World>⟧.tells self.new ≡ ⟦<Host<'a, R> as World>⟧.tells self.old }
     {
         self.failures.close(source)
@@ -85,6 +90,19 @@ impl<'a, R: Files> World for Host<'a, R> {
         match fs::metadata(self.files, name) {
             Ok(found) => found.is_file(),
             Err(_) => false,
+        }
+    }
+
+    fn is_input(&self, input: Option<&str>, file: &str) -> bool {
+        let input = input.unwrap_or(STANDARD_INPUT);
+        match (
+            fs::metadata(self.files, input),
+            fs::metadata(self.files, file),
+        ) {
+            (Ok(one), Ok(other)) => {
+                one.is_file() && one.dev() == other.dev() && one.ino() == other.ino()
+            }
+            _ => false,
         }
     }
 

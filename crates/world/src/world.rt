@@ -28,6 +28,9 @@ pub trait World: Sized + Drop {
     // Whether there is a regular file of this name, if that is known.
     ghost regular: { Self → List ℕ → Option Bool } = { λ _ _. None };
 
+    // Whether the input of the first name is the file of the second, where that is known.
+    ghost same: { Self → Option (List ℕ) → List ℕ → Option Bool } = { λ _ _ _. None };
+
     // Whether its outputs report their names and the bytes written to them.
     ghost tells: { Self → Bool } = { λ _. false };
 
@@ -43,6 +46,7 @@ pub trait World: Sized + Drop {
             (λ cause. HasRefused (opening (option_map (λ n. n.now) name.entry)) (error_kind cause) (seen self.old) (seen self.new)) }
         // A file gives the same bytes as before this call. Standard input may give fewer, since it may have been read.
         ensures again { is_some name.entry ≡ true → gives self.new ≡ gives self.old }
+        ensures same { same self.new ≡ same self.old }
         ensures tells { tells self.new ≡ tells self.old };
 
     /// Closes an input, and adds its failures to those of the world. Returns the error of the input's last failure; None if it hasn't failed.
@@ -53,12 +57,17 @@ pub trait World: Sized + Drop {
         ensures asked { (seen self.new).asked ≡ (seen self.old).asked }
         ensures counted { (seen self.new).failures ≡ (seen self.old).failures + failures_of source }
         ensures again { gives self.new ≡ gives self.old }
+        ensures same { same self.new ≡ same self.old }
         ensures tells { tells self.new ≡ tells self.old };
 
     /// Whether there is a regular file of this name. A caller can check this first, since opening another kind of file may wait, and reading it may
     /// never end.
     fn is_file(&self, name: &str) -> bool
         ensures { IfSome (regular self.now name.now) (λ is. result ≡ is) };
+
+    /// Whether `file` names the regular file that is the input, under whatever name. The input is the file named `input`, or standard input.
+    fn is_input(&self, input: Option<&str>, file: &str) -> bool
+        ensures { IfSome (same self.now (option_map (λ n. n.now) input.entry) file.now) (λ is. result ≡ is) };
 
     /// Creates the file of this name, or empties it if it exists; or takes standard output. Nothing has been written to the new output. A refusal is
     /// counted as a failure of the world.
