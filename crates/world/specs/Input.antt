@@ -1,5 +1,6 @@
 -- What a source of bytes does, and what is read of it.
-use Rattle.std.specs.Prelude.{◌≡◌, ◌+◌, ◌≤◌, length, ℕ, List, Option, Result, MatchResult, take, IfSome}
+use Rattle.std.specs.Prelude.{◌≡◌, ◌+◌, ◌≤◌, ◌==◌, ◌||◌, if◌then◌else◌, Bool, codes, nat_eq, nat_lt, length, ℕ, List, Option, Result, MatchResult, take, drop, IfSome}
+use Rattle.std.specs.List.{prefix_len, starts_with}
 use Rattle.std.specs.Io.KnownBytes.{Consumes, IsAtEnd, Keeps}
 use Rattle.rules.specs.Run.{most_input_bytes}
 use Rattle.world.specs.declared.read.ReadFault.{ReadFault}
@@ -23,6 +24,19 @@ Fills old new r buffer = MatchResult r (λ k. Consumes old new (take k buffer)
 -- the failures after a call: one more at Err
 abbrev pub Counts : {T E : Type 0} → (old new : ℕ) → Result T E → Type 0
 Counts old new r = MatchResult r (λ _. new ≡ old) (λ _. new ≡ old + 1)
+
+-- white space (PostScript Language Reference, 3.2)
+abbrev pub is_white : ℕ → Bool
+is_white b = b == 0 || (b == 9 || (b == 10 || (b == 12 || (b == 13 || b == 32))))
+
+-- a text without its white space before %!, which an interpreter passes over
+abbrev pub unpadded : (text : List ℕ) → List ℕ
+unpadded text =
+    let behind = drop (prefix_len is_white text) text in if starts_with nat_eq behind (codes "%!") then behind else text
+
+-- the document in an input: what is too long isn't read whole, and stays so
+abbrev pub document_in : (input : List ℕ) → List ℕ
+document_in input = if nat_lt most_input_bytes (length input) then input else unpadded input
 
 -- the first n of the bytes that remained, all if there were fewer
 abbrev pub IsFirst : (n : ℕ) → Option (List ℕ) → List ℕ → Type 0

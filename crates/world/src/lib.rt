@@ -12,6 +12,7 @@ mod rest;
 mod sink;
 mod source;
 mod told;
+mod white_space;
 mod world;
 
 pub use buffered::{Broken, Buffered, write_all};
@@ -25,4 +26,5 @@ pub use rest::Rest;
 pub use sink::created;
 pub use source::{ReadSource, Source, SourceFault};
 pub use told::tell;
+pub use white_space::padding;
 pub use world::{Refused, World};
