@@ -109,7 +109,7 @@ pub record IsTask (request : ImposeRequest) (input : List ℕ) (task : Task) : T
   pub text : task.text.items
       ≡ taken_text request.is_guarded (sheet_paper_for request.layout request.sheet_paper task.options.paper) input
   pub border : task.options.border ≡ request.border
-  pub workers : task.options.workers ≡ record { preparers = 2; imposers = 2 }
+  pub workers : task.options.workers ≡ record { preparers = 1; imposers = 1 }
 
 -- what a task asks of a run
 abbrev pub run_asked : Task → runs.Request

@@ -64,10 +64,10 @@ pub struct CountedPages {
     pub reach: Option<Reach>,
 }
 
-/// The numbers of preparers and imposers, the same as those of `pstops`.
+/// One preparer and one imposer: more save no time (bench/README.md).
 pub(crate) const WORKERS: Workers = Workers {
-    preparers: 2,
-    imposers: 2,
+    preparers: 1,
+    imposers: 1,
 };
 
 /// Makes the checks of a layout that don't need the document, so that a mistake is found before a byte is read. A specification is read. Another
