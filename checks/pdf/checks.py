@@ -127,6 +127,9 @@ def sound(output: Output) -> Iterator[str]:
         yield f"qpdf --check: {complaint}"
     if left := reading.left_over(output.pdf):
         yield f"{left} pages left over"
+    if not reading.Names(output.pdf).are_sorted:
+        yield "names that aren't sorted"
+    yield from reading.loose_corners(output.pdf)
 
 
 # How it ends.
@@ -406,6 +409,13 @@ def _attached(output: Output, rest: str, _below: list[str]) -> Iterator[str]:
     files = output.pdf.attachments
     held = files[name].get_file().read_bytes().decode() if name in files else None
     yield from differs(f"the file {name}", held, text)
+
+
+@check("layers")
+def _layers(output: Output, rest: str, _below: list[str]) -> Iterator[str]:
+    """The names of the layers that a viewer lists."""
+    listed = reading.catalog(output.pdf, "/OCProperties/D/Order")
+    yield from differs("layers", [str(group.Name) for group in listed or []], rest.split())
 
 
 @check("title")

@@ -116,7 +116,7 @@ class Maker:
     def __init__(self, seed: int) -> None:
         self.pdf, self.seed, self.shapes = Pdf.new(), seed, list[Shape]()
         self.font = self.pdf.make_indirect(Dictionary(Type=Name.Font, Subtype=Name.Type1, BaseFont=Name.Helvetica))
-        self.is_inherited, self.items = False, list[tuple[int, Any]]()
+        self.is_inherited, self.items, self.closed = False, list[tuple[int, Any]](), list[Any]()
         self.saving: list[list[str]] = []
 
     def line(self, text: str) -> None:
@@ -202,7 +202,9 @@ class Maker:
 
     def do_link(self, number: str, box: str, *target: str) -> None:
         """`link PAGE L,B,R,T to PAGE KIND [VALUES]`, `goto ..`, `name NAME`, `old-name NAME` or `uri ADDRESS`."""
+        left, bottom, right, top = numbers(box)
         link = Dictionary(Type=Name.Annot, Subtype=Name.Link, Rect=Array(numbers(box)), Border=Array([0, 0, 0]))
+        link.QuadPoints = Array([left, top, right, top, left, bottom, right, bottom])
         how, *rest = target
         if how == "to":
             link.Dest = self.target(*rest)
@@ -220,7 +222,7 @@ class Maker:
 
     def do_name(self, name: str, *target: str) -> None:
         """`name NAME PAGE KIND [VALUES]`: a destination in the tree of names."""
-        names = self.pdf.Root.setdefault("/Names", Dictionary()) if "/Names" in self.pdf.Root else Dictionary()
+        names = self.pdf.Root.get("/Names", Dictionary())
         tree = names.get("/Dests", Dictionary(Names=Array()))
         known = dict(zip([str(key) for key in list(tree.Names)[::2]], list(tree.Names)[1::2]))
         known[name] = Dictionary(D=self.target(*target))
@@ -242,6 +244,10 @@ class Maker:
         elif target:
             item.Dest = self.target(*target)
         self.items.append((int(level), self.pdf.make_indirect(item)))
+
+    def do_closed(self) -> None:
+        """The outline above is closed: those below it aren't shown."""
+        self.closed.append(self.items[-1][1])
 
     def do_opens(self, *target: str) -> None:
         """Where the document opens: `opens PAGE KIND [VALUES]`, or `opens goto ..`."""
@@ -359,6 +365,8 @@ class Maker:
             parent.Last = item
             parent.Count = int(parent.get("/Count", 0)) + 1
             above.append((level, item))
+        for item in self.closed:
+            item.Count = -int(item.Count)
         self.pdf.Root.Outlines = root
 
     def inherit(self) -> None:
@@ -409,7 +417,7 @@ def made(lines: list[str], seed: int) -> Made:
 
 
 def image(lines: list[str], name: str) -> bytes:
-    """A JPEG or PNG, by its name, as `size WxH`, `dpi N`, `turned N` (of a photograph) and `colour R,G,B` say."""
+    """A JPEG or PNG, by its name, as size, dpi, turned (of a photograph), colour, alpha and mode (of Pillow) say."""
     values = dict(line.split() for line in lines)
     width, height = (int(side) for side in values["size"].split("x"))
     red, green, blue = (int(part) for part in values["colour"].split(","))
@@ -420,5 +428,8 @@ def image(lines: list[str], name: str) -> bytes:
         exif = Image.Exif()
         exif[0x112] = int(values["turned"])
         how["exif"] = exif
+    if "alpha" in values:
+        picture.putalpha(int(values["alpha"]))
+    picture = picture.convert(values.get("mode", picture.mode))
     picture.save(out, "PNG" if name.endswith(".png") else "JPEG", **how)
     return out.getvalue()

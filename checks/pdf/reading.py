@@ -40,15 +40,22 @@ class Names:
     def __init__(self, pdf: Pdf) -> None:
         self.numbers = {page.obj.objgen: at for at, page in enumerate(pdf.pages)}
         self.known: dict[bytes, Any] = {}
+        self.in_tree: list[bytes] = []
         for name, place in pdf.Root.get("/Dests", Dictionary()).items():
             self.known[name[1:].encode()] = place
         self.read(pdf.Root.get("/Names", Dictionary()).get("/Dests", Dictionary()), 0)
 
     def read(self, node: Any, depth: int) -> None:
         parts = list(node.get("/Names", []))
+        self.in_tree += map(bytes, parts[::2])
         self.known |= {bytes(name): place for name, place in zip(parts[::2], parts[1::2])}
         for kid in node.get("/Kids", []) if depth < 50 else []:
             self.read(kid, depth + 1)
+
+    @property
+    def are_sorted(self) -> bool:
+        """Whether the names of a tree of one node are sorted, as viewers look for them (ISO 32000, 7.9.6)."""
+        return self.in_tree == sorted(self.in_tree)
 
     def goal(self, place: Any) -> Goal | None:
         """The page, kind and numbers of a destination, or nothing if it leads to no page."""
@@ -165,6 +172,17 @@ def left_over(pdf: Pdf) -> int:
     shown = {page.obj.objgen for page in pdf.pages}
     found = [one for one in pdf.objects if isinstance(one, Dictionary) and one.get("/Type") == Name.Page]
     return sum(one.objgen not in shown for one in found)
+
+
+def loose_corners(pdf: Pdf) -> Iterator[str]:
+    """Links whose /QuadPoints lie outside their /Rect, where they don't count (ISO 32000, 12.5.6.5)."""
+    for at, page in enumerate(pdf.pages, 1):
+        for one in page.obj.get("/Annots", []):
+            left, bottom, right, top = (float(side) for side in one.Rect)
+            corners = [float(value) for value in one.get("/QuadPoints", [])]
+            across = all(left - 0.01 <= x <= right + 0.01 for x in corners[::2])
+            if not (across and all(bottom - 0.01 <= y <= top + 0.01 for y in corners[1::2])):
+                yield f"sheet {at}: a link has corners outside of it"
 
 
 def words(path: Path) -> list[Counter[str]]:
