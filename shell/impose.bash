@@ -14,7 +14,7 @@ _impose_options_of() {
     case "$1" in
         '') echo '--help --version -h -V' ;;
         nup | cards) echo "$cells $all" ;;
-        booklet) echo "--signature --creep --long-edge $laid $all" ;;
+        booklet) echo "--signature --creep --long-edge --cover $laid $all" ;;
         zine) echo "--same-scale --margin --gap --rtl $row $looks $all" ;;
         stack) echo "--duplex $cells $all" ;;
         notes) echo "--same-scale --margin --gap --trim $numbers $row $looks $all" ;;

@@ -341,6 +341,7 @@ pub record IsJobOf (r : ImposeRequest) (t : RowTask) (job : RowJob) : Type 0 whe
   pub papers : job.papers.now ≡ t.papers.items
   pub choice : choice_of job.asked.choice ≡ choice_in r.choice
   pub signing : job.asked.signing ≡ t.signing
+  pub last_at_back : job.asked.last_at_back ≡ r.last_at_back
   pub laying : IsLayingOf t.laying job.asked.laying
   pub same_scale : job.asked.same_scale ≡ r.spacing.same_scale
   pub border : job.border ≡ r.border
@@ -358,6 +359,7 @@ pub record IsRowJob (r : ImposeRequest) (input : List ℕ) (page_paper : Paper) 
   pub turn : job.turn ≡ r.turn
   pub choice : choice_of job.asked.choice ≡ choice_in r.choice
   pub signing : job.asked.signing ≡ signing_in r.layout
+  pub last_at_back : job.asked.last_at_back ≡ r.last_at_back
   pub laying : LaysBy r page_paper job.asked.laying
   pub possible : why_no_row r page_paper ≡ None
   pub options : HasOptions r

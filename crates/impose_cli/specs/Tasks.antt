@@ -89,10 +89,10 @@ is_unturned other = false
 abbrev pub is_unmarked : Marks → Bool
 is_unmarked m = not (m.fold || m.cut || m.ruled || is_some m.numbers)
 
--- beside the layout a specification says what is asked for: all pages, in their order, unturned, unmarked, each in its own
+-- beside the layout a specification says what is asked for: all pages, in their order, blanks after them, unturned, unmarked, each in its own
 -- scale, and backs as fronts (RULES, 16, step 8)
 abbrev pub is_said : ImposeRequest → Bool
-is_said r = is_all_pages r.choice && is_unturned r.turn && is_unmarked r.marks && not r.spacing.same_scale
+is_said r = is_all_pages r.choice && not r.last_at_back && is_unturned r.turn && is_unmarked r.marks && not r.spacing.same_scale
     && not (swaps_margins r.layout r.spacing)
 
 -- the task is what the request asks for with this document

@@ -71,6 +71,7 @@ fn task_text(
         asked: SheetRequest {
             choice: request.choice.as_choice(),
             signing: task.signing,
+            last_at_back: request.last_at_back,
             laying: task.laying.lent(),
             same_scale: request.spacing.same_scale,
         },

@@ -413,6 +413,7 @@ pub(crate) fn impose_task<R: Threads + Wait + Sync, W: World>(
         asked: SheetRequest {
             choice: request.choice.as_choice(),
             signing: task.signing,
+            last_at_back: request.last_at_back,
             laying: task.laying.lent(),
             same_scale: request.spacing.same_scale,
         },

@@ -103,13 +103,14 @@ fn check_spec(alloc: Global, specs: &str) -> Result<(), ImposeFault>
     }
 }
 
-/// Whether a specification can express the request apart from its layout: all pages in order, not turned, without marks and numbers, without one
-/// scale for pages of several papers, and with the same margins on fronts and backs.
+/// Whether a specification can express the request apart from its layout: its pages, blanks before the last one, their turn, marks, scale, and places on
+/// backs.
 fn is_said(request: &ImposeRequest) -> bool
     ensures { result ≡ says request.now }
 {
     let marks = request.marks;
     request.choice.is_whole()
+        && !request.last_at_back
         && request.turn == Turn::None
         && !(marks.fold || marks.cut || marks.ruled || marks.numbers.is_some())
         && !request.spacing.same_scale

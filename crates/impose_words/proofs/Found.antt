@@ -199,6 +199,7 @@ reads_at_home name found r home h = record {
   layout = h.layout;
   spacing = h.spacing;
   choice = h.choice;
+  last_at_back = h.last_at_back;
   page_paper = h.page_paper;
   sheet_paper = h.sheet_paper;
   border = h.border;

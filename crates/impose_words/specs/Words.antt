@@ -302,6 +302,7 @@ pub record ReadsRequest (name : Text) (found : List Row) (r : ImposeRequest) : T
   pub layout : AsksFor name found r.layout
   pub spacing : SpacesBy (keeps_room r.layout) found r.spacing
   pub choice : ChoosesBy (ranges_id r.layout) found r.choice
+  pub last_at_back : has_flag (codes "cover") found ≡ r.last_at_back
   pub page_paper : size_found opt.Paper found ≡ Some r.page_paper
   pub sheet_paper : size_found opt.Sheet found ≡ Some r.sheet_paper
   pub border : border_found found ≡ Some r.border

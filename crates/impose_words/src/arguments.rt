@@ -176,7 +176,7 @@ const CELLS: [Argument; 11] = [
     Argument::Flag("rtl", "From the right to the left"),
 ];
 
-const BOOKLET: [Argument; 11] = [
+const BOOKLET: [Argument; 12] = [
     Argument::Valued(
         "signature",
         "SIDES",
@@ -188,6 +188,7 @@ const BOOKLET: [Argument; 11] = [
         "Move pages of the innermost leaf so much towards the fold, and of others less, as 2mm",
     ),
     Argument::Flag("long-edge", "For printers that flip on the long edge"),
+    Argument::Flag("cover", "The last page at the back, with the blanks before it"),
     SAME_SCALE,
     MARGIN,
     Argument::Valued(

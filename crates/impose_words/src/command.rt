@@ -129,6 +129,7 @@ fn request_for(
         layout,
         spacing,
         choice,
+        last_at_back: is_set(found, "cover"),
         turn: sizes.turn,
         page_paper: sizes.page_paper,
         default_paper: a4(),

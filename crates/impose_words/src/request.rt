@@ -317,6 +317,8 @@ pub struct ImposeRequest {
     pub spacing: Spacing,
     /// The pages to impose, and their order. `Layout::Spec` takes all pages.
     pub choice: PageChoice,
+    /// Whether the last page is at the back of the booklet: the blanks that fill up its last signature come before that page.
+    pub last_at_back: bool,
     /// The turn of each page before it is placed.
     pub turn: Turn,
     /// The paper of the pages, if the command line names it.

@@ -7,6 +7,8 @@ mod Outside
 mod Alone
 mod Counted
 mod AsMany
+mod LastIsLast
+mod LastPage
 mod OneScale
 mod NotLaid
 mod Turned

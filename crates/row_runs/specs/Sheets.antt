@@ -3,6 +3,7 @@ use Rattle.std.specs.Prelude.{◌≡◌, ⊤, ℕ, ◌*◌, ◌/◌, ◌<◌, �
 use Rattle.std.specs.Option.{option_or}
 use Rattle.rules.specs.Papers.{Paper}
 use Rattle.rules.specs.Run.{most_pages}
+use Rattle.rules.specs.Units.{◌>>=◌}
 use Rattle.rules.specs.Made.{MadeSheet}
 use Rattle.rules.specs.Rows.{Row}
 use Rattle.rules.specs.Choice.{RowFault, Signing, chosen, sides_for, signed_if}
@@ -22,6 +23,7 @@ use Rattle.row_sheets.specs.Zine.{AreZineCells}
 use Rattle.sheet_plan.specs.MadeRefusals.{RefusesMade}
 use Rattle.sheet_plan.specs.declared.error.MadeError.{MadeError}
 use Rattle.row_runs.specs.Evened.{at_common_scale, why_not_even_if}
+use Rattle.row_runs.specs.LastPage.{last_at_back_if}
 use Rattle.row_runs.specs.Limits.{IsLimit}
 use Rattle.row_runs.specs.declared.sheet_request.SheetRequest.{SheetRequest}
 use Rattle.row_runs.specs.declared.sheet_request.Laying.{Laying}
@@ -108,13 +110,13 @@ RefusesLaying l leaves papers row (error.Sheets e) =
 
 -- ---- what is asked for
 
--- the row that is chosen of a document with so many pages, or its fault
-abbrev pub row_chosen : (pages : ℕ) → SheetRequest → Result Row RowFault
-row_chosen pages a = chosen pages (choice_of a.choice)
-
--- how it is put into signatures, if it is
+-- how the row is put into signatures, if it is
 abbrev pub sewn : SheetRequest → Option Signing
 sewn a = option_map signing_of a.signing
+
+-- the row that is chosen of a document with so many pages, or its fault; blanks come before its last page if that is asked for
+abbrev pub row_chosen : (pages : ℕ) → SheetRequest → Result Row RowFault
+row_chosen pages a = chosen pages (choice_of a.choice) >>= λ row. Ok (last_at_back_if a.last_at_back (sewn a) row)
 
 -- how the row that is chosen is laid: at one scale if that is asked for
 abbrev pub laying_for : SheetRequest → List Paper → Row → Laying

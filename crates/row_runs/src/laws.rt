@@ -1,5 +1,6 @@
 //! Laws of the sheets that a row makes. Each contract is a law; the functions do nothing.
 ghost use Rattle.row_runs.specs.InPlaces.{AskedStandInPlaces};
+ghost use Rattle.row_runs.specs.LastPage.{LastPageIsLast};
 ghost use Rattle.row_runs.specs.ReadAsBound.{AskedIsRead};
 ghost use Rattle.row_runs.specs.SwappedMargins.{FittedAreInPoints, SwappedStands};
 ghost use Rattle.row_runs.specs.Turning.{TurnedStands, TurnsAddUp};
@@ -16,6 +17,11 @@ pub fn asked_stand_in_places()
 /// A booklet is read in the order of the chosen row, once its leaves are folded, put into one another and bound.
 pub fn asked_is_read()
     ensures { AskedIsRead }
+{}
+
+/// A booklet with blanks before its last page, folded and read, has that page at its back.
+pub fn last_page_is_last()
+    ensures { LastPageIsLast }
 {}
 
 /// Two quarter turns of a page are a half turn, three are a quarter turn to the right, and four leave the page as it was.

@@ -5,6 +5,7 @@ mod declared_pages;
 mod error;
 mod evened;
 mod guides;
+mod last_page;
 pub mod laws;
 mod limits;
 mod look;

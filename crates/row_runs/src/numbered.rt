@@ -17,7 +17,7 @@ use dressing::Numbering;
 use layouts::{Room, cell_size, grains};
 use lengths::{Grains, Paper};
 use pagespec::Turn;
-use rows::{chosen_row, signed_row};
+use rows::signed_row;
 use sheet_plan::MadeSheets;
 use sheet_text::Numbers;
 use std::alloc::{AllocError, Global};
@@ -72,7 +72,7 @@ fn places_of(
     requires asked { MayBeAsked asked.now }
     ensures { IfOk result (λ made. made ≡ places_by papers.now asked.now (row_chosen pages asked.now)) }
 {
-    let Ok(row) = chosen_row(alloc, pages, &asked.choice) else {
+    let Ok(row) = asked.row(alloc, pages) else {
         return Err(AllocError);
     };
     let leaves = leaves_in(asked.signing, row.as_slice());

@@ -1,17 +1,19 @@
 //! Requests for sheets, and the sheets that they make.
 ghost use Rattle.std.specs.Prelude.{◌≡◌, ◌<◌, ◌≤◌, IfErr, IfOk, IfSome, OnOk, Ok, None, Some, length, option_map, ℕ};
 ghost use Rattle.rules.specs.Choice.{most_entries};
+ghost use Rattle.rows.specs.Refusals.{RefusesRow};
 ghost use Rattle.rows.specs.Sewing.{MayBeSewn, signing_of};
 ghost use Rattle.layouts.specs.Refusals.{IsArrangementFault};
 ghost use Rattle.row_sheets.specs.Shapes.{filling};
 ghost use Rattle.row_runs.specs.Errors.{of_arrangement, of_poster, of_row};
 ghost use Rattle.row_runs.specs.Limits.{AreFewAsLaid, limit_in as limit_of_laying};
 ghost use Rattle.row_runs.specs.Sheets.{AreAsked, FitAsLaid, MayBeAsked, MayBeLaid, RefusesAsked, RefusesLaying};
-ghost use Rattle.row_runs.specs.Sheets.{leaves_in as leaves_of_signature, sheets_by_scheme, sheets_laid, why_not_in};
+ghost use Rattle.row_runs.specs.Sheets.{leaves_in as leaves_of_signature, row_chosen, sheets_by_scheme, sheets_laid, why_not_in};
 ghost use Rattle.row_runs.specs.Standing.{StandAsLaid};
 
 use crate::error::{SheetError, plan_error};
 use crate::evened::at_common_scale;
+use crate::last_page::last_at_back;
 use crate::limits::limit_in;
 use layouts::{ArrangementError, Setting};
 use lengths::Paper;
@@ -98,10 +100,32 @@ pub struct SheetRequest<'t> {
     pub choice: Choice<'t>,
     /// How the row is put into signatures; None without signatures.
     pub signing: Option<Signing>,
-    /// How the row is laid on sheets.
+    /// Whether the blanks that fill up the last signature come before the last page.
+    pub last_at_back: bool,
     pub laying: Laying<'t>,
     /// Whether all pages in cells get the same scale, which is the least of their scales.
     pub same_scale: bool,
+}
+
+impl SheetRequest<'_> {
+    /// The row to lay: what is chosen, with blanks before its last page if they are asked for.
+    pub(crate) fn row(&self, alloc: Global, pages: u32) -> Result<Vec<Option<u32>>, RowError>
+        requires pages { pages ≤ most_entries }
+        requires sewn { IfSome self.now.signing MayBeSewn }
+        ensures row { IfOk result (λ row. row_chosen pages self.now ≡ Ok row.items) }
+        ensures some { IfOk result (λ row. 0 < length row.items) }
+        ensures few { IfOk result (λ row. length row.items ≤ most_entries) }
+        ensures refused { IfErr result (RefusesRow (row_chosen pages self.now)) }
+    {
+        let row = chosen_row(alloc, pages, &self.choice)?;
+        if !self.last_at_back {
+            return Ok(row);
+        }
+        match last_at_back(row, self.signing) {
+            Ok(row) => Ok(row),
+            Err(_) => Err(RowError::NoMemory),
+        }
+    }
 }
 
 /// The sheets that are requested of a document with this number of pages. `papers` has the paper of each page, in order; a page that has no entry
@@ -122,7 +146,7 @@ pub fn make_sheets(
     ensures few { IfOk result (AreFewAsLaid asked.now.laying) }
     ensures refused { IfErr result (RefusesAsked pages papers.now asked.now) }
 {
-    let row = match chosen_row(alloc, pages, &asked.choice) {
+    let row = match asked.row(alloc, pages) {
         Ok(row) => row,
         Err(error) => return Err(row_error(error)),
     };

@@ -180,7 +180,7 @@ pub(crate) const FOR_SPECIFICATIONS: [Tip; 4] = [
 ];
 
 /// Tips on options that only some commands have, for use with a command that doesn't have them.
-pub(crate) const OF_COMMANDS: [Tip; 15] = [
+pub(crate) const OF_COMMANDS: [Tip; 16] = [
     (
         &["--order"],
         "nup, cards and stack have an order, as in: impose nup 4 --order down-right in.ps out.ps",
@@ -232,6 +232,10 @@ pub(crate) const OF_COMMANDS: [Tip; 15] = [
     (
         &["--signature"],
         "leaves of booklets are folded some at a time, as in: impose booklet --signature 16 in.ps out.ps",
+    ),
+    (
+        &["--cover"],
+        "the last page of a booklet is at its back by: impose booklet --cover in.ps out.ps",
     ),
     (
         &["--duplex"],

@@ -1,0 +1,63 @@
+//! The last page at the back of a booklet.
+ghost use Rattle.std.specs.Prelude.{◌≡◌, ◌≤◌, ◌<◌, ◌-◌, IfOk, IfSome, length, option_map};
+ghost use Rattle.rules.specs.Choice.{most_entries};
+ghost use Rattle.row_runs.specs.LastPage.{before_last, filled_length as filled, last_at_back};
+ghost use Rattle.rows.specs.Sewing.{MayBeSewn, signing_of};
+
+use rows::Signing;
+use std::alloc::AllocError;
+
+const MOST_ENTRIES: usize = 1_000_000;
+
+/// The row with the blanks that fill up the last signature before its last entry, so the last page is at the back of the booklet. Without signatures it
+/// stays as it is, and so does a row that fills its signatures.
+pub(crate) fn last_at_back(
+    row: Vec<Option<u32>>,
+    signing: Option<Signing>,
+) -> Result<Vec<Option<u32>>, AllocError>
+    requires sides { IfSome signing MayBeSewn }
+    requires some { 0 < length row.items }
+    requires few { length row.items ≤ most_entries }
+    ensures row { IfOk result (λ filled. filled.items ≡ last_at_back (option_map signing_of signing) row.items) }
+    ensures some { IfOk result (λ filled. 0 < length filled.items) }
+    ensures few { IfOk result (λ filled. length filled.items ≤ most_entries) }
+{
+    match signing {
+        Some(how) => {
+            let filled = filled_length(how, row.len());
+            with_blanks(row, filled)
+        }
+        None => Ok(row),
+    }
+}
+
+/// The number of entries of whole signatures for a row with this many entries, but no more than a row may have.
+fn filled_length(how: Signing, entries: usize) -> usize
+    requires sides { MayBeSewn how }
+    requires some { 0 < entries }
+    requires few { entries ≤ most_entries }
+    ensures value { result ≡ filled (signing_of how) entries }
+    ensures more { entries ≤ result }
+    ensures few { result ≤ most_entries }
+{
+    let sides = how.sides(entries) as usize;
+    (entries.div_ceil(sides) * sides).min(MOST_ENTRIES)
+}
+
+/// The row with blanks before its last entry, so it has this many entries.
+fn with_blanks(row: Vec<Option<u32>>, filled: usize) -> Result<Vec<Option<u32>>, AllocError>
+    requires some { 0 < length row.items }
+    requires more { length row.items ≤ filled }
+    ensures row { IfOk result (λ found. found.items ≡ before_last (filled - length row.items) row.items) }
+    ensures count { IfOk result (λ found. length found.items ≡ filled) }
+{
+    let mut row = row;
+    match row.pop() {
+        Some(last) => {
+            row.resize(filled - 1, None)?;
+            row.push(last)?;
+            Ok(row)
+        }
+        None => Ok(row),
+    }
+}
