@@ -8,15 +8,36 @@
 //!
 //!     Usage: impose nup --border <LENGTH> <N> [INFILE [OUTFILE]]
 
-/// The word that clap refuses as an unknown argument or subcommand. It is empty if the text has no word in quotes.
-pub(crate) fn refused_word(text: &str) -> &str {
-    quoted(text).unwrap_or("")
+use clap::error::ErrorKind;
+
+/// The words that clap's text has in quotes.
+#[derive(Clone, Copy)]
+pub(crate) struct Quoted<'t> {
+    /// The word that clap refuses as an unknown argument or subcommand. It is empty for other kinds of mistakes.
+    pub(crate) refused: &'t str,
+    /// The option that clap suggests in place of an unknown one, if it suggests one. Clap's usage line is then about this option.
+    pub(crate) meant: Option<&'t str>,
 }
 
-/// The option that clap suggests in place of an unknown one, if it suggests one. Clap's usage line is then about this option.
-pub(crate) fn option_meant(text: &str) -> Option<&str> {
-    let (_, tip) = text.split_once(SIMILAR_OPTION)?;
-    quoted(tip)
+/// The words that the text about a mistake of this kind has in quotes.
+pub(crate) fn quoted_words(kind: ErrorKind, text: &str) -> Quoted<'_> {
+    match kind {
+        ErrorKind::UnknownArgument => Quoted {
+            refused: between_quotes(text).unwrap_or(""),
+            meant: match text.split_once(SIMILAR_OPTION) {
+                Some((_, tip)) => between_quotes(tip),
+                None => None,
+            },
+        },
+        ErrorKind::InvalidSubcommand => Quoted {
+            refused: between_quotes(text).unwrap_or(""),
+            meant: None,
+        },
+        _ => Quoted {
+            refused: "",
+            meant: None,
+        },
+    }
 }
 
 const SIMILAR_OPTION: &str = "  tip: a similar argument exists: ";
@@ -36,7 +57,7 @@ pub(crate) const USAGE: &str = "Usage:";
 pub(crate) const POINTER: &str = "For more information";
 
 /// The text between the first two single quotes, if there are two.
-fn quoted(text: &str) -> Option<&str> {
+fn between_quotes(text: &str) -> Option<&str> {
     let (_, behind) = text.split_once("'")?;
     let (word, _) = behind.split_once("'")?;
     Some(word)

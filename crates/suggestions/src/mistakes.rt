@@ -1,5 +1,5 @@
 //! Messages about words of the command line that the command doesn't take.
-use crate::clap_text::{POINTER, USAGE, is_tip_left_out, option_meant, refused_word};
+use crate::clap_text::{POINTER, Quoted, USAGE, is_tip_left_out, quoted_words};
 use crate::other_programs::{FOR_COMMANDS, tip_on_other};
 use crate::shown::{is_shown_whole, joined_texts, push_all, push_shown, shown_word};
 use crate::tips::{
@@ -27,11 +27,12 @@ pub fn words_text(alloc: Global, error: &Error, words: &[String]) -> Result<Stri
         };
     }
     let text = text.as_str();
-    match tip(error.kind(), text, words) {
-        Some(tip) => with_tip(alloc, text, tip, option_meant(text).is_none()),
+    let quoted = quoted_words(error.kind(), text);
+    match tip(error.kind(), quoted.refused, words) {
+        Some(tip) => with_tip(alloc, text, tip, quoted.meant.is_none()),
         None => {
-            let tip = likeness(alloc, error.kind(), text)?;
-            let keeps_usage = option_meant(text).is_none() || !tip.is_empty();
+            let tip = likeness(alloc, error.kind(), quoted)?;
+            let keeps_usage = quoted.meant.is_none() || !tip.is_empty();
             with_tip(alloc, text, tip.as_str(), keeps_usage)
         }
     }
@@ -71,11 +72,11 @@ fn with_tip(alloc: Global, text: &str, tip: &str, keeps_usage: bool) -> Result<S
 }
 
 /// The tip that names a similar command or option. It is empty if no name is similar.
-fn likeness(alloc: Global, kind: ErrorKind, text: &str) -> Result<String, AllocError> {
-    let word = refused_word(text);
+fn likeness(alloc: Global, kind: ErrorKind, quoted: Quoted<'_>) -> Result<String, AllocError> {
+    let word = quoted.refused;
     let (what, like) = match kind {
         ErrorKind::InvalidSubcommand => ("subcommand", nearest_command(alloc, word)?),
-        ErrorKind::UnknownArgument => ("argument", option_meant(text)),
+        ErrorKind::UnknownArgument => ("argument", quoted.meant),
         _ => ("", None),
     };
     match like {
@@ -129,12 +130,11 @@ fn distance(alloc: Global, word: &str, name: &str) -> Result<Option<usize>, Allo
 const MOST_COMPARED: usize = 30;
 
 /// The tip on a mistake of this kind in the command line, if one is known that is better than clap's.
-fn tip(kind: ErrorKind, text: &str, words: &[String]) -> Option<&'static str> {
+fn tip(kind: ErrorKind, word: &str, words: &[String]) -> Option<&'static str> {
     let [_, command, behind @ ..] = words else {
         return None;
     };
     let command = command.as_str();
-    let word = refused_word(text);
     match kind {
         ErrorKind::InvalidSubcommand => tip_on_command(word),
         ErrorKind::UnknownArgument if !is_command(command) => tip_on_command(word),
