@@ -1,5 +1,5 @@
 -- The whole program: what its words ask for, what it reads, what it creates and writes, and how it ends.
-use Rattle.std.specs.Prelude.{⊤, ◌≡◌, ◌⊎◌, ◌+◌, ◌<◌, ℕ, Bool, List, [], length, take, false, Option, Some, None, Result, Ok, Err, IfSome}
+use Rattle.std.specs.Prelude.{⊤, ◌≡◌, ◌⊎◌, ◌+◌, ◌<◌, ℕ, Bool, List, [], length, take, true, false, Option, Some, None, Result, Ok, Err, IfSome}
 use Rattle.std.specs.Prelude.{codes, option_map, string_bytes}
 use Rattle.std.specs.Io.KnownBytes.{Appends}
 use Rattle.std.specs.IoError.{error_kind}
@@ -42,6 +42,10 @@ status_of (Err f) = fault_status f
 -- what files and standard input give, by the file's name
 abbrev pub Inputs : Type 0
 Inputs = Option (List ℕ) → Option (List ℕ)
+
+-- whether the input of the first name is the file of the second, where that is known
+abbrev pub SameFiles : Type 0
+SameFiles = Option (List ℕ) → List ℕ → Option Bool
 
 -- ---- the paper at home
 
@@ -147,15 +151,30 @@ MakesProduct product.Plan r input edge outcome world rest written =
 MakesProduct (product.Picture file) r input edge outcome world rest written =
     ShowsSheets look.Picture (option_map string_bytes file) r input edge outcome world rest written
 
--- What comes of a request: it is refused before its input is read; or it isn't, and its input can't be read, and the world is
+-- whether the picture is to be written to the file that is read, under whatever name, as far as that is known
+abbrev pub IsDrawnOver : SameFiles → Product → (infile : Option (List ℕ)) → (is : Bool) → Type 0
+IsDrawnOver same (product.Picture (Some file)) infile is = IfSome (same infile (string_bytes file)) (λ known. is ≡ known)
+IsDrawnOver same other infile is = is ≡ false
+
+-- the request may be read for, and nothing is drawn over what is read
+abbrev pub MayReadInput : SameFiles → ImposeRequest → Type 0
+MayReadInput same r = MayBeRead r × IsDrawnOver same r.product (option_map string_bytes r.infile) false
+
+-- a request is refused before its input is opened: by itself, or since its picture would be written to the file that is read
+abbrev pub RefusesUnopened : SameFiles → ImposeRequest → ImposeFault → Type 0
+RefusesUnopened same r f = RefusesRequest r f
+    ⊎ (MayBeRead r × (f ≡ fault.OverInput) × IsDrawnOver same r.product (option_map string_bytes r.infile) true)
+
+-- What comes of a request: it is refused before its input is opened; or it isn't, and its input can't be read, and the world is
 -- back; or the input was read, and what is asked for is made of it (RULES, 16)
-abbrev pub CarriesOut : {W O : Type 0} → (seen : W → WorldView) → ImposeRequest → Inputs → (edge : Edge W O) → Result Done ImposeFault
+abbrev pub CarriesOut : {W O : Type 0} → (seen : W → WorldView) → ImposeRequest → Inputs → SameFiles → (edge : Edge W O) → Result Done ImposeFault
     → (world : W) → (rest : Rest W O) → (written : Option (List ℕ)) → Type 0
-CarriesOut {W} seen r gives edge outcome world rest written =
+CarriesOut {W} seen r gives same edge outcome world rest written =
     ((f : ImposeFault) × (left : W) × (outcome ≡ Err f) × (rest ≡ World left)
-    × ((RefusesRequest r f × (left ≡ world)) ⊎ (MayBeRead r × IsReading (option_map string_bytes r.infile) (seen world) (seen left) f)))
+    × ((RefusesUnopened same r f × (left ≡ world))
+    ⊎ (MayReadInput same r × IsReading (option_map string_bytes r.infile) (seen world) (seen left) f)))
     ⊎ ((input : List ℕ) × (read : W) × IsFirst most_bytes (gives (option_map string_bytes r.infile)) input
-    × HasGiven (option_map string_bytes r.infile) (seen world) (seen read) × MayBeRead r
+    × HasGiven (option_map string_bytes r.infile) (seen world) (seen read) × MayReadInput same r
     × MakesProduct r.product r input edge outcome read rest written)
 
 -- what is refused has no output: one that exists is that of a request that was carried out, or for which a write failed or
@@ -167,13 +186,13 @@ IsCreatedFor (Err f) rest = (has_output rest ≡ false) ⊎ AfterWrite f (λ n. 
 -- How the program ends: the words are refused, and the world is back; or they make a request, with the paper at home,
 -- and this comes of it.
 abbrev pub EndsProgram : {W O : Type 0} → (seen : W → WorldView) → (words : List Text) → (variable : List ℕ) → Inputs
-    → (regular : List ℕ → Option Bool) → (edge : Edge W O) → Option ImposeRequest → Result Done ImposeFault → (world : W)
+    → (regular : List ℕ → Option Bool) → SameFiles → (edge : Edge W O) → Option ImposeRequest → Result Done ImposeFault → (world : W)
     → (rest : Rest W O) → (written : Option (List ℕ)) → Type 0
-EndsProgram seen words variable gives regular edge None (Ok what) world rest written = ⊥
-EndsProgram seen words variable gives regular edge None (Err (fault.Command f)) world rest written =
+EndsProgram seen words variable gives regular same edge None (Ok what) world rest written = ⊥
+EndsProgram seen words variable gives regular same edge None (Err (fault.Command f)) world rest written =
     RefusesCommand words f × (rest ≡ World world)
-EndsProgram seen words variable gives regular edge None (Err other) world rest written = ⊥
-EndsProgram {W} seen words variable gives regular edge (Some r) outcome world rest written =
+EndsProgram seen words variable gives regular same edge None (Err other) world rest written = ⊥
+EndsProgram {W} seen words variable gives regular same edge (Some r) outcome world rest written =
     Entered words (λ name found. ReadsRequest name found r) × (looked : W)
     × FindsHome variable gives regular (seen world) (seen looked) r.default_paper
-    × CarriesOut seen r gives edge outcome looked rest written
+    × CarriesOut seen r gives same edge outcome looked rest written

@@ -5,8 +5,8 @@ ghost use Rattle.std.specs.Io.KnownBytes.{Appends};
 ghost use Rattle.world.specs.Input.{IsFirst, most_bytes};
 ghost use Rattle.impose_cli.specs.Endings.{edge_of_world, shown};
 ghost use Rattle.impose_cli.specs.Looks.{MayBeMade};
-ghost use Rattle.impose_cli.specs.Programs.{CarriesOut, EndsProgram, FindsHome, HasGiven, IsCreatedFor, IsReading, IsUnread, MakesProduct};
-ghost use Rattle.impose_cli.specs.Programs.{Prints, ShowsSheets, Writes, status_of};
+ghost use Rattle.impose_cli.specs.Programs.{CarriesOut, EndsProgram, FindsHome, HasGiven, IsCreatedFor, IsDrawnOver, IsReading};
+ghost use Rattle.impose_cli.specs.Programs.{IsUnread, MakesProduct, Prints, ShowsSheets, Writes, status_of};
 ghost use Rattle.impose_cli.specs.RowTasks.{LaysRows};
 ghost use Rattle.impose_messages.specs.declared.fault.ImposeFault.TheVariants as faults;
 
@@ -67,7 +67,7 @@ pub fn impose<R: Threads + Wait + Sync, W: World>(
 ) -> Ended<W>
     requires countable { (W.seen world).failures + 1 < u64.MAX }
     ensures ended { EndsProgram W.seen (map string_bytes words.now) paper_size.now (W.gives world) (W.regular world)
-        (edge_of_world (W.tells world) W.seen W.Output.seen) result.request result.outcome world result.rest (shown W.Output.seen result.rest) }
+        (W.same world) (edge_of_world (W.tells world) W.seen W.Output.seen) result.request result.outcome world result.rest (shown W.Output.seen result.rest) }
     // If the request is refused, no output has been created, and the world is given back. If an output has been created, it has all bytes that were
     // to be written, or a write failed, or memory ran out.
     ensures created { IsCreatedFor result.outcome result.rest }
@@ -112,6 +112,7 @@ fn home_of<W: World>(paper_size: &[u8], world: &mut W) -> Paper
     requires countable { (W.seen world.old).failures < u64.MAX }
     ensures home { FindsHome paper_size.now (W.gives world.old) (W.regular world.old) (W.seen world.old) (W.seen world.new) result }
     ensures again { W.gives world.new ≡ W.gives world.old }
+    ensures same { W.same world.new ≡ W.same world.old }
     ensures tells { W.tells world.new ≡ W.tells world.old }
 {
     if !world.is_file(HOME_FILE) {
@@ -139,16 +140,29 @@ fn carry_out<R: Threads + Wait + Sync, W: World>(
 ) -> Attempt<W, Done>
     requires product { MayBeMade request.now.product request.now.layout }
     requires countable { (W.seen world).failures < u64.MAX }
-    ensures { CarriesOut W.seen request.now (W.gives world) (edge_of_world (W.tells world) W.seen W.Output.seen) result.outcome world result.rest
+    ensures { CarriesOut W.seen request.now (W.gives world) (W.same world) (edge_of_world (W.tells world) W.seen W.Output.seen) result.outcome world result.rest
         (shown W.Output.seen result.rest) }
 {
     match check_request(alloc, request) {
         Ok(()) => {}
         Err(fault) => return refused_before(fault, world),
     }
+    if is_drawn_over(request, &world) {
+        return refused_before(ImposeFault::OverInput, world);
+    }
     match roomy_input(alloc, name_of(&request.infile), &mut world) {
         Ok(input) => make(rt, alloc, request, input, world),
         Err(fault) => refused_before(fault, world),
+    }
+}
+
+/// Whether the picture of the sheets would be written to the file that is read, under whatever name.
+fn is_drawn_over<W: World>(request: &ImposeRequest, world: &W) -> bool
+    ensures { IsDrawnOver (W.same world.now) request.now.product (option_map string_bytes request.now.infile) result }
+{
+    match &request.product {
+        Product::Picture(Some(file)) => world.is_input(name_of(&request.infile), file.as_str()),
+        Product::Picture(None) | Product::Sheets | Product::Specification | Product::Plan => false,
     }
 }
 

@@ -9,8 +9,8 @@ use Rattle.impose_cli.proofs.program.impose.Goals as goal
 pub returns-in-Ok : goal.returns-in-Ok
 returns-in-Ok g c =
     let left = c.carry_out-left.result in
-    let carried = at_home g.W.World.seen c.at_home-request.result (g.W.World.gives c.args.world) _ (edge_of_world (g.W.World.tells c.args.world) g.W.World.seen g.W.Output.Output.seen) _ left.outcome c.home_of.new.world left.rest
-    (shown g.W.Output.Output.seen left.rest) c.home_of.ensures.again (ap (λ t. edge_of_world t g.W.World.seen g.W.Output.Output.seen) c.home_of.ensures.tells) c.carry_out-left.ensures in record {
+    let carried = at_home g.W.World.seen c.at_home-request.result (g.W.World.gives c.args.world) _ (g.W.World.same c.args.world) _ (edge_of_world (g.W.World.tells c.args.world) g.W.World.seen g.W.Output.Output.seen) _ left.outcome c.home_of.new.world left.rest
+    (shown g.W.Output.Output.seen left.rest) c.home_of.ensures.again c.home_of.ensures.same (ap (λ t. edge_of_world t g.W.World.seen g.W.Output.Output.seen) c.home_of.ensures.tells) c.carry_out-left.ensures in record {
       ended = (
         entered_at_home (map string_bytes c.args.words.now) c.in-Ok.read c.at_home-request.result c.home_of.result c.at_home-request.ensures c.in-Ok.ensures.read,
         c.home_of.new.world,
@@ -18,7 +18,7 @@ returns-in-Ok g c =
             (sym (ap (λ r. r.default_paper) c.at_home-request.ensures)) c.home_of.ensures.home,
         carried,
       );
-      created = created_for g.W.World.seen c.at_home-request.result (g.W.World.gives c.args.world) (edge_of_world (g.W.World.tells c.args.world) g.W.World.seen g.W.Output.Output.seen) left.outcome c.home_of.new.world left.rest
+      created = created_for g.W.World.seen c.at_home-request.result (g.W.World.gives c.args.world) (g.W.World.same c.args.world) (edge_of_world (g.W.World.tells c.args.world) g.W.World.seen g.W.Output.Output.seen) left.outcome c.home_of.new.world left.rest
           (shown g.W.Output.Output.seen left.rest) carried;
     }
 
