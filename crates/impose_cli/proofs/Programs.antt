@@ -6,11 +6,10 @@ use Rattle.std.specs.Io.KnownBytes.{Appends}
 use Rattle.world.specs.Outputs.{OutputView, fresh_output, told_if}
 use Rattle.impose_cli.specs.Endings.{AfterWrite, Edge, IsSaidOf, IsUncreatedFault, RunsRequest, has_output, shown}
 use Rattle.imposer.specs.declared.outcome.RunError.TheVariants as run
-use Rattle.world.specs.Input.{IsFirst, most_bytes}
 use Rattle.world.specs.Worlds.{WorldView}
 use Rattle.impose_cli.specs.Looks.{MayBeMade, TellsRow}
 use Rattle.impose_words.specs.Products.{lays_rows}
-use Rattle.impose_cli.specs.Programs.{BreaksAt, CarriesOut, FailsToWrite, Inputs, HasGiven, IsCreatedFor, IsReading, MakesProduct, MayReadInput, Prints, RefusesUnopened, SameFiles, ShowsSheets, Writes}
+use Rattle.impose_cli.specs.Programs.{BreaksAt, CarriesOut, FailsToWrite, Inputs, HasGiven, IsCreatedFor, IsReadOf, IsReading, MakesProduct, MayReadInput, Prints, RefusesUnopened, SameFiles, ShowsSheets, Writes}
 use Rattle.impose_cli.specs.RowTasks.{LaysRows}
 use Rattle.rules.specs.Papers.{Paper}
 use Rattle.impose_words.specs.Words.{Entered, MakesBy, ReadsRequest}
@@ -42,14 +41,14 @@ stopped_before seen r gives same tells f outcome world left rest written told no
 -- the input was read, and what is asked for was made of it
 pub took : {V O : Type 0} (seen : V → WorldView) (r : ImposeRequest) (gives : Inputs) (files : SameFiles) (tells told : Edge V O) (input : List ℕ) (name : Option (List ℕ))
     (outcome : Result Done ImposeFault) (world read : V) (rest : Rest V O) (written : Option (List ℕ))
-    → name ≡ option_map string_bytes r.infile → IsFirst most_bytes (gives name) input → HasGiven name (seen world) (seen read)
+    → name ≡ option_map string_bytes r.infile → IsReadOf (gives name) input → HasGiven name (seen world) (seen read)
     → MayReadInput files r → told ≡ tells → MakesProduct r.product r input told outcome read rest written
     → CarriesOut seen r gives files tells outcome world rest written
 took seen r gives files tells told input name outcome world read rest written named first given possible same taken =
     inr (
       input,
       read,
-      subst (λ n. IsFirst most_bytes (gives n) input) named first,
+      subst (λ n. IsReadOf (gives n) input) named first,
       subst (λ n. HasGiven n (seen world) (seen read)) named given,
       possible,
       subst (λ t. MakesProduct r.product r input t outcome read rest written) same taken,

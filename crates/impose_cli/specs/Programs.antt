@@ -6,7 +6,7 @@ use Rattle.std.specs.IoError.{error_kind}
 use Rattle.std.specs.declared.io.ErrorKind.TheVariants.{OutOfMemory}
 use Rattle.clap.specs.Words.{Text}
 use Rattle.world.specs.Outputs.{told_if}
-use Rattle.world.specs.Input.{IsFirst, most_bytes}
+use Rattle.world.specs.Input.{IsFirst, document_in, most_bytes}
 use Rattle.world.specs.Rests.{has_output}
 use Rattle.world.specs.Worlds.{HasGranted, WasAsked, WorldView, opening}
 use Rattle.rules.specs.Papers.{Paper}
@@ -46,6 +46,12 @@ Inputs = Option (List ℕ) → Option (List ℕ)
 -- whether the input of the first name is the file of the second, where that is known
 abbrev pub SameFiles : Type 0
 SameFiles = Option (List ℕ) → List ℕ → Option Bool
+
+-- ---- the document
+
+-- the document was read that is in the first bytes, as many as are read at most
+abbrev pub IsReadOf : (given : Option (List ℕ)) → (document : List ℕ) → Type 0
+IsReadOf given document = IfSome given (λ all. document ≡ document_in (take most_bytes all))
 
 -- ---- the paper at home
 
@@ -173,9 +179,9 @@ CarriesOut {W} seen r gives same edge outcome world rest written =
     ((f : ImposeFault) × (left : W) × (outcome ≡ Err f) × (rest ≡ World left)
     × ((RefusesUnopened same r f × (left ≡ world))
     ⊎ (MayReadInput same r × IsReading (option_map string_bytes r.infile) (seen world) (seen left) f)))
-    ⊎ ((input : List ℕ) × (read : W) × IsFirst most_bytes (gives (option_map string_bytes r.infile)) input
+    ⊎ ((document : List ℕ) × (read : W) × IsReadOf (gives (option_map string_bytes r.infile)) document
     × HasGiven (option_map string_bytes r.infile) (seen world) (seen read) × MayReadInput same r
-    × MakesProduct r.product r input edge outcome read rest written)
+    × MakesProduct r.product r document edge outcome read rest written)
 
 -- what is refused has no output: one that exists is that of a request that was carried out, or for which a write failed or
 -- memory ran out

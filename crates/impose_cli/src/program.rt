@@ -1,11 +1,11 @@
 //! The whole program, over a world of files and standard streams.
-ghost use Rattle.std.specs.Prelude.{◌≡◌, ◌+◌, ◌<◌, ◌≤◌, map, option_map, string_bytes};
+ghost use Rattle.std.specs.Prelude.{◌≡◌, ◌+◌, ◌<◌, ◌≤◌, drop, map, option_map, string_bytes, vec_len};
+ghost use Rattle.world.specs.Input.{document_in};
 ghost use Rattle.std.specs.Prelude.{Some, IfOk, IfErr, OnOk};
 ghost use Rattle.std.specs.Io.KnownBytes.{Appends};
-ghost use Rattle.world.specs.Input.{IsFirst, most_bytes};
 ghost use Rattle.impose_cli.specs.Endings.{edge_of_world, shown};
 ghost use Rattle.impose_cli.specs.Looks.{MayBeMade};
-ghost use Rattle.impose_cli.specs.Programs.{CarriesOut, EndsProgram, FindsHome, HasGiven, IsCreatedFor, IsDrawnOver, IsReading};
+ghost use Rattle.impose_cli.specs.Programs.{CarriesOut, EndsProgram, FindsHome, HasGiven, IsCreatedFor, IsDrawnOver, IsReadOf, IsReading};
 ghost use Rattle.impose_cli.specs.Programs.{IsUnread, MakesProduct, Prints, ShowsSheets, Writes, status_of};
 ghost use Rattle.impose_cli.specs.RowTasks.{LaysRows};
 ghost use Rattle.impose_messages.specs.declared.fault.ImposeFault.TheVariants as faults;
@@ -27,7 +27,9 @@ use std::io;
 use std::io::ErrorKind;
 use std::sync::Wait;
 use std::thread::Threads;
-use world::{Output, ReadFault, ReadSource, Rest, World, read_front, read_input_behind, write_all};
+use world::{
+    Output, ReadFault, ReadSource, Rest, World, padding, read_front, read_input_behind, write_all,
+};
 
 /// How the program ended.
 #[derive(Drop)]
@@ -196,7 +198,7 @@ fn make<R: Threads + Wait + Sync, W: World>(
     }
 }
 
-/// Reads all bytes of the file of this name, or of standard input without a name. There is room before the bytes for the guard.
+/// The document in all bytes of the file of this name, or of standard input, with room before it.
 fn roomy_input<W: World>(
     alloc: Global,
     name: Option<&str>,
@@ -204,7 +206,7 @@ fn roomy_input<W: World>(
 ) -> Result<RoomyText, ImposeFault>
     requires countable { (W.seen world.old).failures < u64.MAX }
     ensures read { IfOk result (λ input.
-        IsFirst most_bytes (W.gives world.old (option_map (λ n. n.now) name.entry)) input.items) }
+        IsReadOf (W.gives world.old (option_map (λ n. n.now) name.entry)) input.items) }
     ensures given { IfOk result (λ _. HasGiven (option_map (λ n. n.now) name.entry) (W.seen world.old) (W.seen world.new)) }
     ensures refused { IfErr result (IsReading (option_map (λ n. n.now) name.entry) (W.seen world.old) (W.seen world.new)) }
     ensures tells { W.tells world.new ≡ W.tells world.old }
@@ -219,14 +221,14 @@ fn roomy_input<W: World>(
 /// The number of bytes before the document that are kept free for the guard. They are enough for sheets of any paper.
 const ROOM: u32 = 2_560;
 
-/// Reads all bytes of an input of this world, and closes the input.
+/// The document in all bytes of an input of this world, which is then closed.
 fn read_from<W: World>(
     alloc: Global,
     input: W::Input,
     world: &mut W,
 ) -> Result<RoomyText, ImposeFault>
     requires countable { (W.seen world.old).failures < u64.MAX }
-    ensures read { IfOk result (λ bytes. IsFirst most_bytes (W.Input.remaining input) bytes.items) }
+    ensures read { IfOk result (λ document. IsReadOf (W.Input.remaining input) document.items) }
     ensures asked { (W.seen world.new).asked ≡ (W.seen world.old).asked }
     ensures steady { OnOk result ((W.seen world.new).failures ≡ (W.seen world.old).failures) }
     ensures refused { IfErr result (IsUnread (W.seen world.old) (W.seen world.new)) }
@@ -236,10 +238,20 @@ fn read_from<W: World>(
     let read = read_input_behind(alloc, ROOM, &mut source);
     let cause = world.close(source);
     match read {
-        Ok(bytes) => Ok(RoomyText::with_headroom(ROOM as usize, bytes)),
+        Ok(bytes) => Ok(roomy_document(bytes)),
         Err(ReadFault::NoMemory) => Err(ImposeFault::no_memory()),
         Err(ReadFault::Device) => Err(ImposeFault::Read(cause)),
     }
+}
+
+/// The document in an input that has room before it.
+fn roomy_document(bytes: Vec<u8>) -> RoomyText
+    requires { 2_560 ≤ vec_len bytes }
+    ensures { result.items ≡ document_in (drop 2_560 bytes.items) }
+{
+    let (_, input) = bytes.as_slice().split_at(ROOM as usize);
+    let start = ROOM as usize + padding(input);
+    RoomyText::with_headroom(start, bytes)
 }
 
 /// Prints the specification, with a command line of pstops that places pages in the same way, to standard output.
