@@ -4,7 +4,8 @@
 _impose_commands='nup booklet zine cards stack notes poster select spec help'
 _impose_papers='a0 a1 a2 a3 a4 a5 a6 a7 b0 b1 b2 b3 b4 b5 b6 c4 c5 c6 dl jisb4 jisb5 ra3 ra4 sra3 sra4 letter legal tabloid ledger statement executive folio quarto 10x14'
 _impose_options_of() {
-    local all='--paper --sheet --border --unguarded --print-spec --quiet --help -p -q -h'
+    local all='--paper --border --unguarded --quiet --help -p -q -h'
+    local sheet='--sheet' spec='--sheet --print-spec'
     local parts='--odd --even --reverse'
     local looks='--turn --plan --preview'
     local row="--pages $parts"
@@ -13,14 +14,15 @@ _impose_options_of() {
     local cells="--order --turned --scale $laid"
     case "$1" in
         '') echo '--help --version -h -V' ;;
-        nup | cards) echo "$cells $all" ;;
-        booklet) echo "--signature --creep --long-edge --cover $laid $all" ;;
-        zine) echo "--same-scale --margin --gap --rtl $row $looks $all" ;;
-        stack) echo "--duplex $cells $all" ;;
-        notes) echo "--same-scale --margin --gap --trim $numbers $row $looks $all" ;;
-        poster) echo "--overlap --margin $row $looks $all" ;;
+        nup) echo "$cells $spec $all" ;;
+        cards) echo "$cells $sheet $all" ;;
+        booklet) echo "--signature --creep --long-edge --cover $laid $spec $all" ;;
+        zine) echo "--same-scale --margin --gap --rtl $row $looks $sheet $all" ;;
+        stack) echo "--duplex $cells $sheet $all" ;;
+        notes) echo "--same-scale --margin --gap --trim $numbers $row $looks $sheet $all" ;;
+        poster) echo "--overlap --margin $row $looks $sheet $all" ;;
         select) echo "$numbers $parts $looks $all" ;;
-        spec) echo "--signature $row $all" ;;
+        spec) echo "--signature $row $spec $all" ;;
     esac
 }
 

@@ -52,6 +52,8 @@ is_simple_row (argument.Valued id name help) = refl
 is_simple_row (argument.LetteredValued letter id name help) = refl
 is_simple_row (argument.Flag id help) = refl
 is_simple_row (argument.LetteredFlag letter id help) = refl
+is_simple_row (argument.HiddenValued id name) = refl
+is_simple_row (argument.HiddenFlag id) = refl
 
 -- a simple argument isn't global
 is_local : (a : Arg) → is_simple_arg a ≡ true → a.global ≡ false

@@ -17,6 +17,8 @@ rule_in (argument.Valued id name help) = option_rule id.now
 rule_in (argument.LetteredValued letter id name help) = lettered letter (option_rule id.now)
 rule_in (argument.Flag id help) = flag_rule id.now
 rule_in (argument.LetteredFlag letter id help) = lettered letter (flag_rule id.now)
+rule_in (argument.HiddenValued id name) = option_rule id.now
+rule_in (argument.HiddenFlag id) = flag_rule id.now
 
 abbrev pub with_row : App → Argument → App
 with_row app row = with_rule app (rule_in row)
@@ -25,6 +27,7 @@ with_row app row = with_rule app (rule_in row)
 abbrev pub rules_in : Group → List Rule
 rules_in group.Count = count_rule ∷ []
 rules_in group.Copies = count_rule ∷ []
+rules_in group.BoundCells = cell_rules
 rules_in group.Cells = cell_rules
 rules_in group.Duplex = flag_rule (codes "duplex") ∷ []
 rules_in group.Booklet = booklet_rules
@@ -35,13 +38,16 @@ rules_in group.Selection = select_rules
 rules_in group.Specs = spec_rules
 rules_in group.Look = look_rules
 rules_in group.Pages = option_rule (codes "pages") ∷ []
+rules_in group.Common = common_rules
+rules_in group.CommonUnspecified = common_rules
+rules_in group.CommonOfSelections = common_rules
 
 abbrev pub with_group : App → Group → App
 with_group app g = fold with_rule app (rules_in g)
 
--- a subcommand with the arguments of its row, and after them those that all have
+-- a subcommand with the arguments of its row
 abbrev pub app_in : Subcommand → App
-app_in row = fold with_rule (fold with_group (new_app row.name.now) row.groups.now) common_rules
+app_in row = fold with_group (new_app row.name.now) row.groups.now
 
 -- the command with one more of them
 abbrev pub with_app : App → Subcommand → App

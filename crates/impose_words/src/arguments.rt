@@ -6,6 +6,12 @@ ghost use Rattle.clap.specs.Simple.{on_top};
 ghost use Rattle.impose_words.specs.Command.{flag_rule, impose, positional_rule, with_top};
 ghost use Rattle.impose_words.specs.Tables.{app_in, rule_in, rules_in, with_app, with_group, with_row};
 
+use crate::shared_arguments::{
+    BORDER, BOUND_MARGIN, CELL_GAP, CUT_MARKS, EQUAL_MARGIN, EVEN, HIDDEN_PRINT_SPEC, HIDDEN_SHEET,
+    INFILE, LOOK, MARGIN, NUMBERS, NUMBERS_FROM, ODD, OPPOSITE_MARGIN, ORDER, OUTFILE, PAGES,
+    PAPER, PRINT_SPEC, QUIET, RANGES_HELP, REVERSE, RTL, SAME_SCALE, SCALE, SHEET, TRIM, TURNED,
+    UNGUARDED,
+};
 use clap::{Arg, ArgAction, Command};
 use std::alloc::{AllocError, Global};
 
@@ -30,7 +36,7 @@ Examples:
 /// An argument of a subcommand. Its texts are its name (for an option, the text after `--`), the name of its value in the help if it has a value, and
 /// its help. An option with a letter has that first.
 #[derive(Clone, Copy)]
-enum Argument {
+pub(crate) enum Argument {
     /// A required word.
     Required(&'static str, &'static str, &'static str),
     /// An optional word.
@@ -43,6 +49,10 @@ enum Argument {
     Flag(&'static str, &'static str),
     /// An option without a value that also has a form of one letter.
     LetteredFlag(char, &'static str, &'static str),
+    /// An option with a value that the help leaves out, because the subcommand refuses it.
+    HiddenValued(&'static str, &'static str),
+    /// An option without a value that the help leaves out, because the subcommand refuses it.
+    HiddenFlag(&'static str),
 }
 
 /// Arguments of one subcommand or of several. Each group is a constant of its own, because one constant with all texts takes the prover ten times as
@@ -51,6 +61,7 @@ enum Argument {
 enum Group {
     Count,
     Copies,
+    BoundCells,
     Cells,
     Duplex,
     Booklet,
@@ -61,9 +72,12 @@ enum Group {
     Specs,
     Look,
     Pages,
+    Common,
+    CommonUnspecified,
+    CommonOfSelections,
 }
 
-/// A subcommand: its name, its help, and the groups of its own arguments, which come before the arguments that every subcommand has.
+/// A subcommand: its name, its help, and the groups of its arguments. The last group has the arguments that every subcommand has.
 struct Subcommand {
     name: &'static str,
     about: &'static str,
@@ -74,22 +88,39 @@ const SUBCOMMANDS: [Subcommand; 9] = [
     Subcommand {
         name: "nup",
         about: "Several pages on each sheet, as large as they fit",
-        groups: &[Group::Count, Group::Cells, Group::Look, Group::Pages],
+        groups: &[
+            Group::Count,
+            Group::BoundCells,
+            Group::Look,
+            Group::Pages,
+            Group::Common,
+        ],
     },
     Subcommand {
         name: "booklet",
         about: "A booklet, to be printed on both sides, folded and stapled",
-        groups: &[Group::Booklet, Group::Look, Group::Pages],
+        groups: &[Group::Booklet, Group::Look, Group::Pages, Group::Common],
     },
     Subcommand {
         name: "zine",
         about: "Eight pages on one side of a sheet, to be folded thrice and cut once",
-        groups: &[Group::Zine, Group::Look, Group::Pages],
+        groups: &[
+            Group::Zine,
+            Group::Look,
+            Group::Pages,
+            Group::CommonUnspecified,
+        ],
     },
     Subcommand {
         name: "cards",
         about: "Each page several times on a sheet, to be cut",
-        groups: &[Group::Copies, Group::Cells, Group::Look, Group::Pages],
+        groups: &[
+            Group::Copies,
+            Group::Cells,
+            Group::Look,
+            Group::Pages,
+            Group::CommonUnspecified,
+        ],
     },
     Subcommand {
         name: "stack",
@@ -100,101 +131,113 @@ const SUBCOMMANDS: [Subcommand; 9] = [
             Group::Duplex,
             Group::Look,
             Group::Pages,
+            Group::CommonUnspecified,
         ],
     },
     Subcommand {
         name: "notes",
         about: "Pages one below another, and beside each of them lines for notes",
-        groups: &[Group::Notes, Group::Look, Group::Pages],
+        groups: &[
+            Group::Notes,
+            Group::Look,
+            Group::Pages,
+            Group::CommonUnspecified,
+        ],
     },
     Subcommand {
         name: "poster",
         about: "Each page over several sheets, to be glued together",
-        groups: &[Group::Poster, Group::Look, Group::Pages],
+        groups: &[
+            Group::Poster,
+            Group::Look,
+            Group::Pages,
+            Group::CommonUnspecified,
+        ],
     },
     Subcommand {
         name: "select",
         about: "Some pages, in the order in which they are named, each on a sheet of its own",
-        groups: &[Group::Selection, Group::Look],
+        groups: &[Group::Selection, Group::Look, Group::CommonOfSelections],
     },
     Subcommand {
         name: "spec",
         about: "Pages as a page specification of pstops places them",
-        groups: &[Group::Specs, Group::Pages],
+        groups: &[Group::Specs, Group::Pages, Group::Common],
     },
 ];
 
 const COUNT: [Argument; 1] = [Argument::Required(
     "count",
     "N",
-    "How many pages, from 1 to 1024, or columns and rows, as 2x4",
+    "The number of pages, from 1 to 1024, or columns and rows, such as 2x4",
 )];
 
 const COPIES: [Argument; 1] = [Argument::Required(
     "count",
     "N",
-    "How often each page is on a sheet, from 1 to 1024, or columns and rows, as 2x4",
+    "The number of copies of each page on a sheet, from 1 to 1024, or columns and rows, such as 2x4",
 )];
 
 const DUPLEX: [Argument; 1] = [Argument::Flag(
     "duplex",
-    "For sheets that are printed on both sides",
+    "Arrange the pages for sheets that are printed on both sides",
 )];
 
-/// The options of commands that lay pages in cells, after the number of cells.
-const CELLS: [Argument; 11] = [
-    Argument::Valued(
-        "order",
-        "ORDER",
-        "Where pages go on: right-down, down-right, left-down or down-left [default: right-down]",
-    ),
-    Argument::Valued(
-        "turned",
-        "SIDE",
-        "The pages lie on their sides, and are turned to the left or to the right to be read",
-    ),
-    Argument::Valued(
-        "scale",
-        "SCALE",
-        "The scale of the pages, as 0.7 [default: as large as they fit]",
-    ),
+/// The options of `nup`, whose sheets have an inner edge, after the number of cells.
+const BOUND_CELLS: [Argument; 11] = [
+    ORDER,
+    TURNED,
+    SCALE,
     SAME_SCALE,
-    MARGIN,
-    Argument::Valued(
-        "gap",
-        "LENGTHS",
-        "Keep so much free between pages, as 5mm, or 5mm,1cm side by side and one above another",
-    ),
+    BOUND_MARGIN,
+    CELL_GAP,
     TRIM,
-    Argument::Valued(
-        "marks",
-        "MARKS",
-        "Draw short lines where sheets are cut: cut",
-    ),
+    CUT_MARKS,
     NUMBERS,
     NUMBERS_FROM,
-    Argument::Flag("rtl", "From the right to the left"),
+    RTL,
+];
+
+/// The options of other commands that lay pages in cells, after the number of cells.
+const CELLS: [Argument; 11] = [
+    ORDER,
+    TURNED,
+    SCALE,
+    SAME_SCALE,
+    MARGIN,
+    CELL_GAP,
+    TRIM,
+    CUT_MARKS,
+    NUMBERS,
+    NUMBERS_FROM,
+    RTL,
 ];
 
 const BOOKLET: [Argument; 12] = [
     Argument::Valued(
         "signature",
         "SIDES",
-        "Leaves of so many sides, a multiple of four; auto is eight leaves at most [default: all pages]",
+        "Fold the leaves in parts of this number of sides, a multiple of four; auto makes parts of at most eight leaves [default: one part]",
     ),
     Argument::Valued(
         "creep",
         "LENGTH",
-        "Move pages of the innermost leaf so much towards the fold, and of others less, as 2mm",
+        "Move the pages of the innermost leaf towards the fold by this length, such as 2mm, and others by less",
     ),
-    Argument::Flag("long-edge", "For printers that flip on the long edge"),
-    Argument::Flag("cover", "The last page at the back, with the blanks before it"),
+    Argument::Flag(
+        "long-edge",
+        "Rotate the backs, for a printer that flips sheets on the long edge",
+    ),
+    Argument::Flag(
+        "cover",
+        "Keep the last page at the back, with the blanks before it",
+    ),
     SAME_SCALE,
-    MARGIN,
+    BOUND_MARGIN,
     Argument::Valued(
         "gap",
         "LENGTHS",
-        "Keep so much free at the fold, half of it on each side",
+        "Leave a gap at the fold, half of it on each side",
     ),
     TRIM,
     Argument::Valued(
@@ -209,23 +252,23 @@ const BOOKLET: [Argument; 12] = [
 
 const ZINE: [Argument; 4] = [
     SAME_SCALE,
-    MARGIN,
+    OPPOSITE_MARGIN,
     Argument::Valued(
         "gap",
         "LENGTHS",
-        "Keep so much free at the folds, half of it on each side",
+        "Leave a gap at the folds, half of it on each side",
     ),
     Argument::Flag("rtl", "Bind the zine at the right"),
 ];
 
 const NOTES: [Argument; 7] = [
-    Argument::Required("count", "N", "How many pages, from 1 to 512"),
+    Argument::Required("count", "N", "The number of pages, from 1 to 512"),
     SAME_SCALE,
     MARGIN,
     Argument::Valued(
         "gap",
         "LENGTHS",
-        "Keep so much free between pages, and before the lines",
+        "Leave a gap between pages, and before the lines",
     ),
     TRIM,
     NUMBERS,
@@ -236,14 +279,14 @@ const POSTER: [Argument; 3] = [
     Argument::Required(
         "count",
         "CxR",
-        "Columns and rows of sheets, as 2x3, at most 1024 sheets in all",
+        "Columns and rows of sheets, such as 2x3, at most 1024 sheets in all",
     ),
     Argument::Valued(
         "overlap",
         "LENGTH",
-        "So much of the page is on both of two neighbouring sheets, as 1cm",
+        "Print this length of the page, such as 1cm, on both of two neighbouring sheets",
     ),
-    MARGIN,
+    EQUAL_MARGIN,
 ];
 
 const SELECTION: [Argument; 3] = [
@@ -256,107 +299,48 @@ const SPECS: [Argument; 2] = [
     Argument::Required(
         "specs",
         "SPECS",
-        "A page specification, as 2:0L@.7(21cm,0)+1L@.7(21cm,14.85cm), of the pages that are chosen",
+        "A page specification, such as 2:0L@.7(21cm,0)+1L@.7(21cm,14.85cm), of the pages that are chosen",
     ),
     Argument::Valued(
         "signature",
         "SIDES",
-        "Put the pages into signatures of so many sides first, a multiple of four, or auto",
+        "First order the pages for signatures of this number of sides, a multiple of four, or auto",
     ),
 ];
-
-const SAME_SCALE: Argument = Argument::Flag(
-    "same-scale",
-    "Pages of smaller papers have the scale of the largest one",
-);
-
-const MARGIN: Argument = Argument::Valued(
-    "margin",
-    "LENGTHS",
-    "Keep so much free along the edges of a sheet: 5mm, SIDES,ENDS, TOP,RIGHT,BOTTOM,LEFT, left=2cm, or inner=2cm where leaves are bound",
-);
-
-const TRIM: Argument = Argument::Valued(
-    "trim",
-    "LENGTH",
-    "Take each page as smaller by so much along each side, so that it is printed larger",
-);
-
-const NUMBERS: Argument = Argument::Valued(
-    "numbers",
-    "SIZE",
-    "Draw the number of each page at its foot, so large, as 10pt",
-);
-
-const NUMBERS_FROM: Argument = Argument::Valued(
-    "numbers-from",
-    "NUMBER",
-    "The number of the first page [default: 1]",
-);
-
-/// The turn of pages, and the options that show the sheets in place of writing them.
-const LOOK: [Argument; 3] = [
-    Argument::Valued(
-        "turn",
-        "SIDE",
-        "Turn each page before it is placed: to the left, to the right, or by half",
-    ),
-    Argument::Flag(
-        "plan",
-        "Print which page is where on each sheet, and impose nothing",
-    ),
-    Argument::Valued(
-        "preview",
-        "FILE",
-        "Draw the sheets into FILE, an SVG, or to standard output for -, and impose nothing",
-    ),
-];
-
-const PAGES: [Argument; 1] = [Argument::Valued("pages", "RANGES", RANGES_HELP)];
-
-const RANGES_HELP: &str =
-    "Pages, as 7, 3-9, 9-3, 5- or _1 (the last), blank for an empty one, with commas between them";
 
 /// The arguments of every subcommand, in the order of `common_rules` (specs/Command.antt).
 const COMMON: [Argument; 11] = [
-    Argument::Flag("odd", "Of these the first, the third and so on"),
-    Argument::Flag("even", "Of these the second, the fourth and so on"),
-    Argument::Flag("reverse", "The last of these first"),
-    Argument::Positional(
-        "infile",
-        "INFILE",
-        "The document; - or nothing is standard input",
-    ),
-    Argument::Positional(
-        "outfile",
-        "OUTFILE",
-        "The sheets; - or nothing is standard output",
-    ),
-    Argument::LetteredValued(
-        'p',
-        "paper",
-        "PAPER",
-        "The paper of the pages, as a4, a5-landscape or 210x297mm [default: the document's]",
-    ),
-    Argument::Valued(
-        "sheet",
-        "PAPER",
-        "The paper of the sheets [default: that of the pages]",
-    ),
-    Argument::Valued(
-        "border",
-        "WIDTH",
-        "Draw a border round each page, as 1pt or .5mm",
-    ),
-    Argument::Flag(
-        "unguarded",
-        "Leave the document's own operators as they are",
-    ),
-    Argument::Flag(
-        "print-spec",
-        "Print the specification and a line of pstops for it, and impose nothing",
-    ),
-    Argument::LetteredFlag('q', "quiet", "Leave the report out"),
+    ODD, EVEN, REVERSE, INFILE, OUTFILE, PAPER, SHEET, BORDER, UNGUARDED, PRINT_SPEC, QUIET,
+];
+
+/// The same for subcommands that no specification can express.
+const COMMON_UNSPECIFIED: [Argument; 11] = [
+    ODD,
+    EVEN,
+    REVERSE,
+    INFILE,
+    OUTFILE,
+    PAPER,
+    SHEET,
+    BORDER,
+    UNGUARDED,
+    HIDDEN_PRINT_SPEC,
+    QUIET,
+];
+
+/// The same for `select`, which leaves each page on its own paper too.
+const COMMON_OF_SELECTIONS: [Argument; 11] = [
+    ODD,
+    EVEN,
+    REVERSE,
+    INFILE,
+    OUTFILE,
+    PAPER,
+    HIDDEN_SHEET,
+    BORDER,
+    UNGUARDED,
+    HIDDEN_PRINT_SPEC,
+    QUIET,
 ];
 
 /// The command with its subcommands.
@@ -407,8 +391,7 @@ fn command_of<'a>(alloc: Global, row: &Subcommand) -> Result<Command<'a>, AllocE
     ensures { IfOk result (λ c. app_of c ≡ app_in row.now) }
 {
     let bare = Command::new(alloc, row.name).about(row.about);
-    let own = with_groups(alloc, bare, row.groups)?;
-    with_arguments(alloc, own, &COMMON)
+    with_groups(alloc, bare, row.groups)
 }
 
 fn with_groups<'a>(
@@ -432,6 +415,7 @@ fn arguments_in(group: Group) -> &'static [Argument]
     match group {
         Group::Count => &COUNT,
         Group::Copies => &COPIES,
+        Group::BoundCells => &BOUND_CELLS,
         Group::Cells => &CELLS,
         Group::Duplex => &DUPLEX,
         Group::Booklet => &BOOKLET,
@@ -442,6 +426,9 @@ fn arguments_in(group: Group) -> &'static [Argument]
         Group::Specs => &SPECS,
         Group::Look => &LOOK,
         Group::Pages => &PAGES,
+        Group::Common => &COMMON,
+        Group::CommonUnspecified => &COMMON_UNSPECIFIED,
+        Group::CommonOfSelections => &COMMON_OF_SELECTIONS,
     }
 }
 
@@ -481,6 +468,8 @@ fn arg_of<'a>(alloc: Global, row: Argument) -> Arg<'a>
         }
         Argument::Flag(id, help) => flag(alloc, id, help),
         Argument::LetteredFlag(letter, id, help) => flag(alloc, id, help).short(letter),
+        Argument::HiddenValued(id, name) => positional(alloc, id, name, "").long(id).hide(true),
+        Argument::HiddenFlag(id) => flag(alloc, id, "").hide(true),
     }
 }
 

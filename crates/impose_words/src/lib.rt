@@ -7,6 +7,7 @@ mod command;
 mod edges;
 mod fault;
 mod request;
+mod shared_arguments;
 mod sheet_paper;
 mod signature;
 mod sizes;
