@@ -7,7 +7,8 @@ _impose_options_of() {
     local all='--paper --border --unguarded --quiet --help -p -q -h'
     local sheet='--sheet' spec='--sheet --print-spec'
     local parts='--odd --even --reverse'
-    local looks='--turn --plan --preview'
+    local shown='--plan --preview'
+    local looks="--turn $shown"
     local row="--pages $parts"
     local numbers='--numbers --numbers-from'
     local laid="--margin --gap --trim --marks --rtl --same-scale $numbers $row $looks"
@@ -22,7 +23,7 @@ _impose_options_of() {
         notes) echo "--same-scale --margin --gap --trim $numbers $row $looks $sheet $all" ;;
         poster) echo "--overlap --margin $row $looks $sheet $all" ;;
         select) echo "$numbers $parts $looks $all" ;;
-        spec) echo "--signature $row $spec $all" ;;
+        spec) echo "--signature $row $shown $spec $all" ;;
     esac
 }
 

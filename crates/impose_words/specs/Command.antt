@@ -50,13 +50,17 @@ common_rules =
 abbrev pub subcommand_app : (name : Text) → (own shared : List Rule) → App
 subcommand_app name own shared = fold with_rule (fold with_rule (fold with_rule (new_app name) own) shared) common_rules
 
--- how pages are turned, and what reports on the sheets in place of them
+-- what reports on the sheets in place of them
 abbrev pub look_rules : List Rule
-look_rules = option_rule (codes "turn") ∷ flag_rule (codes "plan") ∷ option_rule (codes "preview") ∷ []
+look_rules = flag_rule (codes "plan") ∷ option_rule (codes "preview") ∷ []
 
 -- the same, and which of the pages
+abbrev pub shown_rules : List Rule
+shown_rules = flag_rule (codes "plan") ∷ option_rule (codes "preview") ∷ option_rule (codes "pages") ∷ []
+
+-- the same, and how pages are turned
 abbrev pub laid_rules : List Rule
-laid_rules = option_rule (codes "turn") ∷ flag_rule (codes "plan") ∷ option_rule (codes "preview") ∷ option_rule (codes "pages") ∷ []
+laid_rules = option_rule (codes "turn") ∷ shown_rules
 
 -- a number of pages, or columns and rows
 abbrev pub count_rule : Rule
@@ -130,13 +134,13 @@ abbrev pub select_rules : List Rule
 select_rules = required_rule (codes "ranges") ∷ numbers_rule ∷ first_rule ∷ []
 
 abbrev pub select_app : App
-select_app = subcommand_app (codes "select") select_rules look_rules
+select_app = subcommand_app (codes "select") select_rules (option_rule (codes "turn") ∷ look_rules)
 
 abbrev pub spec_rules : List Rule
 spec_rules = required_rule (codes "specs") ∷ option_rule (codes "signature") ∷ []
 
 abbrev pub spec_app : App
-spec_app = subcommand_app (codes "spec") spec_rules (option_rule (codes "pages") ∷ [])
+spec_app = subcommand_app (codes "spec") spec_rules shown_rules
 
 -- the commands with cells that are cut or folded
 abbrev pub first_apps : List App

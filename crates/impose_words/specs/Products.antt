@@ -41,4 +41,4 @@ lays_rows (layout.Poster columns rows) = true
 lays_rows layout.Zine = true
 lays_rows layout.Selection = true
 lays_rows (layout.Spec specs) = false
-lays_rows (layout.SpecRow specs signing) = false
+lays_rows (layout.SpecRow specs signing) = true

@@ -36,6 +36,7 @@ rules_in group.Notes = notes_rules
 rules_in group.Poster = poster_rules
 rules_in group.Selection = select_rules
 rules_in group.Specs = spec_rules
+rules_in group.Turn = option_rule (codes "turn") ∷ []
 rules_in group.Look = look_rules
 rules_in group.Pages = option_rule (codes "pages") ∷ []
 rules_in group.Common = common_rules

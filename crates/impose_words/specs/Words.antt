@@ -111,9 +111,13 @@ abbrev pub signing_found : (found : List Row) → Option (Option Signing)
 signing_found found = asked None (λ text. option_map (λ signing. Some signing) (signing_named text)) (given opt.Signature found)
 
 -- pages are chosen for a specification, or put into signatures
-abbrev pub row_asked : (found : List Row) → Bool
-row_asked found = is_some (first_of (codes "pages") found) || is_some (given opt.Signature found)
+abbrev pub row_named : (found : List Row) → Bool
+row_named found = is_some (first_of (codes "pages") found) || is_some (given opt.Signature found)
     || has_flag (codes "odd") found || has_flag (codes "even") found || has_flag (codes "reverse") found
+
+-- or its sheets are to be listed or drawn: then it is on a row
+abbrev pub row_asked : (found : List Row) → Bool
+row_asked found = row_named found || has_flag (codes "plan") found || is_some (given opt.Preview found)
 
 abbrev pub command_name : CellCommand → Text
 command_name grid.NUp = codes "nup"

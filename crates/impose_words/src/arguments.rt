@@ -9,8 +9,8 @@ ghost use Rattle.impose_words.specs.Tables.{app_in, rule_in, rules_in, with_app,
 use crate::shared_arguments::{
     BORDER, BOUND_MARGIN, CELL_GAP, CUT_MARKS, EQUAL_MARGIN, EVEN, HIDDEN_PRINT_SPEC, HIDDEN_SHEET,
     INFILE, LOOK, MARGIN, NUMBERS, NUMBERS_FROM, ODD, OPPOSITE_MARGIN, ORDER, OUTFILE, PAGES,
-    PAPER, PRINT_SPEC, QUIET, RANGES_HELP, REVERSE, RTL, SAME_SCALE, SCALE, SHEET, TRIM, TURNED,
-    UNGUARDED,
+    PAPER, PRINT_SPEC, QUIET, RANGES_HELP, REVERSE, RTL, SAME_SCALE, SCALE, SHEET, TRIM, TURN,
+    TURNED, UNGUARDED,
 };
 use clap::{Arg, ArgAction, Command};
 use std::alloc::{AllocError, Global};
@@ -70,6 +70,7 @@ enum Group {
     Poster,
     Selection,
     Specs,
+    Turn,
     Look,
     Pages,
     Common,
@@ -91,6 +92,7 @@ const SUBCOMMANDS: [Subcommand; 9] = [
         groups: &[
             Group::Count,
             Group::BoundCells,
+            Group::Turn,
             Group::Look,
             Group::Pages,
             Group::Common,
@@ -99,13 +101,20 @@ const SUBCOMMANDS: [Subcommand; 9] = [
     Subcommand {
         name: "booklet",
         about: "A booklet, to be printed on both sides, folded and stapled",
-        groups: &[Group::Booklet, Group::Look, Group::Pages, Group::Common],
+        groups: &[
+            Group::Booklet,
+            Group::Turn,
+            Group::Look,
+            Group::Pages,
+            Group::Common,
+        ],
     },
     Subcommand {
         name: "zine",
         about: "Eight pages on one side of a sheet, to be folded thrice and cut once",
         groups: &[
             Group::Zine,
+            Group::Turn,
             Group::Look,
             Group::Pages,
             Group::CommonUnspecified,
@@ -117,6 +126,7 @@ const SUBCOMMANDS: [Subcommand; 9] = [
         groups: &[
             Group::Copies,
             Group::Cells,
+            Group::Turn,
             Group::Look,
             Group::Pages,
             Group::CommonUnspecified,
@@ -129,6 +139,7 @@ const SUBCOMMANDS: [Subcommand; 9] = [
             Group::Count,
             Group::Cells,
             Group::Duplex,
+            Group::Turn,
             Group::Look,
             Group::Pages,
             Group::CommonUnspecified,
@@ -139,6 +150,7 @@ const SUBCOMMANDS: [Subcommand; 9] = [
         about: "Pages one below another, and beside each of them lines for notes",
         groups: &[
             Group::Notes,
+            Group::Turn,
             Group::Look,
             Group::Pages,
             Group::CommonUnspecified,
@@ -149,6 +161,7 @@ const SUBCOMMANDS: [Subcommand; 9] = [
         about: "Each page over several sheets, to be glued together",
         groups: &[
             Group::Poster,
+            Group::Turn,
             Group::Look,
             Group::Pages,
             Group::CommonUnspecified,
@@ -157,12 +170,17 @@ const SUBCOMMANDS: [Subcommand; 9] = [
     Subcommand {
         name: "select",
         about: "Some pages, in the order in which they are named, each on a sheet of its own",
-        groups: &[Group::Selection, Group::Look, Group::CommonOfSelections],
+        groups: &[
+            Group::Selection,
+            Group::Turn,
+            Group::Look,
+            Group::CommonOfSelections,
+        ],
     },
     Subcommand {
         name: "spec",
         about: "Pages as a page specification of pstops places them",
-        groups: &[Group::Specs, Group::Pages, Group::Common],
+        groups: &[Group::Specs, Group::Look, Group::Pages, Group::Common],
     },
 ];
 
@@ -424,6 +442,7 @@ fn arguments_in(group: Group) -> &'static [Argument]
         Group::Poster => &POSTER,
         Group::Selection => &SELECTION,
         Group::Specs => &SPECS,
+        Group::Turn => &TURN,
         Group::Look => &LOOK,
         Group::Pages => &PAGES,
         Group::Common => &COMMON,

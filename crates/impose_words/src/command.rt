@@ -8,7 +8,7 @@ ghost use Rattle.impose_words.specs.Words.{gaps_found, margins_found};
 ghost use Rattle.impose_words.specs.Words.{ChoosesBy, MakesBy, NamesPicture, SpacesBy, length_found, ranges_id, part_by as of_both};
 ghost use Rattle.impose_words.specs.Words.{cells_of_command as cells_of_command, command_name, order_found, run_found, scale_found};
 ghost use Rattle.impose_words.specs.Words.{first_found, has_numbers, lines_found, number_size_found, numbers_found};
-ghost use Rattle.impose_words.specs.Words.{marks_found, row_asked, signing_found, size_found, turn_found, turned_found};
+ghost use Rattle.impose_words.specs.Words.{marks_found, row_asked, row_named, signing_found, size_found, turn_found, turned_found};
 ghost use Rattle.impose_words.specs.Products.{is_plan, is_specification, lays_rows, picture_in};
 ghost use Rattle.impose_words.specs.Spacings.{keeps_room};
 ghost use Rattle.impose_words.specs.Faults.{NoValue, ParseRefuses, Wrong, RefusesCommand, RefusesFound, SaysWrong, wrong_among, wrong_cells, wrong_choice};
@@ -333,9 +333,16 @@ fn spec_of(alloc: Global, found: &ArgMatches<'_>) -> Result<Layout, RequestFault
     }
 }
 
-/// Whether a specification is to place another row than all pages in order.
+/// Whether a specification is laid on a row: a named one, or that of all pages to list or draw its sheets.
 fn asks_for_row(found: &ArgMatches<'_>) -> bool
     ensures { result ≡ row_asked (rows_of (found_of found.now)) }
+{
+    names_row(found) || is_set(found, "plan") || text_of(found, "preview").is_some()
+}
+
+/// Whether pages other than all in order are chosen, or signatures.
+fn names_row(found: &ArgMatches<'_>) -> bool
+    ensures { result ≡ row_named (rows_of (found_of found.now)) }
 {
     text_of(found, "pages").is_some()
         || text_of(found, "signature").is_some()

@@ -85,7 +85,7 @@ impl Layout {
         ensures { result ≡ lays_rows self.now }
     {
         match self {
-            Layout::Spec(_) | Layout::SpecRow { .. } => false,
+            Layout::Spec(_) => false,
             _ => true,
         }
     }

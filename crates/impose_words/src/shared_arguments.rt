@@ -144,13 +144,14 @@ pub(crate) const HIDDEN_PRINT_SPEC: Argument = Argument::HiddenFlag("print-spec"
 
 pub(crate) const QUIET: Argument = Argument::LetteredFlag('q', "quiet", "Print no report");
 
-/// The turn of pages, and the options that show the sheets in place of writing them.
-pub(crate) const LOOK: [Argument; 3] = [
-    Argument::Valued(
-        "turn",
-        "SIDE",
-        "Turn each page before it is placed: to the left, to the right, or by half",
-    ),
+pub(crate) const TURN: [Argument; 1] = [Argument::Valued(
+    "turn",
+    "SIDE",
+    "Turn each page before it is placed: to the left, to the right, or by half",
+)];
+
+/// The options that show the sheets in place of writing them.
+pub(crate) const LOOK: [Argument; 2] = [
     Argument::Flag(
         "plan",
         "Print which page is where on each sheet, and impose nothing",

@@ -160,11 +160,7 @@ pub(crate) const FOR_SELECTIONS: [Tip; 4] = [
 ];
 
 /// Tips on options that `spec` doesn't have, or that other programs call by another name.
-pub(crate) const FOR_SPECIFICATIONS: [Tip; 4] = [
-    (
-        &["--plan", "--preview"],
-        "plans and pictures are made for nup, booklet, zine, cards, stack, notes, poster and select; without one: impose spec 0,0 in.ps out.ps",
-    ),
+pub(crate) const FOR_SPECIFICATIONS: [Tip; 3] = [
     (
         &["--turn"],
         "a specification turns pages itself, as to the left by: impose spec 'L(1h,0)' --sheet a4-landscape in.ps out.ps",
