@@ -7,7 +7,7 @@ says `open` there. These points are:
 - its border goes by the exact trim;
 - sheets that are turned by half, and the tiles of posters, have sides rounded down to whole u;
 - one page on its own paper doesn't stay as it is with --same-scale;
-- grids are compared before a trim makes margins and gaps wider, and by their columns before --turned;
+- grids are compared by scales that are rounded down to nine decimals, and by their columns before --turned;
 - the fold's gap with `inner` on both sides is rounded up as a whole, and wider by one u with a trim;
 - a booklet's sheet is compared with upright pages that have the gap across between them, and no `inner`;
 - strokes begin at margins that aren't wider;
@@ -276,15 +276,13 @@ class Grid:
         return (self.rows, self.columns) if self.is_turned else (self.columns, self.rows)
 
     def exact_scale(self, paper: Paper) -> Fraction:
-        """The scale of a page in exact parts of the sheet, 0 if there is no room; open: where nothing is wider."""
-        room, wider, (across, up) = self.room, self.room.wider, self.parts
-        top, right, bottom, left = room.named
-        wide = (self.sheet[0] - left - right - (across - 1) * (room.across - wider)) / across
-        high = (self.sheet[1] - top - bottom - (up - 1) * (room.up - wider)) / up
+        """The scale of a page in exact parts of the sheet, 0 if there is no room; open: of nine decimals."""
+        room, (across, up) = self.room, self.parts
+        wide = (self.sheet[0] - room.left - room.right - (across - 1) * room.across) / across
+        high = (self.sheet[1] - room.top - room.bottom - (up - 1) * room.up) / up
         if min(wide, high) <= 0:
             return Fraction(0)
-        sides = (high, wide) if self.is_turned else (wide, high)
-        return min(cell / (side - 2 * room.trim) for cell, side in zip(sides, paper))
+        return scale_in((high, wide) if self.is_turned else (wide, high), paper, room.trim)
 
     def cell(self, row: int, column: int) -> Cell:
         """13.2."""

@@ -1,6 +1,6 @@
 -- The cells of a zine that is asked for.
 use Rattle.std.proofs.Common.{arith, ◌≡◌, ℕ, suc, zero, ◌+◌, ◌/◌, ◌<◌, Bool, true, false, refl, ap}
-use Rattle.std.specs.Prelude.{ℤ, pos, negsuc, int_lt, nat_abs, if◌then◌else◌}
+use Rattle.std.specs.Prelude.{ℤ, pos, negsuc, nat_abs, if◌then◌else◌}
 use Rattle.std.specs.Ordering.{int_eq}
 use Rattle.std.proofs.lemmas.Bool.Decides.{Decides-int_eq}
 use Rattle.rules.specs.Papers.{Paper}
@@ -17,21 +17,21 @@ either : (b : Bool) → (if b then zine_grid true else zine_grid false) ≡ zine
 either true = refl
 either false = refl
 
--- there is a gap
-above : (gap : ℤ) → int_lt (pos 0) gap ≡ true → 0 < nat_abs gap
-above (pos zero) e = cc
-above (pos (suc n)) e = omega arith
-above (negsuc n) e = omega arith
+-- a gap that isn't 0
+other : (gap : ℤ) → int_eq gap (pos 0) ≡ false → 0 < nat_abs gap
+other (pos zero) e = cc
+other (pos (suc n)) e = omega arith
+other (negsuc n) e = omega arith
 
-some_by : (b : Bool) (gap : ℤ) → (b ≡ true → 0 < nat_abs gap) → 0 < nat_abs (if b then gap else pos 1)
-some_by true gap h = h refl
-some_by false gap h = omega arith
+some_by : (b : Bool) (gap : ℤ) → (b ≡ false → 0 < nat_abs gap) → 0 < nat_abs (if b then pos 1 else gap)
+some_by true gap h = omega arith
+some_by false gap h = h refl
 
 rounded : (n : ℕ) → 0 < n → 0 < (n + 1_269_999) / 1_270_000
 rounded n h = omega (arith, h)
 
 some : (gap : ℤ) → 0 < rounded_up (some_gap gap)
-some gap = rounded (nat_abs (some_gap gap)) (some_by (int_lt (pos 0) gap) gap (above gap))
+some gap = rounded (nat_abs (some_gap gap)) (some_by (int_eq gap (pos 0)) gap (other gap))
 
 pub are_zine_cells : (page sheet : Paper) (s : Spacing) → has_even_margins s.free ≡ true → AreZineCells (setting_of page sheet (zine_in s))
 are_zine_cells page sheet s even =

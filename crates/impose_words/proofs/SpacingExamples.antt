@@ -5,7 +5,7 @@ use Rattle.layouts.specs.Grids.{leaf_order}
 use Rattle.layouts.specs.declared.arrangement.Cells.TheVariants.{Exactly}
 use Rattle.layouts.specs.declared.arrangement.FillOrder.TheVariants.{Columns}
 use Rattle.layouts.specs.declared.arrangement.Turned.TheVariants.{Upright}
-use Rattle.impose_words.specs.Spacings.{binding_in, fold_gap, nothing_kept, notes_in, zine_in}
+use Rattle.impose_words.specs.Spacings.{binding_in, fold_gap, nothing_kept, notes_in, some_gap, zine_in}
 use Rattle.impose_words.specs.declared.request.Spacing.{Spacing}
 
 -- 1, 2, 3 and 4 points at the left, the right, the lower and the upper edge, gaps of 5 and 6, 7 points trimmed, from the right
@@ -35,6 +35,10 @@ no_length_at_fold = refl
 -- a zine keeps all but the trim
 zine_keeps : zine_in much_kept ≡ record { cells = Exactly 4 2; free = record much_kept.free { trim = pos 0 }; order = leaf_order true; scale = None }
 zine_keeps = refl
+
+-- no gap becomes the least one, and one below 0 stays, so that it is refused
+zine_gaps : map some_gap (negsuc 0 ∷ pos 0 ∷ pos 1 ∷ []) ≡ negsuc 0 ∷ pos 1 ∷ pos 1 ∷ []
+zine_gaps = refl
 
 -- three pages in the left one of two columns, from the top
 notes_beside : notes_in much_kept 3 ≡ record { cells = Exactly 2 3; free = much_kept.free; order = record { run = Columns; right_to_left = false; turned = Upright }; scale = None }

@@ -1,6 +1,7 @@
 -- What is kept free on the sheets of a request, how far leaves creep and sheets overlap, in which order one reads sheets, and
 -- at which scale the pages are.
-use Rattle.std.specs.Prelude.{ℕ, ℤ, pos, negsuc, ◌+ℤ◌, int_lt, Bool, true, false, ◌&&◌, if◌then◌else◌, is_some, Option, Some, None, unwrap_or}
+use Rattle.std.specs.Prelude.{ℕ, ℤ, pos, negsuc, ◌+ℤ◌, Bool, true, false, ◌&&◌, if◌then◌else◌, is_some, Option, Some, None, unwrap_or}
+use Rattle.std.specs.Ordering.{int_eq}
 use Rattle.layouts.specs.Grids.{leaf_order, nothing_free, plain, plain_order}
 use Rattle.layouts.specs.Refusals.{is_length}
 use Rattle.layouts.specs.declared.arrangement.Arrangement.{Arrangement}
@@ -64,9 +65,9 @@ down_right = record { run = Columns; right_to_left = false; turned = Upright }
 abbrev pub notes_in : Spacing → (pages : ℕ) → Arrangement
 notes_in s pages = record (arrangement_in s (Exactly 2 pages)) { order = down_right }
 
--- a gap, or else the least length: a zine's rows are rounded each in its own way
+-- a gap, or the least length in place of none: a zine's rows are rounded each in its own way. One below 0 stays, and is refused
 abbrev pub some_gap : (gap : ℤ) → ℤ
-some_gap gap = if int_lt (pos 0) gap then gap else pos 1
+some_gap gap = if int_eq gap (pos 0) then pos 1 else gap
 
 -- two rows of four cells, that one reads from the left, or from the right (RULES, 14.4)
 abbrev pub zine_in : Spacing → Arrangement

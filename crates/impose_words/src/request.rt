@@ -234,14 +234,14 @@ fn fold_gap(gap: Grains, inner: Grains) -> Grains
     }
 }
 
-/// The gap if it is above 0, otherwise one grain.
+/// This gap, or the least length in place of 0.
 fn some_gap(gap: Grains) -> Grains
     ensures { result ≡ some_gap_of gap }
 {
-    if 0 < gap.get() {
-        return gap;
+    if gap.get() == 0 {
+        return grains(1);
     }
-    grains(1)
+    gap
 }
 
 /// The pages to impose, and their order.
