@@ -2,22 +2,12 @@
 
 Lengths are exact fractions of u = 10^-5 pt. Where the rules leave a point open, the program's way is taken. The code
 says `open` there. These points are:
-- slots are written in the order of their cells, in zines in that of the picture;
-- a trimmed page's corner is outside of the part that counts by the scaled trim, rounded down;
-- its border goes by the exact trim;
-- sheets that are turned by half, and the tiles of posters, have sides rounded down to whole u;
-- one page on its own paper doesn't stay as it is with --same-scale;
-- grids are compared by scales that are rounded down to nine decimals, and by their columns before --turned;
-- the fold's gap with `inner` on both sides is rounded up as a whole, and wider by one u with a trim;
+- the slots of a zine are written in the order of the picture;
+- a fold's gap with `inner` on both sides is wider by one u with a trim;
 - a booklet's sheet is compared with upright pages that have the gap across between them, and no `inner`;
-- strokes begin at margins that aren't wider;
-- sheets are cut outside if all four margins are above 0, and half the gap or more. If a booklet isn't, its cut is
-  refused, though a fold is drawn; with `inner` it always is;
+- strokes begin at margins that a trim doesn't make wider;
 - pages of posters, and all papers of selections, may have sides of 100,000 points or more;
-- numbers move with a creeping page;
-- in a selection pages have the paper that covers their kind, and blanks that of the first kind whose widest paper is
-  near to the cells' paper;
-- if the row is faulty or all blank, the cells' paper is the document's.
+- in a selection, blanks have the paper of the first kind whose widest paper is near to the cells' paper.
 """
 
 from __future__ import annotations
@@ -225,7 +215,7 @@ class Room:
         self.across, self.up = (ceil(gap) + self.wider for gap in options.gap)
         if options.layout == "booklet":
             inner = options.margin.get("inner", Fraction(0))
-            self.up = ceil(options.gap[1] + 2 * inner) + self.wider  # open: rounded and widened once
+            self.up = ceil(options.gap[1] + 2 * inner) + self.wider  # open: widened once
         if options.layout == "zine":
             self.across, self.up = max(self.across, 1), max(self.up, 1)
 
@@ -235,7 +225,7 @@ class Room:
 
     @property
     def cuts_outside(self) -> bool:
-        """Section 15, marks; open: margins of 0 have no room, and all four need it."""
+        """Section 15, marks: margins of 0 have no room, and all four need it."""
         is_wide = min(self.left, self.right) * 2 >= self.across and min(self.top, self.bottom) * 2 >= self.up
         return min(self.named) > 0 and is_wide
 
@@ -276,7 +266,7 @@ class Grid:
         return (self.rows, self.columns) if self.is_turned else (self.columns, self.rows)
 
     def exact_scale(self, paper: Paper) -> Fraction:
-        """The scale of a page in exact parts of the sheet, 0 if there is no room; open: of nine decimals."""
+        """The scale of a page in exact parts of the sheet, 0 if there is no room, of nine decimals (13.5)."""
         room, (across, up) = self.room, self.parts
         wide = (self.sheet[0] - room.left - room.right - (across - 1) * room.across) / across
         high = (self.sheet[1] - room.top - room.bottom - (up - 1) * room.up) / up
@@ -295,7 +285,7 @@ class Grid:
 
 
 def best_grid(options: Options, paper: Paper, sheet: Paper) -> Grid:
-    """13.5; open: columns are those before --turned, where grids are equally good."""
+    """13.5: columns are those before --turned, where grids are equally good."""
     count, room = options.count, Room(options)
     shapes = [options.grid] if options.grid else [(columns, -(-count // columns)) for columns in range(1, count + 1)]
     found = []
@@ -393,7 +383,7 @@ def offsets(cell: Cell, paper: Paper, scale: Fraction, trim: int) -> tuple[int, 
 
 
 def spot_in(cell: Cell, paper: Paper, scale: Fraction, trim: int, shift: int) -> Spot:
-    """A page in its cell, moved to the right by the shift as one sees it; open: the scaled trim is rounded down."""
+    """A page in its cell, moved to the right by the shift as one sees it. The scaled trim is rounded down (13.4)."""
     left, low = (offset - floor(scale * trim) for offset in offsets(cell, paper, scale, trim))
     if cell.is_turned:
         return Spot(1, scale, Fraction(cell.right - low), Fraction(cell.low + left + shift))
@@ -401,7 +391,7 @@ def spot_in(cell: Cell, paper: Paper, scale: Fraction, trim: int, shift: int) ->
 
 
 class Poster:
-    """14.3; open: the sides of tiles are rounded down."""
+    """14.3: the sides of tiles are rounded down."""
 
     def __init__(self, options: Options, sheet: Paper) -> None:
         assert options.grid
@@ -525,7 +515,7 @@ class Run:
         papers = [pages_paper(options, document, page) for page in document.pages]
         try:
             self.row = row_of(options, len(document.pages))
-        except Refused:  # open: the document's paper
+        except Refused:  # 12.5: the document's paper
             refuse_layout(options, *self.cells_and_sheet(documents_paper(options, document)))
             raise
         self.own = [None if page is None else papers[page] for page in self.row]
@@ -533,7 +523,7 @@ class Run:
         refuse_layout(options, self.cells_paper, self.sheet)
 
     def chosen(self) -> Paper:
-        """12.5; open: that of only blanks, and of the blanks of a selection."""
+        """12.5; open: that of the blanks of a selection."""
         own = documents_paper(self.options, self.document)
         there = [paper for paper in self.own if paper]
         chosen = own if any(near(paper, own) for paper in there) or not there else there[0]
@@ -567,7 +557,7 @@ class Run:
         return self.turned(own) if own else None
 
     def stays(self, grid: Grid, paper: Paper | None) -> bool:
-        """13.4: one upright page on its own paper; open: not with --same-scale."""
+        """13.4: one upright page on its own paper, without --same-scale."""
         is_scaled = self.options.scale is not None or "same-scale" in self.options.flags
         is_free = not (any(grid.room.named) or grid.room.trim or is_scaled)
         return grid.parts == (1, 1) and not grid.is_turned and is_free and paper == self.sheet
@@ -618,7 +608,7 @@ class Run:
         lines = ["userdict /ImposeSave save put", "userdict /showpage {} put", spot.text()]
         lines += [f"newpath {outline(own, Fraction(0))} clip newpath"]
         if self.options.border:
-            path = outline(own, self.options.trim)  # open: the exact trim
+            path = outline(own, self.options.trim)  # the exact trim
             lines += [f"gsave {printed(self.options.border)} setlinewidth newpath {path} stroke grestore"]
         lines += [f"({page + 1}) pop", "showpage", "ImposeSave restore"]
         sheet.slots.append("\n".join(lines))
@@ -698,7 +688,7 @@ class Run:
 
 
 def number_place(slot: Slot, sheet: Paper) -> tuple[int, Paper]:
-    """The quarter turns of a number, and the middle of its foot; open: it moves with its page."""
+    """The quarter turns of a number, and the middle of its foot. It moves with its page."""
     cell = slot.cell
     x, y = Fraction(slot.cell.left + slot.cell.right, 2), Fraction(slot.cell.low + slot.cell.high, 2)
     quarters = 1 if cell.is_turned else 0
