@@ -117,11 +117,12 @@ class Reader:
 
 def sheets(impose: str, words: list[str], sizes: list[Size]) -> list[Sheet]:
     """The sheets that impose makes with these words of pages of these sizes."""
-    ran = run(impose, [*words, "--unguarded"], sizes)
+    ran = run(impose, words, sizes)
     if ran.returncode:
         raise ValueError(ran.stderr.decode())
     head, first, rest = ran.stdout.decode().partition("%%Page: ")
-    paper = re.search(rf"%%DocumentMedia: \S+ {NUMBER} {NUMBER} ", head)
+    # The guard has the paper of a specification's sheets, which have no comment.
+    paper = re.search(rf"(?:%%DocumentMedia: \S+ |/PageSize \[){NUMBER} {NUMBER}[ \]]", head)
     reader = Reader((float(paper[1]), float(paper[2])) if paper else most(sizes))
     for line in (first + rest).split("\n"):
         reader.line(line)
