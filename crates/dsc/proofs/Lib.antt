@@ -30,3 +30,4 @@ pub mod LineByLine
 pub mod HeaderRun
 pub mod Examples
 pub mod Serving
+pub mod StringCharacters

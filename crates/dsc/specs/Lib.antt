@@ -15,6 +15,7 @@ pub mod Documents
 pub mod Later
 pub mod Serving
 pub mod Filters
+pub mod Strings
 pub mod TrailerBoxes
 pub mod PagesBehind
 pub mod Header

@@ -18,6 +18,7 @@ mod page_lines;
 mod parts;
 mod plain;
 mod scan;
+mod strings;
 mod units;
 mod walk;
 
@@ -33,3 +34,4 @@ pub use keys::key_of;
 pub use lines::{content_end, line_end_after};
 pub use parts::Parts;
 pub use std::alloc::AllocError as NoMemory;
+pub use strings::{string_characters, string_len};

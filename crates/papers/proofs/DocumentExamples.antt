@@ -7,7 +7,7 @@ use Rattle.papers.specs.declared.media.Comment.TheVariants.{DocumentMedia, Docum
 use Rattle.lengths.specs.Lengths.{a4}
 use Rattle.lengths.specs.Reading.{number_at}
 use Rattle.paper_names.specs.Names.{papers}
-use Rattle.papers.specs.Media.{points_of, is_zero, name_and_rest, name_in, comment_fields, media_paper, box_paper, document_paper}
+use Rattle.papers.specs.Media.{points_of, is_zero, name_and_rest, name_in, name_meant, comment_fields, media_paper, box_paper, document_paper}
 
 -- What a field names.
 
@@ -58,18 +58,68 @@ plain_name : name_and_rest (codes "  a4 5 (6)") ≡ Some (codes "a4", codes " 5 
 plain_name = refl
 
 -- a blank in parentheses ends no name
-blank_in_parentheses : name_and_rest (codes " (US letter) 612 792") ≡ Some (codes "US letter", codes " 612 792")
+blank_in_parentheses : name_and_rest (codes " (US letter) 612 792") ≡ Some (codes "(US letter)", codes " 612 792")
 blank_in_parentheses = refl
 
 -- nor does what follows them without a blank
 two_in_parentheses : name_and_rest (codes "(a b)(c d) 5") ≡ Some (codes "(a b)(c", codes " d) 5")
 two_in_parentheses = refl
 
-enclosed_twice : name_and_rest (codes "(a(b)) 5") ≡ Some (codes "a(b)", codes " 5")
+-- those within are in pairs, or have a backslash before them
+enclosed_twice : name_and_rest (codes "(a(b)) 5") ≡ Some (codes "(a(b))", codes " 5")
 enclosed_twice = refl
 
-never_closed : name_and_rest (codes "(a b 5") ≡ Some (codes "(a b 5", [])
+enclosed_first : name_and_rest (codes "((n) m) 5") ≡ Some (codes "((n) m)", codes " 5")
+enclosed_first = refl
+
+escaped_parentheses : name_and_rest (codes "(a\\(\\)\\)) 5") ≡ Some (codes "(a\\(\\)\\))", codes " 5")
+escaped_parentheses = refl
+
+escaped_backslash : name_and_rest (codes "(a\\\\) 5") ≡ Some (codes "(a\\\\)", codes " 5")
+escaped_backslash = refl
+
+-- in parentheses that are never closed a blank ends a name
+never_closed : name_and_rest (codes "(a b 5") ≡ Some (codes "(a", codes " b 5")
 never_closed = refl
+
+never_closed_after_all : name_and_rest (codes "((a) b") ≡ Some (codes "((a)", codes " b")
+never_closed_after_all = refl
+
+-- Which name is written so.
+
+meant_in_parentheses : name_meant (codes "(US letter)") ≡ codes "US letter"
+meant_in_parentheses = refl
+
+meant_with_parentheses : name_meant (codes "((n) m)") ≡ codes "(n) m"
+meant_with_parentheses = refl
+
+nothing_meant : name_meant (codes "()") ≡ []
+nothing_meant = refl
+
+-- the examples of DSC 3.0 and of the PostScript Language Reference
+parentheses_meant : name_meant (codes "(\\(a\\)\\\\)") ≡ codes "(a)\\"
+parentheses_meant = refl
+
+letters_meant : name_meant (codes "(\\n\\r\\t\\b\\f)") ≡ 10 ∷ 13 ∷ 9 ∷ 8 ∷ 12 ∷ []
+letters_meant = refl
+
+codes_meant : name_meant (codes "(\\101\\0053\\53\\0)") ≡ 65 ∷ 5 ∷ 51 ∷ 43 ∷ 0 ∷ []
+codes_meant = refl
+
+-- eight bits of a code count
+high_code_meant : name_meant (codes "(\\501)") ≡ codes "A"
+high_code_meant = refl
+
+-- a backslash before any other byte counts for nothing
+other_byte_meant : name_meant (codes "(\\a\\8\\9)") ≡ codes "a89"
+other_byte_meant = refl
+
+-- and one of a name that isn't in parentheses is a character of it
+plain_backslash : name_meant (codes "a\\101") ≡ codes "a\\101"
+plain_backslash = refl
+
+plain_parenthesis : name_meant (codes "(a") ≡ codes "(a"
+plain_parenthesis = refl
 
 no_name : name_and_rest (codes "  ") ≡ None
 no_name = refl

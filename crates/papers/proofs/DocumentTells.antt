@@ -11,7 +11,7 @@ use Rattle.papers.specs.Media.{box_of, box_paper, comment_fields, comment_value,
 use Rattle.papers.specs.Media as of_document
 use Rattle.papers.specs.declared.media.Comment.{Comment}
 use Rattle.papers.specs.declared.media.Comment.TheVariants.{BoundingBox}
-use Rattle.papers.specs.Comments.{first_name, first_named, first_named_in, medium_told, named_medium, page_head, told_by_document}
+use Rattle.papers.specs.Comments.{first_medium, first_named, first_named_in, medium_told, named_medium, page_head, told_by_document}
 use Rattle.papers.specs.Own.{medium_by, or_this, own_paper, papers_of_each_page, page_or}
 
 same_name : (fs : List (List ℕ)) → of_document.paper_of_first_name fs ≡ first_named paper_named fs
@@ -65,10 +65,10 @@ same_named : (f g : List ℕ → Option Paper) (name : Option (List ℕ)) → If
 same_named f g None same = refl
 same_named f g (Some name) same = same
 
-same_medium : (f g : List ℕ → Option Paper) (value : Option (List ℕ)) → IfSome (option_and_then first_name value) (λ at. f at ≡ g at)
+same_medium : (f g : List ℕ → Option Paper) (value : Option (List ℕ)) → IfSome (option_and_then first_medium value) (λ at. f at ≡ g at)
     → option_and_then (named_medium f) value ≡ option_and_then (named_medium g) value
 same_medium f g None same = refl
-same_medium f g (Some value) same = same_named f g (first_name value) same
+same_medium f g (Some value) same = same_named f g (first_medium value) same
 
 same_page : (f g : List ℕ → Option Paper) (head : List (List ℕ)) (other : Paper) → IfSome (medium_told head) (λ at. f at ≡ g at) → page_or f head other ≡ page_or g head other
 same_page f g head other same =

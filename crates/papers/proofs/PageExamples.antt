@@ -39,6 +39,12 @@ named_with_blanks : own (codes "%!PS\n%%DocumentMedia: (US letter) 612 792 0 () 
 unfolding number_at
 named_with_blanks = refl
 
+-- or written in two ways
+named_in_two_ways : own (codes "%!PS\n%%DocumentMedia: A 595 842 0 () ()\n%%+ (\\(n\\) m) 842 1191 0 () ()\n%%Page: 1 1\n%%PageMedia: ((n) m)\nx\n%%Page: 2 2\n%%PageMedia: (\\101)\nx\n%%Page: 3 3\n%%PageMedia: \\101\n%%PageBoundingBox: 0 0 72 71\nx\n")
+    ≡ Ok (points 842 1_191 ∷ points 595 842 ∷ points 72 71 ∷ [])
+unfolding number_at
+named_in_two_ways = refl
+
 -- as cairo writes it: in the page's setup, with a box of what is painted, which may begin at 0 0
 painted_box : own (codes "%!PS\n%%DocumentMedia: A 595 842 0 () ()\n%%Page: 1 1\n%%BeginPageSetup\n%%PageMedia: A\n%%PageBoundingBox: 0 0 72 71\n%%EndPageSetup\nx\n")
     ≡ Ok (points 595 842 ∷ [])

@@ -4,7 +4,7 @@ use Rattle.std.proofs.Common.{◌≡◌, ℕ, List, Option, Some, None, drop, re
 use Rattle.rules.specs.Papers.{Paper}
 use Rattle.rules.specs.Units.{line_len}
 use Rattle.papers.specs.Media.{comment_fields, comment_value, else_take, paper_of_box}
-use Rattle.papers.specs.Comments.{first_name, named_medium, page_head, told_by_page}
+use Rattle.papers.specs.Comments.{first_medium, named_medium, page_head, told_by_page}
 use Rattle.papers.proofs.Heads.{head, page_head_is}
 
 -- the head of a page, after its first line
@@ -28,10 +28,10 @@ by_box known other page text named boxed at e is b =
     ∙ told_there known other page text at
 
 -- a page without a medium's name, and one with it
-pub names_none : (known : List ℕ → Option Paper) (value : Option (List ℕ)) → option_and_then first_name value ≡ None → option_and_then (named_medium known) value ≡ None
+pub names_none : (known : List ℕ → Option Paper) (value : Option (List ℕ)) → option_and_then first_medium value ≡ None → option_and_then (named_medium known) value ≡ None
 names_none known None is = refl
 names_none known (Some value) is = ap (option_and_then known) is
 
-pub names_one : (known : List ℕ → Option Paper) (value : Option (List ℕ)) (name : List ℕ) → option_and_then first_name value ≡ Some name → option_and_then (named_medium known) value ≡ known name
+pub names_one : (known : List ℕ → Option Paper) (value : Option (List ℕ)) (name : List ℕ) → option_and_then first_medium value ≡ Some name → option_and_then (named_medium known) value ≡ known name
 names_one known None name is = cc
 names_one known (Some value) name is = ap (option_and_then known) is

@@ -1,5 +1,5 @@
 -- Media that sheets report are known by their names.
-use Rattle.std.specs.Prelude.{codes, filter, flat_map, fold, map, nat_lt, nat_le, not, option_and_then, option_map, slice_index, slice_range, ℤ, Option, Some, if◌then◌else◌, ◌==◌, ◌&&◌, ◌||◌}
+use Rattle.std.specs.Prelude.{codes, filter, flat_map, fold, map, nat_lt, nat_le, not, option_and_then, option_map, slice_index, ℤ, Option, Some, None, if◌then◌else◌, ◌==◌, ◌&&◌, ◌||◌}
 use Rattle.std.specs.List.{All, AllByRecursion, list_any, prefix_len, slice_split}
 use Rattle.std.specs.Char.{is_ascii_digit}
 use Rattle.std.specs.Str.{bytes_eq}
@@ -12,11 +12,12 @@ use Rattle.rules.specs.Numbers.{points_text, printed}
 use Rattle.rules.specs.Papers.{Paper}
 use Rattle.rules.specs.Units.{is_blank, is_comment}
 use Rattle.dsc.specs.Fields.{fields_in}
-use Rattle.papers.specs.Comments.{Medium, first_name, media, medium_in, medium_of, paper_of_medium}
+use Rattle.papers.specs.Comments.{Medium, first_medium, media, medium_in, medium_of, paper_of_medium}
 use Rattle.papers.specs.Own.{smallest_cover}
 use Rattle.papers.specs.Found.{IsTellable, IsTellablePaper, as_printed}
-use Rattle.papers.specs.Media.{comment_values, continued, is_enclosed, is_opened, media_paper, name_and_rest, name_in, paper_meant, plain_len, points_of}
+use Rattle.papers.specs.Media.{comment_values, continued, is_enclosed, len_behind, media_paper, name_and_rest, name_in, name_meant, paper_meant, plain_len, points_of}
 use Rattle.papers.specs.Media.{sides_paper, split_name, value_of}
+use Rattle.dsc.specs.Strings.{characters, is_opened, rest_len}
 use Rattle.papers.specs.Told.{exact_box_line, is_told_alike, is_in_whole_points, medium_line, several_header, size_name, size_text}
 use Rattle.papers.proofs.Covered.{by_test}
 use Rattle.papers.proofs.PrintedSides.{paper_read, side_all, side_some}
@@ -101,9 +102,9 @@ not_enclosed (x ∷ xs) ys h all =
     let text : List ℕ = x ∷ (xs ++ ys) in
     open_first (nat_le 2 (length text)) (x == 40) (slice_index text (length text - 1) == 41) (All-head (λ b. (b == 40) ≡ false) x xs all)
 
-pub name_is : (p : Paper) → IsTellablePaper p → name_in (size_name p) ≡ size_name p
+pub name_is : (p : Paper) → IsTellablePaper p → name_meant (size_name p) ≡ size_name p
 name_is p t =
-    ap (λ b. if b then slice_range (size_name p) 1 (length (size_name p) - 1) else size_name p)
+    ap (λ b. if b then characters (name_in (size_name p)) else size_name p)
     (not_enclosed (points_text p.width) (120 ∷ points_text p.height) (side_some p.width t.0)
     (side_all (λ b. (b == 40) ≡ false) not_open refl p.width t.0))
 
@@ -141,31 +142,30 @@ is_whole_length (b ∷ bs) plain =
 
 -- after a blank a name that begins with no parenthesis
 first_after : (b : ℕ) (rest : List ℕ) → is_blank b ≡ false → (b == 40) ≡ false
-    → name_and_rest (32 ∷ b ∷ rest) ≡ Some (name_in (take (plain_len (b ∷ rest)) (b ∷ rest)), drop (plain_len (b ∷ rest)) (b ∷ rest))
+    → name_and_rest (32 ∷ b ∷ rest) ≡ Some (take (plain_len (b ∷ rest)) (b ∷ rest), drop (plain_len (b ∷ rest)) (b ∷ rest))
 first_after b rest plain closed =
     let one : prefix_len is_blank (32 ∷ b ∷ rest) ≡ 1 = ap (λ t. 1 + cond t (1 + prefix_len is_blank rest) 0) plain in
     let text : List ℕ = b ∷ rest in
-    let n : ℕ = prefix_len (λ c. not (c == 41)) text in
     ap (λ k. split_name (drop k (32 ∷ text))) one
-    ∙ ap (λ t. let k = if t then n + plain_len (drop n text) else plain_len text in Some (name_in (take k text), drop k text)) closed
+    ∙ ap (λ t. let k = len_behind (if t then rest_len 0 false text else None) text in Some (take k text, drop k text)) closed
 
 name_read : (name rest : List ℕ) → Plain name → 0 < length name → Closed name
-    → name_and_rest (32 ∷ (name ++ 32 ∷ rest)) ≡ Some (name_in name, 32 ∷ rest)
+    → name_and_rest (32 ∷ (name ++ 32 ∷ rest)) ≡ Some (name, 32 ∷ rest)
 name_read [] rest plain some closed = absurd (omega (arith, some))
 name_read (b ∷ bs) rest plain some closed =
     let text : List ℕ = (b ∷ bs) ++ 32 ∷ rest in
     first_after b (bs ++ 32 ∷ rest) (All-head (λ c. is_blank c ≡ false) b bs plain) closed
-    ∙ ap (λ k. Some (name_in (take k text), drop k text)) (is_length (b ∷ bs) rest plain)
-    ∙ ap (λ t. Some (name_in t, drop (length (b ∷ bs)) text)) (take_front (b ∷ bs) (32 ∷ rest))
-    ∙ ap (λ t. Some (name_in (b ∷ bs), t)) (drop_front (b ∷ bs) (32 ∷ rest))
+    ∙ ap (λ k. Some (take k text, drop k text)) (is_length (b ∷ bs) rest plain)
+    ∙ ap (λ t. Some (t, drop (length (b ∷ bs)) text)) (take_front (b ∷ bs) (32 ∷ rest))
+    ∙ ap (λ t. Some (b ∷ bs, t)) (drop_front (b ∷ bs) (32 ∷ rest))
 
-whole_name_read : (name : List ℕ) → Plain name → 0 < length name → Closed name → name_and_rest (32 ∷ name) ≡ Some (name_in name, [])
+whole_name_read : (name : List ℕ) → Plain name → 0 < length name → Closed name → name_and_rest (32 ∷ name) ≡ Some (name, [])
 whole_name_read [] plain some closed = absurd (omega (arith, some))
 whole_name_read (b ∷ bs) plain some closed =
     first_after b bs (All-head (λ c. is_blank c ≡ false) b bs plain) closed
-    ∙ ap (λ k. Some (name_in (take k (b ∷ bs)), drop k (b ∷ bs))) (is_whole_length (b ∷ bs) plain)
-    ∙ ap (λ t. Some (name_in t, drop (length (b ∷ bs)) (b ∷ bs))) (take_all (b ∷ bs))
-    ∙ ap (λ t. Some (name_in (b ∷ bs), t)) (drop_all (b ∷ bs))
+    ∙ ap (λ k. Some (take k (b ∷ bs), drop k (b ∷ bs))) (is_whole_length (b ∷ bs) plain)
+    ∙ ap (λ t. Some (t, drop (length (b ∷ bs)) (b ∷ bs))) (take_all (b ∷ bs))
+    ∙ ap (λ t. Some (b ∷ bs, t)) (drop_all (b ∷ bs))
 
 -- ---- the fields of a line that reports a medium
 abbrev rest_of_line : List ℕ
@@ -194,7 +194,7 @@ abbrev rest_of : Paper → List ℕ
 rest_of p = codes " " ++ (size_text p ++ codes " 0 () ()")
 
 medium_split : (name : List ℕ) (p : Paper) → Plain name → 0 < length name → Closed name
-    → name_and_rest (32 ∷ (name ++ rest_of p)) ≡ Some (name_in name, rest_of p)
+    → name_and_rest (32 ∷ (name ++ rest_of p)) ≡ Some (name, rest_of p)
 medium_split name p plain some closed = name_read name (size_text p ++ codes " 0 () ()") plain some closed
 
 sides_read : (p : Paper) → IsTellablePaper p → sides_paper (fields_in (rest_of p)) ≡ paper_meant (points_of (points_text p.width)) (points_of (points_text p.height))
@@ -212,17 +212,17 @@ name_closed : (p : Paper) → IsTellablePaper p → Closed (size_name p)
 name_closed p t = closed_front (points_text p.width) (120 ∷ points_text p.height) (side_some p.width t.0) (side_all (λ b. (b == 40) ≡ false) not_open refl p.width t.0)
 
 abbrev medium_told : Paper → Medium
-medium_told p = record { name = name_in (size_name p); paper = paper_meant (points_of (points_text p.width)) (points_of (points_text p.height)) }
+medium_told p = record { name = name_meant (size_name p); paper = paper_meant (points_of (points_text p.width)) (points_of (points_text p.height)) }
 
 named_medium_read : (p : Paper) → IsTellablePaper p → medium_in (32 ∷ (size_name p ++ rest_of p)) ≡ medium_told p ∷ []
 named_medium_read p t =
     ap medium_of (medium_split (size_name p) p (name_plain p t) (name_long p t) (name_closed p t))
-    ∙ ap (λ paper. record { name = name_in (size_name p); paper = paper } ∷ []) (sides_read p t)
+    ∙ ap (λ paper. record { name = name_meant (size_name p); paper = paper } ∷ []) (sides_read p t)
 
 -- the name that a page gives
-pub page_medium : (p : Paper) → IsTellablePaper p → first_name (value_of (codes "%%PageMedia: " ++ size_name p)) ≡ Some (size_name p)
+pub page_medium : (p : Paper) → IsTellablePaper p → first_medium (value_of (codes "%%PageMedia: " ++ size_name p)) ≡ Some (size_name p)
 page_medium p t =
-    ap (option_map (λ r. r.0)) (whole_name_read (size_name p) (name_plain p t) (name_long p t) (name_closed p t)) ∙ ap Some (name_is p t)
+    ap (option_map (λ r. name_meant r.0)) (whole_name_read (size_name p) (name_plain p t) (name_long p t) (name_closed p t)) ∙ ap Some (name_is p t)
 
 -- ---- the media of a header
 abbrev line_of : Paper → List ℕ
@@ -275,12 +275,12 @@ found_by_name q [] others t all e = absurd (true≢false (sym e))
 found_by_name q (p ∷ told) others t all e =
     let name : List ℕ = size_name q in
     let ms : List Medium = map medium_told told ++ others in
-    let given : name_in (size_name p) ≡ size_name p = name_is p all.0 in
-    by_test (bytes_eq (name_in (size_name p)) name)
+    let given : name_meant (size_name p) ≡ size_name p = name_is p all.0 in
+    by_test (bytes_eq (name_meant (size_name p)) name)
     (λ same. ap (looked_up name (medium_told p) ms) same
-    ∙ same_paper p q all.0 t (sym given ∙ (bytes_eq-Decides (name_in (size_name p)) name).0 same))
+    ∙ same_paper p q all.0 t (sym given ∙ (bytes_eq-Decides (name_meant (size_name p)) name).0 same))
     (λ other. ap (looked_up name (medium_told p) ms) other
     ∙ found_by_name q told others t all.1
     (by_test (is_told_alike q p)
-    (λ is. absurd (true≢false (sym ((bytes_eq-Decides (name_in (size_name p)) name).1 (given ∙ sym (same_name q p is))) ∙ other)))
+    (λ is. absurd (true≢false (sym ((bytes_eq-Decides (name_meant (size_name p)) name).1 (given ∙ sym (same_name q p is))) ∙ other)))
     (λ isnt. behind (is_told_alike q p) (list_any (is_told_alike q) told) e isnt)))

@@ -10,7 +10,7 @@ use Rattle.rules.specs.Units.{content_of, line_len, key, has_key}
 use Rattle.dsc.specs.Header.{is_header}
 use Rattle.dsc.specs.Fields.{fields_in}
 use Rattle.papers.specs.Media.{box_of, box_paper, comment_fields, comment_value, comment_values, else_take, lying_as, media_paper, name_and_rest, name_in}
-use Rattle.papers.specs.Media.{paper_of_box, sides_paper}
+use Rattle.papers.specs.Media.{name_meant, paper_of_box, sides_paper}
 
 -- ---- where they are
 
@@ -39,10 +39,10 @@ pub record Medium : Type 0 where
   pub name : List ℕ
   pub paper : Option Paper
 
--- that of a name, its width, its height, and more
+-- that of a name as it is written, its width, its height, and more
 abbrev pub medium_of : Option (List ℕ × List ℕ) → List Medium
 medium_of None = []
-medium_of (Some (name, rest)) = record { name = name; paper = sides_paper (fields_in rest) } ∷ []
+medium_of (Some (written, rest)) = record { name = name_meant written; paper = sides_paper (fields_in rest) } ∷ []
 
 abbrev pub medium_in : (value : List ℕ) → List Medium
 medium_in value = medium_of (name_and_rest value)
@@ -59,17 +59,21 @@ paper_of_medium name (m ∷ ms) = if bytes_eq m.name name then m.paper else pape
 
 -- ---- what they say
 
--- the name that a value begins with
+-- the name that a value begins with, as it is written, without its parentheses
 abbrev pub first_name : (value : List ℕ) → Option (List ℕ)
-first_name value = option_map (λ p. p.0) (name_and_rest value)
+first_name value = option_map (λ p. name_in p.0) (name_and_rest value)
 
--- the paper of the medium that a value names first, by the papers of media
+-- the medium that a value names first
+abbrev pub first_medium : (value : List ℕ) → Option (List ℕ)
+first_medium value = option_map (λ p. name_meant p.0) (name_and_rest value)
+
+-- its paper, by the papers of media
 abbrev pub named_medium : (known : List ℕ → Option Paper) → (value : List ℕ) → Option Paper
-named_medium known value = option_and_then known (first_name value)
+named_medium known value = option_and_then known (first_medium value)
 
 -- the medium that a page names in its head
 abbrev pub medium_told : (head : List (List ℕ)) → Option (List ℕ)
-medium_told head = option_and_then first_name (comment_value (codes "%%PageMedia") head)
+medium_told head = option_and_then first_medium (comment_value (codes "%%PageMedia") head)
 
 -- the paper of a page's medium, if it names one that is known; a page that names its medium has a box of what is
 -- painted. Else the paper of its box, where this paper would be taken without it

@@ -15,6 +15,7 @@ use Rattle.dsc.specs.Units.{units_of}
 use Rattle.lengths.specs.Lengths.{a4}
 use Rattle.lengths.specs.Reading.{is_empty, number_at}
 use Rattle.paper_names.specs.Names.{paper_named, turned}
+use Rattle.dsc.specs.Strings.{characters, closing, open_parenthesis, string_len}
 use Rattle.papers.specs.declared.media.Comment.{Comment}
 use Rattle.papers.specs.declared.boxes.Edges.{Edges}
 use Rattle.papers.specs.declared.media.Comment.TheVariants.{DocumentMedia, DocumentPaperSizes, BoundingBox, Setup}
@@ -42,13 +43,6 @@ paper_or_error width height = if is_short width || is_short height then None
 abbrev pub paper_meant : (width height : Option ℤ) → Option Paper
 paper_meant width height = option_and_then (λ w. option_and_then (λ h. paper_or_error w h) height) width
 
--- the parentheses that may enclose a text
-abbrev pub open_parenthesis : ℕ
-open_parenthesis = 40
-
-abbrev pub closing : ℕ
-closing = 41
-
 -- a field in parentheses
 abbrev pub is_enclosed : List ℕ → Bool
 is_enclosed field =
@@ -58,28 +52,30 @@ is_enclosed field =
 abbrev pub name_in : (field : List ℕ) → List ℕ
 name_in field = if is_enclosed field then slice_range field 1 (length field - 1) else field
 
--- a text begins with a parenthesis
-abbrev pub is_opened : List ℕ → Bool
-is_opened [] = false
-is_opened (b ∷ rest) = b == open_parenthesis
-
 -- the length of what stands before the first blank
 abbrev pub plain_len : List ℕ → ℕ
 plain_len text = prefix_len (λ b. not (is_blank b)) text
 
--- the length of the name that a text begins with, to a blank; in parentheses to the first blank after they are closed
-abbrev pub name_len : List ℕ → ℕ
-name_len text = if is_opened text
-    then (let n = prefix_len (λ b. not (b == closing)) text in n + plain_len (drop n text)) else plain_len text
+-- the length of the name that a text begins with, to a blank; that of a string to the first blank after its end
+abbrev pub len_behind : (string : Option ℕ) → List ℕ → ℕ
+len_behind None text = plain_len text
+len_behind (Some n) text = n + plain_len (drop n text)
 
--- the name that a text begins with, and what follows it
+abbrev pub name_len : List ℕ → ℕ
+name_len text = len_behind (string_len text) text
+
+-- the name that a text begins with, as it is written, and what follows it
 abbrev pub split_name : (text : List ℕ) → Option (List ℕ × List ℕ)
 split_name [] = None
-split_name (b ∷ rest) = let n = name_len (b ∷ rest) in Some (name_in (take n (b ∷ rest)), drop n (b ∷ rest))
+split_name (b ∷ rest) = let n = name_len (b ∷ rest) in Some (take n (b ∷ rest), drop n (b ∷ rest))
 
--- the name at the front of a value, after blanks, and the text after it
+-- the name at the front of a value, after blanks, as it is written, and the text after it
 abbrev pub name_and_rest : (value : List ℕ) → Option (List ℕ × List ℕ)
 name_and_rest value = split_name (drop (prefix_len is_blank value) value)
+
+-- the name that is written so: the characters of a string in parentheses
+abbrev pub name_meant : (written : List ℕ) → List ℕ
+name_meant written = if is_enclosed written then characters (name_in written) else written
 
 -- ---- comments
 

@@ -1,10 +1,12 @@
 //! Reads lengths and names in the fields of comments.
-ghost use Rattle.std.specs.Prelude.{◌≡◌, ◌≤◌, ◌==◌, length, not, option_map};
+ghost use Rattle.std.specs.Prelude.{◌≡◌, ◌≤◌, length, option_map, IfOk};
 ghost use Rattle.std.specs.List.{prefix_len};
 ghost use Rattle.rules.specs.Units.{is_blank};
 ghost use Rattle.papers.specs.Media as meaning;
 
+use dsc::{string_characters, string_len};
 use lengths::{Grains, Unit, a4, read_number, to_grains};
+use std::alloc::{AllocError, Global};
 
 /// The name in a field. Parentheses around the whole field aren't part of the name.
 pub(crate) fn name_in(field: &[u8]) -> &[u8]
@@ -16,8 +18,8 @@ pub(crate) fn name_in(field: &[u8]) -> &[u8]
     }
 }
 
-/// The name at the start of a value, after blanks (spaces and tabs), and the text after the name. A name in
-/// parentheses may contain blanks. None if the value has only blanks.
+/// The name at the start of a value, after blanks (spaces and tabs), as it is written, and the text after the name. A
+/// name in parentheses is a PostScript string, which may contain blanks. None if the value has only blanks.
 pub(crate) fn name_and_rest(value: &[u8]) -> Option<(&[u8], &[u8])>
     ensures { option_map (λ p. (p.0.now, p.1.now)) result ≡ meaning.name_and_rest value.now }
 {
@@ -25,8 +27,18 @@ pub(crate) fn name_and_rest(value: &[u8]) -> Option<(&[u8], &[u8])>
     if text.is_empty() {
         return None;
     }
-    let (name, rest) = text.split_at(name_len(text));
-    Some((name_in(name), rest))
+    Some(text.split_at(name_len(text)))
+}
+
+/// The name that is written so. A name in parentheses is a PostScript string, which stands for its characters. Fails
+/// only if memory is refused.
+pub(crate) fn name_meant(alloc: Global, written: &[u8]) -> Result<Vec<u8>, AllocError>
+    ensures { IfOk result (λ name. name.items ≡ meaning.name_meant written.now) }
+{
+    match written {
+        [b'(', text @ .., b')'] => string_characters(alloc, text),
+        _ => Vec::from_slice(alloc, written),
+    }
 }
 
 /// The number of blanks (spaces and tabs) at the start of the text.
@@ -39,26 +51,19 @@ pub(crate) fn leading_blanks(text: &[u8]) -> usize
         .count()
 }
 
-/// The length of the name at the start of the text. A name ends before the first blank. A name in parentheses ends
-/// before the first blank after the closing parenthesis.
+/// The length of the name at the start of the text. A name ends before the first blank. A name that begins with a
+/// PostScript string ends before the first blank after the string.
 fn name_len(text: &[u8]) -> usize
     ensures value { result ≡ meaning.name_len text.now }
     ensures within { result ≤ length text.now }
 {
-    if text.first() != Some(&b'(') {
-        return len_before_blank(text);
+    match string_len(text) {
+        Some(len) => {
+            let (_, rest) = text.split_at(len);
+            len + len_before_blank(rest)
+        }
+        None => len_before_blank(text),
     }
-    let open = open_len(text);
-    let (_, rest) = text.split_at(open);
-    open + len_before_blank(rest)
-}
-
-/// The length of the text before the first closing parenthesis.
-fn open_len(text: &[u8]) -> usize
-    ensures value { result ≡ prefix_len (λ b. not (b == meaning.closing)) text.now }
-    ensures within { result ≤ length text.now }
-{
-    text.iter().take_while(|b| **b != b')').count()
 }
 
 /// The length of the text before the first blank.

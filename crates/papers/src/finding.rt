@@ -102,42 +102,52 @@ fn each_with(
 {
     let mut papers = Vec::new(alloc);
     for page in 0..document.pages() {
-        let paper = page_paper(known, document.page(page), other);
-        papers.push(paper)?;
+        papers.push(page_paper(alloc, known, document.page(page), other)?)?;
     }
     Ok(papers)
 }
 
-/// The paper that a page names itself, or the document's paper `other` if it names none.
-fn page_paper(known: &KnownMedia, page: &[u8], other: &Paper) -> Paper
-    ensures { result ≡ page_or (known_paper known.now) (page_head page.now) other.now }
+/// The paper that a page's own comments give, or the document's paper `other` if they give none.
+fn page_paper(
+    alloc: Global,
+    known: &KnownMedia,
+    page: &[u8],
+    other: &Paper,
+) -> Result<Paper, AllocError>
+    ensures { IfOk result (λ paper. paper ≡ page_or (known_paper known.now) (page_head page.now) other.now) }
 {
-    match told_by_page(known, page, other) {
-        Some(paper) => paper,
-        None => *other,
-    }
+    Ok(told_by_page(alloc, known, page, other)?.unwrap_or(*other))
 }
 
-/// The paper that the comments after a page's first line give. `%%PageMedia:` gives it if it names a known medium;
-/// otherwise `%%PageBoundingBox:` gives it. `other` is the document's paper; a box that doesn't begin at 0 0 must
-/// reach beyond it.
-fn told_by_page(known: &KnownMedia, page: &[u8], other: &Paper) -> Option<Paper>
-    ensures { result ≡ told (known_paper known.now) other.now (page_head page.now) }
+/// The paper that the comments after a page's first line give: that of the known medium in `%%PageMedia:`, or else
+/// that of the box in `%%PageBoundingBox:`. `other` is the document's paper, beyond which a box that doesn't begin at
+/// 0 0 must reach.
+fn told_by_page(
+    alloc: Global,
+    known: &KnownMedia,
+    page: &[u8],
+    other: &Paper,
+) -> Result<Option<Paper>, AllocError>
+    ensures { IfOk result (λ paper. paper ≡ told (known_paper known.now) other.now (page_head page.now)) }
 {
     let head = behind_first_line(page);
-    match named_paper(known, head) {
-        Some(paper) => Some(paper),
-        None => boxed_paper(head, other),
+    let named = named_paper(alloc, known, head)?;
+    match named {
+        Some(paper) => Ok(Some(paper)),
+        None => Ok(boxed_paper(head, other)),
     }
 }
 
 /// The paper of the medium that a page names in `%%PageMedia:`. `head` is the page's text after its first line.
 #[tactic(auto, using(crate::proofs::PageTells::names_none, crate::proofs::PageTells::names_one))]
-fn named_paper(known: &KnownMedia, head: &[u8]) -> Option<Paper>
-    ensures { result ≡ option_and_then (named_medium (known_paper known.now))
-        (comment_value (codes "%%PageMedia") (head_of (length head.now) head.now)) }
+fn named_paper(alloc: Global, known: &KnownMedia, head: &[u8]) -> Result<Option<Paper>, AllocError>
+    ensures { IfOk result (λ paper. paper ≡ option_and_then (named_medium (known_paper known.now))
+        (comment_value (codes "%%PageMedia") (head_of (length head.now) head.now))) }
 {
-    known.paper_of(medium_name(head)?)
+    match medium_name(head) {
+        Some(name) => known.paper_of(alloc, name),
+        None => Ok(None),
+    }
 }
 
 /// The paper that a page's `%%PageBoundingBox:` gives. `head` is the page's text after its first line. `other` is the

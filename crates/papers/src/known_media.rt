@@ -3,11 +3,11 @@ ghost use Rattle.std.specs.Prelude.{◌≡◌, ◌<◌, ℕ, List, [], ◌∷◌
 ghost use Rattle.std.specs.Map.{update};
 ghost use Rattle.std.specs.Str.{bytes_eq};
 ghost use Rattle.rules.specs.Parts.{pages};
-ghost use Rattle.papers.specs.Media.{contents, continued};
+ghost use Rattle.papers.specs.Media.{contents, continued, name_meant as name_told};
 ghost use Rattle.papers.specs.Comments.{media, medium_in};
 ghost use Rattle.papers.specs.Named.{IsNameKept, KnowsAll, found_at, is_name_missing as is_not_found, known_paper, with_media, with_medium};
 
-use crate::fields::name_and_rest;
+use crate::fields::{name_and_rest, name_meant};
 use crate::media::sides_paper;
 use crate::page_heads::{behind_first_line, medium_name};
 use crate::{continuation, first_comment};
@@ -67,7 +67,7 @@ impl KnownMedia {
     {
         match medium_name(behind_first_line(page)) {
             Some(name) => {
-                let kept = Vec::from_slice(alloc, name)?;
+                let kept = name_meant(alloc, name)?;
                 self.put(kept, None)
             }
             None => Ok(()),
@@ -112,26 +112,22 @@ impl KnownMedia {
             ≡ option_map (λ found. with_media at found (medium_in value.now)) (found_at self.old at)) }
     {
         match name_and_rest(value) {
-            Some((name, rest)) => self.take_named(alloc, name, sides_paper(rest)),
+            Some((name, rest)) => self.take_named(name_meant(alloc, name)?, sides_paper(rest)),
             None => Ok(()),
         }
     }
 
-    /// Takes the paper of a medium with this name, if a page names it and no earlier medium has its name.
-    fn take_named(
-        &mut self,
-        alloc: Global,
-        name: &[u8],
-        paper: Option<Paper>,
-    ) -> Result<(), AllocError>
+    /// Stores the paper of a medium with this name, if a page names the medium and no earlier medium has the same
+    /// name.
+    fn take_named(&mut self, name: Vec<u8>, paper: Option<Paper>) -> Result<(), AllocError>
         ensures { OnOk result ((at : List ℕ) → found_at self.new at
-            ≡ option_map (λ found. with_medium at found (record { name = name.now; paper = paper })) (found_at self.old at)) }
+            ≡ option_map (λ found. with_medium at found (record { name = name.items; paper = paper })) (found_at self.old at)) }
     {
-        if !self.is_missing(name) {
-            return Ok(());
+        if self.is_missing(name.as_slice()) {
+            self.put(name, Some(paper))
+        } else {
+            Ok(())
         }
-        let name = Vec::from_slice(alloc, name)?;
-        self.put(name, Some(paper))
     }
 
     /// Whether a page names this medium, and the medium hasn't been found yet.
@@ -145,9 +141,21 @@ impl KnownMedia {
         }
     }
 
-    /// The paper of the header's first medium with this name. None if no page names it, if the header lacks it, or if
-    /// its sides can't be those of a paper.
-    pub(crate) fn paper_of(&self, name: &[u8]) -> Option<Paper>
+    /// The paper of the header's first medium with the name that is written so. None if no page names it, if the
+    /// header lacks it, or if its sides can't be those of a paper. Fails only if memory is refused.
+    pub(crate) fn paper_of(
+        &self,
+        alloc: Global,
+        written: &[u8],
+    ) -> Result<Option<Paper>, AllocError>
+        ensures { IfOk result (λ paper. paper ≡ known_paper self.now (name_told written.now)) }
+    {
+        let name = name_meant(alloc, written)?;
+        Ok(self.paper_named(name.as_slice()))
+    }
+
+    /// The paper of the header's first medium with this name, as in `paper_of`.
+    fn paper_named(&self, name: &[u8]) -> Option<Paper>
         ensures { result ≡ known_paper self.now name.now }
     {
         match self.papers.get(name) {

@@ -3,11 +3,11 @@ ghost use Rattle.std.specs.Prelude.{◌≡◌, ◌++◌, ◌∷◌, [], option_m
 ghost use Rattle.rules.specs.Units.{content_of, line_len};
 ghost use Rattle.rules.specs.Bytes.{colon};
 ghost use Rattle.dsc.specs.Fields.{fields_in};
-ghost use Rattle.papers.specs.Media.{comment_fields, comment_value};
+ghost use Rattle.papers.specs.Media.{comment_fields, comment_value, name_meant};
 ghost use Rattle.papers.specs.Comments.{first_name as name_told, head_of, is_in_head, medium_told};
 
 use crate::comments::value_after;
-use crate::fields::name_and_rest;
+use crate::fields::{name_and_rest, name_in};
 use dsc::{first_content, is_header, key_of, line_end_after};
 
 /// The text without its first line.
@@ -60,9 +60,10 @@ pub(crate) fn value_in_head<'t>(text: &'t [u8], key: &[u8], with_colon: &[u8]) -
 
 /// The name of the medium in `%%PageMedia:`, among the comments at the start of the text.
 pub(crate) fn medium_name(text: &[u8]) -> Option<&[u8]>
-    ensures { option_map (λ name. name.now) result ≡ medium_told (head_of (length text.now) text.now) }
+    ensures { option_map (λ name. name_meant name.now) result ≡ medium_told (head_of (length text.now) text.now) }
 {
-    first_name(text_in_head(text, b"%%PageMedia", b"%%PageMedia:")?)
+    let (name, _) = name_and_rest(text_in_head(text, b"%%PageMedia", b"%%PageMedia:")?)?;
+    Some(name)
 }
 
 /// The name at the start of a comment's value, after blanks and without parentheses. None if the value has only
@@ -71,7 +72,7 @@ pub fn first_name(value: &[u8]) -> Option<&[u8]>
     ensures { option_map (λ name. name.now) result ≡ name_told value.now }
 {
     let (name, _) = name_and_rest(value)?;
-    Some(name)
+    Some(name_in(name))
 }
 
 /// Whether a line with this content belongs to the comments after a page's first line. It must have the form of a
