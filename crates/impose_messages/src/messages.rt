@@ -78,16 +78,21 @@ fn read_text(
 ) -> Result<String, AllocError> {
     let text = input_text(alloc, "cannot read ", context, "")?;
     let said = with_cause(alloc, text.as_str(), cause)?;
-    if context.is_selection && context.infile.map_or(false, is_range) {
-        joined_texts(
-            alloc,
-            &[
-                said.as_str(),
-                "; ranges are one word, as in: impose select 1,3,5-8 in.ps out.ps",
-            ],
-        )
+    if has_second_range(context) {
+        joined_texts(alloc, &[said.as_str(), RANGES_ARE_ONE_WORD])
     } else {
         Ok(said)
+    }
+}
+
+const RANGES_ARE_ONE_WORD: &str =
+    "; ranges are one word, as in: impose select 1,3,5-8 in.ps out.ps";
+
+/// Whether the second of two ranges is read as INFILE.
+fn has_second_range(context: &Context<'_>) -> bool {
+    match context.infile {
+        Some(name) => context.is_selection && is_range(name),
+        None => false,
     }
 }
 

@@ -8,7 +8,9 @@ mod other_programs;
 mod shown;
 mod tips;
 mod values;
+mod words;
 
-pub use mistakes::{is_range, looks_like_file, words_text};
+pub use mistakes::words_text;
 pub use shown::{MOST_SHOWN, joined_texts, shown_in_place, shown_word};
 pub use values::value_text;
+pub use words::{is_range, looks_like_file};

@@ -1,11 +1,15 @@
 //! Messages about words of the command line that the command doesn't take.
+ghost use Rattle.std.specs.Prelude.{IfOk, OnOk, string_bytes};
+ghost use Rattle.suggestions.specs.Shown.{IsLines};
+
 use crate::clap_text::{POINTER, Quoted, USAGE, is_tip_left_out, quoted_words};
 use crate::other_programs::{FOR_COMMANDS, tip_on_other};
-use crate::shown::{is_shown_whole, joined_texts, push_all, push_shown, shown_word};
+use crate::shown::{is_shown_whole, joined_texts, push_line, shown_word};
 use crate::tips::{
     FOR_BOOKLETS, FOR_POSTERS, FOR_SELECTIONS, FOR_SPECIFICATIONS, MISSING, OF_COMMANDS, SIGNS,
     tip_in,
 };
+use crate::words::{is_range, looks_like_file};
 use clap::Error;
 use clap::error::ErrorKind;
 use impose_words::size_named;
@@ -13,9 +17,11 @@ use std::alloc::{AllocError, Global};
 use strsim::osa_distance;
 
 /// The message about a command line with words that the command doesn't take. `words` is the whole command line, with the program's name first. The
-/// message is clap's text, with a tip on the refused word in place of clap's own tip. Control characters are replaced, and long words are cut. The
-/// only error is running out of memory.
-pub fn words_text(alloc: Global, error: &Error, words: &[String]) -> Result<String, AllocError> {
+/// message is clap's text, with a tip on the refused word in place of clap's own tip. Hidden characters are escaped, and long words are cut. The only
+/// error is running out of memory.
+pub fn words_text(alloc: Global, error: &Error, words: &[String]) -> Result<String, AllocError>
+    ensures { IfOk result (λ said. IsLines (string_bytes said)) }
+{
     let mut text = format!(in alloc; "{error}")?;
     for word in words {
         let word = word.as_str();
@@ -49,8 +55,11 @@ fn with_shown(alloc: Global, text: String, word: &str) -> Result<String, AllocEr
 
 /// Clap's text with `tip` inserted above the usage, or above the last line if there is no usage. An empty tip isn't inserted. Clap's own tips are
 /// left out, and so is the usage unless `keeps_usage` is true.
-fn with_tip(alloc: Global, text: &str, tip: &str, keeps_usage: bool) -> Result<String, AllocError> {
+fn with_tip(alloc: Global, text: &str, tip: &str, keeps_usage: bool) -> Result<String, AllocError>
+    ensures { IfOk result (λ said. IsLines (string_bytes said)) }
+{
     let mut out = String::new(alloc);
+    let tip_line = joined_texts(alloc, &["  tip: ", tip])?;
     let mut is_told = tip.is_empty();
     let mut is_behind_blank = false;
     for line in text.lines() {
@@ -58,20 +67,27 @@ fn with_tip(alloc: Global, text: &str, tip: &str, keeps_usage: bool) -> Result<S
         if is_tip_left_out(line) || line.is_empty() && is_behind_blank || is_usage && !keeps_usage {
             continue;
         }
-        if !is_told && (is_usage || line.starts_with(POINTER)) {
-            push_all(&mut out, &["  tip: ", tip, "\n\n"])?;
-            is_told = true;
-        }
-        for letter in line.chars() {
-            push_shown(&mut out, letter)?;
-        }
-        out.push('\n')?;
+        let is_due = !is_told && (is_usage || line.starts_with(POINTER));
+        push_tip(&mut out, tip_line.as_str(), is_due)?;
+        is_told |= is_due;
+        push_line(&mut out, line)?;
         is_behind_blank = line.is_empty();
     }
     Ok(out)
 }
 
-/// The tip that names a similar command or option. It is empty if no name is similar.
+/// Appends the line of a tip and a blank line, if the tip is due here.
+fn push_tip(out: &mut String, tip: &str, is_due: bool) -> Result<(), AllocError>
+    ensures { OnOk result (IsLines (string_bytes out.old) → IsLines (string_bytes out.new)) }
+{
+    if is_due {
+        push_line(out, tip)?;
+        push_line(out, "")?;
+    }
+    Ok(())
+}
+
+/// The tip that names a similar command or option. It is empty if none has a similar name.
 fn likeness(alloc: Global, kind: ErrorKind, quoted: Quoted<'_>) -> Result<String, AllocError> {
     let word = quoted.refused;
     let (what, like) = match kind {
@@ -283,22 +299,4 @@ fn has_stray_paper(behind: &[String]) -> bool {
         last = word;
     }
     false
-}
-
-/// Whether a word is most likely a range of pages or a number: it has a digit, and nothing but digits, minus signs, commas and underscores.
-pub fn is_range(word: &str) -> bool {
-    word.chars().any(|letter| letter.is_ascii_digit())
-        && word.chars().all(|letter| letter.is_ascii_digit() || matches!(letter, '-' | ',' | '_'))
-}
-
-/// Whether a word is most likely the name of a file: it has a slash, or one of a few endings such as `.ps`.
-pub fn looks_like_file(word: &str) -> bool {
-    has_file_ending(word) || word.contains("/")
-}
-
-/// Whether a word ends as the names of documents do.
-pub(crate) fn has_file_ending(word: &str) -> bool {
-    [".ps", ".eps", ".pdf", ".gz"]
-        .iter()
-        .any(|ending| word.ends_with(*ending))
 }

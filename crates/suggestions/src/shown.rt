@@ -1,4 +1,7 @@
-//! Words and names in the form in which messages show them.
+//! Words and names, as messages show them.
+ghost use Rattle.std.specs.Prelude.{◌≡◌, ◌++◌, IfOk, OnOk, flat_map, string_bytes};
+ghost use Rattle.std.specs.Char.Escape.{escape_unicode};
+ghost use Rattle.suggestions.specs.Shown as meaning;
 
 use arrayvec::ArrayString;
 use command_words::is_hidden;
@@ -9,39 +12,92 @@ pub const MOST_SHOWN: usize = 100;
 
 /// A word or a name as messages show it. Hidden characters are written as escapes such as `\u{1b}`. After the first hundred characters, the rest is
 /// replaced with two dots.
-pub fn shown_word(alloc: Global, word: &str) -> Result<String, AllocError> {
+pub fn shown_word(alloc: Global, word: &str) -> Result<String, AllocError>
+    ensures { IfOk result (λ shown. string_bytes shown ≡ meaning.shown_text word.now) }
+{
     String::from_str(alloc, shown_in_place(word).as_str())
 }
 
 /// A word as `shown_word` gives it, without allocating memory. There is room for a hundred characters, each of at most ten bytes, and two dots.
-pub fn shown_in_place(word: &str) -> ArrayString<1_002> {
+pub fn shown_in_place(word: &str) -> ArrayString<1_002>
+    ensures { result.bytes ≡ meaning.shown_text word.now }
+{
     let mut shown = ArrayString::new();
-    for (count, letter) in word.chars().enumerate() {
-        if count >= MOST_SHOWN {
-            let _ = shown.try_push_str("..");
-            return shown;
-        }
-        let _ = shown.try_push_str(shown_letter(letter).as_str());
+    for letter in word.chars().take(MOST_SHOWN) {
+        shown.push_str(shown_letter(letter).as_str());
+    }
+    if word.chars().count() > MOST_SHOWN {
+        shown.push_str("..");
     }
     shown
 }
 
 /// A character as messages show it. A hidden character is written as an escape such as `\u{1b}`.
-fn shown_letter(letter: char) -> ArrayString<10> {
-    let mut shown = ArrayString::new();
+fn shown_letter(letter: char) -> ArrayString<10>
+    ensures { result.bytes ≡ meaning.shown_char letter }
+{
     if is_hidden(letter) {
-        for part in letter.escape_unicode() {
-            let _ = shown.try_push(part);
-        }
-    } else {
-        let _ = shown.try_push(letter);
+        return escaped(letter);
     }
+    let mut shown = ArrayString::new();
+    shown.push(letter);
     shown
 }
 
-/// Appends a character as messages show it.
-pub(crate) fn push_shown(shown: &mut String, letter: char) -> Result<(), AllocError> {
-    shown.push_str(shown_letter(letter).as_str())
+/// The escape of a character.
+fn escaped(letter: char) -> ArrayString<10>
+    ensures { result.bytes ≡ escape_unicode letter }
+{
+    let mut escape = ArrayString::new();
+    for part in letter.escape_unicode() {
+        escape.push(part);
+    }
+    escape
+}
+
+/// Appends a text as messages show it, without cutting it.
+fn push_escaped(out: &mut String, text: &str) -> Result<(), AllocError>
+    ensures { OnOk result (string_bytes out.new ≡ string_bytes out.old ++ meaning.escaped_text text.now) }
+{
+    for letter in text.chars() {
+        out.push_str(shown_letter(letter).as_str())?;
+    }
+    Ok(())
+}
+
+/// Appends the texts in order, as messages show them, without cutting them.
+fn push_all_escaped(out: &mut String, texts: &[&str]) -> Result<(), AllocError>
+    ensures { OnOk result (string_bytes out.new ≡ string_bytes out.old ++ flat_map (λ text. meaning.escaped_text text.now) texts.now) }
+{
+    for text in texts {
+        push_escaped(out, *text)?;
+    }
+    Ok(())
+}
+
+/// Appends a line as messages show it.
+pub(crate) fn push_line(out: &mut String, line: &str) -> Result<(), AllocError>
+    ensures line { OnOk result (string_bytes out.new ≡ string_bytes out.old ++ meaning.shown_line line.now) }
+    ensures kept { OnOk result (meaning.IsLines (string_bytes out.old) → meaning.IsLines (string_bytes out.new)) }
+{
+    push_escaped(out, line)?;
+    out.push('\n')
+}
+
+/// A message about a word: the texts `before` it, the word as messages show it, and the texts `behind` it.
+pub(crate) fn message_on(
+    alloc: Global,
+    before: &[&str],
+    word: &str,
+    behind: &[&str],
+) -> Result<String, AllocError>
+    ensures { IfOk result (λ said. meaning.IsMessageOn word.now (string_bytes said)) }
+{
+    let mut said = String::new(alloc);
+    push_all_escaped(&mut said, before)?;
+    said.push_str(shown_in_place(word).as_str())?;
+    push_all_escaped(&mut said, behind)?;
+    Ok(said)
 }
 
 /// Whether a word has at most a hundred bytes and no hidden characters, so that messages show it unchanged.
@@ -50,16 +106,12 @@ pub(crate) fn is_shown_whole(word: &str) -> bool {
 }
 
 /// The texts, joined in order.
-pub fn joined_texts(alloc: Global, texts: &[&str]) -> Result<String, AllocError> {
+pub fn joined_texts(alloc: Global, texts: &[&str]) -> Result<String, AllocError>
+    ensures { IfOk result (λ joined. string_bytes joined ≡ flat_map (λ text. text.now) texts.now) }
+{
     let mut joined = String::new(alloc);
-    push_all(&mut joined, texts)?;
-    Ok(joined)
-}
-
-/// Appends the texts in order.
-pub(crate) fn push_all(out: &mut String, texts: &[&str]) -> Result<(), AllocError> {
     for text in texts {
-        out.push_str(*text)?;
+        joined.push_str(*text)?;
     }
-    Ok(())
+    Ok(joined)
 }

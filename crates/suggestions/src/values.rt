@@ -1,7 +1,11 @@
 //! Messages about values that options and arguments don't take.
-use crate::mistakes::{begins_with_digit, has_file_ending, is_range, looks_like_file};
+ghost use Rattle.std.specs.Prelude.{IfOk, string_bytes};
+ghost use Rattle.suggestions.specs.Shown.{IsMessageOn};
+
+use crate::mistakes::begins_with_digit;
 use crate::nearest::nearest_names;
-use crate::shown::{joined_texts, push_all, shown_word};
+use crate::shown::{joined_texts, message_on, shown_word};
+use crate::words::{has_file_ending, is_range, looks_like_file};
 use impose_words::{
     CellCommand, OptionId, gaps_named, lacks_unit, length_with_unit, margins_named, parse_number,
     size_named, whole_number,
@@ -9,8 +13,10 @@ use impose_words::{
 use papers::{PaperError, read_paper};
 use std::alloc::{AllocError, Global};
 
-/// The message about a text that the option or argument doesn't take as its value.
-pub fn value_text(alloc: Global, option: OptionId, text: &str) -> Result<String, AllocError> {
+/// The message about a text that the option or argument doesn't take as its value. It shows this text as `shown_word` does, and no hidden characters.
+pub fn value_text(alloc: Global, option: OptionId, text: &str) -> Result<String, AllocError>
+    ensures { IfOk result (λ said. IsMessageOn text.now (string_bytes said)) }
+{
     let pointed = with_points(alloc, text)?;
     if pointed.as_str() != text && is_value(option, pointed.as_str()) {
         return decimals_text(alloc, option, text, pointed.as_str());
@@ -41,14 +47,15 @@ pub fn value_text(alloc: Global, option: OptionId, text: &str) -> Result<String,
 }
 
 /// The message about a file after an option whose value is missing.
-fn no_value_text(alloc: Global, option: OptionId, text: &str) -> Result<String, AllocError> {
-    let text = shown_word(alloc, text)?;
-    let id = option.id();
+fn no_value_text(alloc: Global, option: OptionId, text: &str) -> Result<String, AllocError>
+    ensures { IfOk result (λ said. IsMessageOn text.now (string_bytes said)) }
+{
     let advice = match option {
         OptionId::Paper | OptionId::Sheet => "name a paper such as a4",
         _ => value_refusal(option).1,
     };
-    format!(in alloc; "the value of --{id} is missing before '{text}': {advice}")
+    let before = ["the value of --", option.id(), " is missing before '"];
+    message_on(alloc, &before, text, &["': ", advice])
 }
 
 /// The text, with a point in place of each comma between two digits.
@@ -95,23 +102,30 @@ fn decimals_text(
     option: OptionId,
     text: &str,
     pointed: &str,
-) -> Result<String, AllocError> {
-    let text = shown_word(alloc, text)?;
+) -> Result<String, AllocError>
+    ensures { IfOk result (λ said. IsMessageOn text.now (string_bytes said)) }
+{
     let pointed = shown_word(alloc, pointed)?;
-    let id = option.id();
-    let mut said = format!(in alloc;
-        "'{text}' after --{id}: decimals come after a point, so write {pointed}"
-    )?;
-    if matches!(option, OptionId::Margin | OptionId::Gap) {
-        said.push_str(UNITS_IN_LISTS)?;
-    }
-    Ok(said)
+    let units = if matches!(option, OptionId::Margin | OptionId::Gap) {
+        UNITS_IN_LISTS
+    } else {
+        ""
+    };
+    let cure = ": decimals come after a point, so write ";
+    message_on(
+        alloc,
+        &["'"],
+        text,
+        &["' after --", option.id(), cure, pointed.as_str(), units],
+    )
 }
 
 const UNITS_IN_LISTS: &str = "; in a list each length has its unit, 0 too";
 
 /// The message about a text that isn't a length or a list of lengths. If only a unit is missing, the message says where.
-fn length_text(alloc: Global, option: OptionId, text: &str) -> Result<String, AllocError> {
+fn length_text(alloc: Global, option: OptionId, text: &str) -> Result<String, AllocError>
+    ensures { IfOk result (λ said. IsMessageOn text.now (string_bytes said)) }
+{
     match part_without_unit(text, matches!(option, OptionId::Margin | OptionId::Gap)) {
         Some(part) => no_unit_text(alloc, option, text, part),
         None => refused_text(alloc, option, text),
@@ -145,45 +159,62 @@ fn no_unit_text(
     option: OptionId,
     text: &str,
     part: &str,
-) -> Result<String, AllocError> {
-    let (is_list, is_whole) = (text.contains(","), part == text);
-    let text = shown_word(alloc, text)?;
-    let part = shown_word(alloc, part)?;
-    let id = option.id();
-    let mut said = if is_whole {
-        format!(in alloc; "length '{text}'")?
+) -> Result<String, AllocError>
+    ensures { IfOk result (λ said. IsMessageOn text.now (string_bytes said)) }
+{
+    let shown = shown_word(alloc, part)?;
+    let shown = shown.as_str();
+    let is_whole = part == text;
+    let first = if is_whole { "length" } else { shown };
+    let second = if is_whole { " '" } else { " in '" };
+    let units = if text.contains(",") {
+        UNITS_IN_LISTS
     } else {
-        format!(in alloc; "{part} in '{text}'")?
+        ""
     };
-    let cure = format!(in alloc;
-        " after --{id} has no unit: write {part}cm, {part}mm, {part}in or {part}pt"
-    )?;
-    said.push_str(cure.as_str())?;
-    if is_list {
-        said.push_str(UNITS_IN_LISTS)?;
-    }
-    Ok(said)
+    let cure = [
+        "' after --",
+        option.id(),
+        " has no unit: write ",
+        shown,
+        "cm, ",
+        shown,
+        "mm, ",
+        shown,
+        "in or ",
+        shown,
+        "pt",
+        units,
+    ];
+    message_on(alloc, &[first, second], text, &cure)
 }
 
-/// The message about a text that doesn't give margins. If it names an edge twice, the message says which.
-fn margin_text(alloc: Global, text: &str) -> Result<String, AllocError> {
+/// The message about a text that doesn't give margins. If the text names an edge twice, the message names this edge.
+fn margin_text(alloc: Global, text: &str) -> Result<String, AllocError>
+    ensures { IfOk result (λ said. IsMessageOn text.now (string_bytes said)) }
+{
     let Some(edge) = edge_named_twice(text) else {
         return length_text(alloc, OptionId::Margin, text);
     };
-    let shown = shown_word(alloc, text)?;
     let edge = shown_word(alloc, edge)?;
-    format!(in alloc; "'{shown}' after --margin names {edge} twice: name each edge once")
+    let behind = [
+        "' after --margin names ",
+        edge.as_str(),
+        " twice: name each edge once",
+    ];
+    message_on(alloc, &["'"], text, &behind)
 }
 
 /// The message about a text after `--numbers-from` that isn't a whole number, or that comes without `--numbers`.
-fn first_number_text(alloc: Global, text: &str) -> Result<String, AllocError> {
+fn first_number_text(alloc: Global, text: &str) -> Result<String, AllocError>
+    ensures { IfOk result (λ said. IsMessageOn text.now (string_bytes said)) }
+{
     if whole_number(text).is_none() {
         return refused_text(alloc, OptionId::NumbersFrom, text);
     }
-    let text = shown_word(alloc, text)?;
-    format!(in alloc;
-        "--numbers-from {text} is for numbers, which have a size: give --numbers 10pt --numbers-from {text}"
-    )
+    let shown = shown_word(alloc, text)?;
+    let cure = " is for numbers, which have a size: give --numbers 10pt --numbers-from ";
+    message_on(alloc, &["--numbers-from "], text, &[cure, shown.as_str()])
 }
 
 /// The first edge that a text names twice.
@@ -204,14 +235,15 @@ fn edge_named_twice(text: &str) -> Option<&str> {
 }
 
 /// The message that an option doesn't take this text, with advice on what to give.
-fn refused_text(alloc: Global, option: OptionId, text: &str) -> Result<String, AllocError> {
+fn refused_text(alloc: Global, option: OptionId, text: &str) -> Result<String, AllocError>
+    ensures { IfOk result (λ said. IsMessageOn text.now (string_bytes said)) }
+{
     let (what, advice) = value_refusal(option);
-    let shown = shown_word(alloc, text)?;
-    let shown = shown.as_str();
-    let option = option.id();
-    joined_texts(
+    message_on(
         alloc,
-        &[what, " '", shown, "' after --", option, ": ", advice],
+        &[what, " '"],
+        text,
+        &["' after --", option.id(), ": ", advice],
     )
 }
 
@@ -255,29 +287,48 @@ fn value_refusal(option: OptionId) -> (&'static str, &'static str) {
             "give one length for all edges, such as 5mm, .2in or 14pt",
         ),
         OptionId::Creep | OptionId::Overlap => ("bad length", "give it as 5mm, .2in or 14pt"),
-        OptionId::Count(_) | OptionId::Outfile => ("bad value", "see impose --help"),
+        _ => ("bad value", "see impose --help"),
     }
 }
 
-/// The message about page ranges after `-p`, which is psselect's option for them, but gives a paper here.
-fn ranges_text(alloc: Global, text: &str) -> Result<String, AllocError> {
-    let text = shown_word(alloc, text)?;
-    format!(in alloc;
-        "'{text}' after --paper is no paper: pages come after select, as in: impose select {text} in.ps out.ps"
+/// The message about page ranges after `-p`. This is psselect's option for page ranges, but here it names a paper.
+fn ranges_text(alloc: Global, text: &str) -> Result<String, AllocError>
+    ensures { IfOk result (λ said. IsMessageOn text.now (string_bytes said)) }
+{
+    let shown = shown_word(alloc, text)?;
+    let cure = "' after --paper is no paper: pages come after select, as in: impose select ";
+    message_on(
+        alloc,
+        &["'"],
+        text,
+        &[cure, shown.as_str(), " in.ps out.ps"],
     )
 }
 
 /// The message about a size without a unit.
-fn no_size_unit_text(alloc: Global, option: OptionId, text: &str) -> Result<String, AllocError> {
-    let text = shown_word(alloc, text)?;
-    let id = option.id();
-    format!(in alloc;
-        "size '{text}' after --{id} has no unit at its end: write {text}mm, {text}in or {text}pt"
-    )
+fn no_size_unit_text(alloc: Global, option: OptionId, text: &str) -> Result<String, AllocError>
+    ensures { IfOk result (λ said. IsMessageOn text.now (string_bytes said)) }
+{
+    let shown = shown_word(alloc, text)?;
+    let shown = shown.as_str();
+    let cure = [
+        "' after --",
+        option.id(),
+        " has no unit at its end: write ",
+        shown,
+        "mm, ",
+        shown,
+        "in or ",
+        shown,
+        "pt",
+    ];
+    message_on(alloc, &["size '"], text, &cure)
 }
 
 /// The message about a text that isn't a paper.
-fn paper_text(alloc: Global, option: OptionId, text: &str) -> Result<String, AllocError> {
+fn paper_text(alloc: Global, option: OptionId, text: &str) -> Result<String, AllocError>
+    ensures { IfOk result (λ said. IsMessageOn text.now (string_bytes said)) }
+{
     match read_paper(text.as_bytes()) {
         Err(PaperError::NoUnit) if may_have_unit(alloc, text)? => {
             no_size_unit_text(alloc, option, text)
@@ -287,25 +338,34 @@ fn paper_text(alloc: Global, option: OptionId, text: &str) -> Result<String, All
     }
 }
 
-fn unknown_paper_text(alloc: Global, option: OptionId, text: &str) -> Result<String, AllocError> {
-    let shown = shown_word(alloc, text)?;
-    let shown = shown.as_str();
-    let option = option.id();
+/// The message about a text that isn't the name of a paper.
+fn unknown_paper_text(alloc: Global, option: OptionId, text: &str) -> Result<String, AllocError>
+    ensures { IfOk result (λ said. IsMessageOn text.now (string_bytes said)) }
+{
+    let advice = paper_advice(alloc, text)?;
+    let advice = advice.as_str();
+    message_on(
+        alloc,
+        &["unknown paper '"],
+        text,
+        &["' after --", option.id(), ": name ", advice],
+    )
+}
+
+/// What to name in place of a text that isn't the name of a paper.
+fn paper_advice(alloc: Global, text: &str) -> Result<String, AllocError> {
     if begins_with_digit(text) {
-        return format!(in alloc;
-            "unknown paper '{shown}' after --{option}: name a size such as 210x297mm, or a paper such as a4"
-        );
+        return String::from_str(alloc, "a size such as 210x297mm, or a paper such as a4");
     }
     if matches!(text, "landscape" | "portrait") {
-        return format!(in alloc;
-            "unknown paper '{shown}' after --{option}: name the paper too, as a4-landscape, or a4, which is upright"
+        return String::from_str(
+            alloc,
+            "the paper too, as a4-landscape, or a4, which is upright",
         );
     }
     let names = nearest_names(alloc, text)?;
-    format!(in alloc;
-        "unknown paper '{shown}' after --{option}: name {names}, another paper of impose --help, \
-        or a size such as 210x297mm"
-    )
+    let others = ", another paper of impose --help, or a size such as 210x297mm";
+    joined_texts(alloc, &[names.as_str(), others])
 }
 
 /// Whether a size would be valid with a unit.
@@ -315,38 +375,44 @@ fn may_have_unit(alloc: Global, text: &str) -> Result<bool, AllocError> {
 }
 
 /// The message about an output file whose name begins with a minus, as options do.
-fn outfile_text(alloc: Global, text: &str) -> Result<String, AllocError> {
-    let text = shown_word(alloc, text)?;
-    let text = text.as_str();
+fn outfile_text(alloc: Global, text: &str) -> Result<String, AllocError>
+    ensures { IfOk result (λ said. IsMessageOn text.now (string_bytes said)) }
+{
+    let shown = shown_word(alloc, text)?;
     let advice =
         "' begins with a minus, as options do: options come before --, and a file of this name is written ./";
-    joined_texts(alloc, &["OUTFILE '", text, advice, text])
+    message_on(alloc, &["OUTFILE '"], text, &[advice, shown.as_str()])
 }
 
-/// The message about marks that the command doesn't draw. If fold marks are among them, it says that only booklets are folded.
-fn cut_marks_text(alloc: Global, text: &str) -> Result<String, AllocError> {
-    let shown = shown_word(alloc, text)?;
-    let shown = shown.as_str();
-    if !shown.contains("fold") {
+/// The message about marks that the command doesn't draw. If the text asks for fold marks, the message says that only booklets are folded.
+fn cut_marks_text(alloc: Global, text: &str) -> Result<String, AllocError>
+    ensures { IfOk result (λ said. IsMessageOn text.now (string_bytes said)) }
+{
+    if !text.contains("fold") {
         return refused_text(alloc, OptionId::CutMarks, text);
     }
     let reason = "only a booklet is folded, so --marks ";
-    joined_texts(
+    message_on(
         alloc,
-        &[reason, shown, " asks too much here: give --marks cut"],
+        &[reason],
+        text,
+        &[" asks too much here: give --marks cut"],
     )
 }
 
-/// The message about a text that isn't the number of sides of a signature. For a number between 4 and 1,000,000 it names the two nearest multiples of
-/// four.
-fn signature_text(alloc: Global, text: &str) -> Result<String, AllocError> {
+/// The message about a text that isn't the number of sides of a signature. For a number between 4 and 1,000,000 the message names the two nearest
+/// multiples of four.
+fn signature_text(alloc: Global, text: &str) -> Result<String, AllocError>
+    ensures { IfOk result (λ said. IsMessageOn text.now (string_bytes said)) }
+{
     match whole_number(text) {
         Some(sides) if 4 < sides && sides < 1_000_000 => {
             let below = sides - sides % 4;
             let above = below + 4;
-            format!(in alloc;
-                "a signature of {sides} sides can't be folded: take a multiple of four, as {below} or {above}, or auto"
-            )
+            let cure = format!(in alloc;
+                " sides can't be folded: take a multiple of four, as {below} or {above}, or auto"
+            )?;
+            message_on(alloc, &["a signature of "], text, &[cure.as_str()])
         }
         _ => refused_text(alloc, OptionId::Signature, text),
     }
@@ -354,20 +420,21 @@ fn signature_text(alloc: Global, text: &str) -> Result<String, AllocError> {
 
 /// The message about a text after a command that isn't a number of pages or a grid. If the text looks like a file, the message says that the number
 /// or grid is missing before it.
-fn cells_text(alloc: Global, command: CellCommand, text: &str) -> Result<String, AllocError> {
-    let shown = shown_word(alloc, text)?;
-    let shown = shown.as_str();
+fn cells_text(alloc: Global, command: CellCommand, text: &str) -> Result<String, AllocError>
+    ensures { IfOk result (λ said. IsMessageOn text.now (string_bytes said)) }
+{
     let (name, example, missing, place) = command_named(command);
-    if !looks_like_file(text) {
-        let (what, advice) = bad_cells(command, text.contains("x"));
-        return joined_texts(
-            alloc,
-            &[what, " '", shown, "' after ", name, ": give ", advice],
-        );
+    if looks_like_file(text) {
+        let behind = [place, name, ", as in: impose ", example, " in.ps out.ps"];
+        return message_on(alloc, &[missing, " missing before '"], text, &behind);
     }
-    let mut said = joined_texts(alloc, &[missing, " missing before '", shown, place, name])?;
-    push_all(&mut said, &[", as in: impose ", example, " in.ps out.ps"])?;
-    Ok(said)
+    let (what, advice) = bad_cells(command, text.contains("x"));
+    message_on(
+        alloc,
+        &[what, " '"],
+        text,
+        &["' after ", name, ": give ", advice],
+    )
 }
 
 /// For the message about a missing argument: the name of a command, the command with an example of its argument, a phrase for the argument, and the

@@ -1,0 +1,3 @@
+pub mod Escapes
+pub mod Messages
+pub mod Examples
