@@ -1,6 +1,5 @@
 -- What can be said of a request before its document is read.
-use Rattle.std.specs.Prelude.{◌≡◌, ◌≢◌, ◌⊎◌, ℕ, ◌==◌, ℤ, pos, ◌+ℤ◌, int_lt, int_le, Bool, true, false, ◌&&◌, not, if◌then◌else◌, is_some, List, Option, None, Some, Err, IfSome, option_and_then, option_map, string_bytes}
-use Rattle.std.specs.Ordering.{int_eq}
+use Rattle.std.specs.Prelude.{◌≡◌, ◌≢◌, ◌⊎◌, ℕ, Bool, false, if◌then◌else◌, List, Option, None, Some, Err, IfSome, option_and_then, option_map, string_bytes}
 use Rattle.std.specs.Str.{bytes_eq}
 use Rattle.rules.specs.Papers.{Paper}
 use Rattle.rules.specs.Choice.{NotARange, row_of_text}
@@ -15,11 +14,9 @@ use Rattle.impose_words.specs.declared.request.Product.{Product}
 use Rattle.impose_words.specs.declared.request.Product.TheVariants as product
 use Rattle.impose_words.specs.declared.request.ImposeRequest.{ImposeRequest}
 use Rattle.impose_words.specs.Spacings.{binding_in}
-use Rattle.layouts.specs.Grids.{cells_per_sheet}
+use Rattle.impose_words.specs.IdleOptions.{idle_option}
 use Rattle.layouts.specs.Refusals.{why_no_room}
 use Rattle.layouts.specs.declared.arrangement.Free.{Free}
-use Rattle.impose_messages.specs.declared.fault.IdleOption.{IdleOption}
-use Rattle.impose_messages.specs.declared.fault.IdleOption.TheVariants.{Outfile, Sheet, CutMarks, Inner, InnerMarks, Left}
 use Rattle.impose_messages.specs.declared.fault.ImposeFault.{ImposeFault}
 use Rattle.impose_messages.specs.declared.fault.ImposeFault.TheVariants as fault
 
@@ -65,57 +62,6 @@ AreGoodRanges c = IfSome c.ranges (λ text. (pages at : ℕ) → row_of_text pag
 abbrev pub RefusesRanges : PageChoice → ImposeFault → Type 0
 RefusesRanges c f = (text : List ℕ) × (at : ℕ) × (option_map string_bytes c.ranges ≡ Some text)
     × (f ≡ fault.Row (row.NotARange at)) × ((pages : ℕ) → row_of_text pages text ≡ Err (NotARange at))
-
--- ---- options that would do nothing
-
--- sheets are shown in place of being imposed
-abbrev pub shows_sheets : Product → Bool
-shows_sheets product.Plan = true
-shows_sheets (product.Picture file) = true
-shows_sheets other = false
-
--- each page is left on its own paper
-abbrev pub keeps_papers : Layout → Bool
-keeps_papers layout.Selection = true
-keeps_papers other = false
-
--- a sheet is cut outside its cells alone: it has one cell, or is folded between them
-abbrev pub is_cut_outside : Layout → Bool
-is_cut_outside (layout.NUp cells) = cells_per_sheet cells == 1
-is_cut_outside (layout.Cards cells) = cells_per_sheet cells == 1
-is_cut_outside (layout.Stack cells duplex) = cells_per_sheet cells == 1
-is_cut_outside (layout.Booklet signing long_edge) = true
-is_cut_outside other = false
-
--- there is a margin, of half the gap at least
-abbrev pub fits_half_gap : (margin gap : ℤ) → Bool
-fits_half_gap margin gap = int_lt (pos 0) margin && int_le gap (margin +ℤ margin)
-
--- along all edges
-abbrev pub has_margins : Free → Bool
-has_margins f = (fits_half_gap f.left f.across && fits_half_gap f.right f.across) && (fits_half_gap f.bottom f.up && fits_half_gap f.top f.up)
-
--- what is laid so is bound, and has an inner edge there
-abbrev pub is_bound : Layout → Bool
-is_bound (layout.NUp cells) = true
-is_bound (layout.Booklet signing long_edge) = true
-is_bound other = false
-
--- a left margin is asked for, and the left edge is the inner one of fronts, which has its own
-abbrev pub has_two_left : Layout → Spacing → Bool
-has_two_left (layout.NUp cells) s = is_some s.inner && not (int_eq s.free.left (pos 0))
-has_two_left other s = false
-
--- the first such option: a file for sheets that are only shown; a paper for sheets that keep their own; a margin at an edge that
--- there isn't, or that has another; marks that aren't where that margin is; and marks outside of pages that have no room for them
--- (RULES, 16, step 4)
-abbrev pub idle_option : ImposeRequest → Option IdleOption
-idle_option r = if shows_sheets r.product && is_some r.outfile then Some Outfile
-    else (if keeps_papers r.layout && is_some r.sheet_paper then Some Sheet
-    else (if is_some r.spacing.inner && not (is_bound r.layout) then Some Inner
-    else (if has_two_left r.layout r.spacing then Some Left
-    else (if r.marks.cut && is_some r.spacing.inner then Some InnerMarks
-    else (if r.marks.cut && (is_cut_outside r.layout && not (has_margins r.spacing.free)) then Some CutMarks else None)))))
 
 -- ---- a file that is read and written
 

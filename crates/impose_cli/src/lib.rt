@@ -17,13 +17,13 @@ mod task;
 
 pub use guard::RoomyText;
 pub use impose_messages::{
-    Claims, Compression, Done, Finished, IdleOption, ImposeFault, PaperOrigin, ReportText,
-    command_text, fault_status, fault_text, text_of_fault, text_said, words_text,
+    Claims, Compression, Done, Finished, ImposeFault, PaperOrigin, ReportText, command_text,
+    fault_status, fault_text, text_of_fault, text_said, words_text,
 };
 pub use impose_words::{
-    CellCommand, ImposeRequest, Layout, OptionId, PageChoice, Product, ProductOption, RequestFault,
-    Spacing, cells_named, exact_cells, parse_note_count, parse_number, read_command, run_named,
-    signing_named, size_named, turned_named,
+    CellCommand, IdleOption, ImposeRequest, Layout, OptionId, PageChoice, Product, ProductOption,
+    RequestFault, Spacing, cells_named, exact_cells, parse_note_count, parse_number, read_command,
+    run_named, signing_named, size_named, turned_named,
 };
 pub use look::{Overview, look_text};
 pub use precheck::check_request;

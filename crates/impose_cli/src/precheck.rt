@@ -5,10 +5,8 @@ ghost use Rattle.impose_cli.specs.Precheck.{AreGoodRanges, MayBeRead, RefusesRan
 
 use crate::task::check_layout;
 use command_words::name_of;
-use impose_messages::{IdleOption, ImposeFault};
-use impose_words::{ImposeRequest, Layout, PageChoice, Product, Spacing};
-use layouts::Free;
-use lengths::Grains;
+use impose_messages::ImposeFault;
+use impose_words::{ImposeRequest, PageChoice, Product};
 use rows::{RowError, read_row};
 use std::alloc::Global;
 
@@ -32,7 +30,7 @@ fn option_fault(request: &ImposeRequest) -> Option<ImposeFault>
     if is_drawn_over(&request.product, name_of(&request.infile)) {
         return Some(ImposeFault::OverInput);
     }
-    match idle_option(request) {
+    match request.idle_option() {
         Some(option) => Some(ImposeFault::Idle(option)),
         None => None,
     }
@@ -56,91 +54,6 @@ fn is_one_file(one: Option<&str>, other: Option<&str>) -> bool
         (Some(one), Some(other)) => one == other,
         _ => false,
     }
-}
-
-/// The first option or file without effect, or with another effect than it names: an output file beside `--plan` or `--preview`; a paper for sheets
-/// that keep their own; a margin at an edge that is missing or has another margin; cut marks that don't fit an inner margin; cut marks without a margin
-/// for them.
-fn idle_option(request: &ImposeRequest) -> Option<IdleOption>
-    ensures { result ≡ meaning.idle_option request.now }
-{
-    if shows_sheets(&request.product) && request.outfile.is_some() {
-        Some(IdleOption::Outfile)
-    } else if keeps_papers(&request.layout) && request.sheet_paper.is_some() {
-        Some(IdleOption::Sheet)
-    } else if request.spacing.inner.is_some() && !is_bound(&request.layout) {
-        Some(IdleOption::Inner)
-    } else if has_two_left(&request.layout, &request.spacing) {
-        Some(IdleOption::Left)
-    } else if request.marks.cut && request.spacing.inner.is_some() {
-        Some(IdleOption::InnerMarks)
-    } else if request.marks.cut
-        && (is_cut_outside(&request.layout) && !has_margins(&request.spacing.free))
-    {
-        Some(IdleOption::CutMarks)
-    } else {
-        None
-    }
-}
-
-/// Whether the product shows the sheets, so that they aren't written.
-fn shows_sheets(product: &Product) -> bool
-    ensures { result ≡ meaning.shows_sheets product.now }
-{
-    matches!(product, Product::Plan | Product::Picture(_))
-}
-
-/// Whether the layout puts each page on a sheet of the page's own paper.
-fn keeps_papers(layout: &Layout) -> bool
-    ensures { result ≡ meaning.keeps_papers layout.now }
-{
-    matches!(layout, Layout::Selection)
-}
-
-/// Whether sheets of this layout are bound, and so have an inner edge.
-fn is_bound(layout: &Layout) -> bool
-    ensures { result ≡ meaning.is_bound layout.now }
-{
-    matches!(layout, Layout::NUp(_) | Layout::Booklet { .. })
-}
-
-/// Whether both a left margin and an inner margin are named for `nup`, although the inner margin is the left one of fronts.
-fn has_two_left(layout: &Layout, spacing: &Spacing) -> bool
-    ensures { result ≡ meaning.has_two_left layout.now spacing.now }
-{
-    match layout {
-        Layout::NUp(_) => spacing.inner.is_some() && spacing.free.left.get() != 0,
-        _ => false,
-    }
-}
-
-/// Whether sheets are cut only outside their cells, because they have one cell or are folded between the cells.
-fn is_cut_outside(layout: &Layout) -> bool
-    ensures { result ≡ meaning.is_cut_outside layout.now }
-{
-    match layout {
-        Layout::NUp(cells) | Layout::Cards(cells) => cells.count() == 1,
-        Layout::Stack { cells, .. } => cells.count() == 1,
-        Layout::Booklet { .. } => true,
-        Layout::Notes { .. } | Layout::Poster { .. } | Layout::Zine | Layout::Selection => false,
-        Layout::Spec(_) | Layout::SpecRow { .. } => false,
-    }
-}
-
-/// Whether each margin is above 0 and at least half the gap between cells in its direction.
-fn has_margins(free: &Free) -> bool
-    ensures { result ≡ meaning.has_margins free.now }
-{
-    let beside = fits_half_gap(free.left, free.across) && fits_half_gap(free.right, free.across);
-    let above = fits_half_gap(free.bottom, free.up) && fits_half_gap(free.top, free.up);
-    beside && above
-}
-
-fn fits_half_gap(margin: Grains, gap: Grains) -> bool
-    ensures { result ≡ meaning.fits_half_gap margin gap }
-{
-    let margin = margin.get();
-    0 < margin && gap.get() <= margin + margin
 }
 
 /// Checks the form of the page ranges. They are read for a document without pages: a text with a wrong form is refused there, as for every document.

@@ -7,7 +7,7 @@ use Rattle.layouts.specs.Placed.{bare}
 use Rattle.layouts.specs.declared.error.ArrangementError.TheVariants as layout
 use Rattle.impose_messages.specs.declared.fault.ImposeFault.TheVariants as fault
 use Rattle.impose_messages.specs.declared.fault.Compression.TheVariants.{Gzip}
-use Rattle.impose_messages.specs.declared.fault.IdleOption.TheVariants.{CutMarks}
+use Rattle.impose_words.specs.declared.idle.IdleOption.TheVariants.{CutMarks}
 use Rattle.impose_words.specs.declared.fault.RequestFault.TheVariants as command
 use Rattle.impose_messages.specs.Statuses.{fault_status, words_status}
 use Rattle.impose_messages.specs.Said.{behind_text, blanks_text, cut_pages_text, edges_text, is_pdf_name, leaf_count_text, page_count_text, sheets_text, shown_name, paper_size_text, told_text, unknown_text}

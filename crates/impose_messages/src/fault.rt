@@ -1,5 +1,5 @@
 //! Faults: the reasons why `impose` writes no output, or only part of it.
-use impose_words::RequestFault;
+use impose_words::{IdleOption, RequestFault};
 use imposer::RunError;
 use layouts::ArrangementError;
 use row_sheets::PosterError;
@@ -15,23 +15,6 @@ pub enum Compression {
     Bzip2,
     Xz,
     Zip,
-}
-
-/// An option that has no effect, or not the effect that its name promises.
-#[derive(Clone, Copy)]
-pub enum IdleOption {
-    /// An output file for the sheets, although `--plan` or `--preview` only shows them.
-    Outfile,
-    /// `--sheet`, although the layout leaves each page on a sheet of the page's own size.
-    Sheet,
-    /// Cut marks, although the margins have no room for them.
-    CutMarks,
-    /// A margin at the inner edge, although sheets of this layout have no inner edge.
-    Inner,
-    /// A left margin beside one at the inner edge. The inner edge of fronts is their left edge, so the left margin would have no effect.
-    Left,
-    /// Cut marks together with a margin at the inner edge. Cut marks are the same on fronts and backs, but such margins differ.
-    InnerMarks,
 }
 
 /// The reason why `impose` writes no output, or only part of it.

@@ -14,7 +14,7 @@ mod said;
 mod shown;
 mod statuses;
 
-pub use fault::{Compression, IdleOption, ImposeFault};
+pub use fault::{Compression, ImposeFault};
 pub use finished::{Claims, Done, Finished, PaperOrigin};
 pub use inputs::refused_document;
 pub use messages::{command_text, fault_text};

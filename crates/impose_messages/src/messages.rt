@@ -1,11 +1,11 @@
 //! The message about a fault.
 
 use crate::context::Context;
-use crate::fault::{Compression, IdleOption, ImposeFault};
+use crate::fault::{Compression, ImposeFault};
 use crate::rooms::no_room_text;
 use command_words::{caret_below, group_place, item_place, large_place, range_place};
 use dsc::DscError;
-use impose_words::{ImposeRequest, ProductOption, RequestFault};
+use impose_words::{IdleOption, ImposeRequest, ProductOption, RequestFault};
 use imposer::RunError;
 use layouts::ArrangementError;
 use pagespec::SpecError;

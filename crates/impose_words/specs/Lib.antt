@@ -1,5 +1,5 @@
 -- Read in this order: the command, the tables that it is made of, and its values, sizes, edges, signatures, cells, choices of pages,
--- what is kept free, the paper of the sheets and what is made among them; what the words ask for; what is refused.
+-- what is kept free, the paper of the sheets and what is made among them; what the words ask for; what would do nothing; what is refused.
 pub mod Command
 pub mod Tables
 pub mod Sizes
@@ -11,4 +11,5 @@ pub mod Spacings
 pub mod SheetPapers
 pub mod Products
 pub mod Words
+pub mod IdleOptions
 pub mod Faults

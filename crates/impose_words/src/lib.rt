@@ -6,6 +6,7 @@ mod arranging;
 mod command;
 mod edges;
 mod fault;
+mod idle;
 mod request;
 mod shared_arguments;
 mod sheet_paper;
@@ -16,6 +17,7 @@ pub use arranging::{cells_named, exact_cells, parse_note_count, run_named, turne
 pub use command::read_command;
 pub use edges::{gaps_named, margins_named};
 pub use fault::{CellCommand, OptionId, ProductOption, RequestFault};
+pub use idle::IdleOption;
 pub use request::{ImposeRequest, Layout, PageChoice, Product, Spacing};
 pub use signature::{signing_named, whole_number};
 pub use sizes::{border_with_unit, lacks_unit, length_with_unit, parse_number, size_named};
