@@ -9,7 +9,7 @@ ghost use Rattle.rules.specs.Admissible.{Takes, most_slots};
 ghost use Rattle.impose_cli.specs.Refusals.{HasGoodName, RefusesRowLayout, RefusesSpecification};
 ghost use Rattle.impose_cli.specs.RowTasks.{IsLaidSo, IsLayingOf, LaysRows, MayBeLaidSo};
 ghost use Rattle.impose_cli.specs.Refusals.{RefusesLayout, RefusesOptions};
-ghost use Rattle.impose_cli.specs.RowTasks.{has_even_margins as are_even, has_one_margin as are_one, is_even_enough as are_even_enough};
+ghost use Rattle.impose_cli.specs.RowTasks.{has_even_margins as are_even, is_even_enough as are_even_enough};
 ghost use Rattle.impose_cli.specs.RowTasks.{cells_of_layout, filled_in, laying_in, scheme_in, why_no_layout, why_not_placed};
 ghost use Rattle.impose_cli.specs.RowTasks.{cells_paper, sheet_paper_in, signing_in};
 ghost use Rattle.impose_cli.specs.Precheck.{kept_free as kept_free_in, why_no_sheets};
@@ -194,7 +194,7 @@ fn is_even_enough(layout: &Layout, free: &Free) -> bool
 {
     match layout {
         Layout::Stack { duplex, .. } => !*duplex || has_even_margins(free),
-        Layout::Poster { .. } => has_one_margin(free),
+        Layout::Poster { .. } => has_even_margins(free) && free.left.get() == free.bottom.get(),
         Layout::Zine => has_even_margins(free),
         _ => true,
     }
@@ -324,15 +324,8 @@ fn has_even_margins(free: &Free) -> bool
     free.left.get() == free.right.get() && free.bottom.get() == free.top.get()
 }
 
-/// Whether all margins are equal.
-fn has_one_margin(free: &Free) -> bool
-    ensures { result ≡ are_one free.now }
-{
-    has_even_margins(free) && free.left.get() == free.bottom.get()
-}
-
-/// The signatures of a request, if it has any. The request is refused if a signature can't have the number of sides that is named, or if a border is
-/// named whose width isn't above 0.
+/// The signatures of a request, if it has any. The error is `Options` if a signature can't have the named number of sides, or if the width of the
+/// border isn't above 0.
 #[tactic(auto, using(crate::proofs::RowOptions::no_border, crate::proofs::RowOptions::not_sewn))]
 pub(crate) fn signing_for(request: &ImposeRequest) -> Result<Option<Signing>, ImposeFault>
     ensures signing { IfOk result (λ signing. signing ≡ signing_in request.now.layout) }

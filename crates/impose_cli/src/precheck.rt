@@ -27,22 +27,14 @@ pub fn check_request(alloc: Global, request: &ImposeRequest) -> Result<(), Impos
 fn option_fault(request: &ImposeRequest) -> Option<ImposeFault>
     ensures { result ≡ meaning.option_fault request.now }
 {
-    if is_drawn_over(&request.product, name_of(&request.infile)) {
+    if let Product::Picture(file) = &request.product
+        && is_one_file(name_of(file), name_of(&request.infile))
+    {
         return Some(ImposeFault::OverInput);
     }
     match request.idle_option() {
         Some(option) => Some(ImposeFault::Idle(option)),
         None => None,
-    }
-}
-
-/// Whether the drawing of the sheets would be written to the input file.
-fn is_drawn_over(product: &Product, infile: Option<&str>) -> bool
-    ensures { result ≡ meaning.is_drawn_over product.now (option_map (λ n. n.now) infile.entry) }
-{
-    match product {
-        Product::Picture(file) => is_one_file(name_of(file), infile),
-        Product::Sheets | Product::Specification | Product::Plan => false,
     }
 }
 

@@ -6,7 +6,7 @@ ghost use Rattle.impose_cli.specs.Endings.{Comes, RefusesRowTaskRun, edge_of_wor
 ghost use Rattle.rules.specs.Parts.{bytes_of};
 ghost use Rattle.sheet_text.specs.Jobs.{is_border};
 ghost use Rattle.impose_messages.specs.Faults.{without_memory};
-ghost use Rattle.impose_cli.specs.Faults.{of_asked as asked_fault, row_fault as row_fault};
+ghost use Rattle.impose_cli.specs.Faults.{of_asked as asked_fault};
 ghost use Rattle.rules.specs.Run.{most_pages};
 ghost use Rattle.rules.specs.Choice.{imposed_row as row_of};
 ghost use Rattle.impose_words.specs.Choices.{choice_in};
@@ -430,20 +430,12 @@ pub(crate) fn asked_fault_of(error: SheetError, pages: u32) -> ImposeFault
     ensures { result ≡ asked_fault pages error }
 {
     match error {
-        SheetError::Row(error) => row_fault_of(error, pages),
+        SheetError::Row(RowError::NotInDocument(place)) => ImposeFault::NoSuchPage { place, pages },
+        SheetError::Row(error) => ImposeFault::Row(error),
         SheetError::Arrangement(error) => ImposeFault::Layout(error),
         SheetError::Poster(error) => ImposeFault::Poster(error),
         SheetError::Sheets(error) => ImposeFault::Sheets(error),
         SheetError::OutOfReach => ImposeFault::OutOfReach,
         SheetError::NoMemory => ImposeFault::no_memory(),
-    }
-}
-
-fn row_fault_of(error: RowError, pages: u32) -> ImposeFault
-    ensures { result ≡ row_fault pages error }
-{
-    match error {
-        RowError::NotInDocument(place) => ImposeFault::NoSuchPage { place, pages },
-        error => ImposeFault::Row(error),
     }
 }

@@ -146,16 +146,9 @@ fn mark_entry(taken: &mut Vec<bool>, entry: &Option<u32>)
         → get_or taken.new.items k false ≡ (is_entry_of entry.now k || get_or taken.old.items k false) }
 {
     if let Some(page) = entry {
-        mark_page(taken, *page as usize);
-    }
-}
-
-fn mark_page(taken: &mut Vec<bool>, page: usize)
-    ensures len { length taken.new.items ≡ length taken.old.items }
-    ensures each { (k : ℕ) → k < length taken.old.items
-        → get_or taken.new.items k false ≡ ((page == k) || get_or taken.old.items k false) }
-{
-    if page < taken.len() {
-        taken[page] = true;
+        let page = *page as usize;
+        if page < taken.len() {
+            taken[page] = true;
+        }
     }
 }
