@@ -4,7 +4,7 @@
 _impose_commands='nup booklet zine cards stack notes poster select spec help'
 _impose_papers='a0 a1 a2 a3 a4 a5 a6 a7 b0 b1 b2 b3 b4 b5 b6 c4 c5 c6 dl jisb4 jisb5 ra3 ra4 sra3 sra4 letter legal tabloid ledger statement executive folio quarto 10x14'
 _impose_options_of() {
-    local all='--paper --border --unguarded --quiet --help -p -q -h'
+    local all='--paper --border --unguarded --replace --quiet --help -p -q -h'
     local sheet='--sheet' spec='--sheet --print-spec'
     local parts='--odd --even --reverse'
     local shown='--plan --preview'
@@ -59,9 +59,9 @@ _impose_files() {
 
 _impose() {
     local cur=${COMP_WORDS[COMP_CWORD]} before=${COMP_WORDS[COMP_CWORD - 1]} command='' is_behind='' number=0 at word values
-    local patterns=('*.[pP][sS]' '*.[eE][pP][sS]') of_pdf=''
+    local patterns=('*.[pP][sS]' '*.[eE][pP][sS]')
     if [ "${1##*/}" = impose-pdf ]; then
-        patterns=('*.[pP][dD][fF]' '*.[jJ][pP][gG]' '*.[jJ][pP][eE][gG]' '*.[pP][nN][gG]') of_pdf='--replace'
+        patterns=('*.[pP][dD][fF]' '*.[jJ][pP][gG]' '*.[jJ][pP][eE][gG]' '*.[pP][nN][gG]')
     fi
     COMPREPLY=()
     # A specification with a colon comes as several words.
@@ -86,7 +86,7 @@ _impose() {
     elif [ -z "$is_behind" ] && values=$(_impose_values_of "$before"); then
         COMPREPLY=($(compgen -W "$values" -- "$cur"))
     elif [ -z "$is_behind" ] && [ "${cur:0:1}" = - ]; then
-        COMPREPLY=($(compgen -W "$(_impose_options_of "$command") ${command:+$of_pdf}" -- "$cur"))
+        COMPREPLY=($(compgen -W "$(_impose_options_of "$command")" -- "$cur"))
     elif [ -z "$command" ]; then
         COMPREPLY=($(compgen -W "$_impose_commands" -- "$cur"))
     else

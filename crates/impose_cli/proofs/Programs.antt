@@ -9,7 +9,8 @@ use Rattle.imposer.specs.declared.outcome.RunError.TheVariants as run
 use Rattle.world.specs.Worlds.{WorldView}
 use Rattle.impose_cli.specs.Looks.{MayBeMade, TellsRow}
 use Rattle.impose_words.specs.Products.{lays_rows}
-use Rattle.impose_cli.specs.Programs.{BreaksAt, CarriesOut, FailsToWrite, Inputs, HasGiven, IsCreatedFor, IsReadOf, IsReading, MakesProduct, MayReadInput, Prints, RefusesUnopened, SameFiles, ShowsSheets, Writes}
+use Rattle.impose_cli.specs.Fronts.{FindsForeign, Inputs, RegularFiles, SameFiles}
+use Rattle.impose_cli.specs.Programs.{BreaksAt, CarriesOut, FailsToWrite, HasGiven, IsCreatedFor, IsReadOf, IsReading, MakesProduct, MayReadInput, Prints, RefusesUnopened, ShowsSheets, Writes}
 use Rattle.impose_cli.specs.RowTasks.{LaysRows}
 use Rattle.rules.specs.Papers.{Paper}
 use Rattle.impose_words.specs.Words.{Entered, MakesBy, ReadsRequest}
@@ -32,19 +33,19 @@ use Rattle.impose_words.specs.declared.request.ImposeRequest.{ImposeRequest}
 use Rattle.impose_cli.specs.declared.task.Task.{Task}
 
 -- nothing was created: the request is refused unread, or the input can't be read
-pub stopped_before : {V O : Type 0} (seen : V → WorldView) (r : ImposeRequest) (gives : Inputs) (same : SameFiles) (tells : Edge V O) (f : ImposeFault) (outcome : Result Done ImposeFault)
+pub stopped_before : {V O : Type 0} (seen : V → WorldView) (r : ImposeRequest) (gives : Inputs) (same : SameFiles) (foreign : Bool) (tells : Edge V O) (f : ImposeFault) (outcome : Result Done ImposeFault)
     (world left : V) (rest : Rest V O) (written : Option (List ℕ)) → outcome ≡ Err f → rest ≡ World left
-    → (RefusesUnopened same r f × (left ≡ world)) ⊎ (MayReadInput same r × IsReading (option_map string_bytes r.infile) (seen world) (seen left) f)
-    → CarriesOut seen r gives same tells outcome world rest written
-stopped_before seen r gives same tells f outcome world left rest written told none why = inl (f, left, told, none, why)
+    → (RefusesUnopened same foreign r f × (left ≡ world)) ⊎ (MayReadInput same foreign r × IsReading (option_map string_bytes r.infile) (seen world) (seen left) f)
+    → CarriesOut seen r gives same foreign tells outcome world rest written
+stopped_before seen r gives same foreign tells f outcome world left rest written told none why = inl (f, left, told, none, why)
 
 -- the input was read, and what is asked for was made of it
-pub took : {V O : Type 0} (seen : V → WorldView) (r : ImposeRequest) (gives : Inputs) (files : SameFiles) (tells told : Edge V O) (input : List ℕ) (name : Option (List ℕ))
+pub took : {V O : Type 0} (seen : V → WorldView) (r : ImposeRequest) (gives : Inputs) (files : SameFiles) (foreign : Bool) (tells told : Edge V O) (input : List ℕ) (name : Option (List ℕ))
     (outcome : Result Done ImposeFault) (world read : V) (rest : Rest V O) (written : Option (List ℕ))
     → name ≡ option_map string_bytes r.infile → IsReadOf (gives name) input → HasGiven name (seen world) (seen read)
-    → MayReadInput files r → told ≡ tells → MakesProduct r.product r input told outcome read rest written
-    → CarriesOut seen r gives files tells outcome world rest written
-took seen r gives files tells told input name outcome world read rest written named first given possible same taken =
+    → MayReadInput files foreign r → told ≡ tells → MakesProduct r.product r input told outcome read rest written
+    → CarriesOut seen r gives files foreign tells outcome world rest written
+took seen r gives files foreign tells told input name outcome world read rest written named first given possible same taken =
     inr (
       input,
       read,
@@ -54,14 +55,20 @@ took seen r gives files tells told input name outcome world read rest written na
       subst (λ t. MakesProduct r.product r input t outcome read rest written) same taken,
     )
 
--- the request was carried out in the world that was asked for the paper at home, which is as it was else
-pub at_home : {V O : Type 0} (seen : V → WorldView) (r : ImposeRequest) (gives given : Inputs) (files known : SameFiles) (tells told : Edge V O) (outcome : Result Done ImposeFault)
+-- the request was carried out in the world that was asked for the paper at home and for OUTFILE, which is as it was else
+pub at_home : {V O : Type 0} (seen : V → WorldView) (r : ImposeRequest) (gives given : Inputs) (files known : SameFiles) (foreign : Bool) (tells told : Edge V O) (outcome : Result Done ImposeFault)
     (world : V) (rest : Rest V O) (written : Option (List ℕ)) → given ≡ gives → known ≡ files → told ≡ tells
-    → CarriesOut seen r given known told outcome world rest written → CarriesOut seen r gives files tells outcome world rest written
-at_home seen r gives given files known tells told outcome world rest written same_gives same_files same_tells h =
-    subst (λ t. CarriesOut seen r gives files t outcome world rest written) same_tells
-    (subst (λ k. CarriesOut seen r gives k told outcome world rest written) same_files
-    (subst (λ g. CarriesOut seen r g known told outcome world rest written) same_gives h))
+    → CarriesOut seen r given known foreign told outcome world rest written → CarriesOut seen r gives files foreign tells outcome world rest written
+at_home seen r gives given files known foreign tells told outcome world rest written same_gives same_files same_tells h =
+    subst (λ t. CarriesOut seen r gives files foreign t outcome world rest written) same_tells
+    (subst (λ k. CarriesOut seen r gives k foreign told outcome world rest written) same_files
+    (subst (λ g. CarriesOut seen r g known foreign told outcome world rest written) same_gives h))
+
+-- OUTFILE was looked at in a world that gives the same
+pub found_at_home : (r : ImposeRequest) (gives given : Inputs) (regular : RegularFiles) (same known : SameFiles) (old new : WorldView) (foreign : Bool) → given ≡ gives → known ≡ same
+    → FindsForeign r given regular known old new foreign → FindsForeign r gives regular same old new foreign
+found_at_home r gives given regular same known old new foreign same_gives same_files h =
+    subst (λ k. FindsForeign r gives regular k old new foreign) same_files (subst (λ g. FindsForeign r g regular known old new foreign) same_gives h)
 
 -- a text was written
 pub wrote_text : {V O : Type 0} (name : Option (List ℕ)) (text : List ℕ) (what : Done) (e : Edge V O) (world : V) (output : O) (rest : Rest V O) (start : OutputView)
@@ -179,9 +186,9 @@ made_created (product.Picture file) r input tells f world rest written h = elim 
   | inr some ↦ text_created (option_map string_bytes file) some.0 tells f world rest written some.2
 ]
 
-pub created_for : {V O : Type 0} (seen : V → WorldView) (r : ImposeRequest) (gives : Inputs) (same : SameFiles) (tells : Edge V O) (outcome : Result Done ImposeFault) (world : V) (rest : Rest V O) (written : Option (List ℕ)) → CarriesOut seen r gives same tells outcome world rest written → IsCreatedFor outcome rest
-created_for seen r gives same tells (Ok what) world rest written h = tt
-created_for seen r gives same tells (Err f) world rest written h = elim h [
+pub created_for : {V O : Type 0} (seen : V → WorldView) (r : ImposeRequest) (gives : Inputs) (same : SameFiles) (foreign : Bool) (tells : Edge V O) (outcome : Result Done ImposeFault) (world : V) (rest : Rest V O) (written : Option (List ℕ)) → CarriesOut seen r gives same foreign tells outcome world rest written → IsCreatedFor outcome rest
+created_for seen r gives same foreign tells (Ok what) world rest written h = tt
+created_for seen r gives same foreign tells (Err f) world rest written h = elim h [
   | inl stopped ↦ inl (ap has_output stopped.3)
   | inr made ↦ made_created r.product r made.0 tells f made.1 rest written made.5
 ]

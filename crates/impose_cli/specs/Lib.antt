@@ -1,6 +1,6 @@
 -- Read in this order: what a document's error makes of a request, and how many of its pages are taken; what a run on a row writes; what a request comes to with a
 -- document, and what is refused; what its run leaves; what a look shows; what is printed; what is checked unread; laws; the
--- whole program.
+-- fronts of files; the whole program.
 pub mod Claims
 pub mod Reaches
 pub mod Taken
@@ -15,4 +15,5 @@ pub mod Looks
 pub mod Printed
 pub mod Precheck
 pub mod Laws
+pub mod Fronts
 pub mod Programs

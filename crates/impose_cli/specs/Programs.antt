@@ -6,13 +6,14 @@ use Rattle.std.specs.IoError.{error_kind}
 use Rattle.std.specs.declared.io.ErrorKind.TheVariants.{OutOfMemory}
 use Rattle.clap.specs.Words.{Text}
 use Rattle.world.specs.Outputs.{told_if}
-use Rattle.world.specs.Input.{IsFirst, document_in, most_bytes}
+use Rattle.world.specs.Input.{document_in, most_bytes}
 use Rattle.world.specs.Rests.{has_output}
 use Rattle.world.specs.Worlds.{HasGranted, WasAsked, WorldView, opening}
 use Rattle.rules.specs.Papers.{Paper}
 use Rattle.paper_names.specs.Home.{default_paper}
 use Rattle.impose_cli.specs.Endings.{AfterWrite, Edge, HasFailed, IsUncreatedFault, IsUnfailed, RefusesRowRun, RunsRequest}
 use Rattle.impose_messages.specs.Faults.{without_memory}
+use Rattle.impose_cli.specs.Fronts.{FindsForeign, Inputs, LooksAt, RegularFiles, SameFiles}
 use Rattle.impose_cli.specs.Looks.{TellsRow}
 use Rattle.impose_cli.specs.Printed.{printed_text}
 use Rattle.impose_cli.specs.Refusals.{HasNoFault, RefusesTask}
@@ -39,14 +40,6 @@ abbrev pub status_of : Result Done ImposeFault → ℕ
 status_of (Ok what) = 0
 status_of (Err f) = fault_status f
 
--- what files and standard input give, by the file's name
-abbrev pub Inputs : Type 0
-Inputs = Option (List ℕ) → Option (List ℕ)
-
--- whether the input of the first name is the file of the second, where that is known
-abbrev pub SameFiles : Type 0
-SameFiles = Option (List ℕ) → List ℕ → Option Bool
-
 -- ---- the document
 
 -- the document was read that is in the first bytes, as many as are read at most
@@ -63,18 +56,10 @@ home_file = codes "/etc/papersize"
 abbrev pub most_home_bytes : ℕ
 most_home_bytes = 4_096
 
--- What was read of that file, with the world before and after. Nothing, and it was passed over: it is no regular file, as far as that
--- is known. Nothing, and the world failed: the file couldn't be opened or read. Or its first bytes.
-abbrev pub LooksHome : Inputs → (regular : List ℕ → Option Bool) → (old new : WorldView) → (file : List ℕ) → Type 0
-LooksHome gives regular old new file =
-    ((new ≡ old) × IfSome (regular home_file) (λ is. is ≡ false) × (file ≡ []))
-    ⊎ ((WasAsked (opening (Some home_file)) old new × (new.failures ≡ old.failures + 1) × (file ≡ []))
-    ⊎ (HasGranted (opening (Some home_file)) old new × IsFirst most_home_bytes (gives (Some home_file)) file))
-
 -- the paper at home is by the value of PAPERSIZE and by what was read of that file
-abbrev pub FindsHome : (variable : List ℕ) → Inputs → (regular : List ℕ → Option Bool) → (old new : WorldView) → Paper → Type 0
+abbrev pub FindsHome : (variable : List ℕ) → Inputs → RegularFiles → (old new : WorldView) → Paper → Type 0
 FindsHome variable gives regular old new home =
-    (file : List ℕ) × LooksHome gives regular old new file × (home ≡ default_paper variable file)
+    (file : List ℕ) × LooksAt home_file most_home_bytes gives regular old new file × (home ≡ default_paper variable file)
 
 -- ---- faults
 
@@ -162,25 +147,27 @@ abbrev pub IsDrawnOver : SameFiles → Product → (infile : Option (List ℕ)) 
 IsDrawnOver same (product.Picture (Some file)) infile is = IfSome (same infile (string_bytes file)) (λ known. is ≡ known)
 IsDrawnOver same other infile is = is ≡ false
 
--- the request may be read for, and nothing is drawn over what is read
-abbrev pub MayReadInput : SameFiles → ImposeRequest → Type 0
-MayReadInput same r = MayBeRead r × IsDrawnOver same r.product (option_map string_bytes r.infile) false
+-- the request may be read for, nothing is drawn over what is read, and no document by others is in OUTFILE
+abbrev pub MayReadInput : SameFiles → (foreign : Bool) → ImposeRequest → Type 0
+MayReadInput same foreign r = MayBeRead r × IsDrawnOver same r.product (option_map string_bytes r.infile) false × (foreign ≡ false)
 
--- a request is refused before its input is opened: by itself, or since its picture would be written to the file that is read
-abbrev pub RefusesUnopened : SameFiles → ImposeRequest → ImposeFault → Type 0
-RefusesUnopened same r f = RefusesRequest r f
-    ⊎ (MayBeRead r × (f ≡ fault.OverInput) × IsDrawnOver same r.product (option_map string_bytes r.infile) true)
+-- a request is refused before its input is opened: by itself, since its picture would be written to the file that is read, or since its
+-- sheets would replace a document by others
+abbrev pub RefusesUnopened : SameFiles → (foreign : Bool) → ImposeRequest → ImposeFault → Type 0
+RefusesUnopened same foreign r f = RefusesRequest r f
+    ⊎ ((MayBeRead r × (f ≡ fault.OverInput) × IsDrawnOver same r.product (option_map string_bytes r.infile) true)
+    ⊎ (MayBeRead r × (f ≡ fault.OverDocument) × (foreign ≡ true)))
 
--- What comes of a request: it is refused before its input is opened; or it isn't, and its input can't be read, and the world is
--- back; or the input was read, and what is asked for is made of it (RULES, 16)
-abbrev pub CarriesOut : {W O : Type 0} → (seen : W → WorldView) → ImposeRequest → Inputs → SameFiles → (edge : Edge W O) → Result Done ImposeFault
-    → (world : W) → (rest : Rest W O) → (written : Option (List ℕ)) → Type 0
-CarriesOut {W} seen r gives same edge outcome world rest written =
+-- What comes of a request, by whether a document by others was found in OUTFILE: it is refused before its input is opened; or it isn't,
+-- and its input can't be read, and the world is back; or the input was read, and what is asked for is made of it (RULES, 16)
+abbrev pub CarriesOut : {W O : Type 0} → (seen : W → WorldView) → ImposeRequest → Inputs → SameFiles → (foreign : Bool) → (edge : Edge W O)
+    → Result Done ImposeFault → (world : W) → (rest : Rest W O) → (written : Option (List ℕ)) → Type 0
+CarriesOut {W} seen r gives same foreign edge outcome world rest written =
     ((f : ImposeFault) × (left : W) × (outcome ≡ Err f) × (rest ≡ World left)
-    × ((RefusesUnopened same r f × (left ≡ world))
-    ⊎ (MayReadInput same r × IsReading (option_map string_bytes r.infile) (seen world) (seen left) f)))
+    × ((RefusesUnopened same foreign r f × (left ≡ world))
+    ⊎ (MayReadInput same foreign r × IsReading (option_map string_bytes r.infile) (seen world) (seen left) f)))
     ⊎ ((document : List ℕ) × (read : W) × IsReadOf (gives (option_map string_bytes r.infile)) document
-    × HasGiven (option_map string_bytes r.infile) (seen world) (seen read) × MayReadInput same r
+    × HasGiven (option_map string_bytes r.infile) (seen world) (seen read) × MayReadInput same foreign r
     × MakesProduct r.product r document edge outcome read rest written)
 
 -- what is refused has no output: one that exists is that of a request that was carried out, or for which a write failed or
@@ -189,10 +176,10 @@ abbrev pub IsCreatedFor : {W O : Type 0} → Result Done ImposeFault → (rest :
 IsCreatedFor (Ok what) rest = ⊤
 IsCreatedFor (Err f) rest = (has_output rest ≡ false) ⊎ AfterWrite f (λ n. ⊤) (λ n. ⊤)
 
--- How the program ends: the words are refused, and the world is back; or they make a request, with the paper at home,
+-- How the program ends: the words are refused, and the world is back; or they make a request, with the paper at home; OUTFILE is looked at,
 -- and this comes of it.
 abbrev pub EndsProgram : {W O : Type 0} → (seen : W → WorldView) → (words : List Text) → (variable : List ℕ) → Inputs
-    → (regular : List ℕ → Option Bool) → SameFiles → (edge : Edge W O) → Option ImposeRequest → Result Done ImposeFault → (world : W)
+    → (regular : W → RegularFiles) → SameFiles → (edge : Edge W O) → Option ImposeRequest → Result Done ImposeFault → (world : W)
     → (rest : Rest W O) → (written : Option (List ℕ)) → Type 0
 EndsProgram seen words variable gives regular same edge None (Ok what) world rest written = ⊥
 EndsProgram seen words variable gives regular same edge None (Err (fault.Command f)) world rest written =
@@ -200,5 +187,6 @@ EndsProgram seen words variable gives regular same edge None (Err (fault.Command
 EndsProgram seen words variable gives regular same edge None (Err other) world rest written = ⊥
 EndsProgram {W} seen words variable gives regular same edge (Some r) outcome world rest written =
     Entered words (λ name found. ReadsRequest name found r) × (looked : W)
-    × FindsHome variable gives regular (seen world) (seen looked) r.default_paper
-    × CarriesOut seen r gives same edge outcome looked rest written
+    × FindsHome variable gives (regular world) (seen world) (seen looked) r.default_paper
+    × (found : W) × (foreign : Bool) × FindsForeign r gives (regular looked) same (seen looked) (seen found) foreign
+    × CarriesOut seen r gives same foreign edge outcome found rest written

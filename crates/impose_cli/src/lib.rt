@@ -3,6 +3,7 @@
 
 mod attempt;
 mod claims;
+mod fronts;
 pub mod laws;
 mod laying;
 mod look;

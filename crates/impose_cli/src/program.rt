@@ -11,6 +11,7 @@ ghost use Rattle.impose_cli.specs.RowTasks.{LaysRows};
 ghost use Rattle.impose_messages.specs.declared.fault.ImposeFault.TheVariants as faults;
 
 use crate::attempt::{Attempt, refused_before};
+use crate::fronts::{finds_foreign, front_of};
 use crate::look::{Overview, look_text};
 use crate::precheck::check_request;
 use crate::printed::printed_task;
@@ -27,9 +28,7 @@ use std::io;
 use std::io::ErrorKind;
 use std::sync::Wait;
 use std::thread::Threads;
-use world::{
-    Output, ReadFault, ReadSource, Rest, World, padding, read_front, read_input_behind, write_all,
-};
+use world::{Output, ReadFault, ReadSource, Rest, World, padding, read_input_behind, write_all};
 
 /// How the program ended.
 #[derive(Drop)]
@@ -67,8 +66,8 @@ pub fn impose<R: Threads + Wait + Sync, W: World>(
     paper_size: &[u8],
     mut world: W,
 ) -> Ended<W>
-    requires countable { (W.seen world).failures + 1 < u64.MAX }
-    ensures ended { EndsProgram W.seen (map string_bytes words.now) paper_size.now (W.gives world) (W.regular world)
+    requires countable { (W.seen world).failures + 2 < u64.MAX }
+    ensures ended { EndsProgram W.seen (map string_bytes words.now) paper_size.now (W.gives world) W.regular
         (W.same world) (edge_of_world (W.tells world) W.seen W.Output.seen) result.request result.outcome world result.rest (shown W.Output.seen result.rest) }
     // If the request is refused, no output has been created, and the world is given back. If an output has been created, it has all bytes that were
     // to be written, or a write failed, or memory ran out.
@@ -77,7 +76,8 @@ pub fn impose<R: Threads + Wait + Sync, W: World>(
     match read_command(alloc, words) {
         Ok(read) => {
             let request = at_home(read, home_of(paper_size, &mut world));
-            let left = carry_out(rt, alloc, &request, world);
+            let is_foreign = finds_foreign(&request, &mut world);
+            let left = carry_out(rt, alloc, &request, is_foreign, world);
             Ended {
                 request: Some(request),
                 outcome: left.outcome,
@@ -117,20 +117,9 @@ fn home_of<W: World>(paper_size: &[u8], world: &mut W) -> Paper
     ensures same { W.same world.new ≡ W.same world.old }
     ensures tells { W.tells world.new ≡ W.tells world.old }
 {
-    if !world.is_file(HOME_FILE) {
-        return default_paper(paper_size, b"");
-    }
-    let Ok(file) = world.open(Some(HOME_FILE)) else {
-        return default_paper(paper_size, b"");
-    };
-    let mut head = [0; HOME_BYTES];
-    let mut source = ReadSource::new(file);
-    let read = read_front(&mut head, &mut source);
-    drop(world.close(source));
-    match read {
-        Ok(count) => default_paper(paper_size, &head[..count]),
-        Err(_) => default_paper(paper_size, b""),
-    }
+    let mut front = [0; HOME_BYTES];
+    let count = front_of(HOME_FILE, &mut front, world);
+    default_paper(paper_size, &front[..count])
 }
 
 /// Checks the request, reads the input, and writes the output that the request asks for.
@@ -138,11 +127,12 @@ fn carry_out<R: Threads + Wait + Sync, W: World>(
     rt: &R,
     alloc: Global,
     request: &ImposeRequest,
+    is_foreign: bool,
     mut world: W,
 ) -> Attempt<W, Done>
     requires product { MayBeMade request.now.product request.now.layout }
     requires countable { (W.seen world).failures < u64.MAX }
-    ensures { CarriesOut W.seen request.now (W.gives world) (W.same world) (edge_of_world (W.tells world) W.seen W.Output.seen) result.outcome world result.rest
+    ensures { CarriesOut W.seen request.now (W.gives world) (W.same world) is_foreign (edge_of_world (W.tells world) W.seen W.Output.seen) result.outcome world result.rest
         (shown W.Output.seen result.rest) }
 {
     match check_request(alloc, request) {
@@ -151,6 +141,9 @@ fn carry_out<R: Threads + Wait + Sync, W: World>(
     }
     if is_drawn_over(request, &world) {
         return refused_before(ImposeFault::OverInput, world);
+    }
+    if is_foreign {
+        return refused_before(ImposeFault::OverDocument, world);
     }
     match roomy_input(alloc, name_of(&request.infile), &mut world) {
         Ok(input) => make(rt, alloc, request, input, world),

@@ -45,6 +45,8 @@ pub enum ImposeFault {
     Idle(IdleOption),
     /// The drawing of the sheets would overwrite the input.
     OverInput,
+    /// The sheets would replace a document that shows no mark of impose.
+    OverDocument,
     /// The input couldn't be opened or read. The cause is the system's error, if the system gave one.
     Read(Option<io::Error>),
     /// The run was refused or failed. `Write` is for a write that failed.

@@ -43,9 +43,8 @@ pub fn fault_text(
         ImposeFault::NoSpecification => NO_SPECIFICATION,
         ImposeFault::SeveralPapers => SEVERAL_PAPERS,
         ImposeFault::Idle(option) => idle_message(*option),
-        ImposeFault::OverInput => {
-            return input_text(alloc, "--preview would write over ", context, OVER_INPUT);
-        }
+        ImposeFault::OverInput => return input_text(alloc, DRAWN_OVER, context, OVER_INPUT),
+        ImposeFault::OverDocument => return over_document_text(alloc, context),
         ImposeFault::NoInput | ImposeFault::Pdf | ImposeFault::Compressed(_) => {
             return input_text(alloc, "", context, input_message(fault).unwrap_or(""));
         }
@@ -123,6 +122,8 @@ const SEVERAL_PAPERS: &str =
     "--print-spec: a specification has one paper, and not all pages have the document's: name one by --paper, or leave \
     --print-spec out";
 
+const DRAWN_OVER: &str = "--preview would write over ";
+
 const OVER_INPUT: &str =
     ", which is read: name another file, as sheets.svg, or - for standard output";
 
@@ -147,6 +148,20 @@ fn idle_message(option: IdleOption) -> &'static str {
             "--marks cut is drawn where margins are the same on fronts and backs: leave it out, or name left or right in place of inner",
     }
 }
+
+/// The message about an output file that holds another program's document.
+fn over_document_text(alloc: Global, context: &Context<'_>) -> Result<String, AllocError> {
+    let name = file_name(alloc, context.written, "standard output")?;
+    if has_second_range(context) {
+        joined_texts(alloc, &[name.as_str(), UNMARKED, RANGES_ARE_ONE_WORD])
+    } else {
+        joined_texts(alloc, &[name.as_str(), UNMARKED, NAME_ANOTHER])
+    }
+}
+
+const UNMARKED: &str = " holds a document without a mark of impose";
+
+const NAME_ANOTHER: &str = ": name another OUTFILE, or replace it with --replace";
 
 /// The message about an input that isn't a document, for use after the input's name. `None` if the fault isn't about such an input.
 fn input_message(fault: &ImposeFault) -> Option<&'static str> {

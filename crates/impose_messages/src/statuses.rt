@@ -23,7 +23,7 @@ pub fn fault_status(fault: &ImposeFault) -> u8
         ImposeFault::Row(RowError::NoMemory) | ImposeFault::Sheets(MadeError::NoMemory) => 3,
         ImposeFault::Read(_) | ImposeFault::Write { .. } => 3,
         ImposeFault::Run(error) => run_status(error),
-        ImposeFault::Idle(_) | ImposeFault::OverInput => 2,
+        ImposeFault::Idle(_) | ImposeFault::OverInput | ImposeFault::OverDocument => 2,
         ImposeFault::Layout(_) | ImposeFault::Poster(_) | ImposeFault::Row(_) => 1,
         ImposeFault::NoSuchPage { .. } | ImposeFault::OutOfReach | ImposeFault::Sheets(_) => 1,
         ImposeFault::NoSpecification | ImposeFault::SeveralPapers | ImposeFault::NoInput => 1,

@@ -211,6 +211,7 @@ reads_at_home name found r home h = record {
   infile = h.infile;
   outfile = h.outfile;
   no_option = h.no_option;
+  replaces = h.replaces;
 }
 
 pub entered_at_home : (words : List Text) (r given : ImposeRequest) (home : Paper) → given ≡ record r { default_paper = home } → Entered words (λ name found. ReadsRequest name found r)

@@ -42,6 +42,7 @@ common_rules =
     ∷ option_rule (codes "sheet")
     ∷ option_rule (codes "border")
     ∷ flag_rule (codes "unguarded")
+    ∷ flag_rule (codes "replace")
     ∷ flag_rule (codes "print-spec")
     ∷ lettered short_q (flag_rule (codes "quiet"))
     ∷ []

@@ -1,10 +1,11 @@
 -- What is made for a request: the sheets, or in place of them a report on them.
-use Rattle.std.specs.Prelude.{ℕ, Bool, true, false, List, Option, Some, None, codes, nat_eq, option_map, string_bytes}
+use Rattle.std.specs.Prelude.{ℕ, Bool, true, false, if◌then◌else◌, List, Option, Some, None, codes, nat_eq, option_map, string_bytes}
 use Rattle.std.specs.List.{ends_with}
 use Rattle.impose_words.specs.declared.request.Layout.{Layout}
 use Rattle.impose_words.specs.declared.request.Layout.TheVariants as layout
 use Rattle.impose_words.specs.declared.request.Product.{Product}
 use Rattle.impose_words.specs.declared.request.Product.TheVariants as product
+use Rattle.impose_words.specs.declared.request.ImposeRequest.{ImposeRequest}
 
 abbrev pub is_specification : Product → Bool
 is_specification product.Sheets = false
@@ -42,3 +43,11 @@ lays_rows layout.Zine = true
 lays_rows layout.Selection = true
 lays_rows (layout.Spec specs) = false
 lays_rows (layout.SpecRow specs signing) = true
+
+-- the file of the sheets, if what it holds isn't to be replaced whatever it is
+abbrev pub spared : Product → (replaces : Bool) → (outfile : Option (List ℕ)) → Option (List ℕ)
+spared product.Sheets replaces outfile = if replaces then None else outfile
+spared other replaces outfile = None
+
+abbrev pub file_to_spare : ImposeRequest → Option (List ℕ)
+file_to_spare r = spared r.product r.replaces (option_map string_bytes r.outfile)

@@ -318,6 +318,7 @@ pub record ReadsRequest (name : Text) (found : List Row) (r : ImposeRequest) : T
   pub infile : file_asked (first_of (codes "infile") found) ≡ option_map string_bytes r.infile
   pub outfile : file_asked (given opt.Outfile found) ≡ option_map string_bytes r.outfile
   pub no_option : is_outfile (option_map string_bytes r.outfile) ≡ true
+  pub replaces : has_flag (codes "replace") found ≡ r.replaces
 
 -- the command takes the words, and finds the subcommand with this name and these rows for it
 pub record Enters (words : List Text) (name : Text) (found : List Row) : Type 0 where

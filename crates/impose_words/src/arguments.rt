@@ -9,8 +9,8 @@ ghost use Rattle.impose_words.specs.Tables.{app_in, rule_in, rules_in, with_app,
 use crate::shared_arguments::{
     BORDER, BOUND_MARGIN, CELL_GAP, CUT_MARKS, EQUAL_MARGIN, EVEN, HIDDEN_PRINT_SPEC, HIDDEN_SHEET,
     INFILE, LOOK, MARGIN, NUMBERS, NUMBERS_FROM, ODD, OPPOSITE_MARGIN, ORDER, OUTFILE, PAGES,
-    PAPER, PRINT_SPEC, QUIET, RANGES_HELP, REVERSE, RTL, SAME_SCALE, SCALE, SHEET, TRIM, TURN,
-    TURNED, UNGUARDED,
+    PAPER, PRINT_SPEC, QUIET, RANGES_HELP, REPLACE, REVERSE, RTL, SAME_SCALE, SCALE, SHEET, TRIM,
+    TURN, TURNED, UNGUARDED,
 };
 use clap::{Arg, ArgAction, Command};
 use std::alloc::{AllocError, Global};
@@ -327,12 +327,13 @@ const SPECS: [Argument; 2] = [
 ];
 
 /// The arguments of every subcommand, in the order of `common_rules` (specs/Command.antt).
-const COMMON: [Argument; 11] = [
-    ODD, EVEN, REVERSE, INFILE, OUTFILE, PAPER, SHEET, BORDER, UNGUARDED, PRINT_SPEC, QUIET,
+const COMMON: [Argument; 12] = [
+    ODD, EVEN, REVERSE, INFILE, OUTFILE, PAPER, SHEET, BORDER, UNGUARDED, REPLACE, PRINT_SPEC,
+    QUIET,
 ];
 
-/// The same for subcommands that no specification can express.
-const COMMON_UNSPECIFIED: [Argument; 11] = [
+/// The arguments of every subcommand, for subcommands whose layout no specification can express. The help leaves `--print-spec` out.
+const COMMON_UNSPECIFIED: [Argument; 12] = [
     ODD,
     EVEN,
     REVERSE,
@@ -342,12 +343,13 @@ const COMMON_UNSPECIFIED: [Argument; 11] = [
     SHEET,
     BORDER,
     UNGUARDED,
+    REPLACE,
     HIDDEN_PRINT_SPEC,
     QUIET,
 ];
 
-/// The same for `select`, which leaves each page on its own paper too.
-const COMMON_OF_SELECTIONS: [Argument; 11] = [
+/// The arguments of every subcommand, for `select`. The help leaves out `--print-spec`, and `--sheet` because each page is put on its own paper.
+const COMMON_OF_SELECTIONS: [Argument; 12] = [
     ODD,
     EVEN,
     REVERSE,
@@ -357,6 +359,7 @@ const COMMON_OF_SELECTIONS: [Argument; 11] = [
     HIDDEN_SHEET,
     BORDER,
     UNGUARDED,
+    REPLACE,
     HIDDEN_PRINT_SPEC,
     QUIET,
 ];

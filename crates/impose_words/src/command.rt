@@ -141,6 +141,7 @@ fn request_for(
         is_quiet: is_set(found, "quiet"),
         infile,
         outfile,
+        replaces: is_set(found, "replace"),
     })
 }
 

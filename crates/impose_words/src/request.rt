@@ -2,11 +2,12 @@
 ghost use Rattle.std.specs.Prelude.{◌≡◌, option_map, string_bytes, true};
 ghost use Rattle.rows.specs.Choices.{choice_of};
 ghost use Rattle.impose_words.specs.Choices.{choice_in, is_all_pages};
-ghost use Rattle.impose_words.specs.Products.{lays_rows};
+ghost use Rattle.impose_words.specs.Products.{file_to_spare, lays_rows};
 ghost use Rattle.impose_words.specs.Spacings.{arrangement_in, binding_in, keeps_room, notes_in, nothing_kept, some_gap as some_gap_of, zine_in};
 ghost use Rattle.impose_words.specs.Spacings.{at_fold as free_at_fold, fold_gap as gap_at_fold, on_fronts as free_on_fronts, swaps_margins};
 ghost use Rattle.impose_words.specs.Words.{has_numbers};
 
+use command_words::name_of;
 use dressing::Marks;
 use layouts::{Arrangement, Binding, Cells, FillOrder, Free, Order, Turned, grains, is_length};
 use lengths::{Grains, Number, Paper};
@@ -341,6 +342,8 @@ pub struct ImposeRequest {
     pub infile: Option<String>,
     /// The name of the output file for the sheets. `None` for standard output.
     pub outfile: Option<String>,
+    /// Whether the output file is replaced even if it holds a document that shows no mark of impose.
+    pub replaces: bool,
 }
 
 impl ImposeRequest {
@@ -351,6 +354,21 @@ impl ImposeRequest {
         match &self.layout {
             Layout::NUp(_) => self.spacing.inner.is_some(),
             _ => false,
+        }
+    }
+
+    /// The name of the file that the sheets would replace, unless `--replace` allows it. `None` also for a request that writes no sheets, or writes them
+    /// to standard output.
+    pub fn file_to_spare(&self) -> Option<&str>
+        ensures { option_map (λ n. n.now) result ≡ file_to_spare self.now }
+    {
+        match &self.product {
+            Product::Sheets => if self.replaces {
+                None
+            } else {
+                name_of(&self.outfile)
+            },
+            Product::Specification | Product::Plan | Product::Picture(_) => None,
         }
     }
 }

@@ -135,6 +135,11 @@ pub(crate) const UNGUARDED: Argument = Argument::Flag(
     "Insert no guard, so that the document's own operators stay as they are",
 );
 
+pub(crate) const REPLACE: Argument = Argument::Flag(
+    "replace",
+    "Replace OUTFILE even if it is a document by another program",
+);
+
 pub(crate) const PRINT_SPEC: Argument = Argument::Flag(
     "print-spec",
     "Print the specification and a line of pstops for it, and impose nothing",

@@ -1,24 +1,32 @@
-use Rattle.std.proofs.Common.{map, ap, subst, sym}
+use Rattle.std.proofs.Common.{◌∙◌, map, ap, subst, sym}
 use Rattle.std.specs.Prelude.{string_bytes}
 use Rattle.impose_cli.specs.Endings.{edge_of_world, shown}
 use Rattle.impose_cli.specs.Programs.{FindsHome}
 use Rattle.impose_words.proofs.Found.{entered_at_home}
-use Rattle.impose_cli.proofs.Programs.{at_home, created_for, may_be_made_at_home}
+use Rattle.impose_cli.proofs.Programs.{at_home, created_for, found_at_home, may_be_made_at_home}
 use Rattle.impose_cli.proofs.program.impose.Goals as goal
 
 pub returns-in-Ok : goal.returns-in-Ok
 returns-in-Ok g c =
     let left = c.carry_out-left.result in
-    let carried = at_home g.W.World.seen c.at_home-request.result (g.W.World.gives c.args.world) _ (g.W.World.same c.args.world) _ (edge_of_world (g.W.World.tells c.args.world) g.W.World.seen g.W.Output.Output.seen) _ left.outcome c.home_of.new.world left.rest
-    (shown g.W.Output.Output.seen left.rest) c.home_of.ensures.again c.home_of.ensures.same (ap (λ t. edge_of_world t g.W.World.seen g.W.Output.Output.seen) c.home_of.ensures.tells) c.carry_out-left.ensures in record {
+    let foreign = c.finds_foreign-is_foreign.result in
+    let found = c.finds_foreign-is_foreign.new.world in
+    let edge = edge_of_world (g.W.World.tells c.args.world) g.W.World.seen g.W.Output.Output.seen in
+    let carried = at_home g.W.World.seen c.at_home-request.result (g.W.World.gives c.args.world) _ (g.W.World.same c.args.world) _ foreign edge _ left.outcome found left.rest
+    (shown g.W.Output.Output.seen left.rest) (c.finds_foreign-is_foreign.ensures.again ∙ c.home_of.ensures.again) (c.finds_foreign-is_foreign.ensures.same ∙ c.home_of.ensures.same)
+    (ap (λ t. edge_of_world t g.W.World.seen g.W.Output.Output.seen) (c.finds_foreign-is_foreign.ensures.tells ∙ c.home_of.ensures.tells)) c.carry_out-left.ensures in record {
       ended = (
         entered_at_home (map string_bytes c.args.words.now) c.in-Ok.read c.at_home-request.result c.home_of.result c.at_home-request.ensures c.in-Ok.ensures.read,
         c.home_of.new.world,
         subst (λ p. FindsHome c.args.paper_size.now (g.W.World.gives c.args.world) (g.W.World.regular c.args.world) (g.W.World.seen c.args.world) (g.W.World.seen c.home_of.new.world) p)
             (sym (ap (λ r. r.default_paper) c.at_home-request.ensures)) c.home_of.ensures.home,
+        found,
+        foreign,
+        found_at_home c.at_home-request.result (g.W.World.gives c.args.world) _ _ (g.W.World.same c.args.world) _ _ _ foreign c.home_of.ensures.again c.home_of.ensures.same
+            c.finds_foreign-is_foreign.ensures.found,
         carried,
       );
-      created = created_for g.W.World.seen c.at_home-request.result (g.W.World.gives c.args.world) (g.W.World.same c.args.world) (edge_of_world (g.W.World.tells c.args.world) g.W.World.seen g.W.Output.Output.seen) left.outcome c.home_of.new.world left.rest
+      created = created_for g.W.World.seen c.at_home-request.result (g.W.World.gives c.args.world) (g.W.World.same c.args.world) foreign edge left.outcome found left.rest
           (shown g.W.Output.Output.seen left.rest) carried;
     }
 
