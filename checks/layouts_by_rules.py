@@ -46,6 +46,7 @@ class Options:
     layout: str
     words: list[str] = field(default_factory=list)
     count: int = 0
+    skip: int = 0  # used cells of the first sheet
     grid: tuple[int, int] | None = None
     flags: set[str] = field(default_factory=set)
     pages: list[tuple[int, int] | None] = field(default_factory=lambda: [(1, -1)])
@@ -639,14 +640,15 @@ class Run:
         count, backs = self.options.count, Grid(*vars(grid).values())
         backs.room = Room(self.options, is_back="inner" in self.options.margin)
         seen = cells_in_order(self.options, grid)[:count]
-        for first in range(0, len(self.row), count):
-            side = backs if first // count % 2 else grid
-            yield [Slot(first + at, held(self.options, side, place)) for at, place in enumerate(seen)]
+        for sheet, first in enumerate(range(-self.options.skip, len(self.row), count)):
+            side = backs if sheet % 2 else grid
+            yield [Slot(first + at, held(self.options, side, place)) for at, place in enumerate(seen) if first + at >= 0]
 
     def cards(self, grid: Grid) -> Iterator[list[Slot]]:
         seen = cells_in_order(self.options, grid)[: self.options.count]
         for entry in range(len(self.row)):
-            yield [Slot(entry, held(self.options, grid, place)) for place in seen]
+            used = self.options.skip if entry == 0 else 0
+            yield [Slot(entry, held(self.options, grid, place)) for place in seen[used:]]
 
     def stack(self, grid: Grid) -> Iterator[list[Slot]]:
         seen, options = cells_in_order(self.options, grid), self.options

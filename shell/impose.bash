@@ -15,8 +15,8 @@ _impose_options_of() {
     local cells="--order --turned --scale $laid"
     case "$1" in
         '') echo '--help --version -h -V' ;;
-        nup) echo "$cells $spec $all" ;;
-        cards) echo "$cells $sheet $all" ;;
+        nup) echo "--skip $cells $spec $all" ;;
+        cards) echo "--skip $cells $sheet $all" ;;
         booklet) echo "--signature --creep --long-edge --cover $laid $spec $all" ;;
         zine) echo "--same-scale --margin --gap --rtl $row $looks $sheet $all" ;;
         stack) echo "--duplex $cells $sheet $all" ;;
@@ -34,6 +34,7 @@ _impose_values_of() {
         --border) echo '.5pt 1pt .5mm' ;;
         --margin | --gap | --trim) echo '2mm 5mm 1cm' ;;
         --overlap) echo '5mm 1cm 2cm' ;;
+        --skip) echo '1 2 3 4' ;;
         --order) echo 'right-down down-right left-down down-left' ;;
         --turned) echo 'left right' ;;
         --turn) echo 'left right half' ;;

@@ -39,7 +39,7 @@ WANTED = "COMMAND, INFILE and OUTFILE are wanted; write: impose-pdf booklet in.p
 WITH_WORD = {"nup", "cards", "stack", "notes", "poster", "select", "spec"}
 WITH_VALUE = {
     *("--border", "--creep", "--gap", "--margin", "--marks", "--numbers", "--numbers-from", "--order", "--overlap"),
-    *("--pages", "--paper", "--preview", "--scale", "--sheet", "--signature", "--trim", "--turn", "--turned"),
+    *("--pages", "--paper", "--preview", "--scale", "--sheet", "--signature", "--skip", "--trim", "--turn", "--turned"),
 }
 LOOKS = ("--plan", "--preview", "--print-spec")
 LETTERS = {"p": "--paper", "q": "--quiet", "h": "--help", "V": "--version"}

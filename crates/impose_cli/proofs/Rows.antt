@@ -84,6 +84,7 @@ is_row_job r input t job is of = record {
   choice = of.choice;
   signing = of.signing ∙ is.signing;
   last_at_back = of.last_at_back;
+  begun = of.begun;
   laying = lays_by r.layout r.spacing _ _ t.laying job.asked.laying is.laying of.laying;
   possible = is.possible;
   options = (subst (λ s. IfSome s MayBeSewn) is.signing is.may_be_sewn, is.border);

@@ -1,5 +1,5 @@
 -- What is imposed of a row of pages, and how: a request for a document, if its layout lays rows on sheets.
-use Rattle.std.specs.Prelude.{◌≡◌, ⊤, string_bytes, ℕ, ◌+◌, Bool, true, false, ◌&&◌, if◌then◌else◌, List, [], ◌∷◌, length, Option, Some, None, Result, Ok, Err, IfSome, option_map, option_and_then, map, slice_get, ◌||◌, not}
+use Rattle.std.specs.Prelude.{◌≡◌, ⊤, string_bytes, ℕ, ◌+◌, ◌==◌, Bool, true, false, ◌&&◌, if◌then◌else◌, List, [], ◌∷◌, length, Option, Some, None, Result, Ok, Err, IfSome, option_map, option_and_then, map, slice_get, ◌||◌, not}
 use Rattle.std.specs.List.{list_all}
 use Rattle.std.specs.Ordering.{int_eq}
 use Rattle.rules.specs.Admissible.{Takes, most_slots}
@@ -32,6 +32,8 @@ use Rattle.row_runs.specs.declared.sheet_request.Laying.{Laying}
 use Rattle.row_runs.specs.declared.sheet_request.Laying.TheVariants as laying
 use Rattle.row_runs.specs.declared.sheet_request.Scheme.{Scheme}
 use Rattle.row_runs.specs.declared.sheet_request.Scheme.TheVariants as scheme
+use Rattle.row_runs.specs.declared.begun.Begun.{Begun}
+use Rattle.row_runs.specs.declared.begun.Begun.TheVariants as begun
 use Rattle.row_runs.specs.declared.run.RowJob.{RowJob}
 use Rattle.impose_words.specs.Choices.{choice_in}
 use Rattle.row_sheets.specs.Posters.{why_no_poster}
@@ -81,16 +83,22 @@ cells_of_layout (layout.Stack cells duplex) s = arrangement_in s cells
 cells_of_layout (layout.Notes pages) s = notes_in s pages
 cells_of_layout other s = zine_in s
 
--- how a row is put into so many: it goes on from cell to cell, unless the layout has another scheme
-abbrev pub scheme_in : Layout → (cells : ℕ) → Scheme
-scheme_in (layout.Cards cells) n = scheme.Cards n
-scheme_in (layout.Stack cells duplex) n = if duplex then scheme.Leaves else scheme.Stack n
-scheme_in (layout.Notes pages) n = scheme.Grid pages
-scheme_in layout.Zine n = scheme.Zine
-scheme_in other n = scheme.Grid n
+-- how a row is put into so many: it goes on from cell to cell, unless the layout has another scheme. So do the entries of cards on a sheet that is begun,
+-- each as often as its cards
+abbrev pub scheme_in : Layout → (skipped cells : ℕ) → Scheme
+scheme_in (layout.Cards cells) skipped n = if skipped == 0 then scheme.Cards n else scheme.Grid n
+scheme_in (layout.Stack cells duplex) skipped n = if duplex then scheme.Leaves else scheme.Stack n
+scheme_in (layout.Notes pages) skipped n = scheme.Grid pages
+scheme_in layout.Zine skipped n = scheme.Zine
+scheme_in other skipped n = scheme.Grid n
 
-abbrev pub filled_in : Layout → Arrangement → (page_paper sheet_paper : Paper) → Laying
-filled_in l a page sheet = laying.InCells (setting_of page sheet a) (scheme_in l (cells_per_sheet a.cells))
+-- where the row begins on the first sheet
+abbrev pub begun_in : Layout → (skipped : ℕ) → Begun
+begun_in (layout.Cards cells) skipped = if skipped == 0 then begun.Pages 0 else begun.Cards (cells_per_sheet cells) skipped
+begun_in other skipped = begun.Pages skipped
+
+abbrev pub filled_in : Layout → (skipped : ℕ) → Arrangement → (page_paper sheet_paper : Paper) → Laying
+filled_in l skipped a page sheet = laying.InCells (setting_of page sheet a) (scheme_in l skipped (cells_per_sheet a.cells))
 
 -- so many columns and rows of sheets of a paper, with one margin along all edges: of it and of the overlap none is lost
 abbrev pub poster_in : Spacing → (columns rows : ℕ) → (sheet : Paper) → Poster
@@ -110,7 +118,7 @@ laying_in (layout.Poster columns rows) s page sheet = Some (laying.Poster (poste
 laying_in layout.Selection s page sheet = Some (laying.AsTheyAre sheet)
 laying_in (layout.Spec specs) s page sheet = None
 laying_in (layout.SpecRow specs signing) s page sheet = None
-laying_in other s page sheet = Some (filled_in other (cells_of_layout other s) page sheet)
+laying_in other s page sheet = Some (filled_in other s.skipped (cells_of_layout other s) page sheet)
 
 -- as much is kept free along opposite edges, or along all
 abbrev pub has_even_margins : Free → Bool
@@ -342,6 +350,7 @@ pub record IsJobOf (r : ImposeRequest) (t : RowTask) (job : RowJob) : Type 0 whe
   pub choice : choice_of job.asked.choice ≡ choice_in r.choice
   pub signing : job.asked.signing ≡ t.signing
   pub last_at_back : job.asked.last_at_back ≡ r.last_at_back
+  pub begun : job.asked.begun ≡ begun_in r.layout r.spacing.skipped
   pub laying : IsLayingOf t.laying job.asked.laying
   pub same_scale : job.asked.same_scale ≡ r.spacing.same_scale
   pub border : job.border ≡ r.border
@@ -360,6 +369,7 @@ pub record IsRowJob (r : ImposeRequest) (input : List ℕ) (page_paper : Paper) 
   pub choice : choice_of job.asked.choice ≡ choice_in r.choice
   pub signing : job.asked.signing ≡ signing_in r.layout
   pub last_at_back : job.asked.last_at_back ≡ r.last_at_back
+  pub begun : job.asked.begun ≡ begun_in r.layout r.spacing.skipped
   pub laying : LaysBy r page_paper job.asked.laying
   pub possible : why_no_row r page_paper ≡ None
   pub options : HasOptions r

@@ -1,5 +1,5 @@
 -- What is imposed, and how: a request for a document.
-use Rattle.std.specs.Prelude.{◌≡◌, ℕ, pos, Bool, true, false, ◌&&◌, ◌||◌, not, if◌then◌else◌, List, length, Option, is_some}
+use Rattle.std.specs.Prelude.{◌≡◌, ℕ, ◌==◌, pos, Bool, true, false, ◌&&◌, ◌||◌, not, if◌then◌else◌, List, length, Option, is_some}
 use Rattle.std.specs.Prelude.{Some, None, Ok, option_map, string_bytes}
 use Rattle.rules.specs.Papers.{Paper}
 use Rattle.rules.specs.Specification.{Spec, canonical}
@@ -89,10 +89,10 @@ is_unturned other = false
 abbrev pub is_unmarked : Marks → Bool
 is_unmarked m = not (m.fold || m.cut || m.ruled || is_some m.numbers)
 
--- beside the layout a specification says what is asked for: all pages, in their order, blanks after them, unturned, unmarked, each in its own
+-- beside the layout a specification says what is asked for: all pages, in their order, blanks after them, unturned, unmarked, from the first cell on, each in its own
 -- scale, and backs as fronts (RULES, 16, step 8)
 abbrev pub is_said : ImposeRequest → Bool
-is_said r = is_all_pages r.choice && not r.last_at_back && is_unturned r.turn && is_unmarked r.marks && not r.spacing.same_scale
+is_said r = is_all_pages r.choice && not r.last_at_back && is_unturned r.turn && is_unmarked r.marks && not r.spacing.same_scale && (r.spacing.skipped == 0)
     && not (swaps_margins r.layout r.spacing)
 
 -- the task is what the request asks for with this document

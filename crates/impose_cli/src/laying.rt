@@ -10,7 +10,7 @@ ghost use Rattle.impose_cli.specs.Refusals.{HasGoodName, RefusesRowLayout, Refus
 ghost use Rattle.impose_cli.specs.RowTasks.{IsLaidSo, IsLayingOf, LaysRows, MayBeLaidSo};
 ghost use Rattle.impose_cli.specs.Refusals.{RefusesLayout, RefusesOptions};
 ghost use Rattle.impose_cli.specs.RowTasks.{has_even_margins as are_even, is_even_enough as are_even_enough};
-ghost use Rattle.impose_cli.specs.RowTasks.{cells_of_layout, filled_in, laying_in, scheme_in, why_no_layout, why_not_placed};
+ghost use Rattle.impose_cli.specs.RowTasks.{cells_of_layout, filled_in, laying_in, scheme_in, why_no_layout, why_not_placed, begun_in};
 ghost use Rattle.impose_cli.specs.RowTasks.{cells_paper, sheet_paper_in, signing_in};
 ghost use Rattle.impose_cli.specs.Precheck.{kept_free as kept_free_in, why_no_sheets};
 ghost use Rattle.impose_words.specs.declared.request.Layout.TheVariants as layout;
@@ -25,7 +25,7 @@ use layouts::{
 };
 use lengths::{Grains, Paper};
 use pagespec::{Spec, read_spec};
-use row_runs::{Laying, Scheme, turned_paper};
+use row_runs::{Begun, Laying, Scheme, turned_paper};
 use row_sheets::{Poster, check_poster};
 use rows::Signing;
 use sheet_plan::are_sides;
@@ -208,7 +208,7 @@ fn cell_laying(
 ) -> Result<Option<Laying<'static>>, ImposeFault>
     requires { are_even_enough layout.now spacing.now.free ≡ true }
     ensures laying { IfOk result (λ laying.
-        laying ≡ Some (filled_in layout.now (cells_of_layout layout.now spacing.now) papers.now.page papers.now.sheet)) }
+        laying ≡ Some (filled_in layout.now spacing.now.skipped (cells_of_layout layout.now spacing.now) papers.now.page papers.now.sheet)) }
     ensures may_be { IfOk result (λ laying. IfSome laying MayBeLaid) }
     ensures possible { OnOk result (option_map faults.Layout
         (why_not_arranged papers.now.page papers.now.sheet (cells_of_layout layout.now spacing.now)) ≡ None) }
@@ -219,7 +219,7 @@ fn cell_laying(
     match Setting::of(papers, &arrangement) {
         Ok(setting) => Ok(Some(Laying::InCells {
             setting,
-            scheme: scheme_for(layout, arrangement.cells),
+            scheme: scheme_for(layout, spacing.skipped, arrangement.cells),
         })),
         Err(error) => Err(ImposeFault::Layout(error)),
     }
@@ -237,14 +237,18 @@ fn cells_for(layout: &Layout, spacing: &Spacing) -> Arrangement
     }
 }
 
-/// The scheme by which the layout puts a row of pages into these cells.
-fn scheme_for(layout: &Layout, cells: Cells) -> Scheme
+/// The scheme by which the layout puts a row of pages into these cells, after the number of cells of the first sheet that are used already.
+fn scheme_for(layout: &Layout, skipped: u32, cells: Cells) -> Scheme
     requires { cells_per_sheet cells ≤ most_on_sheet }
-    ensures { result ≡ scheme_in layout.now (cells_per_sheet cells) }
+    ensures { result ≡ scheme_in layout.now skipped (cells_per_sheet cells) }
 {
     let cells = cells.count() as u32;
     match layout {
-        Layout::Cards(_) => Scheme::Cards { cells },
+        Layout::Cards(_) => if skipped == 0 {
+            Scheme::Cards { cells }
+        } else {
+            Scheme::Grid { cells }
+        },
         Layout::Stack { duplex, .. } => if *duplex {
             Scheme::Leaves
         } else {
@@ -253,6 +257,23 @@ fn scheme_for(layout: &Layout, cells: Cells) -> Scheme
         Layout::Notes { pages } => Scheme::Grid { cells: *pages },
         Layout::Zine => Scheme::Zine,
         _ => Scheme::Grid { cells },
+    }
+}
+
+/// Where the layout's row begins on the first sheet, of which this number of cells is used already.
+pub(crate) fn begun_for(layout: &Layout, skipped: u32) -> Begun
+    ensures { result ≡ begun_in layout.now skipped }
+{
+    match layout {
+        Layout::Cards(cells) => if skipped == 0 {
+            Begun::Pages { used: 0 }
+        } else {
+            Begun::Cards {
+                cells: cells.count(),
+                used: skipped,
+            }
+        },
+        _ => Begun::Pages { used: skipped },
     }
 }
 

@@ -8,6 +8,7 @@ ghost use Rattle.impose_cli.specs.Endings.{RefusesRowRun, RefusesRowTaskRun};
 ghost use Rattle.impose_cli.specs.Looks.{TellsSheets, TellsRow, TellsTask};
 ghost use Rattle.impose_cli.specs.RowTasks.{LaysRows, MayBeLaidSo};
 
+use crate::laying::begun_for;
 use crate::row_task::{RowTask, asked_fault_of, row_task};
 use dsc::{Document, Parts};
 use guard::RoomyText;
@@ -72,6 +73,7 @@ fn task_text(
             choice: request.choice.as_choice(),
             signing: task.signing,
             last_at_back: request.last_at_back,
+            begun: begun_for(&request.layout, request.spacing.skipped),
             laying: task.laying.lent(),
             same_scale: request.spacing.same_scale,
         },

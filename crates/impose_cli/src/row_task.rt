@@ -24,7 +24,7 @@ ghost use Rattle.dsc.specs.PagesBehind.{pages_behind};
 ghost use Rattle.dsc.specs.Serving.{ArePartsOf, Serve};
 
 use crate::attempt::{Attempt, refused_before};
-use crate::laying::{RowLaying, papers_for, row_laying, signing_for};
+use crate::laying::{RowLaying, begun_for, papers_for, row_laying, signing_for};
 use crate::reach::reach_of_row;
 use crate::runs::impose_job;
 use crate::taken::{papers_on_row, papers_taken, row_of_choice, taken_count};
@@ -414,6 +414,7 @@ pub(crate) fn impose_task<R: Threads + Wait + Sync, W: World>(
             choice: request.choice.as_choice(),
             signing: task.signing,
             last_at_back: request.last_at_back,
+            begun: begun_for(&request.layout, request.spacing.skipped),
             laying: task.laying.lent(),
             same_scale: request.spacing.same_scale,
         },

@@ -114,6 +114,7 @@ fn is_said(request: &ImposeRequest) -> bool
         && request.turn == Turn::None
         && !(marks.fold || marks.cut || marks.ruled || marks.numbers.is_some())
         && !request.spacing.same_scale
+        && request.spacing.skipped == 0
         && !request.swaps_margins()
 }
 

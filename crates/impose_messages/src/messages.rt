@@ -116,7 +116,7 @@ const OUT_OF_REACH: &str =
 
 const NO_SPECIFICATION: &str =
     "--print-spec: no specification says a selection, a zine, cards, a stack, notes or a poster, nor --pages, --odd, --even, --reverse, \
-    --cover, --turn, --creep, --margin inner, --same-scale, --marks or --numbers; leave it out";
+    --cover, --skip, --turn, --creep, --margin inner, --same-scale, --marks or --numbers; leave it out";
 
 const SEVERAL_PAPERS: &str =
     "--print-spec: a specification has one paper, and not all pages have the document's: name one by --paper, or leave \

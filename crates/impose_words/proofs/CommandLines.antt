@@ -20,7 +20,7 @@ use Rattle.impose_words.specs.Command.{impose}
 use Rattle.impose_words.specs.Arranging.{lines_alone, no_marks}
 use Rattle.impose_words.specs.Spacings.{keeps_room, nothing_kept}
 use Rattle.impose_words.specs.Products.{is_picture_file, lays_rows}
-use Rattle.impose_words.specs.Words.{AsksFor, ChoosesBy, Entered, Enters, MakesBy, ReadsRequest, ReadsSizes, SpacesBy, file_asked, given, has_flag, is_outfile, marks_found, ranges_id}
+use Rattle.impose_words.specs.Words.{AsksFor, ChoosesBy, Entered, Enters, MakesBy, ReadsRequest, ReadsSizes, SpacesBy, file_asked, given, has_flag, is_outfile, marks_found, ranges_id, skip_found}
 use Rattle.impose_words.specs.declared.fault.OptionId.TheVariants as opt
 use Rattle.impose_words.specs.declared.request.ImposeRequest.{ImposeRequest}
 use Rattle.impose_words.specs.declared.request.Layout.{Layout}
@@ -58,17 +58,18 @@ plain l = record {
 
 -- it makes it, if the command takes the words, and finds among them what the request asks for
 makes : (words : List Text) (name : Text) (found : List Row) (r : ImposeRequest) → Enters (codes "impose" ∷ words) name found
-    → AsksFor name found r.layout → SpacesBy (keeps_room r.layout) found r.spacing → ChoosesBy (ranges_id r.layout) found r.choice
+    → skip_found r.layout found ≡ Some r.spacing.skipped → AsksFor name found r.layout → SpacesBy (keeps_room r.layout) found r.spacing → ChoosesBy (ranges_id r.layout) found r.choice
     → has_flag (codes "cover") found ≡ r.last_at_back → ReadsSizes found r.page_paper r.sheet_paper r.border r.turn → marks_found r.layout found ≡ Some r.marks
     → (r.is_guarded ≡ not (has_flag (codes "unguarded") found)) → MakesBy (lays_rows r.layout) found r.product → has_flag (codes "quiet") found ≡ r.is_quiet → has_flag (codes "replace") found ≡ r.replaces
     → file_asked (first_of (codes "infile") found) ≡ option_map string_bytes r.infile → file_asked (given opt.Outfile found) ≡ option_map string_bytes r.outfile
     → is_outfile (option_map string_bytes r.outfile) ≡ true → Makes words r
-makes words name found r enters layout spacing choice at_back sizes marks guarded product quiet replaces infile outfile no_option = (
+makes words name found r enters skipped layout spacing choice at_back sizes marks guarded product quiet replaces infile outfile no_option = (
   name,
   found,
   enters,
   record {
     layout = layout;
+    skipped = skipped;
     spacing = spacing;
     choice = choice;
     last_at_back = at_back;
@@ -101,7 +102,7 @@ nup : (document output : String Global) → string_bytes document ≡ codes "in.
       outfile = Some output;
     })
 unfolding clap_on_literals impose number_at papers
-nup document output is_document is_output = makes _ _ _ _ (record { taken = refl; entered = refl }) (refl, refl) (refl, refl, refl, refl, refl, refl, refl) (refl, refl, refl) refl (record { page_paper_is = refl; sheet_paper_is = refl; border_is = refl; turn_is = refl }) refl refl (record { printed = refl; planned = refl; pictured = refl; is_picture = tt }) refl refl
+nup document output is_document is_output = makes _ _ _ _ (record { taken = refl; entered = refl }) refl (refl, refl) (refl, refl, refl, refl, refl, refl, refl) (refl, refl, refl) refl (record { page_paper_is = refl; sheet_paper_is = refl; border_is = refl; turn_is = refl }) refl refl (record { printed = refl; planned = refl; pictured = refl; is_picture = tt }) refl refl
     (ap Some (sym is_document)) (ap Some (sym is_output)) (ap (λ t. is_outfile (Some t)) is_output)
 
 -- signatures of eight sides for a printer that flips on the long edge, the last page at the back, an inner margin, and pages from the third to the last but one
@@ -115,7 +116,7 @@ booklet : (ranges document : String Global) → string_bytes ranges ≡ codes "3
       infile = Some document;
     })
 unfolding clap_on_literals impose number_at papers
-booklet ranges document is_ranges is_document = makes _ _ _ _ (record { taken = refl; entered = refl }) (refl, refl, refl) (refl, refl, refl, refl, refl, refl, refl) (ap Some (sym is_ranges), refl, refl) refl (record { page_paper_is = refl; sheet_paper_is = refl; border_is = refl; turn_is = refl }) refl refl (record { printed = refl; planned = refl; pictured = refl; is_picture = tt }) refl refl
+booklet ranges document is_ranges is_document = makes _ _ _ _ (record { taken = refl; entered = refl }) refl (refl, refl, refl) (refl, refl, refl, refl, refl, refl, refl) (ap Some (sym is_ranges), refl, refl) refl (record { page_paper_is = refl; sheet_paper_is = refl; border_is = refl; turn_is = refl }) refl refl (record { printed = refl; planned = refl; pictured = refl; is_picture = tt }) refl refl
     (ap Some (sym is_document)) refl refl
 
 -- from the right, and only planned
@@ -125,12 +126,13 @@ zine : Makes (codes "zine" ∷ codes "--rtl" ∷ codes "--gap" ∷ codes "1pt" �
       product = product.Plan;
     })
 unfolding clap_on_literals impose number_at papers
-zine = makes _ _ _ _ (record { taken = refl; entered = refl }) refl (refl, refl, refl, refl, refl, refl, refl) (refl, refl, refl) refl (record { page_paper_is = refl; sheet_paper_is = refl; border_is = refl; turn_is = refl }) refl refl (record { printed = refl; planned = refl; pictured = refl; is_picture = tt }) refl refl
+zine = makes _ _ _ _ (record { taken = refl; entered = refl }) refl refl (refl, refl, refl, refl, refl, refl, refl) (refl, refl, refl) refl (record { page_paper_is = refl; sheet_paper_is = refl; border_is = refl; turn_is = refl }) refl refl (record { printed = refl; planned = refl; pictured = refl; is_picture = tt }) refl refl
     refl refl refl
 
--- pages of one paper on sheets of another, with a border, without the guard, and in place of any document
-cards : Makes (codes "cards" ∷ codes "8" ∷ codes "-p" ∷ codes "1x2in" ∷ codes "--sheet" ∷ codes "3x4in" ∷ codes "--border" ∷ codes "1pt" ∷ codes "--unguarded" ∷ codes "--replace" ∷ codes "-q" ∷ [])
+-- pages of one paper on sheets of another, of which three cells are used already, with a border, without the guard, and in place of any document
+cards : Makes (codes "cards" ∷ codes "8" ∷ codes "--skip" ∷ codes "3" ∷ codes "-p" ∷ codes "1x2in" ∷ codes "--sheet" ∷ codes "3x4in" ∷ codes "--border" ∷ codes "1pt" ∷ codes "--unguarded" ∷ codes "--replace" ∷ codes "-q" ∷ [])
     (record (plain (layout.Cards (AtLeast 8))) {
+      spacing = record nothing_kept { skipped = 3 };
       page_paper = Some (points 72 144);
       sheet_paper = Some (points 216 288);
       border = Some (pos 127_000_000_000);
@@ -139,7 +141,7 @@ cards : Makes (codes "cards" ∷ codes "8" ∷ codes "-p" ∷ codes "1x2in" ∷ 
       replaces = true;
     })
 unfolding clap_on_literals impose number_at papers
-cards = makes _ _ _ _ (record { taken = refl; entered = refl }) (refl, refl) (refl, refl, refl, refl, refl, refl, refl) (refl, refl, refl) refl (record { page_paper_is = refl; sheet_paper_is = refl; border_is = refl; turn_is = refl }) refl refl (record { printed = refl; planned = refl; pictured = refl; is_picture = tt }) refl refl
+cards = makes _ _ _ _ (record { taken = refl; entered = refl }) refl (refl, refl) (refl, refl, refl, refl, refl, refl, refl) (refl, refl, refl) refl (record { page_paper_is = refl; sheet_paper_is = refl; border_is = refl; turn_is = refl }) refl refl (record { printed = refl; planned = refl; pictured = refl; is_picture = tt }) refl refl
     refl refl refl
 
 -- on both sides of leaves, odd pages alone, the last one first, each turned to the left, and cut marks
@@ -150,7 +152,7 @@ stack : Makes (codes "stack" ∷ codes "4" ∷ codes "--duplex" ∷ codes "--tur
       marks = record no_marks { cut = true };
     })
 unfolding clap_on_literals impose number_at papers
-stack = makes _ _ _ _ (record { taken = refl; entered = refl }) (refl, refl, refl) (refl, refl, refl, refl, refl, refl, refl) (refl, refl, refl) refl (record { page_paper_is = refl; sheet_paper_is = refl; border_is = refl; turn_is = refl }) refl refl (record { printed = refl; planned = refl; pictured = refl; is_picture = tt }) refl refl
+stack = makes _ _ _ _ (record { taken = refl; entered = refl }) refl (refl, refl, refl) (refl, refl, refl, refl, refl, refl, refl) (refl, refl, refl) refl (record { page_paper_is = refl; sheet_paper_is = refl; border_is = refl; turn_is = refl }) refl refl (record { printed = refl; planned = refl; pictured = refl; is_picture = tt }) refl refl
     refl refl refl
 
 -- even pages, numbered from 7
@@ -160,7 +162,7 @@ notes : Makes (codes "notes" ∷ codes "3" ∷ codes "--even" ∷ codes "--numbe
       marks = record lines_alone { numbers = Some (record { size = pos 1_143_000_000_000; first = 7 }) };
     })
 unfolding clap_on_literals impose number_at papers
-notes = makes _ _ _ _ (record { taken = refl; entered = refl }) (refl, refl) (refl, refl, refl, refl, refl, refl, refl) (refl, refl, refl) refl (record { page_paper_is = refl; sheet_paper_is = refl; border_is = refl; turn_is = refl }) refl refl (record { printed = refl; planned = refl; pictured = refl; is_picture = tt }) refl refl
+notes = makes _ _ _ _ (record { taken = refl; entered = refl }) refl (refl, refl) (refl, refl, refl, refl, refl, refl, refl) (refl, refl, refl) refl (record { page_paper_is = refl; sheet_paper_is = refl; border_is = refl; turn_is = refl }) refl refl (record { printed = refl; planned = refl; pictured = refl; is_picture = tt }) refl refl
     refl refl refl
 
 -- two columns and three rows of sheets, as a picture
@@ -172,7 +174,7 @@ poster : (picture : String Global) → string_bytes picture ≡ codes "p.svg"
       product = product.Picture (Some picture);
     })
 unfolding clap_on_literals impose number_at papers
-poster picture is_picture = makes _ _ _ _ (record { taken = refl; entered = refl }) (refl, refl) (refl, refl, refl, refl, refl, refl, refl) (refl, refl, refl) refl (record { page_paper_is = refl; sheet_paper_is = refl; border_is = refl; turn_is = refl }) refl refl (record { printed = refl; planned = refl; pictured = ap (λ t. Some (Some t)) (sym is_picture); is_picture = ap (λ t. is_picture_file (Some t)) is_picture }) refl refl
+poster picture is_picture = makes _ _ _ _ (record { taken = refl; entered = refl }) refl (refl, refl) (refl, refl, refl, refl, refl, refl, refl) (refl, refl, refl) refl (record { page_paper_is = refl; sheet_paper_is = refl; border_is = refl; turn_is = refl }) refl refl (record { printed = refl; planned = refl; pictured = ap (λ t. Some (Some t)) (sym is_picture); is_picture = ap (λ t. is_picture_file (Some t)) is_picture }) refl refl
     refl refl refl
 
 -- some pages, in this order, each turned to the right and numbered
@@ -185,7 +187,7 @@ select : (ranges document : String Global) → string_bytes ranges ≡ codes "4-
       infile = Some document;
     })
 unfolding clap_on_literals impose number_at papers
-select ranges document is_ranges is_document = makes _ _ _ _ (record { taken = refl; entered = refl }) (refl, refl) refl (ap Some (sym is_ranges), refl, refl) refl (record { page_paper_is = refl; sheet_paper_is = refl; border_is = refl; turn_is = refl }) refl refl (record { printed = refl; planned = refl; pictured = refl; is_picture = tt }) refl refl
+select ranges document is_ranges is_document = makes _ _ _ _ (record { taken = refl; entered = refl }) refl (refl, refl) refl (ap Some (sym is_ranges), refl, refl) refl (record { page_paper_is = refl; sheet_paper_is = refl; border_is = refl; turn_is = refl }) refl refl (record { printed = refl; planned = refl; pictured = refl; is_picture = tt }) refl refl
     (ap Some (sym is_document)) refl refl
 
 -- a specification, which is printed
@@ -193,7 +195,7 @@ spec : (specs : String Global) → string_bytes specs ≡ codes "2:0,1"
     → Makes (codes "spec" ∷ codes "2:0,1" ∷ codes "--paper" ∷ codes "1x2in" ∷ codes "--border" ∷ codes "2pt" ∷ codes "--print-spec" ∷ [])
     (record (plain (layout.Spec specs)) { page_paper = Some (points 72 144); border = Some (pos 254_000_000_000); product = product.Specification })
 unfolding clap_on_literals impose number_at papers
-spec specs is_specs = makes _ _ _ _ (record { taken = refl; entered = refl }) (refl, ap Some (sym is_specs), refl) refl refl refl (record { page_paper_is = refl; sheet_paper_is = refl; border_is = refl; turn_is = refl }) refl refl (record { printed = refl; planned = refl; pictured = refl; is_picture = tt }) refl refl
+spec specs is_specs = makes _ _ _ _ (record { taken = refl; entered = refl }) refl (refl, ap Some (sym is_specs), refl) refl refl refl (record { page_paper_is = refl; sheet_paper_is = refl; border_is = refl; turn_is = refl }) refl refl (record { printed = refl; planned = refl; pictured = refl; is_picture = tt }) refl refl
     refl refl refl
 
 -- a specification on pages from the second one on, put into signatures
@@ -201,5 +203,5 @@ spec_of_row : (specs ranges : String Global) → string_bytes specs ≡ codes "2
     → Makes (codes "spec" ∷ codes "2:0,1" ∷ codes "--signature" ∷ codes "auto" ∷ codes "--pages" ∷ codes "2-" ∷ codes "--reverse" ∷ [])
     (record (plain (layout.SpecRow specs (Some signing.Auto))) { choice = record all_pages { ranges = Some ranges; backwards = true } })
 unfolding clap_on_literals impose number_at papers
-spec_of_row specs ranges is_specs is_ranges = makes _ _ _ _ (record { taken = refl; entered = refl }) (refl, ap Some (sym is_specs), refl, refl) refl (ap Some (sym is_ranges), refl, refl) refl (record { page_paper_is = refl; sheet_paper_is = refl; border_is = refl; turn_is = refl }) refl refl (record { printed = refl; planned = refl; pictured = refl; is_picture = tt }) refl refl
+spec_of_row specs ranges is_specs is_ranges = makes _ _ _ _ (record { taken = refl; entered = refl }) refl (refl, ap Some (sym is_specs), refl, refl) refl (ap Some (sym is_ranges), refl, refl) refl (record { page_paper_is = refl; sheet_paper_is = refl; border_is = refl; turn_is = refl }) refl refl (record { printed = refl; planned = refl; pictured = refl; is_picture = tt }) refl refl
     refl refl refl

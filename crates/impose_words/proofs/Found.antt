@@ -7,11 +7,11 @@ use Rattle.clap.specs.declared.parser.matches.ArgMatches.{ArgMatches}
 use Rattle.clap.specs.declared.parser.matches.ArgMatches.TheViews.{out-ArgMatches, out-SubCommand}
 use Rattle.rules.specs.Papers.{Paper}
 use Rattle.impose_words.specs.Faults.{NoValue, ParseRefuses, RefusesCommand, RefusesFound, SaysWrong, Wrong, first, wrong_among, wrong_choice, wrong_marks}
-use Rattle.impose_words.specs.Faults.{wrong_lines, wrong_numbers, wrong_order, wrong_sizes, wrong_spacing}
+use Rattle.impose_words.specs.Faults.{wrong_lines, wrong_numbers, wrong_order, wrong_sizes, wrong_skip, wrong_spacing}
 use Rattle.impose_words.specs.Words.{ChoosesBy, Entered, Enters, ReadsRequest, ReadsSizes, SpacesBy, file_asked, given, has_flag, is_outfile}
 use Rattle.impose_words.specs.Arranging.{numbering, marks_and_numbers}
 use Rattle.impose_words.specs.Words.{first_found, has_numbers, lines_found, number_size_found, numbers_found}
-use Rattle.impose_words.specs.Words.{gaps_found, length_found, margins_found, marks_found, order_by, order_found, run_found, scale_found, turned_found}
+use Rattle.impose_words.specs.Words.{gaps_found, length_found, margins_found, marks_found, order_by, order_found, run_found, scale_found, skip_found, turned_found}
 use Rattle.layouts.specs.declared.arrangement.Free.{Free}
 use Rattle.impose_words.specs.Edges.{free_with}
 use Rattle.impose_words.specs.declared.edges.Margins.{Margins}
@@ -116,6 +116,11 @@ says_next found f a b is h = subst (λ o. SaysWrong found f (first o b)) (sym is
 pub sizes_right : (found : List Row) (page_paper sheet_paper : Option Paper) (border : Option ℤ) (turn : Turn) → ReadsSizes found page_paper sheet_paper border turn → wrong_sizes found ≡ None
 sizes_right found page_paper sheet_paper border turn r = past _ r.page_paper_is (past _ r.sheet_paper_is (past _ r.border_is (past _ r.turn_is refl)))
 
+pub skip_right : (l : Layout) (found : List Row) (skipped : ℕ) → skip_found l found ≡ Some skipped → wrong_skip l found ≡ None
+skip_right (layout.NUp cells) found skipped e = past _ e refl
+skip_right (layout.Cards cells) found skipped e = past _ e refl
+skip_right other found skipped e = refl
+
 -- an order that is read has parts that are
 order_parts : (run : Option (FillOrder × Bool)) (rtl : Bool) (turned : Option Turned) (order : Order) (w v : Wrong) → order_by run rtl turned ≡ Some order
     → (if is_some run then (if is_some turned then None else Some w) else Some v) ≡ None
@@ -197,6 +202,7 @@ outfile_right found outfile e is = rw (e, is) refl
 reads_at_home : (name : Text) (found : List Row) (r : ImposeRequest) (home : Paper) → ReadsRequest name found r → ReadsRequest name found (record r { default_paper = home })
 reads_at_home name found r home h = record {
   layout = h.layout;
+  skipped = h.skipped;
   spacing = h.spacing;
   choice = h.choice;
   last_at_back = h.last_at_back;

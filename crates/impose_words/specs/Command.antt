@@ -91,10 +91,10 @@ cell_rules =
     ∷ []
 
 abbrev pub nup_app : App
-nup_app = subcommand_app (codes "nup") (count_rule ∷ cell_rules) laid_rules
+nup_app = subcommand_app (codes "nup") (count_rule ∷ cell_rules) (option_rule (codes "skip") ∷ laid_rules)
 
 abbrev pub cards_app : App
-cards_app = subcommand_app (codes "cards") (count_rule ∷ cell_rules) laid_rules
+cards_app = subcommand_app (codes "cards") (count_rule ∷ cell_rules) (option_rule (codes "skip") ∷ laid_rules)
 
 abbrev pub stack_app : App
 stack_app = subcommand_app (codes "stack") (count_rule ∷ cell_rules) (flag_rule (codes "duplex") ∷ laid_rules)

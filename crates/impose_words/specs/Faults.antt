@@ -3,13 +3,14 @@ use Rattle.std.specs.Prelude.{◌≡◌, ◌⊎◌, ⊤, Bool, true, false, if�
 use Rattle.std.specs.Prelude.{codes, option_map, string_bytes}
 use Rattle.std.specs.Str.{bytes_eq}
 use Rattle.clap.specs.Words.{IsAmong, Row, Text, fault_of, first_of, kind_of, subcommand_of}
+use Rattle.layouts.specs.Grids.{cells_per_sheet}
 use Rattle.impose_words.specs.Arranging.{booklet_marks_named, cut_marks_named, no_marks}
 use Rattle.impose_words.specs.Command.{impose}
 use Rattle.impose_words.specs.Products.{is_picture_file, lays_rows}
 use Rattle.impose_words.specs.Spacings.{keeps_room}
 use Rattle.impose_words.specs.Words.{AsksFor, Entered, asked, border_found, cells_found, file_asked, first_found, given, has_numbers}
 use Rattle.impose_words.specs.Words.{gaps_found, is_outfile, margins_found, length_found, number_size_found, part_found, picture_found, ranges_id, row_asked, run_found, scale_found, signing_found, size_found}
-use Rattle.impose_words.specs.Words.{turn_found, turned_found, two_found}
+use Rattle.impose_words.specs.Words.{skip_among, turn_found, turned_found, two_found}
 use Rattle.impose_words.specs.declared.fault.RequestFault.{RequestFault}
 use Rattle.impose_words.specs.declared.fault.RequestFault.TheVariants as fault
 use Rattle.impose_words.specs.declared.fault.CellCommand.{CellCommand}
@@ -47,6 +48,7 @@ is_value opt.Sheet found = is_some (size_found opt.Sheet found)
 is_value opt.Border found = is_some (border_found found)
 is_value opt.Turn found = is_some (turn_found found)
 is_value (opt.Count command) found = is_some (cells_found command found)
+is_value (opt.Skip cells) found = is_some (skip_among cells found)
 is_value opt.Signature found = is_some (signing_found found)
 is_value opt.Margin found = is_some (margins_found found)
 is_value opt.Gap found = is_some (gaps_found found)
@@ -98,6 +100,12 @@ wrong_layout name found =
     else (if bytes_eq name (codes "select") then missing_or (codes "ranges") found None
     else (if bytes_eq name (codes "spec") then wrong_specs found else Some Missing))))))))
 
+-- how many cells are used already, of a layout that may begin after some
+abbrev pub wrong_skip : Layout → (found : List Row) → Option Wrong
+wrong_skip (layout.NUp cells) found = wrong_among (opt.Skip (cells_per_sheet cells) ∷ []) found
+wrong_skip (layout.Cards cells) found = wrong_among (opt.Skip (cells_per_sheet cells) ∷ []) found
+wrong_skip other found = None
+
 -- in which order one reads the cells
 abbrev pub wrong_order : (found : List Row) → Option Wrong
 wrong_order found = wrong_among (opt.Order ∷ opt.Turned ∷ []) found
@@ -138,10 +146,11 @@ wrong_product true found = first (option_map (λ two. Two two.0 two.1) (two_foun
 -- all that comes after the layout
 abbrev pub wrong_for : Layout → (found : List Row) → Option Wrong
 wrong_for layout found =
-    first (wrong_spacing (keeps_room layout) found)
+    first (wrong_skip layout found)
+    (first (wrong_spacing (keeps_room layout) found)
     (first (wrong_marks layout found)
     (first (wrong_choice (ranges_id layout) found)
-    (first (wrong_among (opt.Outfile ∷ []) found) (wrong_product (lays_rows layout) found))))
+    (first (wrong_among (opt.Outfile ∷ []) found) (wrong_product (lays_rows layout) found)))))
 
 -- ---- the refusals
 

@@ -40,6 +40,7 @@ nothing_kept =
       order = plain_order;
       scale = None;
       same_scale = false;
+      skipped = 0;
     }
 
 -- the inner edge of a sheet is its left one, as sheets lie that are fronts (RULES, 13.1)

@@ -29,6 +29,7 @@ rules_in group.Count = count_rule ∷ []
 rules_in group.Copies = count_rule ∷ []
 rules_in group.BoundCells = cell_rules
 rules_in group.Cells = cell_rules
+rules_in group.Skip = option_rule (codes "skip") ∷ []
 rules_in group.Duplex = flag_rule (codes "duplex") ∷ []
 rules_in group.Booklet = booklet_rules
 rules_in group.Zine = zine_rules

@@ -1,5 +1,5 @@
 -- What the words ask for, by the rows that the command finds among them.
-use Rattle.std.specs.Prelude.{◌≡◌, ◌||◌, ◌&&◌, [], ℕ, ℤ, pos, Bool, true, false, not, if◌then◌else◌, is_some, IfSome}
+use Rattle.std.specs.Prelude.{◌≡◌, ◌||◌, ◌&&◌, [], ℕ, ℤ, pos, Bool, true, false, not, if◌then◌else◌, is_some, IfSome, nat_lt}
 use Rattle.std.specs.Prelude.{option_and_then, option_map, unwrap_or, List, Option, Some, None, codes, nat_eq, string_bytes}
 use Rattle.std.specs.Str.{bytes_eq}
 use Rattle.std.specs.List.{starts_with}
@@ -24,7 +24,7 @@ use Rattle.dressing.specs.declared.strokes.Marks.{Marks}
 use Rattle.impose_words.specs.Arranging.{booklet_marks_named, cells_named, cut_marks_named, exact_alone, lines_alone, no_marks, noted_alone}
 use Rattle.impose_words.specs.Arranging.{number_size_named, numbering, run_named, turn_named, turned_named, marks_and_numbers}
 use Rattle.impose_words.specs.Choices.{is_all_pages}
-use Rattle.layouts.specs.Grids.{nothing_free}
+use Rattle.layouts.specs.Grids.{cells_per_sheet, nothing_free}
 use Rattle.layouts.specs.declared.arrangement.Free.{Free}
 use Rattle.impose_words.specs.Edges.{gaps_named, margins_in, margins_named, free_with}
 use Rattle.impose_words.specs.declared.edges.Margins.{Margins}
@@ -59,6 +59,7 @@ opt_id opt.Sheet = codes "sheet"
 opt_id opt.Border = codes "border"
 opt_id opt.Turn = codes "turn"
 opt_id (opt.Count command) = codes "count"
+opt_id (opt.Skip cells) = codes "skip"
 opt_id opt.Signature = codes "signature"
 opt_id opt.Margin = codes "margin"
 opt_id opt.Gap = codes "gap"
@@ -134,6 +135,19 @@ cells_of_command grid.Cards text = cells_named text
 cells_of_command grid.Stack text = cells_named text
 cells_of_command grid.Notes text = noted_alone (cells_named text)
 cells_of_command grid.Poster text = exact_alone (cells_named text)
+
+-- how many cells of the first sheet are used already, of so many: at least one is left
+abbrev pub skip_named : (cells : ℕ) → Text → Option ℕ
+skip_named cells text = option_and_then (λ n. if nat_lt n cells then Some n else None) (whole_number text)
+
+abbrev pub skip_among : (cells : ℕ) → (found : List Row) → Option ℕ
+skip_among cells found = asked 0 (skip_named cells) (given (opt.Skip cells) found)
+
+-- grids and cards may begin on a sheet that is used in part, all others begin on a whole one (RULES, 14)
+abbrev pub skip_found : Layout → (found : List Row) → Option ℕ
+skip_found (layout.NUp cells) found = skip_among (cells_per_sheet cells) found
+skip_found (layout.Cards cells) found = skip_among (cells_per_sheet cells) found
+skip_found other found = Some 0
 
 -- the cells that come after such a command
 abbrev pub cells_found : CellCommand → (found : List Row) → Option Cells
@@ -276,7 +290,7 @@ ChoosesBy (Some id) found choice = (first_of id found ≡ option_map string_byte
 -- what was found asks for this to be kept free, for this creep and overlap, and for this order and scale, by a layout that
 -- keeps room; or nothing is
 abbrev pub SpacesBy : (keeps : Bool) → (found : List Row) → Spacing → Type 0
-SpacesBy false found s = s ≡ nothing_kept
+SpacesBy false found s = s ≡ record nothing_kept { skipped = s.skipped }
 SpacesBy true found s = (free_found found ≡ Some s.free) × (length_found opt.Creep found ≡ Some s.creep)
     × (length_found opt.Overlap found ≡ Some s.overlap) × (order_found found ≡ Some s.order) × (scale_found found ≡ Some s.scale)
     × (has_flag (codes "same-scale") found ≡ s.same_scale)
@@ -304,6 +318,7 @@ pub record ReadsSizes (found : List Row) (page_paper sheet_paper : Option Paper)
 -- the request is what was found (RULES, 11 to 15)
 pub record ReadsRequest (name : Text) (found : List Row) (r : ImposeRequest) : Type 0 where
   pub layout : AsksFor name found r.layout
+  pub skipped : skip_found r.layout found ≡ Some r.spacing.skipped
   pub spacing : SpacesBy (keeps_room r.layout) found r.spacing
   pub choice : ChoosesBy (ranges_id r.layout) found r.choice
   pub last_at_back : has_flag (codes "cover") found ≡ r.last_at_back

@@ -9,8 +9,8 @@ ghost use Rattle.impose_words.specs.Tables.{app_in, rule_in, rules_in, with_app,
 use crate::shared_arguments::{
     BORDER, BOUND_MARGIN, CELL_GAP, CUT_MARKS, EQUAL_MARGIN, EVEN, HIDDEN_PRINT_SPEC, HIDDEN_SHEET,
     INFILE, LOOK, MARGIN, NUMBERS, NUMBERS_FROM, ODD, OPPOSITE_MARGIN, ORDER, OUTFILE, PAGES,
-    PAPER, PRINT_SPEC, QUIET, RANGES_HELP, REPLACE, REVERSE, RTL, SAME_SCALE, SCALE, SHEET, TRIM,
-    TURN, TURNED, UNGUARDED,
+    PAPER, PRINT_SPEC, QUIET, RANGES_HELP, REPLACE, REVERSE, RTL, SAME_SCALE, SCALE, SHEET, SKIP,
+    TRIM, TURN, TURNED, UNGUARDED,
 };
 use clap::{Arg, ArgAction, Command};
 use std::alloc::{AllocError, Global};
@@ -63,6 +63,7 @@ enum Group {
     Copies,
     BoundCells,
     Cells,
+    Skip,
     Duplex,
     Booklet,
     Zine,
@@ -92,6 +93,7 @@ const SUBCOMMANDS: [Subcommand; 9] = [
         groups: &[
             Group::Count,
             Group::BoundCells,
+            Group::Skip,
             Group::Turn,
             Group::Look,
             Group::Pages,
@@ -126,6 +128,7 @@ const SUBCOMMANDS: [Subcommand; 9] = [
         groups: &[
             Group::Copies,
             Group::Cells,
+            Group::Skip,
             Group::Turn,
             Group::Look,
             Group::Pages,
@@ -438,6 +441,7 @@ fn arguments_in(group: Group) -> &'static [Argument]
         Group::Copies => &COPIES,
         Group::BoundCells => &BOUND_CELLS,
         Group::Cells => &CELLS,
+        Group::Skip => &SKIP,
         Group::Duplex => &DUPLEX,
         Group::Booklet => &BOOKLET,
         Group::Zine => &ZINE,

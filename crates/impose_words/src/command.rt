@@ -8,12 +8,13 @@ ghost use Rattle.impose_words.specs.Words.{gaps_found, margins_found};
 ghost use Rattle.impose_words.specs.Words.{ChoosesBy, MakesBy, NamesPicture, SpacesBy, length_found, ranges_id, part_by as of_both};
 ghost use Rattle.impose_words.specs.Words.{cells_of_command as cells_of_command, command_name, order_found, run_found, scale_found};
 ghost use Rattle.impose_words.specs.Words.{first_found, has_numbers, lines_found, number_size_found, numbers_found};
+ghost use Rattle.impose_words.specs.Words.{skip_among as skip_found_among, skip_found};
 ghost use Rattle.impose_words.specs.Words.{marks_found, row_asked, row_named, signing_found, size_found, turn_found, turned_found};
 ghost use Rattle.impose_words.specs.Products.{is_plan, is_specification, lays_rows, picture_in};
 ghost use Rattle.impose_words.specs.Spacings.{keeps_room};
 ghost use Rattle.impose_words.specs.Faults.{NoValue, ParseRefuses, Wrong, RefusesCommand, RefusesFound, SaysWrong, wrong_among, wrong_cells, wrong_choice};
 ghost use Rattle.impose_words.specs.Faults.{wrong_for, wrong_layout, wrong_marks, wrong_order, wrong_product, wrong_sizes, wrong_spacing};
-ghost use Rattle.impose_words.specs.Faults.{wrong_lines, wrong_numbers, wrong_specs};
+ghost use Rattle.impose_words.specs.Faults.{wrong_lines, wrong_numbers, wrong_skip, wrong_specs};
 ghost use Rattle.impose_words.specs.declared.fault.OptionId.TheVariants as opt;
 
 use crate::arguments::command;
@@ -113,7 +114,11 @@ fn request_for(
     ensures home { IfOk result (λ request. request.default_paper ≡ a4) }
     ensures refused { IfErr result (λ f. SaysWrong (rows_of (found_of found.now)) f (wrong_for layout (rows_of (found_of found.now)))) }
 {
-    let spacing = match spacing_of(&layout, found) {
+    let skipped = match skipped_of(&layout, found) {
+        Ok(skipped) => skipped,
+        Err(option) => return Err(bad_value(alloc, found, option)),
+    };
+    let spacing = match spacing_of(&layout, skipped, found) {
         Ok(spacing) => spacing,
         Err(option) => return Err(bad_value(alloc, found, option)),
     };
@@ -352,15 +357,51 @@ fn names_row(found: &ArgMatches<'_>) -> bool
         || is_set(found, "reverse")
 }
 
-/// The margins, gaps, trim, creep and overlap that are requested, the order in which cells are filled, and the scale of pages. The error is the first
-/// option that has an invalid value.
-fn spacing_of(layout: &Layout, found: &ArgMatches<'_>) -> Result<Spacing, OptionId>
+/// The number of cells of the first sheet that are used already; 0 without `--skip`. The error is that option, if its value isn't a number below the
+/// number of a sheet's cells.
+fn skipped_of(layout: &Layout, found: &ArgMatches<'_>) -> Result<u32, OptionId>
+    ensures read { IfOk result (λ skipped. skip_found layout.now (rows_of (found_of found.now)) ≡ Some skipped) }
+    ensures refused { IfErr result (λ option. wrong_skip layout.now (rows_of (found_of found.now)) ≡ Some (NoValue option)) }
+{
+    match layout {
+        Layout::NUp(cells) | Layout::Cards(cells) => {
+            let cells = cells.count();
+            skip_among(found, cells).ok_or(OptionId::Skip(cells))
+        }
+        _ => Ok(0),
+    }
+}
+
+/// The number of cells that are used already, of a sheet with this number of them. `None` if the option's value isn't a number below that.
+fn skip_among(found: &ArgMatches<'_>, cells: u64) -> Option<u32>
+    ensures { result ≡ skip_found_among cells (rows_of (found_of found.now)) }
+{
+    match text_of(found, "skip") {
+        None => Some(0),
+        Some(text) => {
+            let skipped = whole_number(text)?;
+            if u64::from(skipped) < cells {
+                Some(skipped)
+            } else {
+                None
+            }
+        }
+    }
+}
+
+/// The requested margins, gaps, trim, creep and overlap, the order in which cells are filled, and the scale of pages. A layout that takes none of
+/// these gets `Spacing::none()`. The error is the first option that has an invalid value.
+fn spacing_of(layout: &Layout, skipped: u32, found: &ArgMatches<'_>) -> Result<Spacing, OptionId>
     ensures read { IfOk result (SpacesBy (keeps_room layout.now) (rows_of (found_of found.now))) }
+    ensures skipped { IfOk result (λ spacing. spacing.skipped ≡ skipped) }
     ensures refused { IfErr result (λ option.
         wrong_spacing (keeps_room layout.now) (rows_of (found_of found.now)) ≡ Some (NoValue option)) }
 {
     if !layout.keeps_room() {
-        return Ok(Spacing::none());
+        return Ok(Spacing {
+            skipped,
+            ..Spacing::none()
+        });
     }
     let Some(margins) = margins_of(found) else {
         return Err(OptionId::Margin);
@@ -394,6 +435,7 @@ fn spacing_of(layout: &Layout, found: &ArgMatches<'_>) -> Result<Spacing, Option
         order,
         scale,
         same_scale: is_set(found, "same-scale"),
+        skipped,
     })
 }
 

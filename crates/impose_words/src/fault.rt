@@ -21,6 +21,8 @@ pub enum OptionId {
     Turn,
     /// The first argument of such a command.
     Count(CellCommand),
+    /// `--skip` for a sheet with this number of cells.
+    Skip(u64),
     Signature,
     Margin,
     Gap,
@@ -54,6 +56,7 @@ impl OptionId {
             OptionId::Border => "border",
             OptionId::Turn => "turn",
             OptionId::Count(_) => "count",
+            OptionId::Skip(_) => "skip",
             OptionId::Signature => "signature",
             OptionId::Margin => "margin",
             OptionId::Gap => "gap",

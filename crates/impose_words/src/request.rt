@@ -110,6 +110,8 @@ pub struct Spacing {
     pub scale: Option<Number>,
     /// Whether pages of smaller papers have the scale of pages of the largest paper, so that all pages have one scale.
     pub same_scale: bool,
+    /// The number of cells at the beginning of the first sheet that are used already, and stay empty.
+    pub skipped: u32,
 }
 
 impl Spacing {
@@ -127,6 +129,7 @@ impl Spacing {
             order: plain.order,
             scale: plain.scale,
             same_scale: false,
+            skipped: 0,
         }
     }
 

@@ -168,6 +168,12 @@ pub(crate) const LOOK: [Argument; 2] = [
     ),
 ];
 
+pub(crate) const SKIP: [Argument; 1] = [Argument::Valued(
+    "skip",
+    "CELLS",
+    "Leave this number of cells empty at the beginning of the first sheet, such as labels that are used already",
+)];
+
 pub(crate) const PAGES: [Argument; 1] = [Argument::Valued("pages", "RANGES", RANGES_HELP)];
 
 pub(crate) const RANGES_HELP: &str =

@@ -1,8 +1,8 @@
 -- A row is laid on as many sheets, whatever its entries are: also if they are named by their places.
-use Rattle.std.proofs.Common.{ℕ, ◌+◌, ◌*◌, ◌≤◌, subst, ◌≡◌, ◌∙◌, Option, Some, None, List, [], ◌∷◌, ap, ap₂, refl, sym, length, map}
+use Rattle.std.proofs.Common.{ℕ, ◌+◌, ◌-◌, ◌*◌, ◌≤◌, drop, replicate, ◌++◌, subst, ◌≡◌, ◌∙◌, Option, Some, None, List, [], ◌∷◌, ap, ap₂, refl, sym, length, map}
 use Rattle.std.specs.Prelude.{flat_map}
 use Rattle.std.specs.List.{range_with_len}
-use Rattle.std.proofs.lemmas.List.{length-append, length-map}
+use Rattle.std.proofs.lemmas.List.{length-append, length-drop, length-map}
 use Rattle.std.proofs.lemmas.List.Concat.{flat_map-cons}
 use Rattle.std.proofs.lemmas.List.FromFn.{length-map-range_with_len}
 use Rattle.rules.specs.Papers.{Paper}
@@ -18,9 +18,13 @@ use Rattle.row_runs.specs.declared.sheet_request.Laying.{Laying}
 use Rattle.row_runs.specs.declared.sheet_request.Laying.TheVariants as laying
 use Rattle.row_runs.specs.declared.sheet_request.Scheme.TheVariants as scheme
 use Rattle.row_runs.specs.declared.sheet_request.SheetRequest.{SheetRequest}
+use Rattle.row_runs.specs.Begun.{begun_row, laid_row}
+use Rattle.row_runs.specs.declared.begun.Begun.{Begun}
+use Rattle.row_runs.specs.declared.begun.Begun.TheVariants as begun
 use Rattle.row_runs.specs.Numbers.{named_places_from, paper_in, places_by, sheet_paper}
-use Rattle.row_runs.specs.Sheets.{AreAsked, laying_for, leaves_in, row_chosen, sewn, sheets_laid}
+use Rattle.row_runs.specs.Sheets.{AreAsked, laying_for, leaves_in, row_chosen, row_printed, sewn, sheets_laid}
 use Rattle.row_runs.proofs.Places.{place_count}
+use Rattle.row_runs.proofs.CardGrid.{copies_count}
 use Rattle.row_runs.proofs.Counted.{tiles_count, tiles_in}
 
 -- ---- in signatures
@@ -49,6 +53,29 @@ pub signed_as_many : (how : Option Signing) (row other : Row) → length row ≡
 signed_as_many None row other same = same
 signed_as_many (Some how) row other same =
     ap (λ n. length (in_signatures (sides_for how n) row)) same ∙ in_as_many (sides_for how (length other)) row other same
+
+-- ---- from where it begins
+
+begun_count : (b : Begun) (row other : Row) → length row ≡ length other → length (begun_row b row) ≡ length (begun_row b other)
+begun_count (begun.Pages used) row other same =
+    length-append (replicate used None) row ∙ ap (λ n. length (replicate used blank) + n) same ∙ sym (length-append (replicate used None) other)
+  where
+    blank : Option ℕ
+    blank = None
+begun_count (begun.Cards cells used) row other same =
+    after (flat_map (replicate cells) row)
+    ∙ ap (λ n. length (replicate used blank) + (n - used)) (copies_count cells row ∙ ap (λ n. n * cells) same ∙ sym (copies_count cells other))
+    ∙ sym (after (flat_map (replicate cells) other))
+  where
+    blank : Option ℕ
+    blank = None
+
+    after : (copies : Row) → length (replicate used None ++ drop used copies) ≡ length (replicate used blank) + (length copies - used)
+    after copies = length-append (replicate used None) (drop used copies) ∙ ap (λ n. length (replicate used blank) + n) (length-drop used copies)
+
+laid_row_as_many : (b : Begun) (how : Option Signing) (row other : Row) → length row ≡ length other → length (laid_row b how row) ≡ length (laid_row b how other)
+laid_row_as_many b None row other same = begun_count b row other same
+laid_row_as_many b (Some how) row other same = signed_as_many (Some how) row other same
 
 -- ---- on sheets
 
@@ -84,6 +111,6 @@ pub places_few : (pages : ℕ) (papers : List Paper) (a : SheetRequest) (made : 
 places_few pages papers a made h few =
     let row = h.row in
     let as_many = laid_as_many (laying_for a papers row) (leaves_in (sewn a) row) (map (paper_in papers (sheet_paper a.laying)) row) papers
-    (signed_if (sewn a) (named_places_from 0 row)) (signed_if (sewn a) row) (signed_as_many (sewn a) (named_places_from 0 row) row (place_count 0 row)) in
+    (row_printed a (named_places_from 0 row)) (row_printed a row) (laid_row_as_many a.begun (sewn a) (named_places_from 0 row) row (place_count 0 row)) in
     subst (λ r. length (places_by papers a r) ≤ most_sheets) (sym h.is_chosen)
     (subst (λ n. n ≤ most_sheets) (sym (as_many ∙ sym (ap length h.are_laid))) few)

@@ -5,7 +5,6 @@ use Rattle.std.specs.List.{AllByRecursion}
 use Rattle.rules.specs.Papers.{Paper}
 use Rattle.rules.specs.Sheets.{blocks}
 use Rattle.rules.specs.Signatures.{entry_of}
-use Rattle.rules.specs.Choice.{signed_if}
 use Rattle.rules.specs.Made.{MadeSheet}
 use Rattle.rules.specs.Rows.{Row}
 use Rattle.layouts.specs.Placed.{Room}
@@ -33,7 +32,7 @@ use Rattle.row_runs.specs.declared.sheet_request.Laying.TheVariants as laying
 use Rattle.row_runs.specs.declared.sheet_request.Scheme.TheVariants as scheme
 use Rattle.row_runs.specs.Evened.{at_common_scale, why_not_even_if}
 use Rattle.row_runs.specs.InPlaces.{AskedStandInPlaces, IsMarkedAtFold, IsShownOn, StandInPlaces}
-use Rattle.row_runs.specs.Sheets.{AreAsked, FitAsLaid, MayBeLaid, laying_for, leaves_in, row_chosen, sewn, sheets_laid}
+use Rattle.row_runs.specs.Sheets.{AreAsked, FitAsLaid, MayBeLaid, laying_for, leaves_in, row_chosen, row_printed, sewn, sheets_laid}
 use Rattle.row_runs.proofs.NotLaid.{after_even, laid_none}
 
 -- ---- what is asked for
@@ -41,11 +40,11 @@ use Rattle.row_runs.proofs.NotLaid.{after_even, laid_none}
 abbrev pub LaidSo : Laying → (leaves : ℕ) → List Paper → Row → List MadeSheet → Type 0
 LaidSo l leaves papers row made = (made ≡ sheets_laid l leaves papers row) × FitAsLaid l leaves papers row
 
-pub asked_so : (pages : ℕ) (papers : List Paper) (a : SheetRequest) (row printed : Row) (leaves : ℕ) (l : Laying) (made : List MadeSheet) → row_chosen pages a ≡ Ok row → printed ≡ signed_if (sewn a) row → leaves ≡ leaves_in (sewn a) row
+pub asked_so : (pages : ℕ) (papers : List Paper) (a : SheetRequest) (row printed : Row) (leaves : ℕ) (l : Laying) (made : List MadeSheet) → row_chosen pages a ≡ Ok row → printed ≡ row_printed a row → leaves ≡ leaves_in (sewn a) row
     → l ≡ at_common_scale a.same_scale a.laying papers printed → why_not_even_if a.same_scale a.laying papers printed ≡ None → LaidSo l leaves papers printed made → AreAsked pages papers a made
 asked_so pages papers a row printed leaves l made chosen is_printed many evened even laid =
     let l_is : l ≡ laying_for a papers row = evened ∙ ap (at_common_scale a.same_scale a.laying papers) is_printed in
-    let so : LaidSo (laying_for a papers row) (leaves_in (sewn a) row) papers (signed_if (sewn a) row) made =
+    let so : LaidSo (laying_for a papers row) (leaves_in (sewn a) row) papers (row_printed a row) made =
     subst (λ r. LaidSo (laying_for a papers row) (leaves_in (sewn a) row) papers r made) is_printed
     (subst (λ n. LaidSo (laying_for a papers row) n papers printed made) many
     (subst (λ x. LaidSo x leaves papers printed made) l_is laid)) in
@@ -55,7 +54,7 @@ asked_so pages papers a row printed leaves l made chosen is_printed many evened 
       are_laid = so.0;
       fits = so.1;
       accepted = after_even _ _ _ (subst (λ r. why_not_even_if a.same_scale a.laying papers r ≡ None) is_printed even)
-          (laid_none (laying_for a papers row) (leaves_in (sewn a) row) papers (signed_if (sewn a) row) so.1);
+          (laid_none (laying_for a papers row) (leaves_in (sewn a) row) papers (row_printed a row) so.1);
     }
 
 -- ---- where its pages are
@@ -120,7 +119,7 @@ in_places (laying.BySpec spec sheet page) leaves papers row may fits = tt
 
 pub asked_stand_in_places : AskedStandInPlaces
 asked_stand_in_places pages papers a made may asked =
-    let row = signed_if (sewn a) asked.row in
+    let row = row_printed a asked.row in
     let l = laying_for a papers asked.row in
     subst (StandInPlaces l papers row) (sym asked.are_laid)
     (in_places l (leaves_in (sewn a) asked.row) papers row (evened_may_be a.same_scale a.laying papers row may.laid) asked.fits)

@@ -4,7 +4,6 @@ use Rattle.std.specs.Prelude.{⊤, ◌==◌, ◌%◌, if◌then◌else◌}
 use Rattle.rules.specs.Papers.{Paper}
 use Rattle.rules.specs.Sheets.{blocks}
 use Rattle.rules.specs.Specification.{Turn}
-use Rattle.rules.specs.Choice.{signed_if}
 use Rattle.rules.specs.Made.{MadeSheet}
 use Rattle.rules.specs.Rows.{Row}
 use Rattle.layouts.specs.Cells.{size}
@@ -20,7 +19,7 @@ use Rattle.row_runs.specs.declared.run.RowJob.{RowJob}
 use Rattle.row_runs.specs.Evened.{at_common_scale}
 use Rattle.row_runs.specs.SwappedMargins.{swapped_room_in, swapped}
 use Rattle.row_runs.specs.Runs.{AreTurned}
-use Rattle.row_runs.specs.Sheets.{FitAsLaid, MayBeLaid, laying_for, leaves_in, sewn, sheets_laid}
+use Rattle.row_runs.specs.Sheets.{FitAsLaid, MayBeLaid, laying_for, leaves_in, row_printed, sewn, sheets_laid}
 use Rattle.row_runs.specs.Standing.{StandAsLaid}
 use Rattle.row_runs.specs.Turning.{turned_sheet}
 use Rattle.row_runs.specs.Written.{AreInTheirCells, KeepTheirRoom, WrittenInCells, WrittenKeepRoom}
@@ -61,15 +60,15 @@ same_swapped_room m true (laying.BySpec spec sheet page) papers row = refl
 -- what is written is the row, laid, with backs moved and pages turned
 made_is : (j : RowJob) (made : List MadeSheet) → (are : AreTurned j made)
     → (let l = laying_for j.asked j.papers.now are.asked.row in
-    made ≡ map (turned_sheet (turn_of j.turn)) (swapped (swapped_room_in j.swapped l) (sheets_laid l (leaves_in (sewn j.asked) are.asked.row) j.papers.now (signed_if (sewn j.asked) are.asked.row))))
+    made ≡ map (turned_sheet (turn_of j.turn)) (swapped (swapped_room_in j.swapped l) (sheets_laid l (leaves_in (sewn j.asked) are.asked.row) j.papers.now (row_printed j.asked are.asked.row))))
 made_is j made are =
     let turn = turn_of j.turn in
     are.turned
-    ∙ ap₂ (λ (m : Option Room) (xs : List MadeSheet). map (turned_sheet turn) (swapped m xs)) (same_swapped_room j.swapped j.asked.same_scale j.asked.laying j.papers.now (signed_if (sewn j.asked) are.asked.row)) are.asked.are_laid
+    ∙ ap₂ (λ (m : Option Room) (xs : List MadeSheet). map (turned_sheet turn) (swapped m xs)) (same_swapped_room j.swapped j.asked.same_scale j.asked.laying j.papers.now (row_printed j.asked are.asked.row)) are.asked.are_laid
 
 -- and it may be laid so
 may_be : (j : RowJob) (made : List MadeSheet) → (are : AreTurned j made) → MayBeLaid (laying_for j.asked j.papers.now are.asked.row)
-may_be j made are = evened_may_be j.asked.same_scale j.asked.laying j.papers.now (signed_if (sewn j.asked) are.asked.row) are.may.laid
+may_be j made are = evened_may_be j.asked.same_scale j.asked.laying j.papers.now (row_printed j.asked are.asked.row) are.may.laid
 
 pub written_in_cells : WrittenInCells
 written_in_cells j made are =
@@ -77,7 +76,7 @@ written_in_cells j made are =
     let l = laying_for j.asked j.papers.now row in
     let leaves = leaves_in (sewn j.asked) row in
     subst (AreInTheirCells (turn_of j.turn) j.swapped l leaves) (sym (made_is j made are))
-    (lie_as j.swapped (turn_of j.turn) l leaves j.papers.now (signed_if (sewn j.asked) row) (may_be j made are) are.asked.fits)
+    (lie_as j.swapped (turn_of j.turn) l leaves j.papers.now (row_printed j.asked row) (may_be j made are) are.asked.fits)
 
 -- ---- between the margins
 
@@ -133,7 +132,7 @@ written_keep_room j made are =
     let row = are.asked.row in
     let l = laying_for j.asked j.papers.now row in
     let leaves = leaves_in (sewn j.asked) row in
-    let printed = signed_if (sewn j.asked) row in
+    let printed = row_printed j.asked row in
     let stand : StandInRoom l (sheets_laid l leaves j.papers.now printed) = subst (StandInRoom l) are.asked.are_laid (in_room_too j.asked.same_scale j.asked.laying j.papers.now printed are.laid are.stand) in
     subst (KeepTheirRoom j.swapped l leaves) (sym (made_is j made are))
     (keep_as j.swapped (turn_of j.turn) l leaves j.papers.now printed (may_be j made are) are.asked.fits stand)

@@ -23,7 +23,7 @@ count_of m n q pos low high =
     let split : q * m + (n + (m - 1) - q * m) ≡ n + (m - 1) = omega (arith, pos, low) in
     ap (λ k. k / m) (sym split) ∙ div-mul-add q m (n + (m - 1) - q * m) (omega (arith, pos, low, high))
 
-whole_blocks : (m q : ℕ) → 0 < m → blocks m (q * m) ≡ q
+pub whole_blocks : (m q : ℕ) → 0 < m → blocks m (q * m) ≡ q
 whole_blocks m q pos = count_of m (q * m) q pos (omega arith) (omega (arith, pos))
 
 one_signature : (n s q : ℕ) → 0 < n → n ≤ s → n ≤ q * s → q * s < n + s → q ≡ 1

@@ -6,8 +6,10 @@ mod TrailerLines
 mod Outside
 mod Alone
 mod Counted
-mod AsMany
 mod LastIsLast
+mod CardGrid
+mod BegunRows
+mod AsMany
 mod LastPage
 mod OneScale
 mod NotLaid

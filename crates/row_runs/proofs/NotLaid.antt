@@ -4,7 +4,6 @@ use Rattle.std.specs.Prelude.{IsOk, option_map}
 use Rattle.std.specs.Option.{option_or}
 use Rattle.rules.specs.Papers.{Paper}
 use Rattle.rules.specs.Run.{most_pages}
-use Rattle.rules.specs.Choice.{signed_if}
 use Rattle.rules.specs.Rows.{Row}
 use Rattle.layouts.specs.declared.error.ArrangementError.{ArrangementError}
 use Rattle.layouts.specs.declared.error.ArrangementError.TheVariants as why
@@ -22,7 +21,7 @@ use Rattle.row_runs.specs.declared.error.SheetError.{SheetError}
 use Rattle.row_runs.specs.declared.error.SheetError.TheVariants as error
 use Rattle.row_runs.specs.Errors.{of_arrangement, of_poster}
 use Rattle.row_runs.specs.Evened.{at_common_scale, why_not_even_if}
-use Rattle.row_runs.specs.Sheets.{FitAsLaid, RefusesAsked, RefusesLaying, laying_for, leaves_in, row_chosen, sewn, sheets_laid, why_not_laid}
+use Rattle.row_runs.specs.Sheets.{FitAsLaid, RefusesAsked, RefusesLaying, laying_for, leaves_in, row_chosen, row_printed, sewn, sheets_laid, why_not_laid}
 
 -- ---- what a reason is called
 
@@ -62,25 +61,25 @@ laid_none (laying.BySpec spec sheet page) leaves papers row fits = refl
 -- ---- as is asked
 
 -- of the one scale
-pub even_told : (pages : ℕ) (papers : List Paper) (a : SheetRequest) (row printed : Row) (e : ArrangementError) (told : SheetError) → row_chosen pages a ≡ Ok row → printed ≡ signed_if (sewn a) row
+pub even_told : (pages : ℕ) (papers : List Paper) (a : SheetRequest) (row printed : Row) (e : ArrangementError) (told : SheetError) → row_chosen pages a ≡ Ok row → printed ≡ row_printed a row
     → why_not_even_if a.same_scale a.laying papers printed ≡ Some e → told ≡ of_arrangement e → RefusesAsked pages papers a told
 even_told pages papers a row printed e told is made h names =
-    let first : why_not_even_if a.same_scale a.laying papers (signed_if (sewn a) row) ≡ Some e = subst (λ r. why_not_even_if a.same_scale a.laying papers r ≡ Some e) made h in
+    let first : why_not_even_if a.same_scale a.laying papers (row_printed a row) ≡ Some e = subst (λ r. why_not_even_if a.same_scale a.laying papers r ≡ Some e) made h in
     subst (RefusesAsked pages papers a) (sym names)
     (arrangement_as (RefusesAsked pages papers a) e (subst IsOk (sym is) refl)
-    (row, is, ap (λ x. option_or (option_map error.Arrangement x) (why_not_laid (laying_for a papers row) (leaves_in (sewn a) row) papers (signed_if (sewn a) row))) first))
+    (row, is, ap (λ x. option_or (option_map error.Arrangement x) (why_not_laid (laying_for a papers row) (leaves_in (sewn a) row) papers (row_printed a row))) first))
 
 -- if the one scale refuses nothing, the cells or posters do, or nothing does
 pub after_even : (even : Option ArrangementError) (laid found : Option SheetError) → even ≡ None → laid ≡ found → option_or (option_map error.Arrangement even) laid ≡ found
 after_even even laid found none is = ap (λ x. option_or (option_map error.Arrangement x) laid) none ∙ is
 
-of_laying : (pages : ℕ) (papers : List Paper) (a : SheetRequest) (row : Row) (e : SheetError) → pages ≤ most_pages → row_chosen pages a ≡ Ok row → why_not_even_if a.same_scale a.laying papers (signed_if (sewn a) row) ≡ None
-    → RefusesLaying (laying_for a papers row) (leaves_in (sewn a) row) papers (signed_if (sewn a) row) e → RefusesAsked pages papers a e
+of_laying : (pages : ℕ) (papers : List Paper) (a : SheetRequest) (row : Row) (e : SheetError) → pages ≤ most_pages → row_chosen pages a ≡ Ok row → why_not_even_if a.same_scale a.laying papers (row_printed a row) ≡ None
+    → RefusesLaying (laying_for a papers row) (leaves_in (sewn a) row) papers (row_printed a row) e → RefusesAsked pages papers a e
 of_laying pages papers a row (error.Row e) few is even h = absurd h
 of_laying pages papers a row (error.Sheets e) few is even h =
     let l = laying_for a papers row in
     let leaves = leaves_in (sewn a) row in
-    let printed = signed_if (sewn a) row in (
+    let printed = row_printed a row in (
       sheets_laid l leaves papers printed,
       record {
         row = row;
@@ -96,7 +95,7 @@ of_laying pages papers a row error.OutOfReach few is even h = absurd h
 of_laying pages papers a row error.NoMemory few is even h = subst IsOk (sym is) refl
 of_laying pages papers a row other few is even h = (row, is, after_even _ _ _ even h)
 
-pub asked_told : (pages : ℕ) (papers : List Paper) (a : SheetRequest) (row printed : Row) (leaves : ℕ) (l : Laying) (e : SheetError) → pages ≤ most_pages → row_chosen pages a ≡ Ok row → printed ≡ signed_if (sewn a) row → leaves ≡ leaves_in (sewn a) row
+pub asked_told : (pages : ℕ) (papers : List Paper) (a : SheetRequest) (row printed : Row) (leaves : ℕ) (l : Laying) (e : SheetError) → pages ≤ most_pages → row_chosen pages a ≡ Ok row → printed ≡ row_printed a row → leaves ≡ leaves_in (sewn a) row
     → l ≡ at_common_scale a.same_scale a.laying papers printed → why_not_even_if a.same_scale a.laying papers printed ≡ None → RefusesLaying l leaves papers printed e → RefusesAsked pages papers a e
 asked_told pages papers a row printed leaves l e few chosen is_printed many evened even h =
     let l_is : l ≡ laying_for a papers row = evened ∙ ap (at_common_scale a.same_scale a.laying papers) is_printed in

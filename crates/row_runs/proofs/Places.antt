@@ -3,12 +3,11 @@ use Rattle.std.proofs.Common.{ℕ, zero, suc, List, [], ◌∷◌, Option, Some,
 use Rattle.std.specs.Prelude.{slice_get}
 use Rattle.std.proofs.lemmas.Option.{none-some, same_Some}
 use Rattle.rules.specs.Papers.{Paper}
-use Rattle.rules.specs.Choice.{signed_if}
 use Rattle.rules.specs.Made.{MadeSheet}
 use Rattle.rules.specs.Rows.{Row}
 use Rattle.row_runs.specs.Evened.{at_common_scale}
 use Rattle.row_runs.specs.Numbers.{place_named, paper_in, places_by, named_places_from, sheet_paper}
-use Rattle.row_runs.specs.Sheets.{laying_for, leaves_in, row_chosen, sewn, sheets_laid}
+use Rattle.row_runs.specs.Sheets.{laying_for, leaves_in, row_chosen, row_printed, sewn, sheets_laid}
 use Rattle.row_runs.specs.declared.sheet_request.SheetRequest.{SheetRequest}
 use Rattle.row_runs.specs.declared.sheet_request.Laying.{Laying}
 
@@ -34,14 +33,14 @@ place_count n (x ∷ row) = ap suc (place_count (n + 1) row)
 
 -- what is laid are the sheets with places
 pub places_so : (pages : ℕ) (papers : List Paper) (a : SheetRequest) (row printed places : Row) (own : List Paper) (leaves : ℕ) (l : Laying) (made : List MadeSheet)
-    → row_chosen pages a ≡ Ok row → printed ≡ signed_if (sewn a) row → leaves ≡ leaves_in (sewn a) row → l ≡ at_common_scale a.same_scale a.laying papers printed
-    → own ≡ map (paper_in papers (sheet_paper a.laying)) row → places ≡ signed_if (sewn a) (named_places_from 0 row)
+    → row_chosen pages a ≡ Ok row → printed ≡ row_printed a row → leaves ≡ leaves_in (sewn a) row → l ≡ at_common_scale a.same_scale a.laying papers printed
+    → own ≡ map (paper_in papers (sheet_paper a.laying)) row → places ≡ row_printed a (named_places_from 0 row)
     → made ≡ sheets_laid l leaves own places → made ≡ places_by papers a (row_chosen pages a)
 places_so pages papers a row printed places own leaves l made chosen is_printed many evened owned placed laid =
     let l_is : l ≡ laying_for a papers row = evened ∙ ap (at_common_scale a.same_scale a.laying papers) is_printed in
     laid
     ∙ ap (λ r. sheets_laid l leaves own r) placed
-    ∙ ap (λ o. sheets_laid l leaves o (signed_if (sewn a) (named_places_from 0 row))) owned
-    ∙ ap (λ n. sheets_laid l n (map (paper_in papers (sheet_paper a.laying)) row) (signed_if (sewn a) (named_places_from 0 row))) many
-    ∙ ap (λ x. sheets_laid x (leaves_in (sewn a) row) (map (paper_in papers (sheet_paper a.laying)) row) (signed_if (sewn a) (named_places_from 0 row))) l_is
+    ∙ ap (λ o. sheets_laid l leaves o (row_printed a (named_places_from 0 row))) owned
+    ∙ ap (λ n. sheets_laid l n (map (paper_in papers (sheet_paper a.laying)) row) (row_printed a (named_places_from 0 row))) many
+    ∙ ap (λ x. sheets_laid x (leaves_in (sewn a) row) (map (paper_in papers (sheet_paper a.laying)) row) (row_printed a (named_places_from 0 row))) l_is
     ∙ ap (places_by papers a) (sym chosen)

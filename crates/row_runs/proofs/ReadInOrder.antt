@@ -5,7 +5,7 @@ use Rattle.std.specs.List.{range_with_len}
 use Rattle.rules.specs.Papers.{Paper}
 use Rattle.rules.specs.Sheets.{blocks}
 use Rattle.rules.specs.Signatures.{entry_of}
-use Rattle.rules.specs.Choice.{sides_for, signed_if}
+use Rattle.rules.specs.Choice.{sides_for}
 use Rattle.rules.specs.Leaves.{faces, read_signature}
 use Rattle.rules.specs.Rows.{Row, auto_leaves, in_signatures, leaves_for}
 use Rattle.rules.proofs.Folded.{row_is_read}
@@ -17,9 +17,10 @@ use Rattle.row_sheets.specs.Bound.{as_bound, faces_on}
 use Rattle.row_sheets.specs.SameScale.{at_one_scale}
 use Rattle.row_sheets.specs.Shapes.{filling}
 use Rattle.row_sheets.proofs.Folding.{faces_read}
+use Rattle.row_runs.specs.Begun.{laid_row}
 use Rattle.row_runs.specs.Evened.{at_common_scale}
 use Rattle.row_runs.specs.ReadAsBound.{AskedIsRead}
-use Rattle.row_runs.specs.Sheets.{leaves_in, sewn, sheets_laid}
+use Rattle.row_runs.specs.Sheets.{leaves_in, row_printed, sewn, sheets_laid}
 use Rattle.row_runs.specs.declared.sheet_request.Laying.TheVariants as laying
 use Rattle.row_runs.specs.declared.sheet_request.Scheme.TheVariants as scheme
 
@@ -47,14 +48,14 @@ faces_laid true t turned_backs creep leaves papers laid b = faces_read (filling 
 pub asked_is_read : AskedIsRead
 asked_is_read pages papers a made t turned_backs creep how may asked is sewn_so =
     let row = asked.row in
-    let laid = signed_if (sewn a) row in
+    let laid = row_printed a row in
     let b = t.order.right_to_left in
     let sides = sides_for (signing_of how) (length row) in
     let many = blocks sides (length row) in
     let sheets = asked.are_laid ∙ ap (λ l. sheets_laid (at_common_scale a.same_scale l papers laid) (leaves_in (sewn a) row) papers laid) is in
     let faces_are : map (as_bound b) (faces_on b turned_backs made) ≡ faces laid =
     ap (λ m. map (as_bound b) (faces_on b turned_backs m)) sheets ∙ faces_laid a.same_scale t turned_backs creep (leaves_in (sewn a) row) papers laid b in
-    let laid_is : laid ≡ in_signatures sides row = ap (λ s. signed_if (option_map signing_of s) row) sewn_so in
+    let laid_is : laid ≡ in_signatures sides row = ap (λ s. laid_row a.begun (option_map signing_of s) row) sewn_so in
     let whole = whole_leaves how (length row) (may_be_sewn a.signing how sewn_so may.sewn) in
     ap (λ all. flat_map (read_signature (sides / 4) all) (range_with_len 0 many)) (faces_are ∙ ap faces laid_is)
     ∙ subst (λ s. flat_map (read_signature (sides / 4) (faces (in_signatures s row))) (range_with_len 0 (blocks s (length row))) ≡ map (entry_of row) (range_with_len 0 (blocks s (length row) * s)))

@@ -5,7 +5,6 @@ use Rattle.std.proofs.lemmas.Int.{ints}
 use Rattle.rules.specs.Papers.{Paper}
 use Rattle.rules.specs.Sheets.{blocks}
 use Rattle.rules.specs.Specification.{Measure}
-use Rattle.rules.specs.Choice.{signed_if}
 use Rattle.rules.specs.Made.{MadeSlot, Blank, Placed, MadeSheet}
 use Rattle.rules.specs.Rows.{Row}
 use Rattle.layouts.specs.Cells.{size}
@@ -19,7 +18,7 @@ use Rattle.row_runs.specs.declared.sheet_request.Scheme.TheVariants as scheme
 use Rattle.row_runs.specs.Evened.{at_common_scale}
 use Rattle.row_runs.specs.SwappedMargins.{IsInPoints, swapped_room_in, swapped, swapped_from, moved_sheet, moved_slot, swap_shift}
 use Rattle.row_runs.specs.Runs.{swapped_room_for, page_count}
-use Rattle.row_runs.specs.Sheets.{MayBeLaid, laying_for, leaves_in, sewn, sheets_laid}
+use Rattle.row_runs.specs.Sheets.{MayBeLaid, laying_for, leaves_in, row_printed, sewn, sheets_laid}
 use Rattle.row_runs.specs.Standing.{StandAsLaid}
 use Rattle.row_runs.specs.Turning.{turned_sheet}
 use Rattle.row_runs.specs.InPlaces.{StandInPlaces}
@@ -123,8 +122,8 @@ written_stand j made are upright =
     let papers = j.papers.now in
     let laid = are.laid in
     let row = are.asked.row in
-    let points : InPointsAs a.laying laid = evened_in_points a.same_scale a.laying papers (signed_if (sewn a) row) laid
-    (subst (InPointsAs (laying_for a papers row)) (sym are.asked.are_laid) (laid_in_points (laying_for a papers row) (leaves_in (sewn a) row) papers (signed_if (sewn a) row))) in
+    let points : InPointsAs a.laying laid = evened_in_points a.same_scale a.laying papers (row_printed a row) laid
+    (subst (InPointsAs (laying_for a papers row)) (sym are.asked.are_laid) (laid_in_points (laying_for a papers row) (leaves_in (sewn a) row) papers (row_printed a row))) in
     let same : made ≡ swapped (swapped_room_for j) laid = are.turned ∙ ap (λ t. map (turned_sheet t) (swapped (swapped_room_for j) laid)) upright ∙ unturned_sheets (swapped (swapped_room_for j) laid) in
     subst (StandAsWritten j.swapped a.laying) (sym same) (sides_stand j.swapped a.laying laid are.may.laid points are.stand)
 
@@ -137,5 +136,5 @@ written_in_places j made are upright unmoved =
     let laid = are.laid in
     let row = are.asked.row in
     let same : made ≡ laid = are.turned ∙ ap₂ (λ t m. map (turned_sheet t) (swapped m laid)) upright unmoved ∙ unturned_sheets (swapped None laid) ∙ unswapped 0 laid in
-    subst (StandInPlaces (laying_for a papers row) papers (signed_if (sewn a) row)) (sym same)
+    subst (StandInPlaces (laying_for a papers row) papers (row_printed a row)) (sym same)
     (asked_stand_in_places (page_count j) papers a laid are.may are.asked)

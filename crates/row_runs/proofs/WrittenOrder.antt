@@ -4,7 +4,7 @@ use Rattle.std.specs.Prelude.{flat_map, slice_index_or}
 use Rattle.std.specs.List.{range_with_len}
 use Rattle.rules.specs.Sheets.{blocks}
 use Rattle.rules.specs.Specification.{Turn}
-use Rattle.rules.specs.Choice.{sides_for, signed_if}
+use Rattle.rules.specs.Choice.{sides_for}
 use Rattle.rules.specs.Leaves.{Face, read_signature}
 use Rattle.rules.specs.Made.{Blank, MadeSheet, MadeSlot, Placed}
 use Rattle.rules.specs.Rows.{Row}
@@ -26,7 +26,7 @@ use Rattle.row_runs.specs.declared.sheet_request.Scheme.TheVariants as scheme
 use Rattle.row_runs.specs.SwappedMargins.{swapped_room_on, swapped_from, moved_sheet, moved_slot}
 use Rattle.row_runs.specs.ReadAsBound.{AreReadAs}
 use Rattle.row_runs.specs.Runs.{swapped_room_for, page_count}
-use Rattle.row_runs.specs.Sheets.{laying_for, leaves_in, sewn, sheets_laid}
+use Rattle.row_runs.specs.Sheets.{laying_for, leaves_in, row_printed, sewn, sheets_laid}
 use Rattle.row_runs.specs.Turning.{turned_sheet, turned_slot}
 use Rattle.row_runs.specs.Written.{AreReadInOrder, WrittenAreRead, WrittenIsBound}
 use Rattle.row_runs.proofs.ReadInOrder.{asked_is_read}
@@ -113,7 +113,7 @@ read_as_laid (laying.BySpec spec sheet page) leaves papers row turn m = tt
 
 pub written_are_read : WrittenAreRead
 written_are_read j made are =
-    let row = signed_if (sewn j.asked) are.asked.row in
+    let row = row_printed j.asked are.asked.row in
     let l = laying_for j.asked j.papers.now are.asked.row in
     subst (AreReadInOrder l row) (sym (are.turned ∙ ap (λ (xs : List MadeSheet). written_from (turn_of j.turn) (swapped_room_for j) 0 xs) are.asked.are_laid))
     (read_as_laid l (leaves_in (sewn j.asked) are.asked.row) j.papers.now row (turn_of j.turn) (swapped_room_for j))

@@ -4,7 +4,6 @@ use Rattle.std.specs.List.{AllByRecursion}
 use Rattle.rules.specs.Papers.{Paper}
 use Rattle.rules.specs.Placement.{Point}
 use Rattle.rules.specs.Signatures.{entry_of}
-use Rattle.rules.specs.Choice.{signed_if}
 use Rattle.rules.specs.Made.{MadeSheet}
 use Rattle.rules.specs.Rows.{Row}
 use Rattle.layouts.specs.declared.setting.Setting.{Setting}
@@ -18,7 +17,7 @@ use Rattle.row_sheets.specs.declared.poster.Poster.{Poster}
 use Rattle.dressing.specs.Between.{IsAlong}
 use Rattle.dressing.specs.declared.strokes.Marks.{Marks}
 use Rattle.row_runs.specs.Marked.{strokes_in}
-use Rattle.row_runs.specs.Sheets.{AreAsked, MayBeAsked, laying_for, sewn}
+use Rattle.row_runs.specs.Sheets.{AreAsked, MayBeAsked, laying_for, row_printed}
 use Rattle.row_runs.specs.declared.sheet_request.SheetRequest.{SheetRequest}
 use Rattle.row_runs.specs.declared.sheet_request.Laying.{Laying}
 use Rattle.row_runs.specs.declared.sheet_request.Laying.TheVariants as laying
@@ -58,4 +57,4 @@ StandInPlaces (laying.Poster p) papers row made = (i page : ℕ) → entry_of ro
 abbrev pub AskedStandInPlaces : Type 0
 AskedStandInPlaces = (pages : ℕ) (papers : List Paper) (a : SheetRequest) (made : List MadeSheet) → MayBeAsked a
     → (asked : AreAsked pages papers a made)
-    → StandInPlaces (laying_for a papers asked.row) papers (signed_if (sewn a) asked.row) made
+    → StandInPlaces (laying_for a papers asked.row) papers (row_printed a asked.row) made

@@ -1,4 +1,4 @@
--- Read in this order: what is written of made sheets. Then, of a row: what errors are called; layings with one scale; limits; the last page at the back;
+-- Read in this order: what is written of made sheets. Then, of a row: what errors are called; layings with one scale; limits; the last page at the back; begun sheets;
 -- the sheets that are asked for, how their pages are placed and read, turned pages; backs; which places can be written; their marks and
 -- numbers; what the answers mean; lines on sheets; how sheets are read; what is shown of them before they are imposed.
 -- At last, how many pages a document says that it has.
@@ -7,6 +7,7 @@ pub mod Errors
 pub mod Evened
 pub mod Limits
 pub mod LastPage
+pub mod Begun
 pub mod Sheets
 pub mod Standing
 pub mod InPlaces

@@ -3,7 +3,7 @@ use Rattle.std.specs.Prelude.{ℕ, ◌+◌, ◌*◌, nat_le, ℤ, pos, Bool, tru
 use Rattle.rules.specs.Papers.{Paper}
 use Rattle.rules.specs.Run.{most_sheets}
 use Rattle.rules.specs.Specification.{Upright}
-use Rattle.rules.specs.Choice.{RowFault, signed_if}
+use Rattle.rules.specs.Choice.{RowFault}
 use Rattle.rules.specs.Made.{MadeSheet}
 use Rattle.rules.specs.Rows.{Row}
 use Rattle.layouts.specs.Cells.{high}
@@ -13,7 +13,7 @@ use Rattle.dressing.specs.declared.numbers.Numbering.{Numbering}
 use Rattle.sheet_text.specs.declared.numbers.Numbers.{Numbers}
 use Rattle.row_runs.specs.SwappedMargins.{swapped}
 use Rattle.row_runs.specs.Reaching.{are_reached}
-use Rattle.row_runs.specs.Sheets.{laying_for, leaves_in, row_chosen, sewn, sheets_laid}
+use Rattle.row_runs.specs.Sheets.{laying_for, leaves_in, row_chosen, row_printed, sewn, sheets_laid}
 use Rattle.row_runs.specs.declared.sheet_request.SheetRequest.{SheetRequest}
 use Rattle.row_runs.specs.declared.sheet_request.Laying.{Laying}
 use Rattle.row_runs.specs.declared.sheet_request.Laying.TheVariants as laying
@@ -41,7 +41,7 @@ paper_in papers other (Some page) = paper_of papers other page
 -- the sheets that are asked for, with each page named by its place in the row, by which its paper is found too
 abbrev pub places_laid : List Paper → SheetRequest → Row → List MadeSheet
 places_laid papers a row = sheets_laid (laying_for a papers row) (leaves_in (sewn a) row)
-    (map (paper_in papers (sheet_paper a.laying)) row) (signed_if (sewn a) (named_places_from 0 row))
+    (map (paper_in papers (sheet_paper a.laying)) row) (row_printed a (named_places_from 0 row))
 
 abbrev pub places_by : List Paper → SheetRequest → Result Row RowFault → List MadeSheet
 places_by papers a (Ok row) = places_laid papers a row

@@ -6,7 +6,7 @@ use Rattle.rules.specs.Run.{most_pages}
 use Rattle.rules.specs.Units.{◌>>=◌}
 use Rattle.rules.specs.Made.{MadeSheet}
 use Rattle.rules.specs.Rows.{Row}
-use Rattle.rules.specs.Choice.{RowFault, Signing, chosen, sides_for, signed_if}
+use Rattle.rules.specs.Choice.{RowFault, Signing, chosen, sides_for}
 use Rattle.layouts.specs.Cells.{size}
 use Rattle.layouts.specs.declared.error.ArrangementError.{ArrangementError}
 use Rattle.rows.specs.Choices.{choice_of}
@@ -22,6 +22,7 @@ use Rattle.row_sheets.specs.Standing.{AllEntriesFit, AllFitOnLeaves}
 use Rattle.row_sheets.specs.Zine.{AreZineCells}
 use Rattle.sheet_plan.specs.MadeRefusals.{RefusesMade}
 use Rattle.sheet_plan.specs.declared.error.MadeError.{MadeError}
+use Rattle.row_runs.specs.Begun.{laid_row}
 use Rattle.row_runs.specs.Evened.{at_common_scale, why_not_even_if}
 use Rattle.row_runs.specs.LastPage.{last_at_back_if}
 use Rattle.row_runs.specs.Limits.{IsLimit}
@@ -118,14 +119,18 @@ sewn a = option_map signing_of a.signing
 abbrev pub row_chosen : (pages : ℕ) → SheetRequest → Result Row RowFault
 row_chosen pages a = chosen pages (choice_of a.choice) >>= λ row. Ok (last_at_back_if a.last_at_back (sewn a) row)
 
+-- the row as it is laid: in signatures, or from where it begins on the first sheet
+abbrev pub row_printed : SheetRequest → Row → Row
+row_printed a row = laid_row a.begun (sewn a) row
+
 -- how the row that is chosen is laid: at one scale if that is asked for
 abbrev pub laying_for : SheetRequest → List Paper → Row → Laying
-laying_for a papers row = at_common_scale a.same_scale a.laying papers (signed_if (sewn a) row)
+laying_for a papers row = at_common_scale a.same_scale a.laying papers (row_printed a row)
 
 -- why a page is refused: the first that has no scale of its own, if there is to be one for all, or else the first that
 -- has no place as it is laid (RULES, 16, step 12)
 abbrev pub why_not_asked : List Paper → SheetRequest → Row → Option SheetError
-why_not_asked papers a row = let printed = signed_if (sewn a) row in
+why_not_asked papers a row = let printed = row_printed a row in
     option_or (option_map error.Arrangement (why_not_even_if a.same_scale a.laying papers printed))
     (why_not_laid (laying_for a papers row) (leaves_in (sewn a) row) papers printed)
 
@@ -134,8 +139,8 @@ why_not_asked papers a row = let printed = signed_if (sewn a) row in
 pub record AreAsked (pages : ℕ) (papers : List Paper) (a : SheetRequest) (made : List MadeSheet) : Type 0 where
   pub row : Row
   pub is_chosen : row_chosen pages a ≡ Ok row
-  pub are_laid : made ≡ sheets_laid (laying_for a papers row) (leaves_in (sewn a) row) papers (signed_if (sewn a) row)
-  pub fits : FitAsLaid (laying_for a papers row) (leaves_in (sewn a) row) papers (signed_if (sewn a) row)
+  pub are_laid : made ≡ sheets_laid (laying_for a papers row) (leaves_in (sewn a) row) papers (row_printed a row)
+  pub fits : FitAsLaid (laying_for a papers row) (leaves_in (sewn a) row) papers (row_printed a row)
   pub accepted : why_not_asked papers a row ≡ None
 
 -- a refusal names the fault of the row; or, if there is one, why a page of it is refused; or, if none is, the limit that the
@@ -147,6 +152,6 @@ RefusesAsked pages papers a (error.Arrangement e) =
 RefusesAsked pages papers a (error.Poster e) =
     (row : Row) × (row_chosen pages a ≡ Ok row) × (why_not_asked papers a row ≡ Some (error.Poster e))
 RefusesAsked pages papers a (error.Sheets e) = (made : List MadeSheet) × (asked : AreAsked pages papers a made)
-    × IsLimit (laying_for a papers asked.row) (length (signed_if (sewn a) asked.row)) e × RefusesMade pages made e
+    × IsLimit (laying_for a papers asked.row) (length (row_printed a asked.row)) e × RefusesMade pages made e
 RefusesAsked pages papers a error.OutOfReach = ⊥
 RefusesAsked pages papers a error.NoMemory = IsOk (row_chosen pages a)

@@ -3,7 +3,7 @@ use Rattle.std.specs.Prelude.{◌≡◌, ⊤, ℕ, ◌+◌, ◌<◌, ◌≤◌, 
 use Rattle.rules.specs.Papers.{Paper}
 use Rattle.rules.specs.Placement.{Point}
 use Rattle.rules.specs.Specification.{Item, Turn, Upright}
-use Rattle.rules.specs.Choice.{sides_for, signed_if}
+use Rattle.rules.specs.Choice.{sides_for}
 use Rattle.rules.specs.Made.{MadeSlot, Blank, Placed, MadeSheet}
 use Rattle.rules.specs.Rows.{Row}
 use Rattle.layouts.specs.declared.setting.Setting.{Setting}
@@ -23,7 +23,7 @@ use Rattle.row_sheets.specs.Stacked.{AreCards, AreFilledInTurn, ArePiled, ArePil
 use Rattle.row_runs.specs.ReadAsBound.{AreReadAs}
 use Rattle.row_runs.specs.InPlaces.{StandInPlaces}
 use Rattle.row_runs.specs.Runs.{AreTurned, swapped_room_for}
-use Rattle.row_runs.specs.Sheets.{laying_for, leaves_in, sewn}
+use Rattle.row_runs.specs.Sheets.{laying_for, leaves_in, row_printed, sewn}
 use Rattle.row_runs.specs.Standing.{StandAsLaid}
 use Rattle.row_sheets.specs.Zine.{AreReadFolded, past_row, zine_turn}
 use Rattle.row_runs.specs.Turning.{turn_sum, turned_item, turned_paper, turned_slot}
@@ -67,7 +67,7 @@ WrittenStand = (j : RowJob) (made : List MadeSheet) → AreTurned j made → tur
 -- turned and no margins are exchanged: a law
 abbrev pub WrittenInPlaces : Type 0
 WrittenInPlaces = (j : RowJob) (made : List MadeSheet) → (are : AreTurned j made) → turn_of j.turn ≡ Upright → swapped_room_for j ≡ None
-    → StandInPlaces (laying_for j.asked j.papers.now are.asked.row) j.papers.now (signed_if (sewn j.asked) are.asked.row) made
+    → StandInPlaces (laying_for j.asked j.papers.now are.asked.row) j.papers.now (row_printed j.asked are.asked.row) made
 
 -- ---- in order, also turned
 
@@ -84,7 +84,7 @@ AreReadInOrder other row made = ⊤
 -- the sheets that are written are read in order, as by `impose nup 4 --turn left`: a law
 abbrev pub WrittenAreRead : Type 0
 WrittenAreRead = (j : RowJob) (made : List MadeSheet) → (are : AreTurned j made)
-    → AreReadInOrder (laying_for j.asked j.papers.now are.asked.row) (signed_if (sewn j.asked) are.asked.row) made
+    → AreReadInOrder (laying_for j.asked j.papers.now are.asked.row) (row_printed j.asked are.asked.row) made
 
 -- the booklet that is written is read in the order of the row that is chosen, as by `impose booklet --turn left`: a law
 abbrev pub WrittenIsBound : Type 0

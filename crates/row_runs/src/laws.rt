@@ -1,4 +1,5 @@
-//! Laws of the sheets that a row makes. Each contract is a law; the functions do nothing.
+//! Laws of the sheets that a row makes. Each function states one law in its contract, and does nothing.
+ghost use Rattle.row_runs.specs.Begun.{BegunLeavesUsed, CardsAreGrid};
 ghost use Rattle.row_runs.specs.InPlaces.{AskedStandInPlaces};
 ghost use Rattle.row_runs.specs.LastPage.{LastPageIsLast};
 ghost use Rattle.row_runs.specs.ReadAsBound.{AskedIsRead};
@@ -22,6 +23,13 @@ pub fn asked_is_read()
 /// A booklet with blanks before its last page, folded and read, has that page at its back.
 pub fn last_page_is_last()
     ensures { LastPageIsLast }
+{}
+
+/// On a begun sheet the cells that are used already stay empty. The cells after them have the row, or what cards have there on a whole sheet
+/// (`used`), which is what the grid of a row with copies has (`cards`).
+pub fn begun_leaves_used()
+    ensures used { BegunLeavesUsed }
+    ensures cards { CardsAreGrid }
 {}
 
 /// Two quarter turns of a page are a half turn, three are a quarter turn to the right, and four leave the page as it was.

@@ -1,6 +1,7 @@
 //! Prepares a row of pages for writing: takes a request, lays the row on sheets, and lists or draws these sheets.
 #![tactic(auto)]
 
+mod begun;
 mod declared_pages;
 mod error;
 mod evened;
@@ -18,6 +19,7 @@ mod sheet_request;
 mod swapped_margins;
 mod turning;
 
+pub use begun::Begun;
 pub use declared_pages::declared_page_count;
 pub use error::{SheetError, plan_error};
 pub use look::{row_plan, row_preview};

@@ -8,6 +8,7 @@ ghost use Rattle.row_runs.specs.Numbers.{named_places_from, sheet_paper as sheet
 ghost use Rattle.row_runs.specs.Reaching.{is_changed};
 ghost use Rattle.row_runs.specs.Sheets.{MayBeAsked, row_chosen};
 
+use crate::begun::laid_row;
 use crate::error::SheetError;
 use crate::evened::at_common_scale;
 use crate::reaching::check_reach;
@@ -17,7 +18,6 @@ use dressing::Numbering;
 use layouts::{Room, cell_size, grains};
 use lengths::{Grains, Paper};
 use pagespec::Turn;
-use rows::signed_row;
 use sheet_plan::MadeSheets;
 use sheet_text::Numbers;
 use std::alloc::{AllocError, Global};
@@ -77,8 +77,9 @@ fn places_of(
     };
     let leaves = leaves_in(asked.signing, row.as_slice());
     let own = papers_on_row(alloc, papers, sheet_paper(&asked.laying), row.as_slice())?;
-    let places = signed_row(alloc, named_places(alloc, row.as_slice())?, asked.signing)?;
-    let printed = signed_row(alloc, row, asked.signing)?;
+    let named = named_places(alloc, row.as_slice())?;
+    let places = laid_row(alloc, named, asked.begun, asked.signing)?;
+    let printed = laid_row(alloc, row, asked.begun, asked.signing)?;
     let Ok(laying) = at_common_scale(asked.same_scale, &asked.laying, papers, printed.as_slice())
     else {
         return Err(AllocError);

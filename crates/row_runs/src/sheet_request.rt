@@ -11,6 +11,7 @@ ghost use Rattle.row_runs.specs.Sheets.{AreAsked, FitAsLaid, MayBeAsked, MayBeLa
 ghost use Rattle.row_runs.specs.Sheets.{leaves_in as leaves_of_signature, row_chosen, sheets_by_scheme, sheets_laid, why_not_in};
 ghost use Rattle.row_runs.specs.Standing.{StandAsLaid};
 
+use crate::begun::{Begun, laid_row};
 use crate::error::{SheetError, plan_error};
 use crate::evened::at_common_scale;
 use crate::last_page::last_at_back;
@@ -23,7 +24,7 @@ use row_sheets::{
     creeping_booklet_sheets, grid_sheets, leaf_sheets, poster_row_sheets, select, spec_sheets,
     stack_sheets, zine_sheets,
 };
-use rows::{Choice, RowError, Signing, chosen_row, signed_row};
+use rows::{Choice, RowError, Signing, chosen_row};
 use sheet_plan::{MadeError, MadeSheets};
 use std::alloc::Global;
 
@@ -102,6 +103,8 @@ pub struct SheetRequest<'t> {
     pub signing: Option<Signing>,
     /// Whether the blanks that fill up the last signature come before the last page.
     pub last_at_back: bool,
+    /// Where the row begins on the first sheet, unless it is in signatures.
+    pub begun: Begun,
     pub laying: Laying<'t>,
     /// Whether all pages in cells get the same scale, which is the least of their scales.
     pub same_scale: bool,
@@ -151,7 +154,7 @@ pub fn make_sheets(
         Err(error) => return Err(row_error(error)),
     };
     let leaves = leaves_in(asked.signing, row.as_slice());
-    let printed = match signed_row(alloc, row, asked.signing) {
+    let printed = match laid_row(alloc, row, asked.begun, asked.signing) {
         Ok(printed) => printed,
         Err(_) => return Err(SheetError::NoMemory),
     };

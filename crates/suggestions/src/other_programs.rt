@@ -226,8 +226,8 @@ const OF_OTHERS: [Tip; 24] = [
     ),
 ];
 
-/// Further tips of this kind. One table of all would be longer than the prover takes in a function.
-const FURTHER: [Tip; 24] = [
+/// Further tips on options of other programs. One table with all these tips would be too long for the prover.
+const FURTHER: [Tip; 23] = [
     (
         &[
             "--inner-margin",
@@ -363,10 +363,6 @@ const FURTHER: [Tip; 24] = [
             "--page-range",
         ],
         "pages are named by their numbers, as in: --pages 3-8, and after select without an option",
-    ),
-    (
-        &["--skip"],
-        "cells stay empty for blanks, as in: impose nup 3x8 --pages blank,blank,1- in.ps out.ps",
     ),
     (
         &[

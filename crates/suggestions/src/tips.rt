@@ -46,7 +46,7 @@ pub(crate) const MISSING: [Tip; 7] = [
 ];
 
 /// Tips on a value that begins with a minus sign, after an option or as the first argument of a command.
-pub(crate) const SIGNS: [Tip; 13] = [
+pub(crate) const SIGNS: [Tip; 14] = [
     (
         &["--turn"],
         "a turn has a name, as in: --turn left (by 90 degrees)",
@@ -72,6 +72,10 @@ pub(crate) const SIGNS: [Tip; 13] = [
     (
         &["--numbers-from"],
         "the first number has no sign, as in: --numbers 10pt --numbers-from 3",
+    ),
+    (
+        &["--skip"],
+        "a number of cells has no sign, as in: --skip 3",
     ),
     (
         &["nup"],
@@ -176,7 +180,7 @@ pub(crate) const FOR_SPECIFICATIONS: [Tip; 3] = [
 ];
 
 /// Tips on options that only some commands have, for use with a command that doesn't have them.
-pub(crate) const OF_COMMANDS: [Tip; 16] = [
+pub(crate) const OF_COMMANDS: [Tip; 17] = [
     (
         &["--order"],
         "nup, cards and stack have an order, as in: impose nup 4 --order down-right in.ps out.ps",
@@ -188,6 +192,10 @@ pub(crate) const OF_COMMANDS: [Tip; 16] = [
     (
         &["--scale"],
         "nup, cards and stack have a scale, as in: impose nup 2 --scale 0.7 in.ps out.ps",
+    ),
+    (
+        &["--skip"],
+        "nup and cards leave cells empty that are used already, as in: impose cards 3x8 --skip 5 in.ps out.ps",
     ),
     (
         &["--same-scale"],

@@ -26,6 +26,7 @@ pub fn value_text(alloc: Global, option: OptionId, text: &str) -> Result<String,
         OptionId::Outfile => outfile_text(alloc, text),
         OptionId::Preview => refused_text(alloc, option, text),
         _ if has_file_ending(text) => no_value_text(alloc, option, text),
+        OptionId::Skip(cells) => skip_text(alloc, cells, text),
         OptionId::Paper if is_range(text) && (text.contains("-") || text.contains(",")) =>
             ranges_text(alloc, text),
         OptionId::Paper | OptionId::Sheet => paper_text(alloc, option, text),
@@ -52,6 +53,7 @@ fn no_value_text(alloc: Global, option: OptionId, text: &str) -> Result<String, 
 {
     let advice = match option {
         OptionId::Paper | OptionId::Sheet => "name a paper such as a4",
+        OptionId::Skip(_) => "give the number of cells that are used already, such as 3",
         _ => value_refusal(option).1,
     };
     let before = ["the value of --", option.id(), " is missing before '"];
@@ -87,6 +89,7 @@ fn is_value(option: OptionId, text: &str) -> bool {
         | OptionId::Numbers => { length_with_unit(text).is_some() }
         OptionId::Scale => parse_number(text).is_some(),
         OptionId::Count(_)
+        | OptionId::Skip(_)
         | OptionId::Signature
         | OptionId::Order
         | OptionId::Turn
@@ -416,6 +419,21 @@ fn signature_text(alloc: Global, text: &str) -> Result<String, AllocError>
         }
         _ => refused_text(alloc, OptionId::Signature, text),
     }
+}
+
+/// The message about a text after `--skip` that isn't a number below the number of cells on a sheet.
+fn skip_text(alloc: Global, cells: u64, text: &str) -> Result<String, AllocError>
+    ensures { IfOk result (λ said. IsMessageOn text.now (string_bytes said)) }
+{
+    if cells < 2 {
+        let cure = ": a sheet has one cell, so leave --skip out";
+        return message_on(alloc, &["--skip "], text, &[cure]);
+    }
+    let most = cells - 1;
+    let cure = format!(in alloc;
+        "' after --skip: a sheet has {cells} cells, so give one from 1 to {most}"
+    )?;
+    message_on(alloc, &["bad number '"], text, &[cure.as_str()])
 }
 
 /// The message about a text after a command that isn't a number of pages or a grid. If the text looks like a file, the message says that the number

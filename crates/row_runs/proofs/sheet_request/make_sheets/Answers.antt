@@ -1,8 +1,7 @@
 use Rattle.std.specs.Prelude.{IfOk, OnOk, Result}
 use Rattle.std.proofs.Common.{rules, ◌≡◌, Ok, Err, subst}
 use Rattle.std.proofs.lemmas.Result.{IfErr-weaker, IfOk-weaker}
-use Rattle.row_runs.specs.Sheets.{leaves_in, row_chosen, sewn}
-use Rattle.rules.specs.Choice.{signed_if}
+use Rattle.row_runs.specs.Sheets.{leaves_in, row_chosen, row_printed, sewn}
 use Rattle.row_runs.specs.Standing.{StandAsLaid}
 use Rattle.row_runs.proofs.Counted.{few_made}
 use Rattle.row_runs.proofs.Fit.{asked_so}
@@ -21,7 +20,7 @@ returns-in-Err-at_common_scale-clause-refused c =
     let row = c.in-Ok.row.items in
     let printed = c.as_slice-entries.result.now in
     let is_row : row_chosen c.args.pages a ≡ Ok row = search rules in
-    let is_printed : printed ≡ signed_if (sewn a) row = search rules in
+    let is_printed : printed ≡ row_printed a row = search rules in
     even_told c.args.pages c.args.papers.now a row printed c.in-Err-at_common_scale.error c.arrangement_error.result is_row is_printed c.in-Err-at_common_scale.ensures.refused c.arrangement_error.ensures
 
 pub returns-clause-refused : goal.returns-clause-refused
@@ -30,7 +29,7 @@ returns-clause-refused c =
     let row = c.in-Ok.row.items in
     let printed = c.as_slice-entries.result.now in
     let is_row : row_chosen c.args.pages a ≡ Ok row = search rules in
-    let is_printed : printed ≡ signed_if (sewn a) row = search rules in
+    let is_printed : printed ≡ row_printed a row = search rules in
     let many : c.leaves_in-leaves.result ≡ leaves_in (sewn a) row = search rules in
     IfErr-weaker c.lay_row.result _ _
     (λ error h. asked_told c.args.pages c.args.papers.now a row printed c.leaves_in-leaves.result c.in-Ok-at_common_scale.laying error c.requires.pages is_row is_printed many
@@ -48,7 +47,7 @@ returns-clause-made c =
     let row = c.in-Ok.row.items in
     let printed = c.as_slice-entries.result.now in
     let is_row : row_chosen c.args.pages a ≡ Ok row = search rules in
-    let is_printed : printed ≡ signed_if (sewn a) row = search rules in
+    let is_printed : printed ≡ row_printed a row = search rules in
     let many : c.leaves_in-leaves.result ≡ leaves_in (sewn a) row = search rules in
     ok_with c.lay_row.result
     (λ sheets made fits. asked_so c.args.pages c.args.papers.now a row printed c.leaves_in-leaves.result c.in-Ok-at_common_scale.laying sheets is_row is_printed many

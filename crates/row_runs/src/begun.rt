@@ -1,0 +1,98 @@
+//! First sheets that are begun.
+ghost use Rattle.std.specs.Prelude.{◌≡◌, ◌<◌, ◌≤◌, ◌++◌, IfOk, IfSome, None, drop, flat_map, length, option_map, replicate};
+ghost use Rattle.rules.specs.Choice.{most_entries};
+ghost use Rattle.rows.specs.Sewing.{MayBeSewn, signing_of};
+ghost use Rattle.row_runs.specs.Begun.{begun_row as row_begun, laid_row as row_laid};
+
+use rows::{Signing, signed_row};
+use std::alloc::{AllocError, Global};
+
+/// The greatest number of slots on all sheets of a plan together.
+const MOST_PLACES: u128 = 4_000_000;
+
+/// Where a row begins on the first sheet, whose first cells may be used already. Used cells stay empty.
+#[derive(Clone, Copy)]
+pub enum Begun {
+    /// The row begins after this number of blanks.
+    Pages { used: u32 },
+    /// Each entry is in all `cells` cells of a sheet, except for the first `used` cells of the first sheet.
+    Cards { cells: u64, used: u32 },
+}
+
+/// The row as it is laid: in signatures if there are any, otherwise from where it begins. A row of cards with more entries than a plan has slots is
+/// refused like a lack of memory.
+pub(crate) fn laid_row(
+    alloc: Global,
+    row: Vec<Option<u32>>,
+    begun: Begun,
+    signing: Option<Signing>,
+) -> Result<Vec<Option<u32>>, AllocError>
+    requires sides { IfSome signing MayBeSewn }
+    requires some { 0 < length row.items }
+    requires few { length row.items ≤ most_entries }
+    ensures { IfOk result (λ laid. laid.items ≡ row_laid begun (option_map signing_of signing) row.items) }
+{
+    match signing {
+        Some(how) => signed_row(alloc, row, Some(how)),
+        None => begun_row(alloc, row, begun),
+    }
+}
+
+/// The row from where it begins.
+fn begun_row(
+    alloc: Global,
+    row: Vec<Option<u32>>,
+    begun: Begun,
+) -> Result<Vec<Option<u32>>, AllocError>
+    ensures { IfOk result (λ found. found.items ≡ row_begun begun row.items) }
+{
+    match begun {
+        Begun::Pages { used: 0 } => Ok(row),
+        Begun::Pages { used } => after_blanks(alloc, used, row.as_slice()),
+        Begun::Cards { cells, used } => {
+            let copies = copies_of(alloc, cells, row.as_slice())?;
+            after_blanks(alloc, used, without_first(used, copies.as_slice()))
+        }
+    }
+}
+
+/// These entries, after this number of blanks.
+fn after_blanks(
+    alloc: Global,
+    blanks: u32,
+    entries: &[Option<u32>],
+) -> Result<Vec<Option<u32>>, AllocError>
+    ensures { IfOk result (λ found. found.items ≡ replicate blanks None ++ entries.now) }
+{
+    let mut found = Vec::new(alloc);
+    found.resize(blanks as usize, None)?;
+    found.extend_from_slice(entries)?;
+    Ok(found)
+}
+
+/// These entries without the first `used`.
+fn without_first(used: u32, entries: &[Option<u32>]) -> &[Option<u32>]
+    ensures { result.now ≡ drop used entries.now }
+{
+    let used = used as usize;
+    if used <= entries.len() {
+        &entries[used..]
+    } else {
+        &[]
+    }
+}
+
+/// Each entry of the row this number of times. Refused if there would be more than a plan has slots.
+fn copies_of(alloc: Global, cells: u64, row: &[Option<u32>]) -> Result<Vec<Option<u32>>, AllocError>
+    ensures { IfOk result (λ copies. copies.items ≡ flat_map (replicate cells) row.now) }
+{
+    let most = MOST_PLACES;
+    if u128::from(cells) > most || row.len() as u128 * u128::from(cells) > most {
+        return Err(AllocError);
+    }
+    let mut copies = Vec::new(alloc);
+    for entry in row {
+        copies.resize(copies.len() + cells as usize, *entry)?;
+    }
+    Ok(copies)
+}
