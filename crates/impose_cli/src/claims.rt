@@ -1,11 +1,12 @@
 //! Statements that a document makes about itself.
-ghost use Rattle.std.specs.Prelude.{◌≡◌, codes, option_map};
-ghost use Rattle.papers.specs.Media.{comment_value, contents};
+ghost use Rattle.std.specs.Prelude.{◌≡◌, ◌∷◌, ◌++◌, [], option_map};
+ghost use Rattle.rules.specs.Bytes.{colon};
+ghost use Rattle.papers.specs.Media.{comment_value, contents, header};
 ghost use Rattle.impose_messages.specs.Said.{shown_name};
 ghost use Rattle.impose_cli.specs.Claims as meaning;
 
 use dsc::header_len;
-use impose_messages::{Claims, ShownName};
+use impose_messages::{Claims, Creator, ShownName};
 use impose_words::ImposeRequest;
 use lengths::Paper;
 use papers::{Comment, document_paper, first_comment, first_name, is_at_end};
@@ -18,7 +19,12 @@ pub(crate) fn claims_of(request: &ImposeRequest, input: &[u8]) -> Claims
 {
     let pages = declared_page_count(input);
     let unknown = shown(unknown_paper(request, input));
-    Claims { pages, unknown }
+    let creator = creator_of(input);
+    Claims {
+        pages,
+        unknown,
+        creator,
+    }
 }
 
 /// A name as messages show it.
@@ -49,8 +55,7 @@ fn unknown_name<'t>(usual: &Paper, input: &'t [u8]) -> Option<&'t [u8]>
     if is_by_name(document_paper(input, usual)) {
         return None;
     }
-    let (header, _) = input.split_at(header_len(input));
-    told_name(names_value(header)?)
+    told_name(header_value(input, b"%%DocumentPaperSizes", b"%%DocumentPaperSizes:")?)
 }
 
 /// The name at the start of a comment's value. `None` if the value is `(atend)`, which leaves the name to the trailer: trailers aren't read here.
@@ -68,26 +73,47 @@ fn is_by_name(found: Option<(Paper, Comment)>) -> bool
     ensures { result ≡ meaning.is_by_name found }
 {
     match found {
-        Some((_, comment)) => is_name(comment),
-        None => false,
+        Some((_, Comment::DocumentMedia | Comment::DocumentPaperSizes)) => true,
+        Some((_, Comment::BoundingBox | Comment::Setup)) | None => false,
     }
 }
 
-/// Whether a comment names papers or media.
-fn is_name(comment: Comment) -> bool
-    ensures { result ≡ meaning.is_name comment }
+/// The program that made the document, if it is one whose pages depend on the text before them. Its name is the first word of `%%Creator:`.
+fn creator_of(input: &[u8]) -> Option<Creator>
+    ensures { result ≡ meaning.creator_of input.now }
 {
-    match comment {
-        Comment::DocumentMedia | Comment::DocumentPaperSizes => true,
-        Comment::BoundingBox | Comment::Setup => false,
+    let value = header_value(input, b"%%Creator", b"%%Creator:")?;
+    creator_named(first_name(value)?)
+}
+
+fn creator_named(name: &[u8]) -> Option<Creator>
+    ensures { result ≡ meaning.creator_named name.now }
+{
+    if name == b"hp2xx".as_slice() {
+        Some(Creator::Hp2xx)
+    } else if name == b"Xcircuit".as_slice() || name == b"XCircuit".as_slice() {
+        Some(Creator::Xcircuit)
+    } else {
+        None
     }
 }
 
-/// The text after the colon of the first `%%DocumentPaperSizes:` in these lines. `None` if there is no such comment.
-fn names_value(lines: &[u8]) -> Option<&[u8]>
-    ensures { option_map (λ value. value.now) result ≡ comment_value (codes "%%DocumentPaperSizes") (contents lines.now) }
+/// The value of the first header comment with this key: the text after its colon. None if there is no such comment. The caller also passes the key
+/// followed by a colon.
+fn header_value<'t>(input: &'t [u8], key: &[u8], with_colon: &[u8]) -> Option<&'t [u8]>
+    requires { with_colon.now ≡ key.now ++ colon ∷ [] }
+    ensures { option_map (λ value. value.now) result ≡ comment_value key.now (header input.now) }
 {
-    match first_comment(lines, b"%%DocumentPaperSizes", b"%%DocumentPaperSizes:") {
+    let (header, _) = input.split_at(header_len(input));
+    value_in(header, key, with_colon)
+}
+
+/// The value of the first comment with this key in these lines.
+fn value_in<'t>(lines: &'t [u8], key: &[u8], with_colon: &[u8]) -> Option<&'t [u8]>
+    requires { with_colon.now ≡ key.now ++ colon ∷ [] }
+    ensures { option_map (λ value. value.now) result ≡ comment_value key.now (contents lines.now) }
+{
+    match first_comment(lines, key, with_colon) {
         Some((value, _)) => Some(value),
         None => None,
     }

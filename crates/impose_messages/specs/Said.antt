@@ -1,7 +1,7 @@
 -- What is said on standard error of how the program ended: which lines, in which order, and what is in those of a finished run. Of
 -- messages of faults only one is here, and nothing of what is said of words that the command doesn't take.
 use Rattle.std.specs.Prelude.{⊤, ◌≡◌, ◌==◌, ◌⊎◌, ◌++◌, if◌then◌else◌, ℕ, List, [], Bool, true, false, Option, Some, None, Result, Ok, Err}
-use Rattle.std.specs.Prelude.{◌+◌, ◌-◌, ◌*◌, ◌/◌, ℤ, pos, int_le, codes, decimal, nat_abs, nat_eq, nat_le, nat_lt, ◌||◌, ◌&&◌, option_map, string_bytes}
+use Rattle.std.specs.Prelude.{◌+◌, ◌-◌, ◌*◌, ◌/◌, ℤ, pos, int_le, codes, decimal, nat_abs, not, nat_eq, nat_le, nat_lt, ◌||◌, ◌&&◌, option_map, string_bytes}
 use Rattle.std.specs.Prelude.{String, length, map, min, take}
 use Rattle.std.specs.declared.alloc.Global.{Global}
 use Rattle.std.specs.List.{ends_with}
@@ -33,6 +33,8 @@ use Rattle.impose_words.specs.SheetPapers.{sheet_paper_for}
 use Rattle.impose_words.specs.declared.request.Spacing.{Spacing}
 use Rattle.impose_words.specs.declared.request.Layout.{Layout}
 use Rattle.impose_words.specs.declared.request.Layout.TheVariants as layout
+use Rattle.impose_messages.specs.declared.finished.Creator.{Creator}
+use Rattle.impose_messages.specs.declared.finished.Creator.TheVariants.{Hp2xx, Xcircuit}
 use Rattle.impose_messages.specs.declared.finished.Finished.{Finished}
 use Rattle.impose_messages.specs.declared.finished.PaperOrigin.{PaperOrigin}
 use Rattle.impose_messages.specs.declared.finished.PaperOrigin.TheVariants as origin
@@ -199,6 +201,25 @@ abbrev pub told_text : (told : Option ℕ) → (found : ℕ) → Option (List �
 told_text None found = None
 told_text (Some told) found = if told == found then None else Some (told_message told found)
 
+-- of pages by these programs: what becomes of the sheets
+abbrev pub creator_effect : Creator → List ℕ
+creator_effect Hp2xx = codes "pages by hp2xx undo the setup, so that sheets print nothing"
+creator_effect Xcircuit = codes "pages by Xcircuit use what earlier pages define, so that sheets may be missing"
+
+-- and what to do
+abbrev pub creator_message : Creator → List ℕ
+creator_message creator = creator_effect creator ++ codes ": let Ghostscript draw the document first, by ps2pdf and pdftops"
+
+-- one of so many pages depends on the text before it: each by hp2xx, by Xcircuit none but those after the first
+abbrev pub depends : Creator → (pages : ℕ) → Bool
+depends Hp2xx pages = true
+depends Xcircuit pages = not (pages == 1)
+
+-- if one does
+abbrev pub creator_text : Option Creator → (pages : ℕ) → Option (List ℕ)
+creator_text None pages = None
+creator_text (Some creator) pages = if depends creator pages then Some (creator_message creator) else None
+
 -- a file is named as a PDF
 abbrev pub is_pdf_name : (name : List ℕ) → Bool
 is_pdf_name name = ends_with nat_eq name (codes ".pdf") || ends_with nat_eq name (codes ".PDF")
@@ -279,13 +300,14 @@ AddsText Holds before after = (text : List ℕ) × Holds text × (after ≡ befo
 
 -- ---- all of it
 
--- Of a finished run six lines are said, in this order: the report, then that the document names an unknown paper, that pages are
--- cut, that pages reach beyond their papers, that pages follow the trailer, and that not as many were found as the document says
+-- Of a finished run seven lines are said, in this order: the report, then that the document names an unknown paper, that pages are
+-- cut, that pages reach beyond their papers, that pages follow the trailer, that not as many were found as the document says, and
+-- that pages depend on the text before them
 abbrev pub run_lines : Finished → ImposeRequest → List ℕ
 run_lines finished r =
     line_of (Some (report_text finished r)) ++ line_of (unknown_text finished.told.unknown)
     ++ line_of (cut_text finished.cut finished.page_paper) ++ line_of (reach_text finished.reach) ++ line_of (behind_text finished.behind)
-    ++ line_of (told_text finished.told.pages finished.report.pages)
+    ++ line_of (told_text finished.told.pages finished.report.pages) ++ line_of (creator_text finished.told.creator finished.report.pages)
 
 -- a line that the output is PostScript comes after what was said before, if it is named as something else
 abbrev pub AddsNote : (outfile : Option (List ℕ)) → (before after : List ℕ) → Type 0

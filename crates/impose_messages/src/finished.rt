@@ -17,13 +17,24 @@ pub enum PaperOrigin {
     FirstPage,
 }
 
-/// Statements that a document makes about itself in comments, as far as messages mention them.
+/// A program whose pages depend on the text before them, so that they aren't drawn on sheets.
+#[derive(Clone, Copy)]
+pub enum Creator {
+    /// hp2xx: its pages undo the document's setup.
+    Hp2xx,
+    /// Xcircuit: its pages use definitions of earlier pages.
+    Xcircuit,
+}
+
+/// The facts for messages that a document states in its comments.
 #[derive(Drop)]
 pub struct Claims {
     /// The number of pages that the document declares, if it declares one.
     pub pages: Option<usize>,
     /// The name of the document's paper as messages show it, if no paper of this name is known.
     pub unknown: Option<ShownName>,
+    /// The program that made the document, if it is one whose pages depend on the text before them.
+    pub creator: Option<Creator>,
 }
 
 /// Facts about a request whose sheets have been written, for the report.

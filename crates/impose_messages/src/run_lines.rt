@@ -2,12 +2,13 @@
 ghost use Rattle.std.specs.Prelude.{◌≡◌, ◌+◌, ◌≤◌, ◌++◌, IfSome, Some, length, option_map, string_bytes};
 ghost use Rattle.impose_messages.specs.Rooms.{most_said};
 ghost use Rattle.impose_messages.specs.Said.{AddsNote, advice_on as advice_by_name, behind_text, cut_text, line_of, note_text as text_of_note};
-ghost use Rattle.impose_messages.specs.Said.{reach_text, report_text, run_lines, told_text, unknown_text};
+ghost use Rattle.impose_messages.specs.Said.{creator_text, depends as depends_on, reach_text, report_text, run_lines, told_text, unknown_text};
 
-use crate::finished::Finished;
+use crate::finished::{Creator, Finished};
 use crate::report_text::ReportText;
 use crate::reports::{
-    push_behind, push_cut, push_note, push_reach, push_report, push_told, push_unknown,
+    push_behind, push_creator, push_cut, push_note, push_reach, push_report, push_told,
+    push_unknown,
 };
 use crate::shown::ShownName;
 use impose_words::ImposeRequest;
@@ -17,9 +18,9 @@ use suggestions::shown_in_place;
 
 /// Appends all lines about a finished run, except the one about the name of the output file (`push_note_line`).
 pub(crate) fn push_lines(said: &mut ReportText, done: &Finished, request: &ImposeRequest)
-    requires room { length said.old + 2_308 ≤ most_said }
+    requires room { length said.old + 2_477 ≤ most_said }
     ensures text { said.new ≡ said.old ++ run_lines done.now request.now }
-    ensures short { length said.new ≤ length said.old + 2_308 }
+    ensures short { length said.new ≤ length said.old + 2_477 }
 {
     push_report_line(said, done, request);
     push_unknown_line(said, &done.told.unknown);
@@ -27,6 +28,7 @@ pub(crate) fn push_lines(said: &mut ReportText, done: &Finished, request: &Impos
     push_reach_line(said, &done.reach);
     push_behind_line(said, done.behind);
     push_told_line(said, done.told.pages, done.report.pages);
+    push_creator_line(said, done.told.creator, done.report.pages);
 }
 
 fn push_report_line(said: &mut ReportText, done: &Finished, request: &ImposeRequest)
@@ -108,7 +110,33 @@ fn push_told_line(said: &mut ReportText, told: Option<usize>, found: u32)
     said.push(b"\n");
 }
 
-/// Appends the line that says that the output is PostScript, if the output's name is that of another kind of file, such as `out.pdf`.
+fn push_creator_line(said: &mut ReportText, creator: Option<Creator>, pages: u32)
+    requires room { length said.old + 169 ≤ most_said }
+    ensures text { said.new ≡ said.old ++ line_of (creator_text creator pages) }
+    ensures short { length said.new ≤ length said.old + 169 }
+{
+    let Some(creator) = creator else {
+        return;
+    };
+    if !has_dependent_pages(creator, pages) {
+        return;
+    }
+    said.push(b"impose: ");
+    push_creator(said, creator);
+    said.push(b"\n");
+}
+
+/// Whether one of this number of pages by this program depends on the text before it. A single page has no earlier page.
+fn has_dependent_pages(creator: Creator, pages: u32) -> bool
+    ensures { result ≡ depends_on creator pages }
+{
+    match creator {
+        Creator::Hp2xx => true,
+        Creator::Xcircuit => pages != 1,
+    }
+}
+
+/// Appends the line that says that the output is PostScript, if the output's name has the ending of another kind of file, such as `.pdf`.
 pub(crate) fn push_note_line(said: &mut ReportText, request: &ImposeRequest)
     requires room { length said.old + 2_200 ≤ most_said }
     ensures { AddsNote (option_map string_bytes request.now.outfile) said.old said.new }

@@ -7,4 +7,5 @@ pub returns : goal.returns
 returns c = record {
   pages = c.declared_page_count-pages.ensures;
   unknown = c.shown-unknown.ensures ∙ ap (option_map shown_name) c.unknown_paper.ensures;
+  creator = c.creator_of-creator.ensures;
 }

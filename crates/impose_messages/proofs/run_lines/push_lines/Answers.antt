@@ -1,6 +1,6 @@
 use Rattle.std.proofs.Common.{◌++◌, List, ℕ, Some}
 use Rattle.impose_messages.proofs.Pieces.{two}
-use Rattle.impose_messages.specs.Said.{behind_text, cut_text, line_of, reach_text, report_text, told_text, unknown_text}
+use Rattle.impose_messages.specs.Said.{behind_text, creator_text, cut_text, line_of, reach_text, report_text, told_text, unknown_text}
 use Rattle.impose_messages.proofs.run_lines.push_lines.Goals as goal
 
 pub returns-clause-text : goal.returns-clause-text
@@ -11,7 +11,9 @@ returns-clause-text c =
     let d : List ℕ = b ++ line_of (cut_text done.cut done.page_paper) in
     let e : List ℕ = d ++ line_of (reach_text done.reach) in
     let f : List ℕ = e ++ line_of (behind_text done.behind) in
-    two c.args.said.now f (line_of (told_text done.told.pages done.report.pages)) _ _
+    let g : List ℕ = f ++ line_of (told_text done.told.pages done.report.pages) in
+    two c.args.said.now g (line_of (creator_text done.told.creator done.report.pages)) _ _
+    (two c.args.said.now f (line_of (told_text done.told.pages done.report.pages)) _ _
     (two c.args.said.now e (line_of (behind_text done.behind)) _ _
     (two c.args.said.now d (line_of (reach_text done.reach)) _ _
     (two c.args.said.now b (line_of (cut_text done.cut done.page_paper)) _ _
@@ -19,4 +21,5 @@ returns-clause-text c =
     c.push_cut_line.ensures.text)
     c.push_reach_line.ensures.text)
     c.push_behind_line.ensures.text)
-    c.push_told_line.ensures.text
+    c.push_told_line.ensures.text)
+    c.push_creator_line.ensures.text
