@@ -15,9 +15,9 @@ pub struct Papers {
 /// The cells of a sheet.
 #[derive(Clone, Copy, Debug, PartialEq, Eq)]
 pub enum Cells {
-    /// At least this number of cells, in the grid that takes the largest pages. Among grids with equally large pages, it is the one with the fewest
-    /// cells, then one with upright pages, then the one with the fewest columns. A sheet has this number of pages. If the grid has more cells, the
-    /// last ones stay empty.
+    /// At least this number of cells, in the grid that takes the largest pages. Of grids with equally large pages, one with the fewest cells is
+    /// taken; of these, one with upright pages; of these, the one with the fewest columns. A sheet has this number of pages. If the grid has more
+    /// cells, the last ones stay empty.
     AtLeast(u32),
     /// These columns and rows, as one reads the sheet. Pages are upright unless turned ones are larger. For this comparison the sheet is divided
     /// exactly, without rounding, and scales are whole multiples of 10^-9.
@@ -43,8 +43,8 @@ pub enum FillOrder {
     Columns,
 }
 
-/// How the text of the pages lies on the sheet: upright, or on its side. Text on its side is read by turning the sheet to the left (`Left`) or to the
-/// right (`Right`).
+/// The direction of the pages' text on the sheet: upright, or on its side. To read text on its side, one turns the sheet to the left (`Left`) or to
+/// the right (`Right`).
 #[derive(Clone, Copy, Debug, PartialEq, Eq)]
 pub enum Turned {
     Upright,
@@ -60,8 +60,8 @@ pub struct Order {
     pub turned: Turned,
 }
 
-/// The margins and gaps of a sheet, as the sheet lies before one turns it to read it, and the trim of its pages. Margins and gaps are rounded up to
-/// whole 10^-5 of a point, and the trim is rounded down.
+/// The margins and gaps of a sheet before it is turned for reading, and the trim of its pages. Margins and gaps are rounded up to whole 10^-5 of a
+/// point, and the trim is rounded down.
 #[derive(Clone, Copy, Debug, PartialEq, Eq)]
 pub struct Free {
     /// The margins along the four edges of the sheet.
@@ -71,10 +71,10 @@ pub struct Free {
     pub top: Grains,
     /// The gap between cells that are side by side.
     pub across: Grains,
-    /// The gap between cells that are one above another. On a leaf it is at the fold, with half of it on each side of the fold.
+    /// The gap between cells that are one above another. On a leaf this gap is at the fold, half of it on each side.
     pub up: Grains,
-    /// The length that doesn't count along each side of a page, when pages are fitted into cells. What is drawn there may overlap the neighbouring
-    /// pages.
+    /// The width of a strip along each edge of a page. The strip doesn't count when the page is fitted into a cell. Whatever is drawn in the strip
+    /// may overlap the neighbouring pages.
     pub trim: Grains,
 }
 
@@ -116,7 +116,7 @@ impl Free {
 }
 
 impl Arrangement {
-    /// The arrangement with these cells, and with pages in rows from the left. It has no margins, gaps or trim, and no scale is requested.
+    /// The arrangement with these cells, and with pages in rows from the left. It has no margins, gaps or trim. The pages are as large as possible.
     pub fn plain(cells: Cells) -> Arrangement
         ensures { result ≡ plain_of cells }
     {
@@ -130,7 +130,7 @@ impl Arrangement {
 }
 
 impl Binding {
-    /// The binding at the left, without margins. `long_edge` says whether the printer flips sheets on their long edge.
+    /// The binding at the left, without margins, gaps or trim. `long_edge` says whether the printer flips sheets on their long edge.
     pub fn plain(long_edge: bool) -> Binding
         ensures { result ≡ plain_binding long_edge }
     {

@@ -28,8 +28,9 @@ pub const MOST_ON_SHEET: u64 = 1_024;
 
 /// The specification that arranges pages on each sheet as requested, with each page in the middle of its cell. A sheet has a page for each cell, or
 /// the requested number of pages in a grid with at least that number of cells. Pages keep the margins and gaps, and are as large as possible unless a
-/// scale is requested. A single page on a sheet of its own paper is left as it is if nothing else is requested. If pages can't be arranged in this
-/// way, the error says why.
+/// scale is requested. A single page on a sheet of its own paper is left as it is if nothing else is requested. Fails with `CellsOutOfRange`,
+/// `SideTooLong`, `LengthOutOfRange`, `NothingLeftOfPage`, `NoRoom`, `ScaleOutOfRange` or `ScaleTooLarge` if pages can't be arranged in this way.
+/// Without enough memory the error is `NoMemory`.
 pub fn arrange(
     alloc: Global,
     papers: &Papers,
@@ -55,7 +56,8 @@ pub fn arrange(
 
 /// The specification of a booklet, for a row of pages in signature order. Each side of a sheet has two pages side by side, and the fold is parallel
 /// to the sheet's shorter edge. Half of the gap is kept free on each side of the fold. For printers that flip a sheet on its long edge, the backs are
-/// rotated by 180 degrees. If pages don't fit on the leaves, the error says why.
+/// rotated by 180 degrees. Fails with `SideTooLong`, `LengthOutOfRange`, `NothingLeftOfPage`, `UnevenMargins`, `FoldOnLongEdge`, `NoRoom` or
+/// `ScaleOutOfRange` if pages don't fit on the leaves. Without enough memory the error is `NoMemory`.
 pub fn bind(alloc: Global, papers: &Papers, binding: &Binding) -> Result<Spec, ArrangementError>
     ensures page { IsPaper papers.now.page }
     ensures sheet { IsPaper papers.now.sheet }
@@ -99,7 +101,7 @@ fn one_side(
     Ok(groups)
 }
 
-/// The two sides of a leaf. The second side is rotated by 180 degrees.
+/// The two sides of a leaf. The back is rotated by 180 degrees.
 fn leaf(alloc: Global, setting: &Setting, page_paper: &Paper) -> Result<Vec<Vec<Item>>, AllocError>
     requires cells { 2 ≤ size setting.now.grid }
     requires possible { why_not_fitted setting.now page_paper.now ≡ None }
@@ -138,7 +140,7 @@ fn fronts(
     Ok(items)
 }
 
-/// The two pages on the back of a leaf that is rotated by 180 degrees.
+/// The two pages on the back of a leaf. The back is rotated by 180 degrees.
 fn backs(alloc: Global, setting: &Setting, page_paper: &Paper) -> Result<Vec<Item>, AllocError>
     requires cells { 2 ≤ size setting.now.grid }
     requires scaled { why_no_scale_on setting.now page_paper.now ≡ None }
@@ -158,7 +160,7 @@ fn backs(alloc: Global, setting: &Setting, page_paper: &Paper) -> Result<Vec<Ite
     Ok(items)
 }
 
-/// The order from the left, or from the right if the booklet is bound there.
+/// The order of the pages on a leaf: from the left, or from the right if the booklet is bound at the right.
 pub(crate) fn leaf_order(right_to_left: bool) -> Order
     ensures { result ≡ leaf_order_of right_to_left }
 {
@@ -169,7 +171,7 @@ pub(crate) fn leaf_order(right_to_left: bool) -> Order
     }
 }
 
-/// The sheet with its margins and gaps. If it is refused, the error says why.
+/// The sheet with its margins and gaps. Fails with `SideTooLong`, `LengthOutOfRange` or `NothingLeftOfPage`, in this order.
 pub(crate) fn sheet_in(papers: &Papers, free: &Free) -> Result<Room, ArrangementError>
     ensures page { IsTrue (is_paper papers.now.page.width papers.now.page.height) }
     ensures sheet { IsTrue (is_paper papers.now.sheet.width papers.now.sheet.height) }
@@ -194,7 +196,8 @@ pub(crate) fn sheet_in(papers: &Papers, free: &Free) -> Result<Room, Arrangement
     Ok(room)
 }
 
-/// Checks that the margins leave some of the sheet for pages, whatever their size. A length out of range is reported as a fault of its own.
+/// Checks that the margins leave some of the sheet, whatever the size of the pages. Fails with `NoRoom` if they leave nothing. Lengths out of range
+/// pass, because `arrange` and `bind` refuse them as `LengthOutOfRange`.
 pub fn check_room(sheet: &Paper, free: &Free) -> Result<(), ArrangementError>
     ensures possible { OnOk result (why_no_room sheet.now free.now ≡ None) }
     ensures refused { IfErr result (λ error. why_no_room sheet.now free.now ≡ Some error) }
@@ -212,7 +215,8 @@ pub fn check_room(sheet: &Paper, free: &Free) -> Result<(), ArrangementError>
     }
 }
 
-/// The scale of pages, in 10^-9, in cells that allow at most the scale `largest`. If pages can't have it, the error says why.
+/// The scale of pages, in 10^-9, in cells that allow at most the scale `largest`: the requested scale, or else `largest`. Fails with `NoRoom`,
+/// `ScaleOutOfRange` or `ScaleTooLarge` if pages can't have this scale.
 pub(crate) fn scale_found(
     room: &Room,
     asked: Option<Number>,

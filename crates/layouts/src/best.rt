@@ -27,8 +27,8 @@ pub(crate) fn grid_of(page: &Paper, room: &Room, reading: Turned, cells: Cells) 
     }
 }
 
-/// The grid of at least n cells, with upright or turned pages, that takes the largest pages. Among grids with equally large pages, it is the one with
-/// the fewest cells, then one with upright pages, then the one with the fewest columns.
+/// The grid of at least n cells, with upright or turned pages, that takes the largest pages. Of grids with equally large pages, one with the fewest
+/// cells is taken; of these, one with upright pages; of these, the one with the fewest columns.
 fn best_grid(page: &Paper, room: &Room, n: u32) -> Grid
     requires shown { IsTrue (is_shown page.now room.now) }
     requires cells { (0 < n) × (n ≤ most_on_sheet) }

@@ -37,7 +37,8 @@ impl Model for Cell {
 }
 
 impl Room {
-    /// The cell in this row and column, with the sheet held so that its pages are upright.
+    /// The cell in this row and column, with the sheet held so that its pages are upright. Rows are counted from 0 at the top, and columns from 0 at
+    /// the left.
     pub fn cell(&self, grid: Grid, row: u32, column: u32) -> Cell
         requires in_rows { row < grid.rows }
         requires in_columns { column < grid.columns }
@@ -65,7 +66,7 @@ impl Room {
 }
 
 impl Grid {
-    /// The number of cells side by side, on the sheet as it lies before one turns it to read it.
+    /// The number of cells side by side, before the sheet is turned for reading.
     pub fn across(self) -> u32
         ensures value { result ≡ across_of self }
         ensures some { 0 < result }
@@ -73,7 +74,7 @@ impl Grid {
         if self.turned { self.rows } else { self.columns }
     }
 
-    /// The number of cells one above another, on the sheet as it lies before one turns it to read it.
+    /// The number of cells one above another, before the sheet is turned for reading.
     pub fn up(self) -> u32
         ensures value { result ≡ up_of self }
         ensures some { 0 < result }
@@ -82,8 +83,8 @@ impl Grid {
     }
 }
 
-/// The middle of the gap before part `k` of a side, in grains from the start of the side. For `k` = `parts` it is the gap that a further part would
-/// have before it.
+/// The middle of the gap before part `k` of a side, in grains from the start of the side. For `k` = `parts` it is the middle of the gap that a
+/// further part would have before it.
 pub fn gap_at(along: &Along, length: Grains, parts: u32, k: u32) -> Grains
     requires side { IsTrue (is_side length) }
     requires some { 0 < parts }
@@ -96,7 +97,7 @@ pub fn gap_at(along: &Along, length: Grains, parts: u32, k: u32) -> Grains
     grains(i128::from((HUNDRED_THOUSANDTH * before).saturating_sub(gap)))
 }
 
-/// The distance of a place on a side from the other end of that side.
+/// The distance, in grains, from the far end of a side to a place on it. `place` is the distance from the near end.
 pub fn from_far(length: Grains, place: Grains) -> Grains
     requires side { IsTrue (is_side length) }
     requires few { nat_abs place ≤ 12_700_000_000_000_000 }
@@ -105,7 +106,7 @@ pub fn from_far(length: Grains, place: Grains) -> Grains
     grains(length.get() - place.get())
 }
 
-/// A length in grains, given in 10^-5 of a point.
+/// The length that is `length` times 10^-5 of a point, in grains.
 pub fn in_grains(length: u64) -> Grains
     requires { length ≤ 2 * 10 ^ 16 }
     ensures { result ≡ pos (grains_in length) }

@@ -44,7 +44,7 @@ pub fn points_e5(n: i64) -> Measure
     }
 }
 
-/// The distance from one place to another. Both places are in 10^-5 of a point.
+/// The distance from one place to another, both in 10^-5 of a point.
 pub fn distance(from: i64, to: i64) -> Measure
     requires { nat_abs (to -ℤ from) ≤ 9_999_999_999 }
     ensures { measure_of result ≡ in_points (to -ℤ from) }
@@ -52,7 +52,8 @@ pub fn distance(from: i64, to: i64) -> Measure
     points_e5(to - from)
 }
 
-/// Half of the length that a scaled side of a page leaves free in its cell, in 10^-5 of a point.
+/// Half of the length that a scaled side of a page leaves free in its cell, in 10^-5 of a point. `cell` is in 10^-5 of a point, `side` in grains, and
+/// `scale` in 10^-9.
 pub fn slack(cell: u64, side: u64, scale: u64) -> u128
     ensures value { result ≡ slack_of cell side scale }
     ensures most { result ≤ cell }
@@ -74,7 +75,7 @@ pub fn read_sides(turned: Turned, grid: Grid) -> (u32, u32)
     }
 }
 
-/// The row and the column of page k, as one reads the sheet.
+/// The row and the column of page k, all counted from 0, as one reads the sheet.
 fn place_as_read(order: &Order, grid: Grid, k: u32) -> (u32, u32)
     requires { k < size grid }
     ensures row { result.0 ≡ read_row order.now.run order.now.turned grid k }
@@ -95,7 +96,7 @@ fn place_as_read(order: &Order, grid: Grid, k: u32) -> (u32, u32)
     (row, column)
 }
 
-/// The row and the column of page k, with the sheet held so that its pages are upright.
+/// The row and the column of page k, all counted from 0, with the sheet held so that its pages are upright.
 fn place_as_held(order: &Order, grid: Grid, k: u32) -> (u32, u32)
     requires { k < size grid }
     ensures row { result.0 ≡ row_of order.now grid k }
@@ -112,8 +113,8 @@ fn place_as_held(order: &Order, grid: Grid, k: u32) -> (u32, u32)
 }
 
 impl GridLayout {
-    /// Where the corner of the page in this row and column is, without the trim: its distances from the left and the lower edge of the sheet, in
-    /// 10^-5 of a point.
+    /// The lower left corner of the page in this row and column, without its trim. It is given by its distances from the left and the lower edge of
+    /// the sheet, in 10^-5 of a point.
     fn corner(&self, row: u32, column: u32) -> (u64, u64)
         requires place { HasPlace self.now.page self.now.room self.now.grid self.now.scale }
         requires in_rows { row < self.now.grid.rows }
@@ -157,7 +158,7 @@ impl GridLayout {
         )
     }
 
-    /// How far page k is moved to the right, and how far up, in 10^-5 of a point.
+    /// The distances by which page k is moved to the right and up, in 10^-5 of a point.
     fn shift(&self, k: u32) -> (i64, i64)
         requires place { HasPlace self.now.page self.now.room self.now.grid self.now.scale }
         requires near { IsTrue (are_near self.now.room self.now.scale) }
@@ -227,8 +228,9 @@ impl GridLayout {
     }
 }
 
-/// How far a page is moved to the right, and how far up, so that the corner of its trimmed part comes to the place (x, y). `back` is the length of
-/// the trim on the sheet. Turned pages are moved to the right by that length, because their corner is at the right.
+/// The distances by which a page is moved to the right and up, so that the corner of the page without its trim comes to the place (x, y). `back` is
+/// the length of the trim on the sheet. Turned pages are moved to the right by that length, because their corner is at the right. All lengths are in
+/// 10^-5 of a point.
 fn moved_by(turned: bool, x: u64, y: u64, back: u64) -> (i64, i64)
     requires across { x + back < 10_000_000_000 }
     requires up { y + back < 10_000_000_000 }
@@ -257,7 +259,7 @@ fn whole_parts(length: Grains) -> i64
     (extent(length) / HUNDRED_THOUSANDTH) as i64
 }
 
-/// Whether offsets can reach the corners of pages that have this trim.
+/// Whether offsets below 100,000 points can reach the corners of pages that have this scale, in 10^-9, and this trim.
 pub(crate) fn within_reach(room: &Room, scale: u128) -> bool
     requires { scale ≤ greatest_scale }
     ensures { result ≡ are_near room.now scale }
@@ -279,7 +281,7 @@ pub fn scale_e9(billionths: u64) -> Number
     }
 }
 
-/// The length of `count` grains. The caller has to show that this is in range.
+/// The length of `count` grains. The caller has to show that `count` is from -10^23 to 10^23.
 pub fn grains(count: i128) -> Grains
     requires { FitsGrains count }
     ensures { result ≡ count }

@@ -6,7 +6,7 @@ ghost use Rattle.layouts.specs.Laws.{GridIsInside, GridIsApart, GridIsInOrder, G
 ghost use Rattle.layouts.specs.Laws.{BestHasCells, BestIsBest, BestIsLarge};
 ghost use Rattle.layouts.specs.Laws.{BackIsInside, BackIsHalfTurn, PrintedAsItIs, LeafKeepsFold, RightToLeftIsMirror};
 
-/// Each whole point of a page is on the sheet where its item puts it.
+/// Each point of a page with whole coordinates (in points) is on the sheet where the page's item puts it.
 pub fn stands_where_put()
     ensures { StandsWherePut }
 {}
@@ -26,12 +26,12 @@ pub fn pages_are_apart()
     ensures { GridIsApart }
 {}
 
-/// Each page lies in its cell. If pages are trimmed, what counts of a page may reach past the cell by at most 10^-5 of a point.
+/// Each page lies in its cell. If pages are trimmed, the part of a page that counts may reach past the cell by at most 10^-5 of a point.
 pub fn pages_are_in_cells()
     ensures { GridIsInCell }
 {}
 
-/// Each page is in the middle of its cell, to 10^-5 of a point.
+/// Each page is in the middle of its cell, to within 10^-5 of a point.
 pub fn pages_are_in_middle()
     ensures { GridIsInMiddle }
 {}
@@ -46,12 +46,14 @@ pub fn best_has_cells()
     ensures { BestHasCells }
 {}
 
-/// No grid of at least n cells is better than the chosen one. Better means a larger scale, then fewer cells, then upright pages, then fewer columns.
+/// No grid of at least n cells is better than the chosen one. Grids are compared by their scale, then by their number of cells, then by the turn of
+/// their pages, then by their number of columns. A larger scale, fewer cells, upright pages and fewer columns are better.
 pub fn best_is_best()
     ensures { BestIsBest }
 {}
 
-/// No grid of at least n cells, upright or turned, allows a scale that is larger by 10^-6 or more.
+/// Suppose that the sides of a page without its trim are 11 points or longer. Then no grid of at least n cells, upright or turned, allows a scale
+/// that exceeds the scale of the chosen grid by 10^-6 or more.
 pub fn best_is_large()
     ensures { BestIsLarge }
 {}
@@ -67,7 +69,7 @@ pub fn back_is_half_turn()
     ensures { BackIsHalfTurn }
 {}
 
-/// Nothing crosses the fold of a leaf with equal margins, because pages keep half of the gap away from it.
+/// No page crosses the fold of a leaf with equal opposite margins, because pages keep half of the gap away from the fold.
 pub fn leaf_keeps_fold()
     ensures { LeafKeepsFold }
 {}
@@ -77,12 +79,13 @@ pub fn right_to_left_is_mirror()
     ensures { RightToLeftIsMirror }
 {}
 
-/// A page that isn't refused keeps the margins, lies in the middle of its cell, and is as large as the cell allows.
+/// A page that isn't refused keeps the margins and lies in the middle of its cell, to within 10^-5 of a point. If no scale is requested, a scale that
+/// is larger by 10^-6 would be too large, unless a side of the page without its trim is under 11 points.
 pub fn fitted_stands()
     ensures { FittedStands }
 {}
 
-/// Two pages in different cells, each fitted by its own paper, are at least the gap apart.
+/// Two pages in different cells, each fitted by the sides of its own paper, are at least the gap apart.
 pub fn fitted_is_apart()
     ensures { FittedIsApart }
 {}
@@ -92,17 +95,17 @@ pub fn fitted_is_in_order()
     ensures { FittedIsInOrder }
 {}
 
-/// For pages of one paper, `arrange` fits each into its cell.
+/// For pages of one paper, `arrange` fits each page into its cell.
 pub fn arranged_is_fitted()
     ensures { ArrangedIsFitted }
 {}
 
-/// For pages of one paper, `bind` fits each into its half.
+/// For pages of one paper, `bind` fits each page into its half of the sheet.
 pub fn bound_is_fitted()
     ensures { BoundIsFitted }
 {}
 
-/// The matrix that is written for a page in a cell is exactly that of its item, because its shift needs no rounding.
+/// The matrix that is written for a page in a cell is exactly the matrix of the page's item, because the shift needs no rounding.
 pub fn printed_as_it_is()
     ensures { PrintedAsItIs }
 {}

@@ -1,4 +1,4 @@
-//! Layouts. They are specifications that a program makes, so that users needn't compute scales and offsets.
+//! Layouts: specifications that a program makes, so that users needn't compute scales and offsets.
 #![tactic(auto)]
 
 pub mod arrangement;

@@ -58,7 +58,7 @@ impl Model for Room {
 }
 
 /// The margins and the gap along one side of a sheet, and the trim of its pages, in 10^-5 of a point. `before` is the margin before the cells, and
-/// `after` is the margin after them. Contracts see it as the definitions do.
+/// `after` is the margin after them. Contracts see the same four lengths.
 #[derive(Clone, Copy, Debug, PartialEq, Eq)]
 pub struct Along {
     pub before: u64,
@@ -99,7 +99,7 @@ impl Room {
         }
     }
 
-    /// The margins and the gap along the width of the sheet.
+    /// The margins, the gap and the trim along the width of the sheet.
     pub fn along_width(&self) -> Along
         ensures { result ≡ along_width self.now }
     {
@@ -111,7 +111,7 @@ impl Room {
         }
     }
 
-    /// The margins and the gap along the height of the sheet.
+    /// The margins, the gap and the trim along the height of the sheet.
     pub fn along_height(&self) -> Along
         ensures { result ≡ along_height self.now }
     {
@@ -123,7 +123,7 @@ impl Room {
         }
     }
 
-    /// The margins and gaps in both directions, across first and then down, with the sheet held so that its pages are upright.
+    /// The margins and gaps in both directions, with the sheet held so that its pages are upright. Those across come first, then those down.
     pub fn as_read(&self, turned: bool) -> (Along, Along)
         ensures across { result.0 ≡ across_of turned self.now }
         ensures down { result.1 ≡ down_of turned self.now }
@@ -150,7 +150,7 @@ impl Room {
     }
 }
 
-/// Whether each length is at least 0 and below 100,000 points.
+/// Whether each of these lengths is at least 0 and below 100,000 points.
 pub(crate) fn are_lengths(free: &Free) -> bool
     ensures { result ≡ may_be_lengths free.now }
 {

@@ -49,7 +49,8 @@ pub(crate) fn left_free(along: &Along, side: u64) -> u64
     )
 }
 
-/// The distance from the start of one cell to the start of the next, in 10^-5 of a point, if a side is divided into this number of cells.
+/// The distance from the start of one cell to the start of the next, in 10^-5 of a point, if a side is divided into this number of cells. `side` is
+/// in grains.
 pub(crate) fn pitch(along: &Along, side: u64, parts: u32) -> u64
     requires some { 0 < parts }
     requires in_range { side ≤ longest_side }
@@ -84,7 +85,7 @@ pub(crate) fn pitches(room: &Room, grid: Grid) -> (u64, u64)
     }
 }
 
-/// The width and the height of a cell, in 10^-5 of a point. They are 0 if the gap leaves nothing.
+/// The width and the height of a cell, in 10^-5 of a point. Each is 0 if the gap leaves nothing for it.
 pub fn cell_size(room: &Room, grid: Grid) -> (u64, u64)
     ensures width { result.0 ≡ wide room.now grid }
     ensures height { result.1 ≡ high room.now grid }
@@ -107,7 +108,7 @@ pub(crate) fn trimmed_side(room: &Room, length: Grains) -> u64
     extent(length).saturating_sub(2_540_000 * room.trim)
 }
 
-/// The largest scale, in 10^-9, at which a side fits into a cell.
+/// The largest scale, in 10^-9, at which a side fits into a cell. `cell` is in 10^-5 of a point, and `side` in grains.
 pub fn largest_scale(cell: u64, side: u64) -> u128
     requires { 0 < side }
     ensures { result ≡ fits cell side }
@@ -127,7 +128,8 @@ pub(crate) fn scale_in(page: &Paper, room: &Room, grid: Grid) -> u128
     ))
 }
 
-/// The largest scale, in 10^-9, of pages in this number of equal cells along a side.
+/// The largest scale, in 10^-9, of pages in this number of equal cells along a side. `side` and `page`, the sides of the sheet and of a page, are in
+/// grains.
 fn exact_along(along: &Along, side: u64, parts: u32, page: u64) -> u128
     requires some { 0 < parts }
     requires shown { 0 < page }
@@ -161,7 +163,7 @@ pub(crate) fn exact_scale(page: &Paper, room: &Room, grid: Grid) -> u128
     wide.min(exact_along(&above, down, grid.rows, trimmed_side(room, page.height())))
 }
 
-/// Whether a layout can have this scale, in 10^-9. It has to be above 0, and at most 99,999.
+/// Whether a layout can have this scale, which is given in 10^-9. The scale has to be above 0, and at most 99,999.
 pub fn is_scale(scale: u128) -> bool
     ensures { result ≡ may_be_scale scale }
 {

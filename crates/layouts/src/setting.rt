@@ -23,8 +23,8 @@ use super::scale::{cell_size, scale_in, trimmed_side};
 use lengths::{Number, Paper};
 use pagespec::Item;
 
-/// A sheet and the cells into which pages are fitted, each by the sides of its own paper. It has the margins and gaps, the rows and columns, the
-/// order of the cells, and the requested scale, if any.
+/// A sheet with the cells into which pages are fitted. Each page is fitted by the sides of its own paper. The setting has the margins and gaps, the
+/// rows and columns, the order of the cells, and the requested scale, if any.
 #[derive(Clone, Copy)]
 pub struct Setting {
     pub room: Room,
@@ -34,7 +34,8 @@ pub struct Setting {
 }
 
 impl Setting {
-    /// The setting for an arrangement. The grid is chosen for pages of the paper in `papers`. If such pages can't be arranged, the error says why.
+    /// The setting for an arrangement. The grid is chosen for pages of the paper in `papers`. Fails with the error of `arrange` if such pages can't
+    /// be arranged.
     pub fn of(papers: &Papers, arrangement: &Arrangement) -> Result<Setting, ArrangementError>
         ensures page { IsPaper papers.now.page }
         ensures sheet { IsPaper papers.now.sheet }
@@ -73,8 +74,8 @@ impl Setting {
         Ok(setting)
     }
 
-    /// The setting for a booklet, with the two halves of a sheet as its cells. It is refused if pages of the paper in `papers` don't fit into the
-    /// halves. The fold is in the same place for pages of every paper.
+    /// The setting for a booklet, with the two halves of a sheet as its cells. The fold is in the same place for pages of every paper. Fails with the
+    /// error of `bind` if pages of the paper in `papers` don't fit into the halves.
     pub fn of_binding(papers: &Papers, binding: &Binding) -> Result<Setting, ArrangementError>
         ensures page { IsPaper papers.now.page }
         ensures sheet { IsPaper papers.now.sheet }
@@ -104,7 +105,8 @@ impl Setting {
         })
     }
 
-    /// The scale of pages that have this paper. It is the requested one, or else the largest that fits. If they can't have it, the error says why.
+    /// The scale of pages that have this paper: the requested scale, or else the largest that fits. Fails with `SideTooLong`, `NothingLeftOfPage`,
+    /// `NoRoom`, `ScaleOutOfRange` or `ScaleTooLarge` if the pages can't have this scale.
     pub fn scale(&self, page_paper: &Paper) -> Result<Number, ArrangementError>
         ensures value { IfOk result (λ scale. scale ≡ pos (scale_on self.now page_paper.now)) }
         ensures possible { OnOk result (why_no_scale_on self.now page_paper.now ≡ None) }
@@ -114,7 +116,7 @@ impl Setting {
         Ok(scale_e9(found))
     }
 
-    /// The length that a page of this paper leaves free at each end of its cell's width, in 10^-5 of a point.
+    /// The length that a page of this paper leaves free at each end of its cell's width, in 10^-5 of a point. Fails with the error of `scale`.
     pub fn slack(&self, page_paper: &Paper) -> Result<u128, ArrangementError>
         ensures value { IfOk result (λ n. n
             ≡ slack_x page_paper.now self.now.room self.now.grid (scale_on self.now page_paper.now)) }
@@ -127,8 +129,8 @@ impl Setting {
         Ok(slack(width, counted, scale))
     }
 
-    /// The item that places a page of this paper in a cell, counted from 0. A single page on a sheet of its own paper is left as it is if nothing
-    /// else is requested and pages are upright.
+    /// The item that places a page of this paper in a cell. Cells are counted from 0. A single page on a sheet of its own paper is left as it is if
+    /// nothing else is requested and pages are upright. Any other page is refused with the error of `scale` if it can't have a scale.
     pub fn item(&self, page_paper: &Paper, cell: u32) -> Result<Item, ArrangementError>
         requires { cell < size self.now.grid }
         ensures page { IsPaper page_paper.now }
@@ -152,8 +154,8 @@ impl Setting {
         Ok(layout.item_in(cell))
     }
 
-    /// The item that places a page of this paper in a cell, counted from 0, on a sheet that is rotated by 180 degrees. The page is fitted into its
-    /// cell even if the sheet has the page's own paper.
+    /// The item that places a page of this paper in a cell of a sheet that is rotated by 180 degrees. Cells are counted from 0. The page is fitted
+    /// into its cell even if the sheet has the page's own paper. Fails with the error of `scale`.
     pub fn back_item(&self, page_paper: &Paper, cell: u32) -> Result<Item, ArrangementError>
         requires { cell < size self.now.grid }
         ensures page { IsPaper page_paper.now }
@@ -191,7 +193,7 @@ impl Setting {
             && !self.grid.turned
     }
 
-    /// The scale of pages that have this paper, in 10^-9. If they can't have one, the error says why.
+    /// The scale of pages that have this paper, in 10^-9. Fails with the error of `scale`.
     fn scale_found(&self, page_paper: &Paper) -> Result<u64, ArrangementError>
         ensures page { IsPaper page_paper.now }
         ensures sheet { IsPaper self.now.room.paper }

@@ -9,8 +9,8 @@ use super::number::Number;
 use super::paper::Paper;
 use super::unit::Unit;
 
-/// The length of `number` units on this paper, in grains. Widths and heights of the paper are rounded to the nearest grain, half away from zero.
-/// Other units need no rounding, because 10^-9 of each is a whole number of grains.
+/// The length of `number` units on this paper, in grains. A multiple of the paper's width or height is rounded to the nearest grain, half away from
+/// zero. Other units need no rounding, because 10^-9 of each is a whole number of grains.
 pub fn to_grains(number: Number, unit: Unit, paper: &Paper) -> Grains
     ensures { result ≡ grains paper.now number (length_unit unit) }
 {

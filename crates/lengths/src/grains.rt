@@ -1,4 +1,4 @@
-//! Lengths, which are kept exactly.
+//! Exact lengths, in grains.
 ghost use Rattle.std.specs.Prelude.{◌≡◌, ◌↔◌, ℤ, IsSome, IfSome};
 ghost use Rattle.lengths.specs.Ranges.{FitsGrains};
 
@@ -24,7 +24,7 @@ impl Grains {
     /// The length 0.
     pub const ZERO: Grains = Grains { count: 0 };
 
-    /// The length of `count` grains. It is None if `count` is below -10^23 or above 10^23.
+    /// The length of `count` grains. None if `count` is below -10^23 or above 10^23.
     pub fn new(count: i128) -> Option<Grains>
         ensures fits { IsSome result ↔ FitsGrains count }
         ensures value { IfSome result (λ g. g ≡ count) }
@@ -44,7 +44,7 @@ impl Grains {
         self.count
     }
 
-    /// The length of `count` grains. The caller has to show that this is in range.
+    /// The length of `count` grains. The caller has to show that `count` is from -10^23 to 10^23.
     pub(crate) fn of(count: i128) -> Grains
         requires { FitsGrains count }
         ensures { result ≡ count }

@@ -3,17 +3,18 @@ ghost use Rattle.rules.specs.Numbers.{scale_text, number_text};
 ghost use Rattle.lengths.specs.Lengths.{LengthsAreNumbers};
 ghost use Rattle.lengths.specs.Printed.{IsReadAgain};
 
-/// If `print_scale` prints a number and its text is read, the result is that number.
+/// Reading the text that `print_scale` prints for a number gives that number, and uses the whole text.
 pub fn printed_scale_is_read()
     ensures { IsReadAgain scale_text }
 {}
 
-/// If `print_number` prints a number and its text is read, the result is that number.
+/// Reading the text that `print_number` prints for a number gives that number, and uses the whole text.
 pub fn printed_number_is_read()
     ensures { IsReadAgain number_text }
 {}
 
-/// A text is accepted as a length exactly if it is a number up to 99,999.999999999, alone or followed by `pt`, `cm`, `mm` or `in`.
+/// A text is accepted as a length exactly if it is a number, positive or negative, alone or followed by `pt`, `cm`, `mm` or `in`. The integer part of
+/// the number is at most 99,999.
 pub fn lengths_are_numbers_and_units()
     ensures { LengthsAreNumbers }
 {}

@@ -8,8 +8,9 @@ use super::paper::Paper;
 use super::read::read_number;
 use super::unit::unit_by_name;
 
-/// The length that a text names: a number up to 99,999.999999999 and its unit, which is `pt`, `cm`, `mm` or `in`. Without a unit the number is in
-/// points. If the text has any other form, the result is None. The paper has no effect, because none of these units depends on it.
+/// The length that a text names: a number, positive or negative, and its unit, which is `pt`, `cm`, `mm` or `in`. Without a unit the number is in
+/// points. None if the text has any other form, or if the integer part of the number is over 99,999. The paper has no effect, because none of these
+/// units depends on it.
 pub fn length_named(paper: &Paper, text: &[u8]) -> Option<Grains>
     ensures { result ≡ length_named paper.now text.now }
 {

@@ -1,4 +1,4 @@
-//! Exact numbers, lengths and papers, with functions that read and print them in decimals.
+//! Exact numbers, lengths and papers. Numbers and lengths are read and printed in decimals.
 #![tactic(auto)]
 
 mod convert;

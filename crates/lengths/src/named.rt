@@ -6,7 +6,7 @@ ghost use Rattle.lengths.specs.Lengths.{a4};
 
 use super::paper::Paper;
 
-/// The names of papers, each with its width and height in points.
+/// The names of papers, each with the paper's width and height in points.
 const PAPERS: [(&str, u32, u32); 8] = [
     ("a3", 842, 1191),
     ("a4", 595, 842),
@@ -18,7 +18,7 @@ const PAPERS: [(&str, u32, u32); 8] = [
     ("10x14", 720, 1008),
 ];
 
-/// The paper with this name: a3, a4, a5, letter, legal, tabloid, statement or 10x14. Case makes no difference, and any other name gives None.
+/// The paper with this name: a3, a4, a5, letter, legal, tabloid, statement or 10x14, in upper or lower case. None for any other name.
 pub fn paper_by_name(name: &str) -> Option<Paper>
     ensures { result ≡ paper_with_name name.now }
 {

@@ -1,4 +1,4 @@
-//! Numbers as page specifications write them, kept exactly.
+//! Exact numbers with nine decimals, as page specifications have them.
 ghost use Rattle.std.specs.Prelude.{◌≡◌, ◌↔◌, ◌+◌, ◌*◌, ◌^◌, ◌<◌, ◌≤◌, ℤ, neg_ℤ, IsSome, IfSome};
 ghost use Rattle.rules.specs.Numbers.{greatest_whole, signed};
 ghost use Rattle.lengths.specs.Ranges.{FitsNumber};
@@ -33,7 +33,7 @@ impl Number {
         billionths: 1_000_000_000,
     };
 
-    /// The number that is `billionths` times 10^-9. It is None if that is out of range.
+    /// The number that is `billionths` times 10^-9. None if it would be below -99,999.999999999 or above 99,999.999999999.
     pub fn new(billionths: i64) -> Option<Number>
         ensures fits { IsSome result ↔ FitsNumber billionths }
         ensures value { IfSome result (λ n. n ≡ billionths) }
@@ -53,7 +53,7 @@ impl Number {
         self.billionths
     }
 
-    /// The number with this sign, this integer part, and these nine decimals, which are given as a multiple of 10^-9.
+    /// The number with this sign, this integer part and these nine decimals. `decimals` has the decimals as a multiple of 10^-9.
     pub(crate) fn of_parts(negative: bool, whole: u32, decimals: u32) -> Number
         requires whole { whole ≤ greatest_whole }
         requires decimals { decimals < 10 ^ 9 }

@@ -1,4 +1,4 @@
-//! Papers by their width and height.
+//! Papers, given by their width and height.
 ghost use Rattle.std.specs.Prelude.{◌≡◌, ◌↔◌, ◌<◌, IsSome, IfSome, IsTrue};
 ghost use Rattle.rules.specs.Papers.{is_paper, is_side, points};
 
@@ -11,7 +11,7 @@ const GRAINS_OF_POINT: i128 = 127_000_000_000;
 /// The longest side that a paper may have, in grains: 99,999.999999999 inches.
 const LONGEST_SIDE: i128 = 914_399_999_999_990_856;
 
-/// A paper, by its width and height. Each side is from 1 to 914,399,999,999,990,856 grains long.
+/// A paper, given by its width and height. Each side is from 1 to 914,399,999,999,990,856 grains long.
 #[derive(Clone, Copy, Debug, PartialEq, Eq, Hash)]
 pub struct Paper {
     pub width: Grains,
@@ -32,7 +32,7 @@ impl Model for Paper {
 }
 
 impl Paper {
-    /// The paper of this width and height. It is None if a side is shorter than 1 grain or longer than 914,399,999,999,990,856 grains.
+    /// The paper of this width and height. None if a side is shorter than 1 grain or longer than 914,399,999,999,990,856 grains.
     pub fn new(width: Grains, height: Grains) -> Option<Paper>
         ensures fits { IsSome result ↔ IsTrue (is_paper width height) }
         ensures sides { IfSome result (λ p. p ≡ record { width = width; height = height }) }

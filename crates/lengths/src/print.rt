@@ -21,8 +21,8 @@ pub fn print_points(grains: Grains, out: &mut Vec<u8>) -> Result<(), AllocError>
     print_grains(grains.get(), out)
 }
 
-/// Appends a number of grains in points, rounded as by `print_points`. The number may be a length, or the difference of two. If memory is refused,
-/// nothing is appended.
+/// Appends `grains` in points, rounded to five decimals, half away from zero. `grains` may be a length, or the difference of two lengths. If memory
+/// is refused, nothing is appended.
 pub fn print_grains(grains: i128, out: &mut Vec<u8>) -> Result<(), AllocError>
     requires { nat_abs grains ≤ 2 * 10 ^ 23 }
     ensures appended { OnOk result (out.new.items ≡ out.old.items ++ points_text grains) }
@@ -33,7 +33,7 @@ pub fn print_grains(grains: i128, out: &mut Vec<u8>) -> Result<(), AllocError>
     append_decimal(rounded(grains, 1_270_000) as i64, 5, out)
 }
 
-/// Appends a number with all of its decimals, without zeros at the end. If memory is refused, nothing is appended.
+/// Appends a number with all of its decimals, except zeros at their end. If memory is refused, nothing is appended.
 pub fn print_scale(number: Number, out: &mut Vec<u8>) -> Result<(), AllocError>
     ensures appended { OnOk result (out.new.items ≡ out.old.items ++ scale_text number) }
     ensures unchanged { OnErr result (out.new.items ≡ out.old.items) }
@@ -43,8 +43,8 @@ pub fn print_scale(number: Number, out: &mut Vec<u8>) -> Result<(), AllocError>
     append_decimal(number.billionths(), 9, out)
 }
 
-/// Appends a number as a page specification writes it: as by `print_scale`, but without a `0` before the dot. If memory is refused, nothing is
-/// appended.
+/// Appends a number as a page specification writes it. The text is that of `print_scale`, but without an integer part of 0 before a dot. If memory is
+/// refused, nothing is appended.
 pub fn print_number(number: Number, out: &mut Vec<u8>) -> Result<(), AllocError>
     ensures appended { OnOk result (out.new.items ≡ out.old.items ++ number_text number) }
     ensures unchanged { OnErr result (out.new.items ≡ out.old.items) }
@@ -68,7 +68,7 @@ pub fn print_number(number: Number, out: &mut Vec<u8>) -> Result<(), AllocError>
     )
 }
 
-/// Appends `value` times 10^-`places` in decimals.
+/// Appends `value` times 10^-`places` as a decimal number, without zeros at the end of its decimals.
 fn append_decimal(value: i64, places: u32, out: &mut Vec<u8>) -> Result<(), AllocError>
     requires { places ≤ 9 }
     ensures appended { OnOk result (out.new.items ≡ out.old.items ++ printed places value) }
@@ -88,7 +88,8 @@ fn append_decimal(value: i64, places: u32, out: &mut Vec<u8>) -> Result<(), Allo
     )
 }
 
-/// The decimals of a fraction, which is `part` times 10^-`places`. Whole numbers are by far the most frequent, and are tested for first.
+/// The decimals of a fraction, without zeros at the end. The fraction is `part` times 10^-`places`. A `part` of 0 is tested for first, because most
+/// numbers are whole.
 fn decimals_of_part(digits: &mut Buffer, places: u32, part: u64) -> &[u8]
     requires places { places ≤ 9 }
     requires part { part < 10 ^ places }
@@ -114,8 +115,8 @@ fn unless_dot_follows<'a>(whole: u64, digits: &'a [u8], decimals: &[u8]) -> &'a 
     }
 }
 
-/// The decimals of a fraction, without zeros at the end. The fraction's digits come with a 1 in front, because a number with leading zeros would lose
-/// them when it is printed.
+/// The decimals of a fraction, without zeros at the end. `one_and_part` has a 1 before the fraction's digits, because leading zeros of a number
+/// aren't printed.
 fn decimals_behind_one(one_and_part: &[u8]) -> &[u8]
     ensures value { result.now ≡ without_last_zeros (drop 1 one_and_part.now) }
     ensures no_longer { length result.now ≤ length one_and_part.now }

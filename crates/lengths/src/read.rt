@@ -13,7 +13,7 @@ ghost use Rattle.lengths.specs.Refusals.{outcome_of, IsRefused};
 use super::number::Number;
 use thiserror::Error;
 
-/// The least integer part that is too large for a number.
+/// The least integer part that is too large for a `Number`.
 const LEAST_LARGE: u32 = 100_000;
 
 /// Why no number was read.
@@ -22,7 +22,7 @@ pub enum NumberError {
     /// The text doesn't begin with a number.
     #[error("not a number")]
     NotANumber,
-    /// The integer part is over 99,999. The value is the length of the number in bytes.
+    /// The integer part is over 99,999. The value is the length in bytes of the number's text.
     #[error("number over 99,999")]
     TooLarge(usize),
 }
@@ -43,8 +43,7 @@ pub fn read_number(bytes: &[u8]) -> Result<(Number, usize), NumberError>
     scan_number(bytes)
 }
 
-/// The value of the digits at the start of a text, or 100,000 if it is larger, and the text after them. It is None if the text doesn't begin with a
-/// digit.
+/// The value of the digits at the start of a text, but at most 100,000, and the text after these digits. None if the text doesn't begin with a digit.
 pub fn read_digits(bytes: &[u8]) -> Option<(u32, &[u8])>
     ensures { let front = digits bytes.now in MatchOption result (front ≡ []) (λ x.
         (front ≢ []) × (x.0 ≡ min least_large (number_of front)) × (x.1.now ≡ past_digits bytes.now)) }
@@ -77,7 +76,7 @@ fn scan_number(bytes: &[u8]) -> Result<(Number, usize), NumberError>
     Ok((Number::of_parts(negative, points, nine(decimals)), len))
 }
 
-/// Whether a text begins with a minus, and the text after its sign. A text without a sign stays whole.
+/// Whether a text begins with a minus, and the text after its sign. A text that begins with no sign is returned whole.
 fn split_sign(bytes: &[u8]) -> (bool, &[u8])
     ensures sign { result.0 ≡ is_minus bytes.now }
     ensures rest { result.1.now ≡ unsigned bytes.now }
@@ -89,7 +88,8 @@ fn split_sign(bytes: &[u8]) -> (bool, &[u8])
     }
 }
 
-/// The digits after a dot at the start of a text, and the text after them. Without a dot there are none.
+/// The digits after a dot at the start of a text, and the text after them. If the text doesn't begin with a dot, there are no digits, and the text is
+/// returned whole.
 fn split_decimals(bytes: &[u8]) -> (&[u8], &[u8])
     ensures front { result.0.now ≡ decimals_at bytes.now }
     ensures rest { result.1.now ≡ past_decimals bytes.now }
@@ -122,7 +122,7 @@ fn digits_len(bytes: &[u8]) -> usize
     bytes.len()
 }
 
-/// The value of the digits, or 100,000 if it is larger.
+/// The value of the digits, but at most 100,000.
 fn capped(digits: &[u8]) -> u32
     requires { AllPass is_ascii_digit digits.now }
     ensures { result ≡ min least_large (number_of digits.now) }
@@ -147,7 +147,7 @@ fn nine(decimals: &[u8]) -> u32
     n
 }
 
-/// The decimal with index `i`, or 0 if there are fewer decimals.
+/// The value of the decimal at index `i`, counted from 0. It is 0 if there are at most `i` decimals.
 fn decimal_at(decimals: &[u8], i: usize) -> u32
     requires digits { AllPass is_ascii_digit decimals.now }
     requires place { i < 9 }

@@ -20,7 +20,7 @@ pub enum Unit {
     H,
 }
 
-/// The unit with this name, which is `pt`, `cm`, `mm` or `in`. An empty name means points, and any other name gives None.
+/// The unit with this name, which is `pt`, `cm`, `mm` or `in`. An empty name means points. None for any other name.
 pub fn unit_by_name(name: &[u8]) -> Option<Unit>
     ensures { option_map length_unit result ≡ unit_named name.now }
 {

@@ -1,4 +1,4 @@
-//! Checks of what a text means. Each goes over all items or all groups, in order.
+//! Checks of the modulo, the items and the groups of a parsed text. Each check covers the whole text.
 ghost use Rattle.std.specs.Prelude.{◌≡◌, ◌<◌, ◌^◌, ◌||◌, length, position, nat_lt, nat_le, option_map, if◌then◌else◌};
 ghost use Rattle.std.specs.Prelude.{Some};
 ghost use Rattle.std.specs.Option.{ForSome};
@@ -17,7 +17,8 @@ const MOST_GROUPS: usize = 10_000;
 /// The greatest modulo, the greatest page number, and the greatest integer part of a number.
 const MOST: u32 = 99_999;
 
-/// The first check that fails, at the lowest item or group. The groups are given by their lengths.
+/// The fault that the first failing check reports, with the index of the first item or group at fault. None if no check fails. `lengths` has the
+/// number of items in each group.
 pub(crate) fn first_fault(modulo: u32, items: &[ParsedItem], lengths: &[usize]) -> Option<SpecError>
     requires items { length items.now < 2 ^ 32 }
     requires groups { length lengths.now < 2 ^ 32 }
@@ -55,7 +56,7 @@ fn any_too_large(items: &[ParsedItem]) -> bool
     items.iter().any(|i| MOST < i.page || i.modifiers.too_large)
 }
 
-/// The lowest item whose page number isn't below the modulo.
+/// The index of the first item whose page number isn't below the modulo.
 fn page_out_of_block(modulo: u32, items: &[ParsedItem]) -> Option<usize>
     ensures place { result ≡ position (λ i. nat_le modulo i.page) items.now }
     ensures below { ForSome result (λ i. i < length items.now) }
@@ -63,7 +64,7 @@ fn page_out_of_block(modulo: u32, items: &[ParsedItem]) -> Option<usize>
     items.iter().position(|i| modulo <= i.page)
 }
 
-/// The lowest item with a scale that isn't above zero.
+/// The index of the first item with a scale that isn't above zero.
 fn scale_zero(items: &[ParsedItem]) -> Option<usize>
     ensures place { result ≡ position (λ i. i.modifiers.scale_zero) items.now }
     ensures below { ForSome result (λ i. i < length items.now) }
@@ -71,7 +72,7 @@ fn scale_zero(items: &[ParsedItem]) -> Option<usize>
     items.iter().position(|i| i.modifiers.scale_zero)
 }
 
-/// The lowest item with a second scale or a second offset.
+/// The index of the first item with a second scale or a second offset.
 fn repeated(items: &[ParsedItem]) -> Option<usize>
     ensures place { result ≡ position (λ i. i.modifiers.repeated) items.now }
     ensures below { ForSome result (λ i. i < length items.now) }
@@ -79,7 +80,7 @@ fn repeated(items: &[ParsedItem]) -> Option<usize>
     items.iter().position(|i| i.modifiers.repeated)
 }
 
-/// The lowest group with too many items.
+/// The index of the first group with over 4,096 items.
 fn too_many_slots(lengths: &[usize]) -> Option<usize>
     ensures place { result ≡ position (λ n. nat_lt most_slots n) lengths.now }
     ensures below { ForSome result (λ i. i < length lengths.now) }
@@ -87,7 +88,7 @@ fn too_many_slots(lengths: &[usize]) -> Option<usize>
     lengths.iter().position(|n| MOST_SLOTS < *n)
 }
 
-/// The index of an item or a group, in the type that a `SpecError` has for it.
+/// The index of an item or a group, as the `u32` that a `SpecError` holds.
 fn as_index(place: Option<usize>) -> Option<u32>
     requires { ForSome place (λ i. i < 2 ^ 32) }
     ensures { result ≡ place }

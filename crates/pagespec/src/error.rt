@@ -2,13 +2,13 @@
 use thiserror::Error;
 
 /// Why a text is refused: the first check that it fails, in the order of this enum. Each check covers the whole text. Items and groups are counted
-/// from 0 over the whole text, and the lowest one at fault is named.
+/// from 0 over the whole text. A variant with an index names the first item or group at fault.
 #[derive(Clone, Copy, Debug, PartialEq, Eq, Error)]
 pub enum SpecError {
     /// The text has over 65,536 bytes.
     #[error("specification: too long")]
     TooLong,
-    /// The text doesn't follow the grammar. The value is the length in bytes of its longest prefix with which some text of the grammar begins.
+    /// The text doesn't follow the grammar. The value is the length in bytes of its longest prefix that some grammatical text also begins with.
     #[error("specification: syntax error at byte {0}")]
     Syntax(usize),
     /// The modulo, a page number or the integer part of a number is over 99,999.
@@ -31,7 +31,7 @@ pub enum SpecError {
     /// There are over 10,000 groups.
     #[error("specification: too many groups")]
     TooManyGroups,
-    /// There was not enough memory. This may be reported in place of any fault but the first.
+    /// There was not enough memory. This may be reported in place of any fault but `TooLong`.
     #[error("out of memory")]
     NoMemory,
 }

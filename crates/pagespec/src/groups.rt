@@ -23,7 +23,7 @@ pub(crate) enum Stop {
     NoMemory,
 }
 
-/// Reads all groups of a text after its modulo. If the text has only one item, its page number may be left out.
+/// Reads all groups of a specification from the text after its modulo. If there is only one item, its page number may be left out.
 pub(crate) fn read_all_groups(alloc: Global, bytes: &[u8]) -> Result<ParsedGroups, Stop>
     ensures { MatchResult result (ParsesTo (all_groups_at bytes.now)) (IsStop AreGroups all_groups_at bytes.now) }
 {
@@ -38,7 +38,7 @@ pub(crate) fn read_all_groups(alloc: Global, bytes: &[u8]) -> Result<ParsedGroup
     }
 }
 
-/// The stop that is further on in the text.
+/// The later of two stops in one text.
 fn later_stop(one: ParseStop, other: ParseStop) -> ParseStop
     ensures { result.left ≡ min one.left other.left }
 {
@@ -47,7 +47,7 @@ fn later_stop(one: ParseStop, other: ParseStop) -> ParseStop
     }
 }
 
-/// Reads the groups of a text that has nothing after them.
+/// Reads the groups of a text. Reading stops if the text goes on after them.
 fn read_groups_to_end(alloc: Global, bytes: &[u8]) -> Result<ParsedGroups, Stop>
     ensures { MatchResult result (ParsesTo (whole_groups_at bytes.now)) (IsStop AreWholeGroups whole_groups_at bytes.now) }
 {
@@ -59,7 +59,7 @@ fn read_groups_to_end(alloc: Global, bytes: &[u8]) -> Result<ParsedGroups, Stop>
     }
 }
 
-/// A single group that has only this item.
+/// One group, which has only this item.
 fn one_item(alloc: Global, item: ParsedItem) -> Result<ParsedGroups, Stop>
     ensures alone { IfOk result (λ k. (k.items.items ≡ item ∷ []) × (k.lengths.items ≡ 1 ∷ [])) }
     ensures stop { IfErr result (λ e. e ≡ Stop.NoMemory) }
@@ -74,7 +74,7 @@ fn one_item(alloc: Global, item: ParsedItem) -> Result<ParsedGroups, Stop>
     }
 }
 
-/// Reads a text that is one item without its page number, which is then 0.
+/// Reads a text that is a single item without a page number. The page number is then 0.
 fn read_bare_item(bytes: &[u8]) -> Result<ParsedItem, ParseStop>
     ensures { MatchResult result (BareRead bytes.now) (λ stuck. StuckIn IsBareItem bare_at bytes.now stuck.left) }
 {
@@ -116,7 +116,7 @@ fn read_groups(alloc: Global, bytes: &[u8]) -> Result<(ParsedGroups, Rest<'_>), 
     Err(Stop::Stuck(ParseStop { left: 0 }))
 }
 
-/// Reads the group at the start of a text and appends its items to `items`. Returns the number of its items and the text after it.
+/// Reads the group at the start of a text and appends its items to `items`. Returns the number of these items, and the text after the group.
 fn read_group<'t>(bytes: &'t [u8], items: &mut Vec<ParsedItem>) -> Result<(usize, Rest<'t>), Stop>
     ensures { MatchResult result (λ x. GroupRead bytes.now items.old.items items.new.items x.0 x.1.text.now
         × StuckAfter IsGroup group_at bytes.now x.1.text.now x.1.stuck.left)
@@ -133,7 +133,7 @@ fn read_group<'t>(bytes: &'t [u8], items: &mut Vec<ParsedItem>) -> Result<(usize
     Err(Stop::Stuck(ParseStop { left: 0 }))
 }
 
-/// Reads the item at the start of a text and appends it to `items`. Returns the text after it.
+/// Reads the item at the start of a text and appends it to `items`. Returns the text after the item.
 fn append_item<'t>(bytes: &'t [u8], items: &mut Vec<ParsedItem>) -> Result<Rest<'t>, Stop>
     ensures { MatchResult result (λ x. ItemAppended bytes.now items.old.items items.new.items x.text.now
         × StuckAfter IsItem item_at bytes.now x.text.now x.stuck.left)

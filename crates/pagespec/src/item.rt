@@ -1,7 +1,7 @@
 //! The items of a specification. An item says which page of a block is taken, and how the page is placed.
 use lengths::{Number, Unit};
 
-/// A length as it is written: a number with its unit. The width and the height of the paper are units too.
+/// A length as it is written: a number with its unit. The unit may be the width or the height of the paper.
 #[derive(Clone, Copy, Debug, PartialEq, Eq)]
 pub struct Measure {
     pub number: Number,

@@ -6,7 +6,8 @@ pub fn canonical_is_taken()
     ensures { CanonicalIsTaken }
 {}
 
-/// The canonical text is at most one byte longer than the text itself. It is longer only if the text leaves out its page number.
+/// The canonical text of an accepted text is at most one byte longer than that text. It is longer only if the accepted text leaves out its page
+/// number.
 pub fn canonical_is_short()
     ensures { CanonicalIsShort }
 {}

@@ -1,4 +1,4 @@
-//! Items as they are parsed. A parsed item has enough to find every fault, and to make the item itself if there is no fault.
+//! Items as they are parsed. The values kept of an item are enough to find its faults, or to make the item if it has none.
 ghost use Rattle.std.specs.Prelude.{◌≡◌, ◌∷◌, ◌++◌, [], List, Some, length, MatchResult, not, int_le, pos};
 ghost use Rattle.rules.specs.Specification.{IsItem, Modifier as WrittenModifier};
 ghost use Rattle.pagespec.specs.Places.{StuckIn, StuckAfter, AreSomeModifiers};
@@ -15,10 +15,10 @@ use lengths::{Number, read_digits};
 pub(crate) struct Modifiers {
     /// The number of quarter turns to the left, modulo 4.
     pub quarters: u8,
-    /// The first scale and the first offset that are written.
+    /// The scale that is written first. `offset` has the offset that is written first.
     pub scale: Option<Number>,
     pub offset: Option<(Measure, Measure)>,
-    /// Whether a number was too large. If so, only this field and the turns are known.
+    /// Whether the integer part of a number is over 99,999. If so, only this field and `quarters` are reliable.
     pub too_large: bool,
     /// Whether a scale isn't greater than zero.
     pub scale_zero: bool,
@@ -72,7 +72,7 @@ fn is_above_zero(v: Number) -> bool
     v.billionths() > 0
 }
 
-/// An item as the text has it.
+/// An item as it is written in a text.
 #[derive(Clone, Copy)]
 pub(crate) struct ParsedItem {
     pub from_end: bool,
@@ -102,7 +102,7 @@ pub(crate) fn read_item(bytes: &[u8]) -> Result<(ParsedItem, Rest<'_>), ParseSto
     }
 }
 
-/// Whether a text begins with a minus, and the text after that minus. A text without one stays whole.
+/// Whether a text begins with a minus, and the text after that minus. A text that begins with no minus is returned whole.
 pub(crate) fn split_minus(bytes: &[u8]) -> (bool, &[u8])
     ensures minus { result.0 ≡ is_minus_first bytes.now }
     ensures rest { result.1.now ≡ past_minus bytes.now }

@@ -19,10 +19,10 @@ use std::alloc::Global;
 /// The most bytes that a text may have.
 const MOST_BYTES: usize = 65_536;
 
-/// The specification that a text means (pstops manual, page specifications). A modulo that isn't written is 1. If the whole text is one item, its
-/// page number may be left out and is then 0. Only the value of a number counts, so it may have any number of leading zeros.
+/// The specification that a text means (pstops manual, page specifications). A modulo that isn't written is 1. If there is only one item, its page
+/// number may be left out and is then 0. Leading zeros of a number have no effect.
 ///
-/// Each check covers the whole text. The first check that fails is reported, with the lowest item or group at fault. The text is read only once.
+/// Each check covers the whole text. The first check that fails is reported, with the first item or group at fault. The text is read only once.
 pub fn read_spec(alloc: Global, text: &str) -> Result<Spec, SpecError>
     ensures taken { IfOk result (λ spec. Takes most_slots text.now spec) }
     ensures refused { IfErr result (IsRefusal text.now) }
@@ -58,7 +58,8 @@ fn read_written(alloc: Global, bytes: &[u8]) -> Result<(u32, ParsedGroups), Stop
     Ok((modulo, parsed))
 }
 
-/// The modulo, which comes before a colon, and the text after the colon. A modulo above 100,000 counts as 100,000. If none is written, it is 1.
+/// The modulo, which comes before a colon, and the text after the colon. A modulo above 100,000 counts as 100,000. If no modulo is written, it is 1,
+/// and the text is returned whole.
 fn split_modulo(bytes: &[u8]) -> (u32, &[u8])
     ensures { ModuloRead bytes.now (past_modulo bytes.now) result.0 result.1.now }
 {

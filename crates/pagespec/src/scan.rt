@@ -13,22 +13,22 @@ ghost use Rattle.pagespec.specs.Views.{MeasureRead, ModifierRead, IsMeasureOf, S
 use crate::item::Measure;
 use lengths::{Number, NumberError, Unit, read_number};
 
-/// A place in a text where reading can't go on, because no text of the grammar has the next byte there.
+/// A place in a text where reading can't go on: no grammatical text has the next byte there, or the text ends there.
 #[derive(Clone, Copy)]
 pub(crate) struct ParseStop {
     /// The number of bytes from this place to the end of the text.
     pub left: usize,
 }
 
-/// The text that is left after its start was read.
+/// The rest of a text, after a part at the start of the text was read.
 #[derive(Clone, Copy)]
 pub(crate) struct Rest<'t> {
     pub text: &'t [u8],
-    /// The place where reading more failed. It is at a byte of `text` or at its end.
+    /// The place at which further reading failed. It is at a byte of `text` or at its end.
     pub stuck: ParseStop,
 }
 
-/// A modifier as it is written. If a number in it is over 99,999, its value isn't kept.
+/// A modifier as it is written. `TooLarge` means a scale or an offset with a number whose integer part is over 99,999; none of its values is kept.
 #[derive(Clone, Copy)]
 pub(crate) enum Modifier {
     /// A turn to the left by this number of quarters.
@@ -75,7 +75,7 @@ fn quarters_of(letter: u8) -> u8
     }
 }
 
-/// Reads a scale whose `@` was read before.
+/// Reads a scale after its `@`.
 fn read_scale(bytes: &[u8]) -> Result<(Modifier, &[u8]), ParseStop>
     ensures { MatchResult result
         (λ x. (m : WrittenModifier) × (scale_at bytes.now ≡ Some (m, x.1.now)) × StandsFor x.0 m)
@@ -88,7 +88,7 @@ fn read_scale(bytes: &[u8]) -> Result<(Modifier, &[u8]), ParseStop>
     }
 }
 
-/// Reads an offset whose opening parenthesis was read before.
+/// Reads an offset after its opening parenthesis.
 fn read_offset(bytes: &[u8]) -> Result<(Modifier, &[u8]), ParseStop>
     ensures { MatchResult result
         (λ x. (m : WrittenModifier) × (offset_at bytes.now ≡ Some (m, x.1.now)) × StandsFor x.0 m)
@@ -112,7 +112,7 @@ fn read_offset(bytes: &[u8]) -> Result<(Modifier, &[u8]), ParseStop>
     }
 }
 
-/// The modifier for an offset by `x` and `y`. A measure is None if its number is too large.
+/// The modifier for an offset by `x` and `y`. A measure is None if the integer part of its number is over 99,999.
 fn offset_of(x: Option<Measure>, y: Option<Measure>) -> Modifier
     ensures { (a b : WrittenMeasure) → IsMeasureOf x a → IsMeasureOf y b → StandsFor result (Moved a b) }
 {
@@ -122,7 +122,7 @@ fn offset_of(x: Option<Measure>, y: Option<Measure>) -> Modifier
     }
 }
 
-/// Reads a number and its unit. The measure is None if the number is too large.
+/// Reads a number and its unit. The measure is None if the integer part of the number is over 99,999.
 fn read_measure(bytes: &[u8]) -> Result<(Option<Measure>, Rest<'_>), ParseStop>
     ensures { MatchResult result (λ x. MeasureRead bytes.now x.0 x.1.text.now
         × StuckAfter IsMeasure measure_at bytes.now x.1.text.now x.1.stuck.left)
@@ -170,7 +170,7 @@ fn split_unit(bytes: &[u8]) -> (Unit, &[u8])
     }
 }
 
-/// The text after the first letter of a two-letter unit. A text that doesn't begin with such a letter stays whole.
+/// The text after the first letter of a two-letter unit. A text that doesn't begin with such a letter is returned whole.
 fn past_letter(bytes: &[u8]) -> &[u8]
     ensures { result.now ≡ past_letter bytes.now }
 {
@@ -180,7 +180,7 @@ fn past_letter(bytes: &[u8]) -> &[u8]
     }
 }
 
-/// A rest whose text can't be read any further: the place where reading failed is its start.
+/// A rest of which nothing can be read: reading failed at the start of its text.
 pub(crate) fn rest_at(text: &[u8]) -> Rest<'_>
     ensures text { result.text.now ≡ text.now }
     ensures left { result.stuck.left ≡ length text.now }
@@ -191,7 +191,7 @@ pub(crate) fn rest_at(text: &[u8]) -> Rest<'_>
     }
 }
 
-/// The text after its first byte, if that is `byte`.
+/// The text after its first byte, if this byte is `byte`. Otherwise None.
 pub(crate) fn read_byte(byte: u8, bytes: &[u8]) -> Option<&[u8]>
     ensures { MatchOption result (byte_at byte bytes.now ≡ None) (λ rest. byte_at byte bytes.now ≡ Some rest.now) }
 {
@@ -201,7 +201,7 @@ pub(crate) fn read_byte(byte: u8, bytes: &[u8]) -> Option<&[u8]>
     }
 }
 
-/// The place after a sign and a dot, at which reading fails if the text doesn't begin with a number.
+/// The place at which reading a number fails in a text that doesn't begin with one. It is after the sign and the dot, if the text has them.
 fn stop_in_number(bytes: &[u8]) -> ParseStop
     requires { number_at bytes.now ≡ None }
     ensures { StuckIn IsNumber number_at bytes.now result.left }
@@ -215,7 +215,7 @@ fn stop_in_number(bytes: &[u8]) -> ParseStop
     }
 }
 
-/// The text after its sign. A text that doesn't begin with a sign stays whole.
+/// The text after its sign. A text that doesn't begin with a sign is returned whole.
 fn past_sign(bytes: &[u8]) -> &[u8]
     ensures { result.now ≡ unsigned bytes.now }
 {

@@ -1,4 +1,4 @@
-//! The meaning of the items of a text that have no fault.
+//! The meaning of the items of a text that has no fault.
 ghost use Rattle.std.specs.Prelude.{◌≡◌, map, IfOk, unwrap_or};
 ghost use Rattle.rules.specs.Specification as rules;
 ghost use Rattle.pagespec.specs.Items.{item_of, turn_of, groups_of, measure_of};
@@ -28,7 +28,7 @@ pub(crate) fn settled_groups(
     Ok(groups)
 }
 
-/// One group that has these items.
+/// The group of these items.
 fn settled_group(alloc: Global, parsed: &[ParsedItem]) -> Result<Vec<Item>, AllocError>
     ensures { IfOk result (λ group. map item_of group.items ≡ map item_of_parsed parsed.now) }
 {
@@ -39,7 +39,7 @@ fn settled_group(alloc: Global, parsed: &[ParsedItem]) -> Result<Vec<Item>, Allo
     Ok(group)
 }
 
-/// The meaning of an item. If no scale is written it is 1, and if no offset is written both of its lengths are 0 pt.
+/// The meaning of an item. A scale that isn't written is 1. An offset that isn't written is 0 pt to the right and 0 pt up.
 fn settled_item(parsed: ParsedItem) -> Item
     ensures { item_of result ≡ item_of_parsed parsed }
 {
@@ -64,7 +64,7 @@ fn turn_by(quarters: u8) -> Turn
     }
 }
 
-/// This offset, or one of 0 pt and 0 pt if there is none.
+/// This offset, or 0 pt to the right and 0 pt up if there is no offset.
 fn offset_or_none(offset: Option<(Measure, Measure)>) -> (Measure, Measure)
     ensures { offset_of_parsed offset ≡ (measure_of result.0, measure_of result.1) }
 {

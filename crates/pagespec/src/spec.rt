@@ -38,8 +38,8 @@ impl Spec {
         Spec { modulo, groups }
     }
 
-    /// The specification with this modulo and these groups, for a program that makes one without reading it. The caller has to show that it passes
-    /// every check.
+    /// The specification with this modulo and these groups, for a program that doesn't read it from a text. The caller has to show that the
+    /// specification passes every check, and that its canonical text has at most 65,536 bytes.
     pub fn of_groups(modulo: u32, groups: Vec<Vec<Item>>) -> Spec
         requires { IsWritable most_slots (record { modulo = modulo; groups = groups_of groups.items }) }
         ensures { result ≡ record { modulo = modulo; groups = groups_of groups.items } }

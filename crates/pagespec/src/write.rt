@@ -13,8 +13,8 @@ use itoa::Buffer;
 use lengths::{Number, Unit, print_number};
 use std::alloc::{AllocError, Global};
 
-/// The canonical text of a specification, from which `read_spec` reads the same specification. The text leaves out a modulo of 1, leading zeros of
-/// page numbers, and any scale, offset or unit that has no effect. A turn is one letter.
+/// The canonical text of a specification, from which `read_spec` reads the same specification. The text leaves out a modulo of 1, leading zeros, a
+/// scale of 1, an offset whose two lengths are 0 pt, and the unit of points. A turn is one letter.
 pub fn write_spec(alloc: Global, spec: &Spec) -> Result<String, AllocError>
     ensures canonical { IfOk result (λ text. string_bytes text ≡ rules.canonical spec.now) }
     ensures taken { IfOk result (λ text. Takes most_slots (string_bytes text) spec.now) }
@@ -160,7 +160,7 @@ fn is_points(unit: Unit) -> bool
     }
 }
 
-/// Appends a number and its unit. Points are left out.
+/// Appends a number and its unit. The unit is left out if it is points.
 fn append_measure(measure: &Measure, out: &mut Vec<u8>) -> Result<(), AllocError>
     ensures { OnOk result (out.new.items ≡ out.old.items ++ rules.measure_text (measure_of measure.now)) }
 {
@@ -181,7 +181,7 @@ fn unit_name(unit: Unit) -> &'static [u8]
     }
 }
 
-/// Appends a number in decimal, which can't be negative.
+/// Appends a number in decimal digits.
 fn append_count(count: u32, out: &mut Vec<u8>) -> Result<(), AllocError>
     ensures { OnOk result (out.new.items ≡ out.old.items ++ decimal count) }
 {

@@ -20,14 +20,14 @@ pub fn default_paper(variable: &[u8], file: &[u8]) -> Paper
     }
 }
 
-/// The first word of a text outside comments. It is empty if there is none.
+/// The first word outside comments in a text. Empty if there is no such word.
 fn first_word(text: &[u8]) -> &[u8]
     ensures { result.now ≡ meaning.first_word text.now }
 {
     word_at(from_word(text))
 }
 
-/// The part of a text that begins with its first word outside comments.
+/// The part of a text that begins with its first word outside comments. Empty if there is no such word.
 fn from_word(text: &[u8]) -> &[u8]
     ensures { result.now ≡ meaning.from_word false text.now }
 {
@@ -43,21 +43,21 @@ fn from_word(text: &[u8]) -> &[u8]
     rest
 }
 
-/// Whether the next byte is in a comment. `comment` says whether `byte` itself is in one.
+/// Whether the byte after `byte` is in a comment. `comment` says whether `byte` is in a comment.
 fn is_comment_after(comment: bool, byte: u8) -> bool
     ensures { result ≡ meaning.is_comment_after comment byte }
 {
     if comment { byte != b'\n' } else { byte == b'#' }
 }
 
-/// Whether a byte belongs to a word.
+/// Whether a byte belongs to a word: it is neither white space nor `#`.
 fn is_of_word(byte: u8) -> bool
     ensures { result ≡ meaning.is_of_word byte }
 {
     !(byte.is_ascii_whitespace() || byte == b'#')
 }
 
-/// The word at the start of a text. It is empty if the text doesn't begin with a word.
+/// The word at the start of a text. Empty if the text doesn't begin with a word.
 fn word_at(text: &[u8]) -> &[u8]
     ensures { result.now ≡ meaning.word_at text.now }
 {

@@ -9,7 +9,7 @@ ghost use Rattle.paper_names.specs.Names.{entry, is_word, letters, listed, paper
 
 use lengths::{Grains, Paper};
 
-/// The names of papers, each with its width and height in points.
+/// The names of papers, each with the paper's width and height in points.
 const PAPERS: [(&str, u32, u32); 34] = [
     ("a0", 2384, 3370),
     ("a1", 1684, 2384),
@@ -50,7 +50,7 @@ const PAPERS: [(&str, u32, u32); 34] = [
 /// The number of grains in a point.
 const GRAINS_OF_POINT: i128 = 127_000_000_000;
 
-/// The paper of the table with this name. Capitals, blanks, minuses and underscores make no difference, and `din`, `iso` or `us` may come first.
+/// The paper that has this name in the table. Capitals, blanks, minuses and underscores make no difference, and `din`, `iso` or `us` may come first.
 /// `landscape` or `quer` at the end exchanges width and height. Any other name gives None.
 pub fn paper_by_name(name: &[u8]) -> Option<Paper>
     ensures { result ≡ paper_named name.now }
@@ -70,7 +70,7 @@ pub fn name_list() -> &'static str
     letter, legal, tabloid, ledger, statement, executive, folio, quarto, 10x14"
 }
 
-/// The paper of the table with this name. A word at the end that exchanges width and height isn't looked for.
+/// The paper that has this name in the table. A name that ends with `landscape` or `quer` isn't found.
 #[tactic(auto, unfolding(crate::specs::Names::papers))]
 pub(crate) fn upright_paper(name: &[u8]) -> Option<Paper>
     ensures { result ≡ meaning.upright_named name.now }
@@ -78,7 +78,7 @@ pub(crate) fn upright_paper(name: &[u8]) -> Option<Paper>
     paper_in(&PAPERS, behind_maker(name))
 }
 
-/// The paper of the first row with this name.
+/// The paper of the first row that has this name. None if no row has the name.
 fn paper_in(rows: &[(&str, u32, u32)], name: &[u8]) -> Option<Paper>
     requires sides { list_all sides_fit rows.now ≡ true }
     ensures { result ≡ paper_among (map entry rows.now) (letters name.now) }
@@ -92,7 +92,7 @@ fn paper_in(rows: &[(&str, u32, u32)], name: &[u8]) -> Option<Paper>
     None
 }
 
-/// Whether a text is the name or word `known`, which has no capitals. Capitals in the text, and bytes between its letters, make no difference.
+/// Whether a text is the name or word `known`, which has no capitals. Capitals, blanks, minuses and underscores in the text make no difference.
 pub(crate) fn is_named(text: &[u8], known: &[u8]) -> bool
     ensures { result ≡ is_word known.now text.now }
 {
@@ -102,7 +102,7 @@ pub(crate) fn is_named(text: &[u8], known: &[u8]) -> bool
     }
 }
 
-/// Whether a text has only bytes that may come between the letters of a name.
+/// Whether a text has only blanks, minuses and underscores, which may come between the letters of a name.
 fn has_no_letter(text: &[u8]) -> bool
     ensures { result ≡ is_empty (letters text.now) }
 {
@@ -128,7 +128,7 @@ fn behind_maker(name: &[u8]) -> &[u8]
     }
 }
 
-/// The text after `word`, if the text begins with it. `word` has no capitals.
+/// The text after `word`, or None if the text doesn't begin with `word`. `word` has no capitals, and capitals in the text make no difference.
 fn after_word<'t>(text: &'t [u8], word: &[u8]) -> Option<&'t [u8]>
     ensures { option_map (λ rest. letters rest.now) result ≡ meaning.after_word word.now (letters text.now) }
 {
@@ -147,7 +147,8 @@ fn after_word<'t>(text: &'t [u8], word: &[u8]) -> Option<&'t [u8]>
     Some(rest)
 }
 
-/// The first letter of a name, and the text after it.
+/// The first letter of a name, and the text after this letter. Any byte but a blank, a minus or an underscore counts as a letter. None if there is no
+/// letter.
 fn next_letter(text: &[u8]) -> Option<(u8, &[u8])>
     ensures { MatchOption result (letters text.now ≡ []) (λ p. letters text.now ≡ p.0 ∷ letters p.1.now) }
 {
@@ -161,14 +162,14 @@ fn next_letter(text: &[u8]) -> Option<(u8, &[u8])>
     None
 }
 
-/// Whether a byte may come between the letters of a name.
+/// Whether a byte may come between the letters of a name: it is a blank, a minus or an underscore.
 fn is_between(byte: u8) -> bool
     ensures { result ≡ meaning.is_between byte }
 {
     (byte == b' ' || byte == b'\t') || (byte == b'-' || byte == b'_')
 }
 
-/// The text before the word at its end that exchanges width and height. It is None if the text doesn't end with such a word.
+/// The part of a text before a final `landscape` or `quer`, which exchanges width and height. None if the text ends with neither word.
 pub(crate) fn upright_part(text: &[u8]) -> Option<&[u8]>
     ensures { option_map (λ front. front.now) result ≡ meaning.upright_part text.now }
 {
@@ -178,7 +179,7 @@ pub(crate) fn upright_part(text: &[u8]) -> Option<&[u8]>
     }
 }
 
-/// The text before `ending`, if the text ends with it, in capitals or not.
+/// The text before `ending`, or None if the text doesn't end with `ending`. `ending` has no capitals, and capitals in the text make no difference.
 fn before_ending<'t>(text: &'t [u8], ending: &[u8]) -> Option<&'t [u8]>
     requires { map to_ascii_lowercase ending.now ≡ ending.now }
     ensures { option_map (λ front. front.now) result ≡ meaning.before_ending ending.now text.now }

@@ -10,7 +10,7 @@ use crate::error::PaperError;
 use crate::names::{is_named, upright_paper, upright_part};
 use lengths::{Grains, Number, Paper, Unit, a4, read_number, to_grains};
 
-/// A side as a text has it: a number, and its unit if the text has one.
+/// A side as it is written in a text: a number, and its unit if there is one.
 #[derive(Clone, Copy, Debug, PartialEq, Eq)]
 struct Side {
     number: Number,
@@ -20,9 +20,9 @@ struct Side {
 /// The paper that a text means. It is the paper with this name (see `paper_by_name`), or the one with the width and height at the end of the text,
 /// which have an `x` between them. `landscape` or `quer` after that exchanges width and height.
 ///
-/// A side is a number up to 99,999.999999999 with `pt`, `cm`, `mm`, `in`, `inch` or `"` after it. If only the height has a unit, it holds for the
-/// width too, as in `210x297mm`. `X`, `*` and `×` may replace the `x`. A name and an underscore before the size are passed over, as in
-/// `iso_a4_210x297mm`. If a text means no paper, the error says why.
+/// A side is a number with `pt`, `cm`, `mm`, `in`, `inch` or `"` after it. The integer part of the number is at most 99,999. If only the height has a
+/// unit, the width has this unit too, as in `210x297mm`. `X`, `*` and `×` may replace the `x`. A name and an underscore before the size are passed
+/// over, as in `iso_a4_210x297mm`. A text that means no paper is refused, with `Unknown`, `NoUnit` or `NoSuchSize`.
 pub fn read_paper(text: &[u8]) -> Result<Paper, PaperError>
     ensures { result ≡ meaning.paper_of text.now }
 {
@@ -52,7 +52,7 @@ fn on_its_side(paper: Result<Paper, PaperError>) -> Result<Paper, PaperError>
     }
 }
 
-/// The text after its last underscore, where an underscore at the end doesn't count. Without an underscore it is the whole text.
+/// The part of a text after its last underscore, or the whole text if it has none. An underscore at the end of the text doesn't count.
 fn last_part(text: &[u8]) -> &[u8]
     ensures { result.now ≡ meaning.last_part text.now text.now }
 {
@@ -67,7 +67,7 @@ fn last_part(text: &[u8]) -> &[u8]
     part
 }
 
-/// The paper whose width and height a text has, with an `x` or another sign between them.
+/// The paper with the width and the height that a text has, with `x`, `X`, `*` or `×` between them.
 fn size_of(text: &[u8]) -> Result<Paper, PaperError>
     ensures { result ≡ meaning.size_of text.now }
 {
@@ -75,7 +75,7 @@ fn size_of(text: &[u8]) -> Result<Paper, PaperError>
     size_of_both(side_of(width), side_behind(rest))
 }
 
-/// The index of the first sign that may be between a width and a height, or the length of the text if there is none.
+/// The index of the first `x`, `X`, `*` or first byte of a `×`, or the length of the text if it has none of these.
 fn x_at(text: &[u8]) -> usize
     ensures value { result ≡ meaning.x_at text.now }
     ensures within { result ≤ length text.now }
@@ -85,7 +85,7 @@ fn x_at(text: &[u8]) -> usize
         .count()
 }
 
-/// The side that follows the sign at the start of a text.
+/// The side after the `x`, `X`, `*` or `×` at the start of a text. None if there is no such sign, or no side after it.
 fn side_behind(text: &[u8]) -> Option<Side>
     ensures { option_map (λ s. (s.number, option_map length_unit s.unit)) result
         ≡ option_and_then meaning.side_of (meaning.behind_cross text.now) }
@@ -93,7 +93,8 @@ fn side_behind(text: &[u8]) -> Option<Side>
     side_of(behind_cross(text)?)
 }
 
-/// The text after the `x`, `X`, `*` or `×` at its start. It is None if the text doesn't begin with one of these signs.
+/// The text after the sign at its start. Of the sign, only the second byte of a `×` is tested, since the caller has found the first byte. None if the
+/// text is empty, or if this second byte is missing.
 fn behind_cross(text: &[u8]) -> Option<&[u8]>
     ensures { option_map (λ rest. rest.now) result ≡ meaning.behind_cross text.now }
 {
@@ -105,7 +106,7 @@ fn behind_cross(text: &[u8]) -> Option<&[u8]>
     }
 }
 
-/// The text after the second byte of a `×`, which has two bytes in UTF-8. It is None if the text doesn't begin with that byte.
+/// The text after the second byte of a `×`, which has two bytes in UTF-8. None if the text doesn't begin with that byte.
 fn behind_second(text: &[u8]) -> Option<&[u8]>
     ensures { option_map (λ rest. rest.now) result ≡ meaning.behind_second text.now }
 {
@@ -130,7 +131,7 @@ fn side_of(text: &[u8]) -> Option<Side>
     })
 }
 
-/// The number of blanks at the start of a text.
+/// The number of blanks (spaces and tabs) at the start of a text.
 fn blanks_at(text: &[u8]) -> usize
     ensures value { result ≡ prefix_len is_blank text.now }
     ensures within { result ≤ length text.now }
@@ -140,7 +141,7 @@ fn blanks_at(text: &[u8]) -> usize
         .count()
 }
 
-/// The unit with this name: `pt`, `cm`, `mm`, `in`, `inch` or `"`.
+/// The unit with this name: `pt`, `cm`, `mm`, `in`, `inch` or `"`. None for any other name.
 fn unit_of(name: &[u8]) -> Option<Unit>
     ensures { option_map length_unit result ≡ meaning.unit_of name.now }
 {
@@ -163,7 +164,7 @@ fn is_inch(name: &[u8]) -> bool
     is_named(name, b"in") || (is_named(name, b"inch") || is_named(name, b"\""))
 }
 
-/// The paper of two sides, if both could be read. A width without a unit has that of the height.
+/// The paper of two sides, or `Unknown` if one of them couldn't be read. A width without a unit has the unit of the height.
 fn size_of_both(width: Option<Side>, height: Option<Side>) -> Result<Paper, PaperError>
     ensures { result ≡ meaning.size_of_both
         (option_map (λ s. (s.number, option_map length_unit s.unit)) width)
@@ -186,14 +187,14 @@ fn size_of_sides(width: Side, height: Side) -> Result<Paper, PaperError>
     }
 }
 
-/// The paper whose width is a number of units `u` and whose height is a number of units `v`. None of these units depends on a paper.
+/// The paper that is `width` units `u` wide and `height` units `v` high. Neither unit depends on a paper.
 fn in_units(width: Number, u: Unit, height: Number, v: Unit) -> Result<Paper, PaperError>
     ensures { result ≡ meaning.in_units width (length_unit u) height (length_unit v) }
 {
     paper_of_sides(to_grains(width, u, &a4()), to_grains(height, v, &a4()))
 }
 
-/// The paper with these sides, if a paper may have them.
+/// The paper with these sides, or `NoSuchSize` if a paper can't have them.
 fn paper_of_sides(width: Grains, height: Grains) -> Result<Paper, PaperError>
     ensures { result ≡ meaning.paper_of_sides width height }
 {

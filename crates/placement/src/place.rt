@@ -8,8 +8,8 @@ use super::matrix::Matrix;
 use lengths::{Number, Paper, to_grains};
 use pagespec::{Item, Turn};
 
-/// The matrix that places the page of an item. Widths and heights in the item's offset are those of `paper`. The page is scaled about its lower left
-/// corner, then turned about it, then moved (pstops manual, page specifications).
+/// The matrix that places the page of an item. In the item's offset, `w` and `h` are the width and the height of `paper`. The page is scaled about
+/// its lower left corner, then turned about this corner, then moved (pstops manual, page specifications).
 pub fn matrix_of(item: &Item, paper: &Paper) -> Matrix
     ensures numbers { matrix_value result ≡ matrix_for paper.now (item_of item.now) }
     ensures put { (p : Point) → applied (matrix_value result) p ≡ put paper.now (item_of item.now) p }

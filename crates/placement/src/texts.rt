@@ -85,8 +85,8 @@ pub fn opening_text(
     opening_within(item, paper, border, Grains::ZERO, out)
 }
 
-/// Appends the text of `opening_text` with a border that is `inset` away from each edge, inside the paper. The clip is still to the whole paper. If
-/// memory is refused, nothing is appended.
+/// Appends the text that `opening_text` appends, but with the border `inset` away from each edge, inside the paper. The clip is to the whole paper.
+/// If memory is refused, nothing is appended.
 pub fn opening_within(
     item: &Item,
     paper: &Paper,
@@ -106,7 +106,7 @@ pub fn opening_within(
     undo_if_refused(appended, len, out)
 }
 
-/// Appends the text after a placed page, which restores what its `save` kept. If memory is refused, nothing is appended.
+/// Appends the text after a placed page. It restores the state that the `save` before the page kept. If memory is refused, nothing is appended.
 pub fn closing_text(out: &mut Vec<u8>) -> Result<(), AllocError>
     ensures appended { OnOk result (out.new.items ≡ out.old.items ++ closing) }
     ensures unchanged { OnErr result (out.new.items ≡ out.old.items) }
@@ -116,7 +116,7 @@ pub fn closing_text(out: &mut Vec<u8>) -> Result<(), AllocError>
     out.extend_from_slice(b"ImposeSave restore\n")
 }
 
-/// Shortens `out` to the length `len` if an append was refused.
+/// Shortens `out` to the length `len` if an append was refused. Returns the result of the append.
 fn undo_if_refused(
     appended: Result<(), AllocError>,
     len: usize,
@@ -153,7 +153,7 @@ fn append_opening(
     append_border(paper, border, inset, out)
 }
 
-/// Appends the `save`, the `showpage` that does nothing, and the matrix.
+/// Appends the `save`, the `showpage` that does nothing, and the matrix with its `concat`.
 #[tactic(auto, using(crate::proofs::Keeping::keeps_more))]
 fn append_placing(item: &Item, paper: &Paper, out: &mut Vec<u8>) -> Result<(), AllocError>
     ensures appended { OnOk result (out.new.items ≡ out.old.items ++ placing_text paper.now (item_of item.now)) }
@@ -245,7 +245,7 @@ fn append_edge(paper: &Paper, out: &mut Vec<u8>) -> Result<(), AllocError>
     append_path(low, right, top, out)
 }
 
-/// Appends the path around a rectangle. Its left and lower edges are both at `low`.
+/// Appends the path around a rectangle. `low` is both the x coordinate of its left edge and the y coordinate of its lower edge.
 #[tactic(auto, using(crate::proofs::Keeping::keeps_more))]
 fn append_path(
     low: Coordinate,

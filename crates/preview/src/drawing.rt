@@ -1,4 +1,4 @@
-//! The drawing of the sheets.
+//! Draws sheets.
 ghost use Rattle.std.specs.Prelude.{◌≡◌, ◌+◌, ◌*◌, ◌/◌, ◌<◌, ◌≤◌, ◌++◌, flat_map, length, take, OnOk, IfOk, Some, slice_get};
 ghost use Rattle.rules.specs.Made.{MadeSheet, Placed};
 ghost use Rattle.pagespec.specs.Items.{item_of};
@@ -17,10 +17,10 @@ use placement::{Matrix, matrix_of};
 use sheet_plan::{MadeSheets, PlacedSlot};
 use std::alloc::{AllocError, Global};
 
-/// A drawing of these sheets, as an SVG. Each sheet is drawn with its name and the size of its paper. Each of its pages is drawn where its matrix
-/// places it, with an outline, its number, counted from 1, and an arrow at the top. The guides are drawn over the pages. Four sheets are side by
-/// side, each as large as its square allows. If there are more sheets than `most`, only the first `most` are drawn, and a line has the number of
-/// sheets left out.
+/// A drawing of these sheets, in SVG. Each sheet is drawn with its name and the size of its paper. Each page is drawn where its matrix places it,
+/// with an outline, its number, counted from 1, and an arrow at the top. The guides are drawn over the pages. Four sheets are side by side, each as
+/// large as its square allows. If there are more sheets than `most`, only the first `most` are drawn, and a line of text has the number of the
+/// remaining sheets. The only error is refused memory.
 pub fn preview_text(
     alloc: Global,
     sheets: &MadeSheets,
@@ -59,7 +59,7 @@ fn append_all(
     Ok(())
 }
 
-/// Appends the start of a drawing, and the first `count` sheets.
+/// Appends the start of a drawing of `count` sheets, and the drawings of the first `count` sheets.
 fn append_first(
     sheets: &MadeSheets,
     sides: Sides,
@@ -101,7 +101,7 @@ const STYLE: &[u8] =
 /// The background of a drawing.
 const GROUND: &[u8] = b"<rect width='100%' height='100%' fill='white'/>\n";
 
-/// Appends the number of sheets that aren't drawn, as a text below the `count` sheets that are.
+/// Appends the number of sheets that aren't drawn, `more`, as a text below the `count` sheets that are drawn.
 fn append_left_out(count: u32, more: u32, out: &mut Vec<u8>) -> Result<(), AllocError>
     ensures { OnOk result (out.new.items ≡ out.old.items ++ left_out count more) }
 {
@@ -131,7 +131,7 @@ fn append_sheets(
     Ok(())
 }
 
-/// Appends a sheet in its square.
+/// Appends the drawing of a sheet (counted from 0), in the sheet's square.
 fn append_sheet(
     sheets: &MadeSheets,
     sides: Sides,
@@ -153,7 +153,7 @@ fn append_sheet(
     Ok(())
 }
 
-/// Appends the start of the square in which a sheet is drawn.
+/// Appends the start of the square in which a sheet (counted from 0) is drawn.
 fn append_square(sheet: u32, out: &mut Vec<u8>) -> Result<(), AllocError>
     ensures { OnOk result (out.new.items ≡ out.old.items ++ square_at sheet) }
 {
@@ -165,7 +165,7 @@ fn append_square(sheet: u32, out: &mut Vec<u8>) -> Result<(), AllocError>
     Ok(())
 }
 
-/// Appends a sheet without its pages.
+/// Appends the outline of a sheet of this paper, and the start of the drawing of its pages.
 fn append_view(paper: &Paper, out: &mut Vec<u8>) -> Result<(), AllocError>
     ensures { OnOk result (out.new.items ≡ out.old.items ++ empty_sheet paper.now) }
 {
@@ -219,7 +219,7 @@ fn append_placed_page(
     Ok(())
 }
 
-/// Appends the start of a group under a matrix, which sends points where PostScript sends them.
+/// Appends the start of a group whose points are mapped by a matrix, as PostScript would map them.
 fn append_under(matrix: &Matrix, out: &mut Vec<u8>) -> Result<(), AllocError>
     ensures { OnOk result (out.new.items ≡ out.old.items ++ under (matrix_value matrix.now)) }
 {
@@ -264,7 +264,7 @@ fn append_head(paper: &Paper, number: u64, out: &mut Vec<u8>) -> Result<(), Allo
     Ok(())
 }
 
-/// Appends the outline of a sheet or a page.
+/// Appends the outline of a sheet or a page. `kind` is the name of its style.
 fn append_outline(kind: &[u8], paper: &Paper, out: &mut Vec<u8>) -> Result<(), AllocError>
     ensures { OnOk result (out.new.items ≡ out.old.items ++ outline kind.now paper.now) }
 {
@@ -276,7 +276,7 @@ fn append_outline(kind: &[u8], paper: &Paper, out: &mut Vec<u8>) -> Result<(), A
     Ok(())
 }
 
-/// Appends the width and the height of a paper as attributes.
+/// Appends the width and the height of a paper, in points, as attributes.
 fn append_as_large(paper: &Paper, out: &mut Vec<u8>) -> Result<(), AllocError>
     ensures { OnOk result (out.new.items ≡ out.old.items ++ as_large paper.now) }
 {
@@ -298,7 +298,7 @@ fn append_clip(paper: &Paper, out: &mut Vec<u8>) -> Result<(), AllocError>
     Ok(())
 }
 
-/// Appends the start of a group in which heights are counted from the bottom of this paper.
+/// Appends the start of a group in which heights are measured upwards from the lower edge of this paper.
 fn append_flip(paper: &Paper, out: &mut Vec<u8>) -> Result<(), AllocError>
     ensures { OnOk result (out.new.items ≡ out.old.items ++ flipped paper.now) }
 {
@@ -308,7 +308,7 @@ fn append_flip(paper: &Paper, out: &mut Vec<u8>) -> Result<(), AllocError>
     Ok(())
 }
 
-/// Appends the name of a sheet and the size of its paper, and the end of its square.
+/// Appends the name of a sheet (counted from 0), the size of its paper, and the end of its square.
 fn append_caption(
     sides: Sides,
     sheet: u32,

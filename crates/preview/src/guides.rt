@@ -14,7 +14,7 @@ pub enum GuideKind {
     Note,
 }
 
-/// A guide, which is a line on a sheet between two points. Each point is given by its distances from the left and the lower edge.
+/// A guide, which is a line on a sheet between two points. Each point is given by its distances from the left and the lower edge, in grains.
 #[derive(Clone, Copy, Debug, PartialEq, Eq)]
 pub struct Guide {
     pub kind: GuideKind,
@@ -50,7 +50,7 @@ fn append_guide(guide: &Guide, out: &mut Vec<u8>) -> Result<(), AllocError>
     Ok(())
 }
 
-/// The name of the style that guides of this kind have.
+/// The name of the style for guides of this kind.
 fn kind_name(kind: GuideKind) -> &'static [u8]
     ensures { result.now ≡ name_of_kind kind }
 {

@@ -1,4 +1,4 @@
-//! Laws of the definitions. The function states one law in its `ensures`, and has an empty body.
+//! A law of the list of a plan. The function states the law in its contract, and does nothing.
 ghost use Rattle.preview.specs.Reading.{PlacesAreInOrder};
 
 /// Each place of a sheet is listed in the row and column that the order of the cells gives it.

@@ -1,4 +1,4 @@
-//! The list of a plan.
+//! Lists the sheets of a plan.
 ghost use Rattle.std.specs.Prelude.{◌≡◌, ◌+◌, ◌*◌, ◌/◌, ◌%◌, ◌<◌, ◌≤◌, ◌-◌, ◌++◌, length, OnOk, IfOk};
 ghost use Rattle.sheet_plan.specs.OfSheets.{placed_of, slots_at};
 ghost use Rattle.preview.specs.Listing.{back_text, blank_in, blanks_of, blanks_on, edge_line, edge_name as name_of_edge, flip_text};
@@ -15,10 +15,11 @@ use std::alloc::{AllocError, Global};
 /// The list of these sheets. If sheets are printed on both sides, each leaf has a line, and otherwise each sheet. The line has the pages in the
 /// places of the sheet, row by row, with the sheet held so that the pages are upright. Pages are counted from 1.
 ///
-/// After these lines comes one with the numbers of sheets, leaves and blank places, and one with the edge on which leaves are flipped. Then each way
-/// in which pages lie on sheets has a line, with papers and scale. If there are more sheets or leaves than `most`, only the first and the last ones
-/// have lines, `most` lines in all. A line between them has the number of those left out. If there are more than 16 ways, a last line stands for
-/// those left out.
+/// The next line has the numbers of sheets and blank places. If sheets are printed on both sides, that line has the number of leaves as well, and a
+/// further line names the edge on which leaves are flipped. Then each way in which pages lie on sheets has a line, with papers and scale.
+///
+/// If there are more sheets or leaves than `most`, only the first and the last ones have lines, `most` lines in all. A line between them has the
+/// number of sheets or leaves left out. If there are more than 16 ways, a last line says that there are other ways. The only error is refused memory.
 pub fn plan_text(
     alloc: Global,
     sheets: &MadeSheets,
@@ -36,7 +37,7 @@ pub fn plan_text(
     Ok(text)
 }
 
-/// The number of lines for this number of sheets: one for each sheet, or for each leaf if sheets are printed on both sides.
+/// The number of lines for this number of sheets: one for each sheet, or one for each leaf if sheets are printed on both sides.
 fn row_count(sides: Sides, sheets: u32) -> u32
     ensures { result ≡ row_count_of sides sheets }
 {
@@ -46,7 +47,8 @@ fn row_count(sides: Sides, sheets: u32) -> u32
     }
 }
 
-/// Appends the lines of all `count` sheets. If there are more than `most` lines, it appends the first and the last ones, with a line between them.
+/// Appends the lines of all `count` sheets. If these would be more than `most` lines, appends the first and the last ones, `most` in all. A line
+/// between them has the number of lines left out.
 fn append_shortened(
     sheets: &MadeSheets,
     reading: &Reading,
@@ -70,7 +72,7 @@ fn append_shortened(
     Ok(())
 }
 
-/// Appends the lines from the number `first` up to, but not including, the number `end`.
+/// Appends the lines from line `first` up to, but not including, line `end`, both counted from 0.
 fn append_rows(
     sheets: &MadeSheets,
     reading: &Reading,
@@ -90,7 +92,7 @@ fn append_rows(
     Ok(())
 }
 
-/// Appends the line of a sheet or of a leaf.
+/// Appends the line with the index `row`, counted from 0: that of a sheet, or of a leaf if sheets are printed on both sides.
 fn append_row(
     sheets: &MadeSheets,
     reading: &Reading,
@@ -148,7 +150,7 @@ fn append_leaf(
     Ok(())
 }
 
-/// Appends the back of a leaf, if it has one.
+/// Appends the text of the back of a leaf, if the leaf has one. `sheet` is the number of the back, counted from 0.
 fn append_back(
     sheets: &MadeSheets,
     places: &Places,
@@ -167,7 +169,7 @@ fn append_back(
     Ok(())
 }
 
-/// Appends the line that takes the place of `count` other lines.
+/// Appends the line that stands for the `count` lines that are left out.
 fn append_left_out(count: u32, out: &mut Vec<u8>) -> Result<(), AllocError>
     ensures { OnOk result (out.new.items ≡ out.old.items ++ left_out_line count) }
 {
@@ -177,7 +179,7 @@ fn append_left_out(count: u32, out: &mut Vec<u8>) -> Result<(), AllocError>
     Ok(())
 }
 
-/// Appends the numbers of sheets, leaves and blank places.
+/// Appends the line with the numbers of sheets and blank places, and of leaves if sheets are printed on both sides.
 fn append_totals(
     sheets: &MadeSheets,
     sides: Sides,
@@ -210,7 +212,7 @@ fn append_leaves(sides: Sides, sheets: u32, out: &mut Vec<u8>) -> Result<(), All
     Ok(())
 }
 
-/// Appends the edge on which leaves are flipped, if sheets are printed on both sides.
+/// Appends the line with the edge on which leaves are flipped, if sheets are printed on both sides.
 fn append_flip(sides: Sides, out: &mut Vec<u8>) -> Result<(), AllocError>
     ensures { OnOk result (out.new.items ≡ out.old.items ++ flip_text sides) }
 {

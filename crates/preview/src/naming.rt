@@ -7,22 +7,22 @@ use lengths::{Paper, print_points};
 use sheet_plan::MadeSheets;
 use std::alloc::AllocError;
 
-/// An edge of a sheet: the short one or the long one.
+/// An edge of a sheet: the short edge or the long edge.
 #[derive(Clone, Copy, Debug, PartialEq, Eq)]
 pub enum Edge {
     Short,
     Long,
 }
 
-/// Whether sheets are printed on one side of the paper or on both. On both sides, every two sheets are the front and the back of a leaf, which the
-/// printer flips on the edge `flip`.
+/// The sides of the paper on which sheets are printed. With `Both`, two successive sheets are the front and the back of a leaf, which the printer
+/// flips on the edge `flip`.
 #[derive(Clone, Copy, Debug, PartialEq, Eq)]
 pub enum Sides {
     One,
     Both { flip: Edge },
 }
 
-/// The number of sheets. If a `u32` can't hold it, lack of memory is reported, because the lines of these sheets wouldn't fit into memory either.
+/// The number of sheets. Fails with `AllocError` if a `u32` can't hold it, because lines for more sheets than that wouldn't fit into memory.
 pub(crate) fn number_of_sheets(sheets: &MadeSheets) -> Result<u32, AllocError>
     ensures value { IfOk result (λ count. count ≡ length sheets.now) }
     ensures many { OnErr result (u32.MAX < length sheets.now) }
@@ -33,7 +33,8 @@ pub(crate) fn number_of_sheets(sheets: &MadeSheets) -> Result<u32, AllocError>
     }
 }
 
-/// Appends the name of a sheet, which is counted from 0.
+/// Appends the name of this sheet (counted from 0): the number of the sheet, or the number of its leaf and the side. The name counts sheets and
+/// leaves from 1.
 pub(crate) fn append_sheet_name(
     sides: Sides,
     sheet: u32,

@@ -1,4 +1,4 @@
-//! The places of a sheet, and their order.
+//! The places of pages on a sheet, and their order.
 ghost use Rattle.std.specs.Prelude.{◌≡◌, ◌*◌, ◌<◌, ◌++◌, slice_get, length, OnOk};
 ghost use Rattle.layouts.specs.Cells.{read_columns};
 ghost use Rattle.sheet_plan.specs.OfSheets.{placed_of, slots_at};
@@ -12,22 +12,22 @@ use layouts::{FillOrder, Grid, Order, Turned, read_sides};
 use sheet_plan::{MadeSheets, PlacedSlot};
 use std::alloc::AllocError;
 
-/// Where the places of a sheet are. They are in the cells of a grid, in this order. Or each sheet is a tile of a poster and has one place. The tiles
-/// of a page are in rows from the top down, each row from the left.
+/// The places of pages on sheets: the cells of a grid, in this order, or tiles. A tile is a sheet of a poster, and has one place. The tiles of a page
+/// are in rows from the top down, each row from the left.
 #[derive(Clone, Copy)]
 pub enum Places {
     Cells { grid: Grid, order: Order },
     Tiles { grid: Grid },
 }
 
-/// How sheets are printed, and where their places are.
+/// The sides on which sheets are printed, and the places of pages on each sheet.
 #[derive(Clone, Copy)]
 pub struct Reading {
     pub sides: Sides,
     pub places: Places,
 }
 
-/// Appends the text that shows the places of a sheet and what is in each.
+/// Appends the text of a sheet (counted from 0): the page in each of its places, with separators between them.
 pub(crate) fn append_places(
     sheets: &MadeSheets,
     places: &Places,
@@ -129,8 +129,8 @@ fn bar(column: u32) -> &'static [u8]
     if column == 0 { b"" } else { b" | " }
 }
 
-/// The row and the column of a cell, as one reads the sheet. The cell is given by its row and column on the sheet that is held so that its pages are
-/// upright.
+/// The row and the column of a cell, with the sheet held for reading. The cell is given by its row and column on the sheet that is held so that its
+/// pages are upright.
 fn read_cell(turned: Turned, grid: Grid, row: u32, column: u32) -> (u32, u32)
     requires row { row < grid.rows }
     requires column { column < grid.columns }
@@ -145,7 +145,7 @@ fn read_cell(turned: Turned, grid: Grid, row: u32, column: u32) -> (u32, u32)
     }
 }
 
-/// The place in this row and column.
+/// The index of the place in this row and column, counted from 0.
 fn place_at(order: &Order, grid: Grid, row: u32, column: u32) -> u64
     requires row { row < grid.rows }
     requires column { column < grid.columns }
@@ -164,7 +164,7 @@ fn place_at(order: &Order, grid: Grid, row: u32, column: u32) -> u64
     }
 }
 
-/// Appends the text of the place with this number, if the sheet has such a place.
+/// Appends the text of the place with this number, counted from 0, or `-` if the sheet has no such place.
 fn append_numbered_place(
     sheets: &MadeSheets,
     sheet: u32,
@@ -183,7 +183,7 @@ fn append_numbered_place(
     Ok(())
 }
 
-/// Appends the text of a place.
+/// Appends the text of a place: the number of its page, counted from 1, or `blank`.
 fn append_place(placed: Option<PlacedSlot<'_>>, out: &mut Vec<u8>) -> Result<(), AllocError>
     ensures { OnOk result (out.new.items ≡ out.old.items ++ place_text (placed_of placed.entry)) }
 {
@@ -210,7 +210,7 @@ fn append_tile(
     Ok(())
 }
 
-/// Appends the column and the row that a sheet has on its poster.
+/// Appends the column and the row that a sheet has on its poster, counted from 1. The sheet is counted from 0.
 fn append_tile_name(grid: Grid, sheet: u32, out: &mut Vec<u8>) -> Result<(), AllocError>
     ensures { OnOk result (out.new.items ≡ out.old.items ++ tile_name grid sheet) }
 {

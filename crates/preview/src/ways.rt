@@ -12,7 +12,7 @@ use lengths::{Number, Paper, print_scale};
 use sheet_plan::{MadeSheets, PlacedSlot};
 use std::alloc::{AllocError, Global};
 
-/// The most ways that have a line of their own.
+/// The greatest number of ways that have a line of their own.
 const MOST_TOLD: usize = 16;
 
 /// A way in which a page lies on a sheet: the page's paper, the sheet's paper, and the page's scale.
@@ -23,7 +23,8 @@ pub(crate) struct Way {
     pub(crate) scale: Number,
 }
 
-/// Appends a line for each way in which pages lie on the first `count` sheets.
+/// Appends a line for each way in which pages lie on the first `count` sheets. If there are more than 16 ways, the line after the first 16 says only
+/// that there are other ways.
 pub(crate) fn append_ways(
     alloc: Global,
     sheets: &MadeSheets,
@@ -48,7 +49,7 @@ fn append_lines(ways: &[Way], out: &mut Vec<u8>) -> Result<(), AllocError>
     Ok(())
 }
 
-/// The way with this number. This is a function of its own because it gives proofs a name for the value.
+/// The way with this number, counted from 0. This is a function of its own because it gives proofs a name for the value.
 fn way_at(ways: &[Way], number: usize) -> &Way
     requires { number < length ways.now }
     ensures { slice_get ways.now number ≡ Some result.now }
@@ -56,7 +57,7 @@ fn way_at(ways: &[Way], number: usize) -> &Way
     &ways[number]
 }
 
-/// Appends the line of a way. The line of the first way that isn't listed says only that there are other ways.
+/// Appends the line of the way with this number, counted from 0. From number 16 on, the line says only that there are other ways.
 fn append_way_line(number: usize, way: &Way, out: &mut Vec<u8>) -> Result<(), AllocError>
     ensures { OnOk result (out.new.items ≡ out.old.items ++ way_line number way.now) }
 {
@@ -88,7 +89,7 @@ fn append_way(way: &Way, out: &mut Vec<u8>) -> Result<(), AllocError>
     Ok(())
 }
 
-/// The different ways in which pages lie on the first `count` sheets. At most one more is kept than are listed.
+/// The different ways in which pages lie on the first `count` sheets. At most 17 ways are kept, one more than are listed.
 fn different_ways(alloc: Global, sheets: &MadeSheets, count: u32) -> Result<Vec<Way>, AllocError>
     requires { count ≡ length sheets.now }
     ensures { IfOk result (λ ways. ways.items ≡ ways_of sheets.now) }
@@ -100,7 +101,7 @@ fn different_ways(alloc: Global, sheets: &MadeSheets, count: u32) -> Result<Vec<
     Ok(ways)
 }
 
-/// Adds the ways in which pages lie on a sheet.
+/// Adds to `ways` the ways in which the pages of a sheet lie on it.
 fn note_sheet(sheets: &MadeSheets, sheet: u32, ways: &mut Vec<Way>) -> Result<(), AllocError>
     requires { sheet < length sheets.now }
     ensures { OnOk result ((it : MadeSheet) → slice_get sheets.now sheet ≡ Some it →
@@ -110,7 +111,7 @@ fn note_sheet(sheets: &MadeSheets, sheet: u32, ways: &mut Vec<Way>) -> Result<()
     Ok(())
 }
 
-/// Adds the ways in which the pages in the slots of a sheet lie on it. The sheet has this paper.
+/// Adds the ways in which the pages in the slots of a sheet lie on it. `paper` is the paper of the sheet.
 fn note_slots(
     sheets: &MadeSheets,
     sheet: u32,
@@ -126,7 +127,7 @@ fn note_slots(
     Ok(())
 }
 
-/// Adds the way in which the page in a slot lies on a sheet that has this paper.
+/// Adds the way in which the page in a slot lies on its sheet. `sheet` is the paper of the sheet.
 fn note_slot(
     placed: Option<PlacedSlot<'_>>,
     sheet: &Paper,

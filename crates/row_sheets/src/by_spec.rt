@@ -25,8 +25,8 @@ pub struct SpecOnRow<'s> {
     pub page: Paper,
 }
 
-/// The sheets that a specification makes from a row. Its items name entries of the row, as they otherwise name pages. If there would be more sheets
-/// or slots than a plan may have, they are refused before any memory is requested.
+/// The sheets that a specification makes from a row. Items name entries of the row just as they name pages of a document. A row that would give more
+/// sheets or slots than a plan may have is refused before any memory is requested. The errors are `TooManySheets`, `TooManyPlaces` and `NoMemory`.
 pub fn spec_sheets(alloc: Global, on: &SpecOnRow<'_>) -> Result<MadeSheets, MadeError>
     ensures made { IfOk result (λ made. made ≡ by_spec on.now.spec.now on.now.sheet on.now.page on.now.row.now) }
     ensures few { IfOk result AreFew }
@@ -44,7 +44,8 @@ pub fn spec_sheets(alloc: Global, on: &SpecOnRow<'_>) -> Result<MadeSheets, Made
     Ok(made)
 }
 
-/// The number of blocks that the row takes. The row is refused if there would be more sheets or slots than a plan may have.
+/// The number of blocks in the row. The modulo is the number of entries in a block. The row is refused if there would be more sheets or slots than a
+/// plan may have.
 fn blocks_in(on: &SpecOnRow<'_>) -> Result<u32, MadeError>
     ensures value { IfOk result (λ n. n ≡ blocks_of on.now.spec.now.modulo (length on.now.row.now)) }
     ensures few { IfOk result (λ n. n ≤ most_sheets) }
@@ -130,7 +131,7 @@ fn slot_for(on: &SpecOnRow<'_>, block: u32, item: &Item) -> MadeSlot
     }
 }
 
-/// The index of the row's entry that an item names in a block.
+/// The index of the row's entry that an item names in a block, counted from 0.
 fn place_in_row(on: &SpecOnRow<'_>, block: u32, item: &Item) -> usize
     requires few { blocks_of on.now.spec.now.modulo (length on.now.row.now) ≤ most_sheets }
     requires block { block < blocks_of on.now.spec.now.modulo (length on.now.row.now) }

@@ -1,4 +1,4 @@
-//! Checks of whether the pages of a row can be placed, without making a sheet.
+//! Checks whether the pages of a row can be placed, without making a sheet.
 ghost use Rattle.std.specs.Prelude.{◌≡◌, ◌<◌, IfErr, None, OnOk, Some, ℕ};
 ghost use Rattle.rules.specs.Signatures.{entry_of};
 ghost use Rattle.layouts.specs.Cells.{size};
@@ -14,8 +14,8 @@ use layouts::{ArrangementError, Setting};
 use lengths::Paper;
 use rows::entry_at;
 
-/// Checks that each page of the row can be placed in a cell. A page whose paper isn't in `papers` has the paper of the sheet. The first page that
-/// can't be placed is reported.
+/// Checks that each page of the row can be placed in a cell. A page whose paper isn't in `papers` has the paper of the sheet. Fails with the error of
+/// the first page that can't be placed.
 pub fn check_cells(
     setting: &Setting,
     papers: &[Paper],
@@ -48,8 +48,8 @@ fn check_cell(
     Ok(())
 }
 
-/// Checks that each page of the row can be placed in a half of its leaf, which creeps. A page whose paper isn't in `papers` has the paper of the
-/// sheet. The first page that can't be placed is reported.
+/// Checks that each page of the row can be placed in its half of a leaf that creeps. A page whose paper isn't in `papers` has the paper of the sheet.
+/// Fails with the error of the first page that can't be placed.
 pub(crate) fn check_halves(
     setting: &Setting,
     papers: &[Paper],
@@ -94,8 +94,8 @@ fn check_half(
     Ok(())
 }
 
-/// Checks that each page of the row can be a poster of this kind. A page whose paper isn't in `papers` has the paper of the sheets. The first page
-/// that can't be a poster is reported.
+/// Checks that each page of the row can be a poster of this kind. A page whose paper isn't in `papers` has the paper of the sheets. Fails with the
+/// error of the first page that can't be a poster.
 pub fn check_posters(
     poster: &Poster,
     papers: &[Paper],

@@ -23,10 +23,11 @@ use rows::entry_at;
 use sheet_plan::{MadeSheets, MadeSlot, PlacedSlot};
 use std::alloc::Global;
 
-/// How far the leaves of a signature creep.
+/// The creep of the leaves in each signature.
 #[derive(Clone, Copy, Debug, PartialEq, Eq)]
 pub struct Creep {
-    /// The distance by which pages on the innermost leaf are moved towards the fold, in 10^-5 of a point. Pages on the outermost leaf aren't moved.
+    /// The distance by which pages on the innermost leaf are moved towards the fold, in 10^-5 of a point. Pages on the outermost leaf aren't moved,
+    /// nor are pages in a signature of one leaf.
     pub innermost: u64,
     /// The number of leaves in a signature.
     pub leaves: u32,
@@ -41,7 +42,8 @@ struct LeafSide {
 
 /// The sides of a booklet's leaves, with each front followed by its back. The row is in signature order, and each side has two of its entries. For
 /// printers that flip a sheet on its long edge, the backs are rotated by 180 degrees. Each page is moved towards the fold by the creep of its leaf. A
-/// page whose paper isn't in `papers` has the paper of the sheet. The first page that would cross the fold is reported.
+/// page whose paper isn't in `papers` has the paper of the sheet. Fails with the error of the first page that can't be placed in its half or would
+/// cross the fold. Without enough memory the error is `NoMemory`.
 pub fn creeping_booklet_sheets(
     alloc: Global,
     setting: &Setting,
@@ -65,8 +67,8 @@ pub fn creeping_booklet_sheets(
     }
 }
 
-/// Why the leaves can't be made: the fault of the first page in the row that can't be placed in its half, or a lack of memory if all pages can be
-/// placed.
+/// The reason why the leaves can't be made: the fault of the first page in the row that can't be placed in its half, or a lack of memory if all pages
+/// can be placed.
 fn first_refusal(
     setting: &Setting,
     papers: &[Paper],
@@ -137,8 +139,8 @@ pub(crate) fn creep_on(creep: Creep, s: u64) -> u64
     (u128::from(leaf) * u128::from(creep.innermost) / u128::from(creep.leaves - 1)) as u64
 }
 
-/// The page in this half on the same side of the leaf before. It is None if there is no such leaf, if that leaf creeps by another distance, or if the
-/// half is blank.
+/// The page in this half on the same side of the previous leaf. None if there is no previous leaf, if it creeps by another distance, or if the half
+/// is blank.
 fn half_before(made: &MadeSheets, creep: Creep, s: u32, cell: u32) -> Option<PlacedSlot<'_>>
     requires sheet { s ≤ length made.now }
     requires cell { 2 ≤ s → cell < length (slots_at made.now (s - 2)) }
@@ -151,8 +153,8 @@ fn half_before(made: &MadeSheets, creep: Creep, s: u32, cell: u32) -> Option<Pla
     made.placed(s - 2, cell)
 }
 
-/// The slot that has an entry of a row, in a half of a side. If the leaf before has a page of the same paper there, the entry takes that page's item,
-/// which saves computing one.
+/// The slot for an entry of a row in a half of a side. If `before`, the page in this half of the previous leaf, has the same paper, its item is used
+/// again, which saves computing one.
 fn creeping_slot(
     setting: &Setting,
     papers: &[Paper],
@@ -181,7 +183,7 @@ fn creeping_slot(
     Ok(MadeSlot::Placed { page, item, paper })
 }
 
-/// The item that places a page of this paper in a half of a side, moved towards the fold.
+/// The item that places a page of this paper in a half of a side, moved towards the fold by `creep`, in 10^-5 of a point.
 pub(crate) fn creeping_item(
     setting: &Setting,
     paper: &Paper,
@@ -241,7 +243,8 @@ fn check_fold(setting: &Setting, paper: &Paper, creep: u64) -> Result<(), Arrang
     }
 }
 
-/// Whether a leaf that creeps by this distance has room for that at its fold.
+/// Whether there is room at the fold for a leaf that creeps by this distance. `slack` is the length that the page leaves free on each side in its
+/// half, and `gap` is the gap between the halves. All lengths are in 10^-5 of a point.
 fn has_creep_room(slack: u128, gap: u64, creep: u64) -> bool
     ensures { result ≡ nat_le (2 * creep) (2 * slack + gap) }
 {
@@ -282,7 +285,7 @@ fn moved_up(item: Item, by: i64) -> Item
     }
 }
 
-/// A length in 10^-9 of a point, given in 10^-5 of a point.
+/// Converts a length in 10^-5 of a point to 10^-9 of a point.
 fn in_billionths(by: i64) -> i64
     requires { nat_abs by < 10_000_000_000 }
     ensures { result ≡ pos 10_000 *ℤ by }
@@ -290,7 +293,7 @@ fn in_billionths(by: i64) -> i64
     10_000 * by
 }
 
-/// The sum of `one` and `other`. The caller has to show that it is in the range of numbers.
+/// The sum of `one` and `other`. The caller has to show that the sum is in the range of numbers.
 fn billionths_sum(one: i64, other: i64) -> i64
     requires { nat_abs (one +ℤ other) ≤ greatest_number }
     ensures { result ≡ one +ℤ other }

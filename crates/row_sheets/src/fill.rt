@@ -24,7 +24,7 @@ use rows::entry_at;
 use sheet_plan::{MadeSheets, MadeSlot, PlacedSlot};
 use std::alloc::Global;
 
-/// How a row fills the cells of sheets.
+/// The ways in which a row fills the cells of sheets.
 #[derive(Clone, Copy, Debug, PartialEq, Eq)]
 enum CellKind {
     Grid,
@@ -43,7 +43,7 @@ struct Shape {
 }
 
 /// The sheets of a grid with this number of cells. The row fills them cell by cell and sheet by sheet. A page whose paper isn't in `papers` has the
-/// paper of the sheet. The first page that can't be placed is reported.
+/// paper of the sheet. Fails with the error of the first page that can't be placed, or else with `NoMemory`.
 pub fn grid_sheets(
     alloc: Global,
     setting: &Setting,
@@ -61,7 +61,8 @@ pub fn grid_sheets(
     fill_cells(alloc, setting, papers, row, CellKind::Grid, cells)
 }
 
-/// The sheets of cards: each entry of the row is in all cells of one sheet. The first page that can't be placed is reported.
+/// The sheets of cards: each entry of the row is in all cells of one sheet. Fails with the error of the first page that can't be placed, or else with
+/// `NoMemory`.
 pub fn card_sheets(
     alloc: Global,
     setting: &Setting,
@@ -79,8 +80,8 @@ pub fn card_sheets(
     fill_cells(alloc, setting, papers, row, CellKind::Cards, cells)
 }
 
-/// The sheets of a stack. If the sheets are cut between the cells and the piles are laid on one another, the pages are in the order of the row. The
-/// first page that can't be placed is reported.
+/// The sheets of a stack. If the sheets are cut between the cells and the piles are laid on one another, the pages are in the order of the row. Fails
+/// with the error of the first page that can't be placed, or else with `NoMemory`.
 pub fn stack_sheets(
     alloc: Global,
     setting: &Setting,
@@ -99,7 +100,7 @@ pub fn stack_sheets(
 }
 
 /// The sheets of a stack of leaves that are printed on both sides, with each front followed by its back. Each entry is on the back of the entry
-/// before it, or on the front of the next leaf. The first page that can't be placed is reported.
+/// before it, or on the front of the next leaf. Fails with the error of the first page that can't be placed, or else with `NoMemory`.
 pub fn leaf_sheets(
     alloc: Global,
     setting: &Setting,
@@ -118,7 +119,7 @@ pub fn leaf_sheets(
 }
 
 /// The sheets of zines. Each sheet has eight entries on one side, is folded three times and is cut once. Pages in the first row of cells are rotated
-/// by 180 degrees. The first page that can't be placed is reported.
+/// by 180 degrees. Fails with the error of the first page that can't be placed, or else with `NoMemory`.
 pub fn zine_sheets(
     alloc: Global,
     setting: &Setting,
@@ -167,8 +168,8 @@ fn fill_cells(
     }
 }
 
-/// Why the cells can't be filled: the fault of the first page in the row that can't be placed, on whichever sheet it would be, or a lack of memory if
-/// all pages can be placed.
+/// The reason why the cells can't be filled: the fault of the first page in the row that can't be placed, or a lack of memory if all pages can be
+/// placed.
 fn first_refusal(setting: &Setting, papers: &[Paper], row: &[Option<u32>]) -> ArrangementError
     requires { 0 < size setting.now.grid }
     ensures { IsRefusedFor (filling setting.now papers.now) row.now result }
@@ -179,7 +180,7 @@ fn first_refusal(setting: &Setting, papers: &[Paper], row: &[Option<u32>]) -> Ar
     }
 }
 
-/// The number of sheets that the row takes.
+/// The number of sheets that the row takes. The error is `NoMemory` if the number would be 2^32 or more.
 fn sheets_for(kind: CellKind, cells: u32, row: &[Option<u32>]) -> Result<u32, ArrangementError>
     requires { 0 < cells }
     ensures value { IfOk result (λ n. n ≡ sheet_count kind cells (length row.now)) }
@@ -199,7 +200,7 @@ fn sheets_for(kind: CellKind, cells: u32, row: &[Option<u32>]) -> Result<u32, Ar
     }
 }
 
-/// The number of blocks of `entries` entries that a row takes.
+/// The number of blocks of `entries` entries that a row takes. The error is `NoMemory` if the number would be 2^32 or more.
 pub(crate) fn blocks_of(row: &[Option<u32>], entries: u64) -> Result<u32, ArrangementError>
     requires { 0 < entries }
     ensures value { IfOk result (λ n. n ≡ blocks entries (length row.now)) }
@@ -278,7 +279,7 @@ fn fill_slots(
     Ok(())
 }
 
-/// The page in this cell of the sheet before, or None if there is no such sheet or the cell is blank.
+/// The page in this cell of the previous sheet. None if there is no previous sheet, or if the cell is blank.
 fn placed_before(made: &MadeSheets, s: u32, cell: u32) -> Option<PlacedSlot<'_>>
     requires sheet { s ≤ length made.now }
     requires cell { 0 < s → cell < length (slots_at made.now (s - 1)) }
@@ -290,7 +291,7 @@ fn placed_before(made: &MadeSheets, s: u32, cell: u32) -> Option<PlacedSlot<'_>>
     made.placed(s - 1, cell)
 }
 
-/// The item of a page that was placed before, if that page has this paper.
+/// The item of the page `before`, if that page has this paper. None otherwise.
 pub(crate) fn same_item(before: Option<PlacedSlot<'_>>, paper: &Paper) -> Option<Item>
     ensures { IfSome result (λ item. (page : ℕ) × (placed_of before.entry ≡ Placed page (item_of item) paper.now)) }
 {
@@ -302,7 +303,7 @@ pub(crate) fn same_item(before: Option<PlacedSlot<'_>>, paper: &Paper) -> Option
     }
 }
 
-/// The slot that has an entry of a row, in a cell of sheets of this kind.
+/// The slot for an entry of a row, in a cell of a sheet of this kind.
 fn slot_by(
     setting: &Setting,
     papers: &[Paper],
@@ -327,7 +328,7 @@ fn slot_by(
     }
 }
 
-/// The slot that has an entry of a row, in a cell of a sheet that is rotated by 180 degrees.
+/// The slot for an entry of a row, in a cell of a sheet that is rotated by 180 degrees.
 fn back_slot_in(
     setting: &Setting,
     papers: &[Paper],
@@ -348,8 +349,8 @@ fn back_slot_in(
     Ok(MadeSlot::Placed { page, item, paper })
 }
 
-/// The slot that has an entry of a row, in a cell. If the sheet before has a page of the same paper there, the entry takes that page's item, which
-/// saves computing one.
+/// The slot for an entry of a row, in a cell. If `before`, the page in this cell of the previous sheet, has the same paper, its item is used again,
+/// which saves computing one.
 fn slot_in(
     setting: &Setting,
     papers: &[Paper],
@@ -374,7 +375,7 @@ fn slot_in(
     Ok(MadeSlot::Placed { page, item, paper })
 }
 
-/// The index of the row's entry in cell `c` of sheet `s`.
+/// The index of the row's entry in cell `c` of sheet `s`. All three are counted from 0.
 fn place(shape: Shape, setting: &Setting, s: u32, c: u32) -> u128
     ensures { result ≡ place_of shape setting.now s c }
 {
@@ -397,7 +398,7 @@ fn zine_place(cell: u128) -> u128
     if cell < 4 { 4 - cell } else { (cell + 1) % 8 }
 }
 
-/// The cell `c` itself if sheet `s` is a front, or the cell behind it if the sheet is a back.
+/// The cell `c` if sheet `s` is a front, or the cell behind `c` if the sheet is a back.
 fn cell_on_side(setting: &Setting, s: u32, c: u32) -> u64
     ensures { result ≡ cell_on setting.now s c }
 {

@@ -1,4 +1,4 @@
-//! Laws of the definitions. Each function states one law in its `ensures`, and has an empty body.
+//! Laws of the sheets that are made from rows. Each function states one law in its contract, and does nothing.
 ghost use Rattle.row_sheets.specs.AsDocument.{RowIsDocument};
 ghost use Rattle.row_sheets.specs.AsPrinted.{NothingIsWrittenOfNumbers, PrintedBacksAreImposed, PrintedBookletIsImposed, PrintedIsImposed};
 ghost use Rattle.row_sheets.specs.BySpec.{BySpecOnAll};
@@ -19,7 +19,7 @@ pub fn by_spec_on_all()
     ensures { BySpecOnAll }
 {}
 
-/// The entries in the cells of a grid, cell by cell and sheet by sheet, are the row, followed by blanks.
+/// The entries in the cells of a grid, cell by cell and sheet by sheet, are the entries of the row, followed by blanks.
 pub fn grid_runs_on()
     ensures { GridRunsOn }
 {}
@@ -34,22 +34,22 @@ pub fn cards_are_read()
     ensures { CardsAreRead }
 {}
 
-/// If the sheets of a stack are cut and the piles are laid on one another, they are read in the order of the row.
+/// If the sheets of a stack are cut and the piles are laid on one another, the entries are read in the order of the row.
 pub fn stack_is_read()
     ensures { StackIsRead }
 {}
 
-/// If the leaves of a stack are cut, laid on one another and read on both sides, they are read in the order of the row.
+/// If the leaves of a stack are cut, laid on one another and read on both sides, the entries are read in the order of the row.
 pub fn leaves_are_read()
     ensures { LeavesAreRead }
 {}
 
-/// If the sheets of a zine are folded and cut, its leaves are read in the order of the row.
+/// If the sheets of a zine are folded and cut, the entries on its leaves are read in the order of the row.
 pub fn zine_is_read()
     ensures { ZineIsRead }
 {}
 
-/// Each page of a zine lies in its cell, and those in the first row of cells are upside down.
+/// Each page of a zine lies in its cell, and the pages in the first row of cells are upside down.
 pub fn zine_lies_in_cells()
     ensures { ZineLiesInCells }
 {}
@@ -59,12 +59,12 @@ pub fn cells_lie_behind()
     ensures { CellsLieBehind }
 {}
 
-/// The cell behind a cell is in the same row, as far from the right edge as this one is from the left edge.
+/// The cell behind a cell is in the same row, and as many columns from the right as the cell itself is from the left.
 pub fn behind_is_mirror()
     ensures { BehindIsMirror }
 {}
 
-/// Each placed page lies within the margins of its sheet, whatever its paper.
+/// Each placed page lies within the margins of its sheet, whatever the paper of the page.
 pub fn filled_is_inside()
     ensures { FilledIsInside }
 {}
@@ -74,8 +74,8 @@ pub fn filled_is_apart()
     ensures { FilledIsApart }
 {}
 
-/// Each page that is placed on a sheet lies within its margins, even if the sheet is rotated by 180 degrees. Opposite margins of a rotated sheet have
-/// to be equal.
+/// Each page that is placed on a sheet lies within the sheet's margins, even if the sheet is rotated by 180 degrees. Opposite margins of a rotated
+/// sheet have to be equal.
 pub fn sides_are_inside()
     ensures { SidesAreInside }
 {}
@@ -100,13 +100,13 @@ pub fn creep_moves()
     ensures { CreepMoves }
 {}
 
-/// Pages on the outermost leaf aren't moved, those on the innermost leaf are moved by the whole creep, and no leaf is moved farther than the next one
-/// towards the middle.
+/// In a signature of two leaves or more, pages on the outermost leaf aren't moved, and pages on the innermost leaf are moved by the whole creep.
+/// Pages on each leaf are moved at most as far as pages on the next leaf towards the middle.
 pub fn creep_grows()
     ensures { CreepGrows }
 {}
 
-/// If there is room for the creep, no page of a leaf crosses its fold.
+/// If there is room for the creep, no page of a leaf crosses the leaf's fold.
 pub fn creep_keeps_sides()
     ensures { CreepKeepsSides }
 {}
@@ -136,17 +136,18 @@ pub fn poster_covers()
     ensures { PosterCovers }
 {}
 
-/// Neighbouring tiles of a poster show the same part of the page exactly along their overlap.
+/// Where neighbouring tiles of a poster overlap, they show the same part of the page.
 pub fn tiles_overlap()
     ensures { TilesOverlap }
 {}
 
-/// The page of a poster is as large as the tiles allow.
+/// The page of a poster is as large as the tiles allow. A scale that is larger by 10^-6 for each column and each row of tiles would be too large,
+/// unless a side of the page is under 11 points.
 pub fn poster_is_large()
     ensures { PosterIsLarge }
 {}
 
-/// The page of a poster lies in the middle of all its tiles, to 10^-5 of a point.
+/// The middle of a poster's page is the middle of all its tiles together, to 10^-5 of a point.
 pub fn poster_is_in_middle()
     ensures { PosterIsInMiddle }
 {}
@@ -161,17 +162,17 @@ pub fn row_is_shown()
     ensures { RowIsShown }
 {}
 
-/// Pages that aren't refused are each fitted into a cell, and are in the order of the row.
+/// If no page is refused, each page is fitted into its cell, and the cells of a sheet are read in the order in which they are filled.
 pub fn filled_stands_in_cells()
     ensures { FilledStandsInCells }
 {}
 
-/// If a row has one scale, all its pages have that of the largest paper, which is the least of their own scales.
+/// If the pages of a row have one scale, it is the least of the scales that the pages would have on their own.
 pub fn have_one_scale()
     ensures { HaveOneScale }
 {}
 
-/// If a row has one scale, each page lies in its cell.
+/// If the pages of a row have one scale, each page lies in its cell.
 pub fn one_scale_stands()
     ensures { OneScaleStands }
 {}
@@ -186,18 +187,19 @@ pub fn booklet_is_specified()
     ensures { BookletIsSpecified }
 {}
 
-/// If the printed specification of a grid is read again, it makes the sheets of all pages.
+/// If all pages have one paper, the specification that is printed for a grid makes the grid's sheets when it is read again.
 pub fn printed_is_imposed()
     ensures { PrintedIsImposed }
 {}
 
-/// If the printed specification of a booklet whose sheets are flipped on the short edge is read again, it makes the booklet's sheets.
+/// Suppose that all pages have one paper, the leaves don't creep, and the sheets are flipped on the short edge. Then the specification that is
+/// printed for a booklet makes the booklet's sheets when it is read again.
 pub fn printed_booklet_is_imposed()
     ensures { PrintedBookletIsImposed }
 {}
 
-/// If the printed specification of a booklet with rotated backs is read again, it makes the booklet's sheets. Only the page numbers in the items
-/// differ, and nothing is written of these.
+/// Suppose that all pages have one paper, the leaves don't creep, and the backs are rotated. Then the specification that is printed for a booklet
+/// makes the booklet's sheets when it is read again. Only the page numbers in the items differ, and the text of a sheet doesn't depend on them.
 pub fn printed_backs_are_imposed()
     ensures { PrintedBacksAreImposed }
 {}
@@ -207,7 +209,7 @@ pub fn nothing_is_written_of_numbers()
     ensures { NothingIsWrittenOfNumbers }
 {}
 
-/// A row of pages is laid out as all pages of a document that has just these pages, if the cells are the same.
+/// With the same cells, a row of pages is laid out in the same way as all pages of a document that consists of these pages.
 pub fn row_is_document()
     ensures { RowIsDocument }
 {}

@@ -16,7 +16,7 @@ use sheet_plan::{MadeSheets, MadeSlot};
 use std::alloc::Global;
 use thiserror::Error;
 
-/// The columns and rows of the sheets of a poster. All of them have this paper.
+/// A kind of poster: the numbers of columns and rows of its sheets, and the paper that all its sheets have.
 #[derive(Clone, Copy, Debug, PartialEq, Eq)]
 pub struct Poster {
     pub sheet: Paper,
@@ -28,7 +28,7 @@ pub struct Poster {
     pub overlap: u64,
 }
 
-/// Why a poster can't be made.
+/// The reason why a poster can't be made.
 #[derive(Clone, Copy, Debug, PartialEq, Eq, Error)]
 pub enum PosterError {
     /// No sheet was requested, or more than 1,024.
@@ -37,7 +37,7 @@ pub enum PosterError {
     /// A side of the sheets' paper, or of the whole poster, is 100,000 points long or longer.
     #[error("a side of a poster or of its sheets is 100,000 points or more")]
     SideTooLong,
-    /// What the margins leave of a sheet is no longer, or no wider, than the overlap.
+    /// The part of a sheet between its margins is no longer, or no wider, than the overlap.
     #[error("the margins leave no more of a sheet than the overlap")]
     NothingButOverlap,
     /// The scale of the page would be 0, or above 99,999.
@@ -48,7 +48,8 @@ pub enum PosterError {
     NoMemory,
 }
 
-/// How a page lies on the tiles: its scale, in 10^-9, its place on the first tile, and the distances from tile to tile, in 10^-5 of a point.
+/// The position of a page on the tiles. `scale` is in 10^-9. `left` and `bottom` are the distances of the page from the edges of the lower left
+/// sheet. `across` and `down` are the distances from tile to tile. All distances are in 10^-5 of a point.
 #[derive(Clone, Copy, Debug, PartialEq, Eq)]
 struct PosterFit {
     scale: u64,
@@ -58,7 +59,7 @@ struct PosterFit {
     down: u64,
 }
 
-/// Checks that pages of this paper can be such a poster. The error says why they can't.
+/// Checks that a page of this paper can be a poster of this kind. If not, the error says why.
 pub fn check_poster(poster: &Poster, page_paper: &Paper) -> Result<(), PosterError>
     ensures tiles { OnOk result (poster.now.rows * poster.now.columns ≤ most_tiles) }
     ensures edge { OnOk result (poster.now.edge ≤ 10_000_000_000) }
@@ -71,7 +72,7 @@ pub fn check_poster(poster: &Poster, page_paper: &Paper) -> Result<(), PosterErr
 }
 
 /// The sheets of a poster of one page, row by row from the top, each row from the left. The page is as large as the sheets allow, and lies in the
-/// middle of all of them.
+/// middle of all sheets together.
 pub fn poster_sheets(
     alloc: Global,
     poster: &Poster,
@@ -115,7 +116,7 @@ pub(crate) fn push_poster(
     Ok(())
 }
 
-/// How a page of this paper lies on the tiles. If it can't, the error says why.
+/// The position of a page of this paper on the tiles. If the page can't be such a poster, the error says why.
 fn laid_on(poster: &Poster, page_paper: &Paper) -> Result<PosterFit, PosterError>
     ensures value { IfOk result (λ laid. laid ≡ laid_of page_paper.now poster.now) }
     ensures tiles { IfOk result (λ laid. poster.now.rows * poster.now.columns ≤ most_tiles) }
@@ -159,7 +160,7 @@ fn laid_on(poster: &Poster, page_paper: &Paper) -> Result<PosterFit, PosterError
     })
 }
 
-/// The length that the margins leave of a side, in 10^-5 of a point. The side is given in grains.
+/// The length that the margins leave of a side, in 10^-5 of a point. `side` is in grains, and the margin `edge` in 10^-5 of a point.
 fn tile(side: u64, edge: u64) -> u64
     ensures { result ≡ tile_of side edge }
 {
@@ -168,7 +169,7 @@ fn tile(side: u64, edge: u64) -> u64
         .saturating_sub(edge)
 }
 
-/// The length of a number of tiles that overlap, in 10^-5 of a point.
+/// The length of `tiles` overlapping tiles that begin `stride` apart. All lengths are in 10^-5 of a point.
 fn length(tile: u64, stride: u64, tiles: u32) -> u128
     requires { 0 < tiles }
     ensures { result ≡ (tiles - 1) * stride + tile }
@@ -176,8 +177,8 @@ fn length(tile: u64, stride: u64, tiles: u32) -> u128
     u128::from(tiles - 1) * u128::from(stride) + u128::from(tile)
 }
 
-/// The item that places a page on the tile in this column, and in this row, counted from the bottom. Pages of one paper have the same items, so that
-/// made sheets can keep each item once.
+/// The item that places a page on a tile. Columns are counted from 0 at the left, and rows from 0 at the bottom. Pages of one paper have the same
+/// items, so made sheets can keep each item once.
 fn tile_item(laid: &PosterFit, column: u32, row: u32) -> Item
     requires near { IsNear laid.now column row }
     requires scale { laid.now.scale ≤ greatest_number }

@@ -11,7 +11,7 @@ use sheet_plan::{MadeSheets, MadeSlot};
 use std::alloc::Global;
 
 /// The sheets of posters of the pages in a row, one poster after the other. A blank entry gives as many blank sheets as a poster has. A page whose
-/// paper isn't in `papers` has the paper of the sheets. The first page that can't be a poster is reported.
+/// paper isn't in `papers` has the paper of the sheets. Fails with the error of the first page that can't be a poster, or else with `NoMemory`.
 pub fn poster_row_sheets(
     alloc: Global,
     poster: &Poster,
@@ -29,7 +29,7 @@ pub fn poster_row_sheets(
     }
 }
 
-/// Why the posters can't be made: the fault of the first page that can't be a poster, or a lack of memory if all pages can be one.
+/// The reason why the posters can't be made: the fault of the first page that can't be a poster, or a lack of memory if all pages can be one.
 fn first_refusal(poster: &Poster, papers: &[Paper], row: &[Option<u32>]) -> PosterError
     ensures { IsNoPosterFor poster.now papers.now row.now result }
 {

@@ -8,8 +8,8 @@ use crate::selecting::paper_or;
 use layouts::{ArrangementError, Setting};
 use lengths::{Number, Paper};
 
-/// The setting with one scale for all pages of the row: the least of the scales that they would have on their own, which is that of the largest
-/// paper. A page whose paper isn't in `papers` has the paper of the sheet. The first page that has no scale of its own is reported.
+/// The setting with one scale for all pages of the row: the least of the scales that they would have on their own. A page whose paper isn't in
+/// `papers` has the paper of the sheet. Fails with the error of the first page that has no scale of its own.
 pub fn at_one_scale(
     setting: &Setting,
     papers: &[Paper],
@@ -31,7 +31,7 @@ pub fn at_one_scale(
     })
 }
 
-/// The least scale of the entries so far and of one more entry.
+/// The lesser of `least`, which is the least scale of the earlier entries, and the scale of this entry. A blank changes nothing.
 fn with_entry(
     setting: &Setting,
     papers: &[Paper],

@@ -1,4 +1,4 @@
-//! Rows with each entry on a sheet of its own.
+//! Makes sheets that have one entry of a row each.
 ghost use Rattle.std.specs.Prelude.{◌≡◌, ◌++◌, ◌∷◌, [], IfOk, OnOk};
 ghost use Rattle.pagespec.specs.Items.{item_of};
 ghost use Rattle.row_sheets.specs.RowSheets.{as_it_is as item_as_it_is, paper_of, selected, selected_sheet};
@@ -8,7 +8,8 @@ use pagespec::{Item, Measure, Turn};
 use sheet_plan::{MadeSheets, MadeSlot};
 use std::alloc::{AllocError, Global};
 
-/// The sheets on which each page of a row is left as it is, on its own paper. A blank has a sheet of the paper `blank`.
+/// The sheets on which each page of a row is left as it is, on its own paper. A page whose paper isn't in `papers`, or a blank, has a sheet of the
+/// paper `blank`. Fails only if memory is refused.
 pub fn select(
     alloc: Global,
     row: &[Option<u32>],
@@ -51,7 +52,7 @@ fn push_entry(
     }
 }
 
-/// The paper of a page, or `other` if the page isn't in `papers`.
+/// The paper of a page, or `other` if `papers` has no entry for the page.
 pub(crate) fn paper_or(papers: &[Paper], page: u32, other: &Paper) -> Paper
     ensures { result ≡ paper_of papers.now other.now page }
 {

@@ -11,7 +11,7 @@ use crate::parts::{all_pages, even_part, odd_part};
 use crate::tallies::entry_count;
 use std::alloc::{AllocError, Global};
 
-/// Which entries of a row are kept: all of them, or those in odd or in even places. Places are counted from 1.
+/// The part of a row that is kept: all entries, or those in odd or in even places. Places are counted from 1.
 #[derive(Clone, Copy, Debug, PartialEq, Eq)]
 pub enum Part {
     All,
@@ -19,8 +19,8 @@ pub enum Part {
     Even,
 }
 
-/// A choice of pages. It has the named ranges, or all pages if none are named. Then it keeps a part of these entries. Then it reverses their order if
-/// `backwards` is true.
+/// A choice of pages. It has the pages of the named ranges, or all pages if no ranges are named. Only `part` of these entries is kept. The order of
+/// the kept entries is reversed if `backwards` is true.
 #[derive(Clone, Copy)]
 pub struct Choice<'t> {
     pub ranges: Option<&'t [u8]>,
@@ -28,7 +28,7 @@ pub struct Choice<'t> {
     pub backwards: bool,
 }
 
-/// The row that is chosen from a document with this number of pages. If there is none, the error says why, and no memory is taken.
+/// The row that is chosen from a document with this number of pages. Fails with the first fault, in the order of `RowError`.
 pub fn chosen_row(
     alloc: Global,
     pages: u32,
@@ -50,7 +50,7 @@ pub fn chosen_row(
     }
 }
 
-/// The number of entries in the row before a part is kept. If there is no row, the error says why.
+/// The number of entries in the row before a part is kept. Fails with the first fault of the ranges, in the order of `RowError`.
 fn named_count(pages: u32, ranges: Option<&[u8]>) -> Result<usize, RowError>
     requires { pages ≤ most_entries }
     ensures row { IfOk result (λ n. named_row pages (ranges_text ranges.entry) ≡ Ok (named_found pages ranges.entry)) }
@@ -75,7 +75,7 @@ fn part_count(part: Part, entries: usize) -> usize
     }
 }
 
-/// The chosen row. `entries` is the number of its entries before a part is kept.
+/// The chosen row. `entries` is the number of entries before a part is kept.
 fn made_row(
     alloc: Global,
     pages: u32,
@@ -95,7 +95,7 @@ fn made_row(
     Ok(row)
 }
 
-/// The row before a part is kept. `entries` is the number of its entries.
+/// The row before a part is kept. `entries` is the number of entries in this row.
 fn found_row(
     alloc: Global,
     pages: u32,

@@ -3,8 +3,8 @@ ghost use Rattle.std.specs.Prelude.{◌≡◌, ◌==◌, ◌+◌, ◌∷◌, len
 ghost use Rattle.std.specs.List.{slice_split};
 ghost use Rattle.rows.specs.Found.{parts_left};
 
-/// The text before the first occurrence of `byte`, and the text after it. If the byte doesn't occur, the first is the whole text, and the second is
-/// None.
+/// The text before the first occurrence of `byte`, and the text after it. If the byte doesn't occur, the first of these is the whole text, and the
+/// second is None.
 pub(crate) fn split_at_byte(byte: u8, text: &[u8]) -> (&[u8], Option<&[u8]>)
     ensures parts { slice_split (λ b. b == byte) text.now ≡ result.0.now ∷ parts_left byte result.1 }
     ensures whole { IfSome result.1 (λ rest. length text.now ≡ length result.0.now + 1 + length rest.now) }

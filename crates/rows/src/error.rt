@@ -2,7 +2,7 @@
 use thiserror::Error;
 
 /// Why there is no row. The faults are looked for in the order of this enum, before any memory is requested. The whole text is read first, then all
-/// pages are looked up, then the entries are counted. The value of a fault is the index in the text of the first byte of its range.
+/// pages are looked up, then the entries are counted. The value of a fault is the byte of the text at which its range begins, counted from 0.
 #[derive(Clone, Copy, Debug, PartialEq, Eq, Error)]
 pub enum RowError {
     /// The text at this index, up to the next comma, isn't a range.

@@ -49,7 +49,7 @@ fn append_range(row: &mut Vec<Option<u32>>, range: ResolvedRange)
     }
 }
 
-/// Appends the pages from the number `first` to the number `last`, in ascending or descending order.
+/// Appends the pages from the number `first` to the number `last`, in ascending or descending order. Both numbers are counted from 1.
 fn append_pages(row: &mut Vec<Option<u32>>, first: u32, last: u32)
     requires first { 0 < first }
     requires last { 0 < last }

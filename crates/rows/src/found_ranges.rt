@@ -6,7 +6,8 @@ ghost use Rattle.rows.specs.Found.{found_in, is_missing, entries_found, range_fo
 use crate::cutting::split_at_byte;
 use crate::places::{read_last_place, read_place};
 
-/// A range of a document. It is a blank, or has the numbers of its first and its last page. The number 0 means a page that isn't in the document.
+/// A range of a document. It is a blank, or has the numbers of its first and its last page, counted from 1. The number 0 means a page that isn't in
+/// the document.
 #[derive(Clone, Copy)]
 pub(crate) enum ResolvedRange {
     Blank,
@@ -54,7 +55,7 @@ fn pages_between(first: u32, last: u32) -> u64
     }
 }
 
-/// The range that a text means, in a document with this number of pages. It is None if the text means no range.
+/// The range that a text means, in a document with this number of pages. None if the text means no range.
 pub(crate) fn read_range(pages: u32, text: &[u8]) -> Option<ResolvedRange>
     ensures { result ≡ option_map (found_in pages) (range_at text.now) }
 {
@@ -80,7 +81,7 @@ fn means_blank(text: &[u8]) -> bool
     text == b"blank".as_slice() || text == b"_".as_slice()
 }
 
-/// The range that has only this page, if there is one.
+/// The range that has only this page. None if there is no page.
 fn one_page(page: Option<u32>) -> Option<ResolvedRange>
     ensures { result ≡ option_map (λ n. range_found n n) page }
 {
@@ -90,7 +91,7 @@ fn one_page(page: Option<u32>) -> Option<ResolvedRange>
     }
 }
 
-/// The range from one page to another, if there are both.
+/// The range from one page to another. None if either page is missing.
 fn from_to(first: Option<u32>, last: Option<u32>) -> Option<ResolvedRange>
     ensures { result ≡ option_and_then (λ n. option_map (range_found n) last) first }
 {

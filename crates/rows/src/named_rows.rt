@@ -12,7 +12,7 @@ use std::alloc::{AllocError, Global};
 /// The row that a text names, in a document with this number of pages.
 ///
 /// The text has ranges, separated by commas: `3`, `4-7`, `9-5`, `5-` for the pages up to the last, `_2` for the last page but one, `last`, and
-/// `blank` or `_` for a blank page. If the text is refused, the error says why, and no memory is taken. A row takes memory for its entries only.
+/// `blank` or `_` for a blank page. Fails with the first fault, in the order of `RowError`. A row takes memory for its entries only.
 pub fn read_row(alloc: Global, pages: u32, text: &[u8]) -> Result<Vec<Option<u32>>, RowError>
     ensures row { IfOk result (λ row. row_of_text pages text.now ≡ Ok row.items) }
     ensures room { IfOk result (λ row. vec_capacity row ≡ vec_len row) }
@@ -25,7 +25,7 @@ pub fn read_row(alloc: Global, pages: u32, text: &[u8]) -> Result<Vec<Option<u32
     }
 }
 
-/// The entries of all ranges of a text, in memory that has no room for more. `entries` is their number.
+/// The entries of all ranges of a text, in memory that has no room for more. `entries` is the number of these entries.
 pub(crate) fn text_row(
     alloc: Global,
     pages: u32,

@@ -20,7 +20,7 @@ pub(crate) fn read_place(pages: u32, text: &[u8]) -> Option<u32>
     }
 }
 
-/// The number of the page that a text means, as by `read_place`. An empty text means the last page.
+/// The number of the page that a text means, as in `read_place`. An empty text means the last page.
 pub(crate) fn read_last_place(pages: u32, text: &[u8]) -> Option<u32>
     ensures { result ≡ option_map (number_found pages) (last_place_at text.now) }
 {
@@ -31,7 +31,7 @@ pub(crate) fn read_last_place(pages: u32, text: &[u8]) -> Option<u32>
     }
 }
 
-/// The number of the page that digits name, counting from the start of the document. It is None if the text isn't digits.
+/// The number of the page that digits name, counting from the start of the document. None if the text isn't digits.
 fn from_start(pages: u32, digits: &[u8]) -> Option<u32>
     ensures { result ≡ option_map (number_found pages) (by_digits FromStart digits.now) }
 {
@@ -41,7 +41,7 @@ fn from_start(pages: u32, digits: &[u8]) -> Option<u32>
     }
 }
 
-/// The number of the page that digits name, counting from the end of the document. The result is counted from the start. It is None if the text isn't
+/// The number of the page that digits name, counting from the end of the document. The result is counted from the start. None if the text isn't
 /// digits.
 fn from_end(pages: u32, digits: &[u8]) -> Option<u32>
     ensures { result ≡ option_map (number_found pages) (by_digits FromEnd digits.now) }
@@ -52,7 +52,7 @@ fn from_end(pages: u32, digits: &[u8]) -> Option<u32>
     }
 }
 
-/// The number of the page that is in the place `number` from the start, or 0 if the document doesn't have it.
+/// The number of the page that is number `number` from the start, or 0 if the document doesn't have this page.
 fn start_number(pages: u32, number: usize) -> u32
     ensures { result ≡ number_found pages (FromStart number) }
 {
@@ -63,7 +63,7 @@ fn start_number(pages: u32, number: usize) -> u32
     }
 }
 
-/// The number of the page that is in the place `number` from the end, or 0 if the document doesn't have it. The result is counted from the start.
+/// The number, counted from the start, of the page that is number `number` from the end. It is 0 if the document doesn't have this page.
 fn end_number(pages: u32, number: usize) -> u32
     ensures { result ≡ number_found pages (FromEnd number) }
 {
@@ -74,7 +74,7 @@ fn end_number(pages: u32, number: usize) -> u32
     }
 }
 
-/// The value of a text of digits, or the greatest `usize` if it is larger. It is None if the text is empty, or has a byte that isn't a digit.
+/// The value of a text of digits, but at most `usize::MAX`. None if the text is empty, or has a byte that isn't a digit.
 fn number_of_digits(text: &[u8]) -> Option<usize>
     ensures { MatchOption result (is_number_text text.now ≡ false) (λ n.
         (is_number_text text.now ≡ true) × (n ≡ min (number_of text.now) usize.MAX)) }
@@ -85,8 +85,7 @@ fn number_of_digits(text: &[u8]) -> Option<usize>
     number_or_zero(text)
 }
 
-/// The value of a text of digits, or the greatest `usize` if it is larger. It is 0 if the text is empty, and None if it has a byte that isn't a
-/// digit.
+/// The value of a text of digits, but at most `usize::MAX`. It is 0 if the text is empty. None if the text has a byte that isn't a digit.
 fn number_or_zero(text: &[u8]) -> Option<usize>
     ensures { MatchOption result (list_all is_ascii_digit text.now ≡ false) (λ n.
         (list_all is_ascii_digit text.now ≡ true) × (n ≡ min (number_of text.now) usize.MAX)) }

@@ -41,8 +41,8 @@ impl Signing {
     }
 }
 
-/// The number of sides of each signature, chosen for this number of entries. All signatures have the same size. There are as few as possible without
-/// one of more than eight leaves.
+/// The number of sides of each signature, chosen for this number of entries. All signatures have the same size. There are as few signatures as
+/// possible with at most eight leaves each.
 pub fn auto_sides(entries: usize) -> u32
     requires some { 0 < entries }
     requires few { entries ≤ most_entries }
@@ -64,7 +64,7 @@ fn leaves_for(entries: usize) -> u32
     entries.div_ceil(4) as u32
 }
 
-/// The row in signatures, or unchanged if no signatures are requested.
+/// The row in signatures. The row is returned unchanged if no signatures are requested.
 pub fn signed_row(
     alloc: Global,
     row: Vec<Option<u32>>,
@@ -95,8 +95,8 @@ fn sewn_row(
     in_signatures(alloc, row, how.sides(row.len()))
 }
 
-/// The row that is imposed from a document with this number of pages: the chosen pages, in signatures if these are requested. If no row can be
-/// chosen, the error says why.
+/// The row that is imposed from a document with this number of pages: the chosen pages, in signatures if these are requested. Fails with the first
+/// fault, in the order of `RowError`.
 pub fn imposed_row(
     alloc: Global,
     pages: u32,

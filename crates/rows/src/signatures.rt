@@ -8,8 +8,8 @@ use crate::entries::entry_at;
 use sheet_plan::page_in_signature;
 use std::alloc::{AllocError, Global};
 
-/// The row in signatures of this number of sides, one after the other. Their order is the printing order for leaves that are folded once, put into
-/// one another and bound. The last signature is filled up with blanks.
+/// The row in signatures of this number of sides, one after the other. The pages of a signature are in printing order, for leaves that are folded
+/// once, put into one another and bound. The last signature is filled up with blanks.
 pub fn in_signatures(
     alloc: Global,
     row: &[Option<u32>],

@@ -1,4 +1,4 @@
-//! What is counted in the ranges of a text before a row is made.
+//! Counts the entries of the ranges of a text before a row is made.
 ghost use Rattle.std.specs.Prelude.{◌≡◌, ◌≤◌, length, Ok, IfOk, IfErr};
 ghost use Rattle.rules.specs.Ranges.{pieces_of};
 ghost use Rattle.rules.specs.Choice.{most_entries, row_of_text};
@@ -12,8 +12,8 @@ use crate::found_ranges::{ResolvedRange, read_range};
 
 const MOST_ENTRIES: u64 = 1_000_000;
 
-/// The counts of the ranges read so far. `missing` is the place of the first range with a page that isn't in the document. `over` is the place of the
-/// first range that exceeds the limit of entries. If there is neither, `entries` is the number of entries.
+/// The counts of the ranges read so far. `missing` is the byte at which the first range with a page that isn't in the document begins. `over` is the
+/// byte at which the range that takes the count above 1,000,000 entries begins. If both are None, `entries` is the number of entries.
 #[derive(Clone, Copy)]
 pub(crate) struct Tally {
     pub missing: Option<usize>,
@@ -21,7 +21,7 @@ pub(crate) struct Tally {
     pub entries: u64,
 }
 
-/// The number of entries in the row that a text names. If it names no row, the error says why.
+/// The number of entries in the row that a text names. Fails with the first fault of the text, in the order of `RowError`.
 pub(crate) fn entry_count(pages: u32, text: &[u8]) -> Result<usize, RowError>
     ensures row { IfOk result (λ n. row_of_text pages text.now ≡ Ok (row_found pages text.now)) }
     ensures count { IfOk result (λ n. n ≡ length (row_found pages text.now)) }
@@ -42,7 +42,7 @@ pub(crate) fn entry_count(pages: u32, text: &[u8]) -> Result<usize, RowError>
     }
 }
 
-/// The tally of all ranges of a text, or the index at which the first piece begins that isn't a range.
+/// The tally of all ranges of a text, or the byte at which the first piece that isn't a range begins.
 fn tally_ranges(pages: u32, text: &[u8]) -> Result<Tally, usize>
     ensures value { result ≡ tally_from most_entries pages 0 (pieces_of text.now) no_tally }
     ensures few { IfOk result (λ t. t.entries ≤ most_entries) }

@@ -13,23 +13,25 @@ ghost use Rattle.rules.specs.Rows.{PartsOfRow, PartsByNumber, SheetsOfAll, Signa
 ghost use Rattle.rules.specs.Ranges.{RangesAreRead, RangesOfAll};
 ghost use Rattle.rules.specs.Leaves.{ReadInOrder, RowIsRead, SheetsAreFaces};
 
-/// The printed text of a number is the only text that has the printed form and this value. This holds for numbers below 10^64 with up to 63 decimals.
+/// A number's printed text is the only text that has the printed form and the number's value. This holds for up to 63 decimals and for absolute
+/// values below 10^64.
 pub fn printed_is_printed()
     ensures { PrintedIsPrinted }
 {}
 
-/// The text of a number in a specification is the only text that has the specification's form of numbers and this value. This holds for numbers below
-/// 10^64.
+/// The canonical text of a number in a specification is the only text that has the canonical form and the number's value. This holds for absolute
+/// values below 10^64.
 pub fn number_is_printed()
     ensures { NumberIsPrinted }
 {}
 
-/// A specification writes a number as a scale is printed, but without a 0 directly before the dot.
+/// The canonical text of a number in a specification is the text of the same scale, but without an integer part of 0 before a dot. This holds for
+/// absolute values below 10^64.
 pub fn number_without_zero()
     ensures { NumberWithoutZero }
 {}
 
-/// A text has the meaning of at most one specification.
+/// A text can be read as at most one specification.
 pub fn one_reading()
     ensures { OneReading }
 {}
@@ -44,12 +46,12 @@ pub fn sheet_count()
     ensures { SheetCount }
 {}
 
-/// Without signatures, the sheets of a specification are made from the pages in their order.
+/// Without signatures, the sheets of a specification are made from the pages in the order of their numbers.
 pub fn without_sides()
     ensures { WithoutSides }
 {}
 
-/// Signatures are whole, because blanks fill up the last one.
+/// Each signature is whole, because blanks fill up the last one.
 pub fn whole_signatures()
     ensures { WholeSignatures }
 {}
@@ -59,12 +61,12 @@ pub fn is_permutation()
     ensures { IsPermutation }
 {}
 
-/// If pages are put into signatures, each page is in exactly one entry of the row.
+/// If pages are put into signatures, each page is in exactly one entry of the resulting row.
 pub fn each_page_once()
     ensures { EachPageOnce }
 {}
 
-/// The matrix of an item sends each whole point of a page to where the item places it.
+/// The matrix of an item sends each point with whole coordinates (in points) to the place where the item puts this point.
 pub fn matrix_puts()
     ensures { MatrixPuts }
 {}
@@ -79,17 +81,17 @@ pub fn cut_is_units()
     ensures { CutIsUnits }
 {}
 
-/// Cutting a text fails exactly if the text has a faulty block of data. The block that is named is the first faulty one.
+/// Cutting a text fails exactly if the text has a faulty block of data. The error names the first faulty block.
 pub fn cut_faults()
     ensures { CutFaults }
 {}
 
-/// If the units of a text are joined in order, they are the text.
+/// The units of a text, joined in order, give the text.
 pub fn units_make_text()
     ensures { UnitsMakeText }
 {}
 
-/// If the preamble, the pages and the trailer of a document are joined in order, they are its text.
+/// The preamble, the pages and the trailer of a document, joined in this order, give its text.
 pub fn parts_make_text()
     ensures { PartsMakeText }
 {}
@@ -104,7 +106,7 @@ pub fn dressed_is_made()
     ensures { DressedIsMade }
 {}
 
-/// If the entries in odd and in even places of a row are interleaved, they are the row. A row that is reversed twice is the row.
+/// The entries in odd places of a row, interleaved with those in even places, give the row. A row that is reversed twice is the original row.
 pub fn parts_of_row()
     ensures { PartsOfRow }
 {}
@@ -114,18 +116,18 @@ pub fn parts_by_number()
     ensures { PartsByNumber }
 {}
 
-/// If the row of all pages is put into signatures, it is the row that the rules define for signatures of these pages.
+/// The row of all pages, put into signatures, is the row that the rules define for signatures of these pages.
 pub fn signatures_of_all()
     ensures { SignaturesOfAll }
 {}
 
-/// A specification makes the same sheets from a number of pages as from the row of all these pages, in signatures or not.
+/// For n pages, a specification makes the same sheets as for the row of all n pages. This holds with and without signatures.
 pub fn sheets_of_all()
     ensures { SheetsOfAll }
 {}
 
-/// Signatures whose size is chosen automatically have at most eight leaves each. In all they have fewer blanks than four times the number of
-/// signatures.
+/// If a row isn't empty and the size of its signatures is chosen automatically, no signature has more than eight leaves. Then n signatures have fewer
+/// than 4n blanks in all.
 pub fn auto_signatures()
     ensures { AutoSignatures }
 {}
@@ -140,7 +142,7 @@ pub fn ranges_of_all()
     ensures { RangesOfAll }
 {}
 
-/// If a specification puts two entries on each sheet, side by side, its sheets are the printed faces of leaves.
+/// If a specification puts two successive entries of a row on each sheet, its sheets are the printed faces of leaves.
 pub fn sheets_are_faces()
     ensures { SheetsAreFaces }
 {}
@@ -150,7 +152,7 @@ pub fn read_in_order()
     ensures { ReadInOrder }
 {}
 
-/// If a row is put into signatures and on leaves, and the leaves are folded, the row is read in its order.
+/// If a row is put into signatures and printed on leaves, which are then folded, its entries are read in their order.
 pub fn row_is_read()
     ensures { RowIsRead }
 {}

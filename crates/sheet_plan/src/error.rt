@@ -1,11 +1,10 @@
 //! Why a plan is refused.
 use thiserror::Error;
 
-/// Why the sheets of a specification can't be planned for this number of pages. The limits are tested in the order of this enum, before any memory is
-/// requested.
+/// Why the sheets of a specification can't be planned. The limits are tested in the order of this enum, before any memory is requested.
 #[derive(Clone, Copy, Debug, PartialEq, Eq, Error)]
 pub enum PlanError {
-    /// There are over 1,000,000 pages.
+    /// There are over 1,000,000 pages. With signatures, the blanks that fill up the last signature count as pages.
     #[error("plan: too many pages")]
     TooManyPages,
     /// There are over 1,000,000 sheets.
@@ -19,8 +18,8 @@ pub enum PlanError {
     NoMemory,
 }
 
-/// Why sheets that a caller made can't be planned for this number of pages. The faults are looked for in the order of this enum, before any memory is
-/// requested. Sheets are counted from 0.
+/// Why sheets that a caller made can't be planned. The faults are looked for in the order of this enum, before any memory is requested. Sheets are
+/// counted from 0.
 #[derive(Clone, Copy, Debug, PartialEq, Eq, Error)]
 pub enum MadeError {
     /// There are over 1,000,000 pages.

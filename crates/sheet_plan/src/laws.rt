@@ -6,7 +6,7 @@ pub fn places_are_exact()
     ensures { PlacesAreExact }
 {}
 
-/// The sheets that are complete before any page has come are exactly those whose slots are all blank. They are in ascending order.
+/// The sheets that are complete before any page has come are exactly those whose slots are all blank. They are listed in ascending order.
 pub fn blank_sheets_have_no_page()
     ensures { BornCompleteAreWithoutPages }
 {}

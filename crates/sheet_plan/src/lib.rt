@@ -1,4 +1,5 @@
-//! Plans. A plan says which page is in which slot of which sheet, for a page specification and a number of pages, or for sheets that a caller made.
+//! Plans. A plan says which page is in which slot of which sheet. It is made for a page specification and a page count, or for sheets that a caller
+//! made.
 #![tactic(auto)]
 
 mod blank_sheets;

@@ -12,7 +12,7 @@ use pagespec::{Item, Measure, Turn};
 use std::alloc::{AllocError, Global};
 use std::marker::Model;
 
-/// A new placing is compared with this many of the first placings before it is kept.
+/// The number of placings, at the start of the list, with which a placing is compared before it is added.
 const FEW: u32 = 64;
 
 /// The item of a blank slot. It places nothing.
@@ -25,7 +25,7 @@ const NOTHING: Item = Item {
 };
 
 /// A slot of a sheet. It is blank, or has a page of the document with its item and its paper. The page number in the item has no meaning here. The
-/// page is clipped to the edges of this paper, and a border follows these edges.
+/// page is clipped to the edges of this paper. A border runs along these edges, or at its inset inside them.
 #[derive(Clone, Copy)]
 pub enum MadeSlot {
     Blank,
@@ -40,7 +40,7 @@ pub struct PlacedSlot<'m> {
     pub paper: &'m Paper,
 }
 
-/// How a page is placed on a sheet. Sheets often have the same placings, so these are kept apart from the slots.
+/// How a page is placed on a sheet. Sheets often have the same placings, so a placing isn't stored in each slot that uses it.
 #[derive(Clone, Copy, PartialEq, Eq)]
 pub struct Placing {
     pub item: Item,
@@ -98,7 +98,7 @@ impl MadeSheets {
         }
     }
 
-    /// No sheets, with memory reserved for this number of sheets and slots.
+    /// No sheets, with memory reserved for these numbers of sheets and slots. Fails only if memory is refused.
     pub fn with_room(alloc: Global, sheets: usize, slots: usize) -> Result<MadeSheets, AllocError>
         ensures { IfOk result (λ made. made ≡ []) }
     {
@@ -110,7 +110,7 @@ impl MadeSheets {
         })
     }
 
-    /// Adds a sheet at the end. Nothing is added if memory is refused, or if there would be 2^32 slots or more.
+    /// Adds a sheet at the end. Nothing is added if memory is refused, or if there would be more slots or placings than a `u32` can count.
     pub fn push(&mut self, paper: &Paper, slots: &[MadeSlot]) -> Result<(), AllocError>
         ensures pushed { OnOk result (self.new ≡ self.old
             ++ record { paper = paper.now; slots = map slot_of slots.now } ∷ []) }
@@ -199,7 +199,7 @@ impl MadeSheets {
     }
 }
 
-/// The index at which the slots of the last sheet end.
+/// The index at which the slots of the last sheet end. It is 0 if there are no sheets.
 fn last_end(sheets: &[KeptSheet]) -> u32
     ensures { result ≡ slots_end 0 sheets.now }
 {
@@ -221,7 +221,7 @@ fn start_at(sheets: &[KeptSheet], sheet: u32) -> u32
     before.end
 }
 
-/// The sheet with index k. This is a function of its own because it gives proofs a name for the value, as do the next two.
+/// The sheet with index `k`. This function and the next two give proofs a name for the value that they return.
 fn sheet_at(sheets: &[KeptSheet], k: u32) -> KeptSheet
     requires { k < length sheets.now }
     ensures { slice_get sheets.now k ≡ Some result }
@@ -243,7 +243,7 @@ fn placing_at(placings: &[Placing], k: u32) -> &Placing
     &placings[k as usize]
 }
 
-/// The count as a `u32`. It is refused if it is too large for that type.
+/// The count as a `u32`. Fails if the count is too large for that type.
 fn count_in_u32(count: usize) -> Result<u32, AllocError>
     ensures value { IfOk result (λ n. n ≡ count) }
     ensures many { OnErr result (u32.MAX < count) }
@@ -254,7 +254,7 @@ fn count_in_u32(count: usize) -> Result<u32, AllocError>
     }
 }
 
-/// Adds slots, and their placings unless these are found among those that are kept.
+/// Adds slots, with each placing that isn't found among those already kept.
 fn keep_slots(
     placings: &mut Vec<Placing>,
     slots: &mut Vec<KeptSlot>,
@@ -270,7 +270,7 @@ fn keep_slots(
     Ok(())
 }
 
-/// Adds a slot, and its placing unless that is found among those that are kept.
+/// Adds a slot, with its placing if that isn't found among those already kept.
 #[tactic(auto, using(crate::proofs::Stored::grown_placings))]
 fn keep_slot(
     placings: &mut Vec<Placing>,
@@ -303,8 +303,8 @@ fn keep_slot(
     Ok(())
 }
 
-/// The index after that of the last slot's placing. Sheets with the same layout use placings one after the other, so the next slot often has this
-/// one.
+/// The index after that of the last slot's placing, or 0 if this slot is blank or there is no slot. Sheets with the same layout use placings one
+/// after the other, so the next slot often has the placing at this index.
 fn number_behind(slots: &[KeptSlot]) -> u32 {
     match slots.last() {
         Some(slot) => slot.placing,
@@ -331,7 +331,7 @@ fn keep_placing(
     Ok(place)
 }
 
-/// The index of a placing, if it is at index `near` or among the first 64.
+/// The index of a placing that is at index `near` or among the first 64. None if it is in neither place.
 fn find_placing(placings: &[Placing], near: u32, placing: &Placing) -> Option<u32>
     ensures found { IfSome result (λ k. slice_get placings.now k ≡ Some placing.now) }
     ensures not_near { IsNone result → slice_get placings.now near ≢ Some placing.now }

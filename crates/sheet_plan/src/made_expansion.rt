@@ -21,8 +21,7 @@ const MOST_SLOTS: u32 = 4_096;
 const MOST_PLACES: u32 = 4_000_000;
 
 impl<'s> PlanSource<'s> {
-    /// The source of a plan for sheets that a caller made. It is refused if the sheets exceed the limits of a plan, or have a page that isn't in the
-    /// document.
+    /// The source of a plan for sheets that a caller made. Fails with the first fault of the sheets, in the order of `MadeError`.
     pub fn of_sheets(pages: u32, made: &'s MadeSheets) -> Result<PlanSource<'s>, MadeError>
         ensures value { IfOk result (λ s. plan_from s ≡ made_plan pages made.now) }
         ensures plannable { IfOk result IsPlannable }

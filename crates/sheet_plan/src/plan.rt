@@ -1,4 +1,4 @@
-//! The plan of the sheets for a number of pages.
+//! The plan of the sheets on which pages are placed.
 ghost use Rattle.std.specs.Prelude.{◌≡◌, ℕ, ◌+◌, ◌*◌, ◌<◌, ◌≤◌, ◌⊎◌, if◌then◌else◌, length, map, Ok, OnOk, IfOk, IfErr};
 ghost use Rattle.std.specs.Prelude.{Some, slice_get};
 ghost use Rattle.std.specs.Int.{bit_at};
@@ -30,8 +30,8 @@ use std::alloc::{AllocError, Global};
 use std::fmt;
 use std::marker::Model;
 
-/// A plan says which page is in which slot of which sheet, and by which item it is placed. It also has the slots that each page is in. Pages, sheets
-/// and slots are counted from 0.
+/// A plan says which page is in which slot of which sheet, and by which item the page is placed. It also lists the slots that each page is in. Pages,
+/// sheets and slots are counted from 0.
 ///
 /// With n pages, modulo m and G groups there are `M = m * ceil(n / m)` places and `G * M / m` sheets. Sheet `b * G + g` is group g in block b. An
 /// item with page number p names place `b * m + p`. With a minus it names place `M - (b + 1) * m + p`. A place at or above n is blank.
@@ -74,8 +74,8 @@ impl<'s> Plan<'s> {
         Plan::over(alloc, spec, Row { pages, sides: None })
     }
 
-    /// Plans the sheets of a specification for pages in signatures. Each signature has `sides` sides, a positive multiple of four. The limit of pages
-    /// is tested on the length of the row, in which the last signature is filled up with blanks.
+    /// Plans the sheets of a specification for pages in signatures. Each signature has `sides` sides, a positive multiple of four up to 1,000,000.
+    /// The limit of pages is tested on the length of the row, in which the last signature is filled up with blanks.
     pub fn with_signatures(
         alloc: Global,
         spec: &'s Spec,
@@ -181,8 +181,8 @@ impl<'s> Plan<'s> {
         self.source.item_of(sheet, slot)
     }
 
-    /// The slots of a slot group that have a page: bit j is set if slot `64 * group + j` has one. Every 64 slots of a sheet form a slot group, and
-    /// any slots left over form the last one. So a sheet of up to 64 slots has only group 0.
+    /// The slots of a slot group that have a page: bit j is set if slot `64 * group + j` has a page. A slot group is 64 neighbouring slots of a
+    /// sheet; the last group has the remaining slots. So a sheet of up to 64 slots has only group 0.
     pub fn missing_at_start(&self, sheet: u32, group: u8) -> u64
         requires sheet { sheet < length self.now.sheets }
         requires group { group < slot_groups self.now sheet }

@@ -1,17 +1,17 @@
-//! The row of pages that a specification is used on.
+//! The row of pages to which a specification is applied.
 ghost use Rattle.std.specs.Prelude.{◌≡◌, ◌+◌, ◌*◌, ◌/◌, ◌%◌, ◌^◌, ◌<◌, ◌↔◌, IsTrue, Some};
 ghost use Rattle.rules.specs.Signatures.{AreSides, AreSidesIfGiven, entry_in, row_len, page_in_signature as page_in};
 
 const MOST_SIDES: u32 = 1_000_000;
 
-/// Whether a signature may have this number of sides. It has to be a positive multiple of four, because each leaf has four, and at most 1,000,000.
+/// Whether a signature may have this number of sides: a positive multiple of four, because each leaf has four sides, and at most 1,000,000.
 pub fn are_sides(sides: u32) -> bool
     ensures { IsTrue result ↔ AreSides sides }
 {
     sides > 0 && sides % 4 == 0 && sides <= MOST_SIDES
 }
 
-/// Pages in order, or in signatures with `sides` sides each. The last signature is filled up with blanks.
+/// Pages in the order of their numbers, or in signatures with `sides` sides each. The last signature is filled up with blanks.
 #[derive(Clone, Copy)]
 pub struct Row {
     pub pages: u32,
@@ -30,7 +30,7 @@ impl Row {
         }
     }
 
-    /// The page at an entry. It is None if the entry is blank or comes after the end of the row.
+    /// The page at an entry, both counted from 0. None if the entry is blank or comes after the end of the row.
     pub fn page_at(self, entry: u32) -> Option<u32>
         requires sides { AreSidesIfGiven self.sides }
         requires few { entry < 2 ^ 31 }
@@ -44,7 +44,7 @@ impl Row {
     }
 }
 
-/// The number of entries of the signatures, with the last one filled up.
+/// The number of entries of all signatures. The last signature is filled up with blanks.
 fn filled_len(pages: u32, sides: u32) -> u64
     requires { AreSides sides }
     ensures { result ≡ row_len (Some sides) pages }

@@ -11,7 +11,7 @@ use crate::row::Row;
 use crate::spec_expansion::{item_at, item_place};
 use pagespec::Item;
 
-/// The source of a plan's sheets: a specification on a row of pages, or sheets that a caller made for a number of pages.
+/// The source of a plan's sheets: a specification for a row of pages, or sheets that a caller made for `pages` pages.
 #[derive(Drop)]
 pub enum PlanSource<'s> {
     Spec {

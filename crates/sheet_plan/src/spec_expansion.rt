@@ -1,5 +1,5 @@
-//! The expansion of a specification on a row of pages, whose blocks are counted from either end. The sheets aren't stored: each slot is computed when
-//! it is needed.
+//! The sheets that a specification makes from a row of pages. Blocks are counted from the start or, for items with a minus, from the end of the row.
+//! The sheets aren't stored: each slot is computed when it is needed.
 ghost use Rattle.std.specs.Prelude.{◌≡◌, ◌≢◌, ℕ, ◌+◌, ◌-◌, ◌*◌, ◌^◌, ◌<◌, ◌≤◌, length, Some, Ok, Err, OnOk, IfOk, IfErr};
 ghost use Rattle.std.specs.Prelude.{slice_get, slice_index_or, sum_by, [], ◌%◌};
 ghost use Rattle.rules.specs.Admissible.{most_groups};
@@ -61,7 +61,7 @@ pub(crate) fn item_place(modulo: u32, blocks: u32, block: u32, item: &Item) -> u
 }
 
 impl<'s> PlanSource<'s> {
-    /// The source of a plan for the sheets of a specification. It is refused if the sheets exceed the limits of a plan.
+    /// The source of a plan for the sheets of a specification. Fails with the first limit that the sheets exceed, in the order of `PlanError`.
     pub fn of_spec(spec: &'s Spec, row: Row) -> Result<PlanSource<'s>, PlanError>
         requires { AreSidesIfGiven row.sides }
         ensures value { IfOk result (λ s. plan_from s ≡ planned_in row.sides spec.now row.pages) }
