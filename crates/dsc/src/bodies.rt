@@ -1,4 +1,4 @@
-//! The prepared body of a page. It borrows the page's bytes if they are one run in the page, and copies them
+//! The prepared body of a page. It borrows its bytes from the page if they are one run there, and copies them
 //! otherwise.
 ghost use Rattle.std.specs.Prelude.{◌≡◌, ◌++◌, IfOk, IfErr, IfSome};
 ghost use Rattle.rules.specs.Filters.{ended, prepared};
@@ -19,8 +19,8 @@ pub struct Body<'d> {
     bytes: Bytes<'d>,
 }
 
-/// The bytes of a body: a run of its page, or a copy. The copy is in a box because most bodies have none, and a `Vec`
-/// would take one word more than the reference to a run.
+/// The bytes of a body: a run of its page, or a copy. The copy is in a box, because most bodies have no copy, and a
+/// `Vec` takes one word more than a reference to a run.
 #[derive(Drop)]
 enum Bytes<'d> {
     Part(&'d [u8]),
@@ -37,9 +37,9 @@ impl<'d> Model for Body<'d> {
 }
 
 impl<'d> Body<'d> {
-    /// Prepares the body of a page, with the same bytes as `prepare`. The bytes aren't copied if they are one run of
-    /// the page. This is the case if outermost lines are dropped only at the start and the end of the page, and the
-    /// run ends with a line end.
+    /// Prepares the body of a page. Its bytes are those that the free function `prepare` returns. They aren't copied if
+    /// they are one run of the page. This is the case if outermost lines are dropped only at the start and the end of
+    /// the page, and the run ends with a line end.
     ///
     /// Refuses the first faulty data block of the page, with `BadCount` or `ShortData`. A page of a document has no
     /// faulty block. Without enough memory the error is `NoMemory`.
@@ -72,8 +72,8 @@ impl<'d> Body<'d> {
     }
 }
 
-/// Prepares the body of a page, as `Body::prepare` does. The error has the place of the page's first faulty data
-/// block.
+/// Prepares the body of a page, as `Body::prepare` does. If the page has a faulty data block, the error contains the
+/// first one.
 fn cut_body<'d>(alloc: Global, page: &'d [u8]) -> Result<Body<'d>, CutError>
     ensures { GivesUnlessShort (λ b. b) block_fault_told result (prepared page.now) }
 {
@@ -82,7 +82,7 @@ fn cut_body<'d>(alloc: Global, page: &'d [u8]) -> Result<Body<'d>, CutError>
     Ok(body)
 }
 
-/// Makes a body from the bytes that the filter kept. Adds a line end if they don't end with one.
+/// Makes a body from the bytes that the filter kept. Adds a line end if these bytes don't end with one.
 fn body_of<'d>(alloc: Global, kept: Kept<'d>) -> Result<Body<'d>, AllocError>
     ensures { IfOk result (λ b. b ≡ ended ((kept.entry.copied.items ++ kept.entry.held.now) ++ kept.entry.run.now)) }
 {

@@ -12,10 +12,10 @@ use crate::walk::WalkStep;
 use std::alloc::{AllocError, Global};
 use std::marker::Model;
 
-/// Where the prepared body of each page begins, as a byte index in the text. A body has a start if lines are dropped
-/// only at the start of its page, and the page ends with a line end. Everything in the page from that byte on is then
-/// kept. 0 means that the body has no start, because no body begins at byte 0. A text has at most 2^30 bytes, so a
-/// `u32` can hold each start.
+/// For each page, the byte of the text at which its prepared body begins. A body has a start if lines are dropped only
+/// at the start of its page, and the page ends with a line end. Everything in the page from that byte on is then kept.
+/// 0 means that the body has no start, because no body begins at byte 0. A text has at most 2^30 bytes, so a `u32` can
+/// hold each start.
 #[derive(Drop)]
 pub(crate) struct BodyStarts {
     // The starts of the bodies of all pages before the current one.
@@ -85,7 +85,8 @@ impl BodyStarts {
         Ok(())
     }
 
-    /// Notes a `%%Page:` line that ends just before the byte `behind`. It ends the page before it and begins a page.
+    /// Notes a `%%Page:` line that ends just before the byte `behind`. The line begins a page, and ends the page
+    /// before it if there is one.
     fn begin_page(&mut self, behind: u32, line: &[u8]) -> Result<(), AllocError>
         ensures { OnOk result (self.new ≡ with_page self.old behind line.now) }
     {
@@ -139,8 +140,8 @@ fn closed(line_ended: bool, start: u32) -> u32
     if line_ended { start } else { 0 }
 }
 
-/// Whether the text ends with a line end after these bytes. Without bytes the answer is `was`, which is the answer for
-/// the text before them.
+/// Whether a text ends with a line end once these bytes are added to it. `was` is the answer for the text before these
+/// bytes, and stays the answer if there are none.
 fn ends_line(was: bool, bytes: &[u8]) -> bool
     ensures { result ≡ ends_line was bytes.now }
 {

@@ -37,7 +37,7 @@ pub fn trailer_box(text: &[u8]) -> Option<&[u8]>
     found
 }
 
-/// The part of the document that a unit is in. `part` is that of the unit before it.
+/// The part of the document that a unit is in. `part` is the part that the unit before it is in.
 fn next_part(part: Section, meaning: Meaning) -> Section
     ensures { result ≡ part_after part meaning.is_page meaning.is_trailer }
 {
@@ -60,8 +60,8 @@ fn next_part(part: Section, meaning: Meaning) -> Section
     }
 }
 
-/// The value of the bounding box after a unit. It is the value that was found before; if there was none, it is that of
-/// this unit, provided that the unit is in the trailer.
+/// The value of the trailer's bounding box once this unit is read, if it has been found. A value that was found before
+/// the unit is kept. Otherwise the unit's own value counts, if the unit is a `%%BoundingBox:` comment in the trailer.
 fn found_by<'d>(
     part: Section,
     found: Option<&'d [u8]>,
@@ -80,7 +80,7 @@ fn found_by<'d>(
     }
 }
 
-/// The text after the colon of a `%%BoundingBox:` outside embedded documents.
+/// The text after the colon, if the unit is a `%%BoundingBox:` comment outside embedded documents.
 fn box_in<'d>(unit: &LineOrBlock<'d>, depth: usize) -> Option<&'d [u8]>
     ensures { option_map (λ value. fields_in value.now) result ≡ told_box (at_depth depth (unit_of unit.now)) }
 {

@@ -6,8 +6,8 @@ ghost use Rattle.dsc.specs.Fields.{fields_in};
 
 use crate::keys::key_of;
 
-/// The value of a comment: the text after its colon. None if the line with this content isn't a comment with this key.
-/// The caller also passes the key followed by a colon.
+/// The value of a comment: the text after its colon. None if a line with this content isn't a comment with the key
+/// `key`. `with_colon` is the key followed by a colon.
 pub fn comment_value<'t>(content: &'t [u8], key: &[u8], with_colon: &[u8]) -> Option<&'t [u8]>
     requires { with_colon.now ≡ key.now ++ colon ∷ [] }
     ensures { MatchOption result (is_comment key.now content.now ≡ false) (λ value.

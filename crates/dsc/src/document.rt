@@ -58,9 +58,9 @@ impl<'d> Model for Document<'d> {
 }
 
 impl<'d> Document<'d> {
-    /// Cuts a text into the units of a document (DSC 3.0). A page begins at each `%%Page:` line outside embedded
-    /// documents and data blocks. The trailer begins at the first `%%Trailer` or `%%EOF` line after the first page's
-    /// line, also outside them.
+    /// Cuts a text into the units of a document (DSC 3.0). A page begins at each `%%Page:` line before the trailer.
+    /// The trailer begins at the first `%%Trailer` or `%%EOF` line after the first `%%Page:` line. Lines in embedded
+    /// documents and in data blocks don't count.
     ///
     /// Refuses a text with the first of these errors that applies: `TooLong`, `NotPostScript`, `BadCount` or
     /// `ShortData` (for the first faulty data block), `TooManyPages`, `NoPages`. If memory is refused, `NoMemory` may
@@ -91,9 +91,9 @@ impl<'d> Document<'d> {
         })
     }
 
-    /// Makes a document of a text from the parts of another document, without cutting the text. The text must not be
-    /// shorter than that document, and must be the same from the first page on. Refuses only a text that is too long,
-    /// with `TooLong`.
+    /// Makes a document of a text from the parts of another document, without cutting the text. The text must be at
+    /// least as long as the other document. Unless the text is too long, it must be a document with the same units from
+    /// the first page on. Refuses only a text that is too long, with `TooLong`.
     pub fn from_parts(text: &'d [u8], parts: Parts) -> Result<Document<'d>, DscError>
         requires serve { Serve parts text.now }
         ensures answer { GivesUnlessShort (λ d. d) fault_told result (document_of text.now) }
@@ -120,7 +120,7 @@ impl<'d> Document<'d> {
         })
     }
 
-    /// Returns where the parts of the document begin, without its text.
+    /// Returns the bytes at which the parts of the document begin, and drops the reference to its text.
     pub fn into_parts(self) -> Parts
         ensures parts { ArePartsOf (bytes_of self.entry) result }
     {
@@ -154,8 +154,8 @@ impl<'d> Document<'d> {
         self.starts.len() as u32
     }
 
-    /// A page, counted from 0. It reaches from its `%%Page:` line to the next page, the trailer or the end of the
-    /// text.
+    /// The bytes of page `p`, from its `%%Page:` line to the next page, the trailer or the end of the text. Pages are
+    /// counted from 0.
     pub fn page(&self, p: u32) -> &'d [u8]
         requires { p < length (pages self.now) }
         ensures page { result.now ≡ slice_index_or (pages self.now) p [] }
@@ -166,9 +166,9 @@ impl<'d> Document<'d> {
         text_part(self.text, entry(starts, p), next_or(starts, p, self.stop))
     }
 
-    /// The prepared body of a page, counted from 0. It has the same bytes as the body that `Body::prepare` makes from
-    /// the page. If `body_start` knows where the body begins, the page isn't read again. Fails only if memory is
-    /// refused.
+    /// The prepared body of page `p`. Pages are counted from 0. The body has the same bytes as the one that
+    /// `Body::prepare` makes from the page. If `body_start` gives its start, the page isn't read again. Fails only if
+    /// memory is refused.
     pub fn body(&self, alloc: Global, p: u32) -> Result<Body<'d>, AllocError>
         requires { p < length (pages self.now) }
         ensures body { IfOk result (λ b. prepared (slice_index_or (pages self.now) p []) ≡ Ok b) }
@@ -186,7 +186,7 @@ impl<'d> Document<'d> {
 
     /// The byte of a page at which its prepared body begins; the body reaches to the end of the page. Both the pages
     /// and the bytes of a page are counted from 0. The start is known if lines are dropped only at the start of the
-    /// page, and the page ends with a line end. Otherwise the result is `None`.
+    /// page, and the page ends with a line end. None if the start isn't known.
     pub fn body_start(&self, p: u32) -> Option<u32>
         requires { p < length (pages self.now) }
         ensures within { IfSome result (λ start. start ≤ length (slice_index_or (pages self.now) p [])) }
@@ -213,9 +213,10 @@ impl<'d> Document<'d> {
         Ok(text)
     }
 
-    /// The preamble as `preamble_text` makes it, with these lines inserted after the number of sheets. Each of them
-    /// must have its line end. If there are any, outermost lines with the key `%%DocumentPaperSizes` are dropped too,
-    /// because the inserted lines report the papers.
+    /// The preamble as `preamble_text` makes it, with `lines` inserted after the line that has the number of sheets.
+    /// Each inserted line must have its line end. If there are such lines, outermost lines with the key
+    /// `%%DocumentPaperSizes` are dropped too, because the inserted lines report the papers. Fails only if memory is
+    /// refused.
     pub fn dressed_preamble(&self, sheets: u32, lines: &[u8]) -> Result<Vec<u8>, AllocError>
         ensures text { IfOk result (λ v. (rows : List (List ℕ)) → lines.now ≡ lines_text rows →
             v.items ≡ dressed_preamble sheets rows self.now) }
@@ -230,8 +231,8 @@ impl<'d> Document<'d> {
         Ok(text)
     }
 
-    /// The trailer of the output. The same lines are dropped from it as from the preamble in `preamble_text`. Fails
-    /// only if memory is refused.
+    /// The trailer of the output: the trailer of the document without the lines that `preamble_text` drops from a
+    /// preamble. Fails only if memory is refused.
     pub fn trailer_text(&self) -> Result<Vec<u8>, AllocError>
         ensures text { IfOk result (λ v. v.items ≡ trailer_text self.now) }
     {
@@ -253,7 +254,8 @@ impl<'d> Document<'d> {
     }
 }
 
-/// The start of this page. This is a function, as are the next two, so that proofs have a name for its value.
+/// The byte at which page `p` begins. This function and the next two give proofs a name for the value that they
+/// return.
 fn entry(starts: &[u32], p: usize) -> usize
     requires { p < length starts.now }
     ensures { result ≡ slice_index_or starts.now p 0 }
@@ -270,7 +272,7 @@ fn text_part(text: &[u8], start: usize, end: usize) -> &[u8]
     &text[start..end]
 }
 
-/// The start of the page after this one, or `stop` if this is the last page.
+/// The byte at which the page after page `p` begins, or `stop` if page `p` is the last.
 fn next_or(starts: &[u32], p: usize, stop: usize) -> usize
     requires { p < length starts.now }
     ensures { result ≡ slice_index_or starts.now (p + 1) stop }

@@ -41,7 +41,7 @@ pub struct FaultyBlock {
     pub fault: UnitError,
 }
 
-/// Why a text isn't cut: for its first faulty data block, or because memory was refused.
+/// Why a text can't be cut: its first faulty data block, or a lack of memory.
 #[derive(Debug, Drop)]
 pub enum CutError {
     Faulty(FaultyBlock),

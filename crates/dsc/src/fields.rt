@@ -16,7 +16,7 @@ fn blanks_at(text: &[u8]) -> usize
         .count()
 }
 
-/// The length of the field at the start of the bytes, which is 0 if they begin with a blank.
+/// The length of the field at the start of the bytes. It is 0 if they begin with a blank, or if there are none.
 fn field_at(text: &[u8]) -> usize
     ensures value { result ≡ prefix_len (λ b. not (is_blank b)) text.now }
     ensures within { result ≤ length text.now }

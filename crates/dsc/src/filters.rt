@@ -1,4 +1,4 @@
-//! Filters pages, preambles and trailers: drops some of their lines and keeps all else.
+//! Filters pages, preambles and trailers: drops some of their lines and keeps everything else.
 ghost use Rattle.std.specs.Prelude.{◌≡◌, ℕ, ◌+◌, ◌<◌, ◌≤◌, List, [], ◌++◌, length, take, drop, IfOk, IfErr, OnOk};
 ghost use Rattle.std.specs.Prelude.{if◌then◌else◌, false, Ok, codes, decimal};
 ghost use Rattle.rules.specs.Bytes.{line};
@@ -22,8 +22,10 @@ use crate::walk::Walk;
 use itoa::Buffer;
 use std::alloc::{AllocError, Global};
 
-/// The lines that a filter drops. `PageSetup` drops those that set up a page, and `DocumentSetup` drops those that
-/// describe the whole document. `SetupAndPapers` also drops those that name the papers of the document.
+/// The lines that a filter drops. `PageSetup` drops the comments about a page (`%%Page`..) and those around its setup,
+/// but not the setup. `DocumentSetup` drops the comments about pages, boxes, media and orientation, which no longer
+/// hold in the output. `SetupAndPapers` drops these and the comment that names the document's papers
+/// (`%%DocumentPaperSizes`).
 #[derive(Clone, Copy)]
 pub(crate) enum Drops {
     PageSetup,
@@ -46,7 +48,7 @@ fn drops_line(drops: Drops, content: &[u8]) -> bool
 }
 
 /// Whether an outermost line with this content is dropped from a page. The letter after the percent signs decides for
-/// most lines, so that few keys need be compared.
+/// most lines, so few keys are compared.
 fn drops_in_page(content: &[u8]) -> bool
     ensures { result ≡ drops_in_page content.now }
 {
@@ -73,8 +75,8 @@ fn drops_in_header(content: &[u8]) -> bool
                         || key == b"%%Orientation".as_slice()))))
 }
 
-/// Whether the filter drops this unit, which is at this depth. `was` says whether it dropped the unit before: if it
-/// did, a `%%+` line is dropped too, because it continues that unit.
+/// Whether the filter drops a unit at this depth in embedded documents. `was` says whether the filter dropped the unit
+/// before it. If so, a `%%+` line is dropped too, because it continues that unit.
 pub(crate) fn drops_unit(drops: Drops, was: bool, unit: &LineOrBlock<'_>, depth: usize) -> bool
     ensures { result ≡ is_dropped drops was (at_depth depth (unit_of unit.now)) }
 {
@@ -112,9 +114,9 @@ impl<'d> Kept<'d> {
         Ok(copied)
     }
 
-    /// Passes a unit of this length. A kept unit extends the second run. A dropped unit ends it: unless it is empty,
-    /// it then takes the place of `held`, and the bytes held before are copied. The next run begins after the dropped
-    /// unit. A text that is kept in one run is therefore never copied.
+    /// Passes a unit of `len` bytes. A kept unit extends the second run. A dropped unit ends the second run, and the
+    /// next run begins after the unit. If the ended run isn't empty, it replaces `held`, whose bytes are copied first.
+    /// So a text that is kept in one run is never copied.
     fn go_on(&mut self, len: usize, dropped: bool) -> Result<(), AllocError>
         requires { self.old.run_len + len ≤ length self.old.run.now }
         ensures kept { OnOk result (
@@ -145,7 +147,7 @@ impl<'d> Kept<'d> {
     }
 }
 
-/// Appends these bytes to the copied bytes, unless there are none. Reserves `room` bytes first: enough for these bytes
+/// Appends `part` to the copied bytes. Unless the part is empty, `room` bytes are reserved first: enough for the part
 /// and for all that may be copied later.
 fn copy(copied: &mut Vec<u8>, part: &[u8], room: usize) -> Result<(), AllocError>
     ensures { OnOk result (copied.new.items ≡ copied.old.items ++ part.now) }
@@ -157,8 +159,8 @@ fn copy(copied: &mut Vec<u8>, part: &[u8], room: usize) -> Result<(), AllocError
     copied.extend_from_slice(part)
 }
 
-/// Filters a text. Returns the bytes in `copied`, followed by what the filter keeps of the text. Refuses the text's
-/// first faulty data block.
+/// Filters a text. Returns the bytes in `copied`, followed by the bytes of the text that the filter keeps. Refuses the
+/// text's first faulty data block.
 pub(crate) fn filter<'d>(
     copied: Vec<u8>,
     drops: Drops,
@@ -183,8 +185,8 @@ pub(crate) fn filter<'d>(
     Ok(kept)
 }
 
-/// The filter for a preamble into which these lines are inserted. If there are any, it also drops the names of papers,
-/// because the inserted lines report the papers.
+/// The filter for a preamble into which `lines` are inserted. If there are such lines, the filter also drops the lines
+/// that name papers, because the inserted lines report the papers.
 pub(crate) fn drops_with(lines: &[u8]) -> Drops
     ensures { (rows : List (List ℕ)) → lines.now ≡ lines_text rows → drops_of result ≡ drops_with rows }
 {
@@ -194,8 +196,8 @@ pub(crate) fn drops_with(lines: &[u8]) -> Drops
     Drops::SetupAndPapers
 }
 
-/// Appends to `front` what the filter keeps of a text. The text is from a preamble or a trailer and has no faulty data
-/// block. Fails only if memory is refused.
+/// Appends to `front` the bytes of a text that the filter keeps. The text is from a preamble or a trailer and has no
+/// faulty data block. Fails only if memory is refused.
 pub(crate) fn filter_header(
     front: Vec<u8>,
     drops: Drops,
@@ -212,7 +214,7 @@ pub(crate) fn filter_header(
 }
 
 /// The first lines of the output's preamble: the document's first line, a `%%Pages: ` line with the number of sheets,
-/// and then `lines`. Reserves room for another `room` bytes.
+/// and then `lines`. Reserves memory for `room` more bytes.
 pub(crate) fn with_count(
     alloc: Global,
     first: &[u8],
@@ -234,7 +236,7 @@ pub(crate) fn with_count(
     Ok(text)
 }
 
-/// Whether the bytes need a line end. They do if the last byte isn't CR or LF.
+/// Whether a line end has to be added to these bytes: there are bytes, and the last one is neither CR nor LF.
 pub(crate) fn wants_end(bytes: &[u8]) -> bool
     ensures { ended bytes.now ≡ (if result then line bytes.now else bytes.now) }
 {
@@ -254,9 +256,10 @@ pub fn end_line(kept: &mut Vec<u8>) -> Result<(), AllocError>
     Ok(())
 }
 
-/// The prepared body of a page: its bytes without the lines that set up the page, ending with a line end. These are
-/// the outermost lines whose key begins with `%%Page` or is `%%BeginPageSetup` or `%%EndPageSetup`, and the `%%+`
-/// lines that continue them. The page is cut as a text by itself, and needn't begin with a `%%Page:` line.
+/// The prepared body of a page: its bytes without the lines that set up the page. It ends with a line end, unless it
+/// is empty. The lines left out are the outermost lines whose key begins with `%%Page` or is `%%BeginPageSetup` or
+/// `%%EndPageSetup`, and the `%%+` lines that continue them. The page is cut as a text by itself, and needn't begin
+/// with a `%%Page:` line.
 ///
 /// Refuses the first faulty data block of the page, with `BadCount` or `ShortData`. A page of a document has no faulty
 /// block. Without enough memory the error is `NoMemory`.
@@ -269,7 +272,8 @@ pub fn prepare(alloc: Global, page: &[u8]) -> Result<Vec<u8>, DscError>
     Ok(body)
 }
 
-/// Prepares the body of a page, as `prepare` does. The error has the place of the page's first faulty data block.
+/// Prepares the body of a page, as `prepare` does. If the page has a faulty data block, the error contains the first
+/// one.
 fn prepared_body(alloc: Global, page: &[u8]) -> Result<Vec<u8>, CutError>
     ensures { GivesUnlessShort (λ v. v.items) block_fault_told result (prepared page.now) }
 {

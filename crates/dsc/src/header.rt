@@ -48,7 +48,8 @@ fn stays(content: &[u8]) -> bool
     is_header(content) && !ends_header(content)
 }
 
-/// Whether a line with this content has the form of a header comment: a percent sign and a printable character.
+/// Whether a line with this content has the form of a header comment: it begins with a percent sign and a printable
+/// character that isn't a space.
 pub fn is_header(content: &[u8]) -> bool
     ensures { result ≡ is_header content.now }
 {

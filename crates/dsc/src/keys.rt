@@ -26,8 +26,8 @@ pub fn key_of(content: &[u8]) -> &[u8]
     key
 }
 
-/// The byte after the two percent signs at the start of a line. It distinguishes most comments before their keys are
-/// compared.
+/// The byte after the two percent signs at the start of a line. None if the line doesn't begin with two percent signs
+/// and a byte. This byte distinguishes most comments before their keys are compared.
 pub(crate) fn comment_letter(content: &[u8]) -> Option<u8>
     ensures { result ≡ letter_of content.now }
 {
@@ -37,8 +37,8 @@ pub(crate) fn comment_letter(content: &[u8]) -> Option<u8>
     }
 }
 
-/// What a unit means for the parts of a document: whether it begins a page or the trailer, and the depth in embedded
-/// documents after it.
+/// The meaning of a unit for the parts of a document: whether it begins a page or the trailer, and the depth in
+/// embedded documents after it.
 #[derive(Clone, Copy)]
 pub(crate) struct Meaning {
     pub is_page: bool,
@@ -47,7 +47,7 @@ pub(crate) struct Meaning {
 }
 
 /// The meaning of a line with this content at this depth. The letter after the percent signs decides for most lines,
-/// so that few keys need be compared.
+/// so few keys are compared.
 fn meaning_of_line(content: &[u8], depth: usize) -> Meaning
     requires { depth < usize.MAX }
     ensures page { result.is_page ≡ begins_page (at_depth depth (comment_line content.now)) }

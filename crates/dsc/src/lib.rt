@@ -1,5 +1,5 @@
 //! Cuts a PostScript document that follows the Document Structuring Conventions (DSC 3.0) into preamble, pages and
-//! trailer, and filters each of them for pages that are placed on sheets.
+//! trailer, and filters each of these parts for the output.
 #![tactic(auto)]
 
 mod bodies;

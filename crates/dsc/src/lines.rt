@@ -5,8 +5,8 @@ ghost use Rattle.rules.specs.Units.{is_end, line_len, lines_len, end_len, conten
 
 use memchr::memchr2_iter;
 
-/// Lines are counted in blocks of this many bytes, as long as there is no CR. A block is so small that its count fits
-/// a `u8`, which lets the compiler count many bytes at once.
+/// The number of bytes in a block. Lines are counted block by block, as long as a block has no CR. The number of lines
+/// that end in a block fits in a `u8`, so the compiler can count many bytes at once.
 const BLOCK: usize = 240;
 
 /// Whether the byte is CR or LF.
@@ -43,7 +43,7 @@ pub fn content_end(text: &[u8]) -> usize
     }
 }
 
-/// The length of the first line with its line end. `content` is its length without it.
+/// The length of the first line with its line end. `content` is the length of this line without its line end.
 pub fn line_end_after(text: &[u8], content: usize) -> usize
     requires { content ≡ length (content_of text.now) }
     ensures value { result ≡ line_len text.now }
@@ -74,8 +74,8 @@ pub(crate) fn lines_end(count: usize, text: &[u8]) -> Option<usize>
     Some(end)
 }
 
-/// Passes blocks at the start of the text that contain no CR. Fewer than `count` lines end in these blocks, and more
-/// text follows them. Returns the number of lines that end in the passed blocks, and the number of their bytes.
+/// Passes blocks without a CR at the start of the text, as long as fewer than `count` lines end in them and more text
+/// follows them. Returns the number of lines that end in the passed blocks, and the number of bytes of these blocks.
 fn first_blocks(count: usize, text: &[u8]) -> (usize, usize)
     ensures fewer { result.0 ≤ count }
     ensures within { result.1 ≤ length text.now }

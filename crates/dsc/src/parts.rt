@@ -1,11 +1,11 @@
-//! The places at which the parts of a document begin, without its text.
+//! The bytes at which the parts of a document begin, without its text.
 ghost use Rattle.std.specs.Prelude.{◌≡◌, ℕ, ◌+◌, ◌<◌, ◌≤◌, length, map, slice_index_or};
 ghost use Rattle.rules.specs.Run.{most_input_bytes};
 ghost use Rattle.dsc.specs.Later.{later, later_found};
 
-/// The places at which the pages of a document, their prepared bodies and the trailer begin. With them
-/// `Document::from_parts` makes a document of another text, which may differ only before the first page. That text
-/// isn't cut again.
+/// The bytes at which the pages of a document, their prepared bodies and the trailer begin. `Document::from_parts`
+/// uses them to make a document of another text, which may differ only before the first page. That text isn't cut
+/// again.
 #[derive(Drop)]
 pub struct Parts {
     /// The number of bytes of the document.
@@ -28,7 +28,8 @@ pub(crate) fn move_starts(starts: &mut Vec<u32>, by: u32)
     }
 }
 
-/// Adds this number of bytes to the start of each body. A start of 0 stays 0, because it means that none is known.
+/// Adds this number of bytes to the start of each body. A start of 0 stays 0, because it means that the start isn't
+/// known.
 pub(crate) fn move_bodies(bodies: &mut Vec<u32>, by: u32)
     requires room { (p : ℕ) → p < length bodies.old.items → slice_index_or bodies.old.items p 0 + by ≤ most_input_bytes }
     ensures { bodies.new.items ≡ map (later_found by) bodies.old.items }
@@ -38,7 +39,7 @@ pub(crate) fn move_bodies(bodies: &mut Vec<u32>, by: u32)
     }
 }
 
-/// The start of a body after the move by this number of bytes. 0 stays 0.
+/// The start of a body that is moved by `by` bytes. A start of 0 stays 0.
 fn later_found(by: u32, at: u32) -> u32
     requires { at + by ≤ most_input_bytes }
     ensures { result ≡ later_found by at }

@@ -6,9 +6,9 @@ ghost use Rattle.dsc.specs.Plain.{BeginsPlain, next_line};
 use crate::lines::{content_end, is_line_end, line_end_after};
 use memchr::memmem::Finder;
 
-/// The number of bytes of the lines at the start of the text that don't begin with two percent signs. The finder finds
-/// the first two percent signs. If these begin a line, the result counts the bytes before that line. Otherwise it also
-/// counts the line that contains them.
+/// The number of bytes of lines at the start of the text, none of which begins with two percent signs. `percent_signs`
+/// finds the first two percent signs of the text. If these begin a line, the lines before it are counted. Otherwise
+/// the line that contains them is counted as well. A text without them is counted whole.
 pub(crate) fn plain_len(percent_signs: &Finder<'_>, text: &[u8]) -> usize
     requires { percent_signs.now ≡ codes "%%" }
     ensures plain { BeginsPlain result text.now }
@@ -24,7 +24,7 @@ pub(crate) fn plain_len(percent_signs: &Finder<'_>, text: &[u8]) -> usize
 }
 
 /// The byte at which the next line begins. It is `at` if a line begins there, and otherwise the byte after the line
-/// that contains `at`. The caller passes a byte that isn't in a line end.
+/// that contains `at`. The byte at `at` must not be in a line end.
 fn next_line(text: &[u8], at: usize) -> usize
     requires { at < length text.now }
     ensures value { result ≡ next_line at text.now }

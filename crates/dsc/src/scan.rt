@@ -15,12 +15,12 @@ use crate::keys::Meaning;
 use crate::walk::{Walk, WalkStep};
 use std::alloc::{AllocError, Global};
 
-/// The most page starts that are stored, which is one more than a document may have. If there are more pages, the pass
-/// still goes on to the end, because a faulty data block is reported rather than too many pages.
+/// The most page starts that are stored: one more than the number of pages that a document may have. If there are more
+/// pages, the pass still goes on to the end, because a faulty data block is reported rather than too many pages.
 const MOST_STARTS: usize = 1_000_001;
 
-/// Where the pages begin, and where the trailer begins once it has been found. Only the first `MOST_STARTS` pages are
-/// stored.
+/// The bytes at which the pages begin, and the byte at which the trailer begins once it has been found. Only the first
+/// `MOST_STARTS` pages are stored.
 #[derive(Drop)]
 pub(crate) struct PageStarts {
     pub starts: Vec<u32>,
@@ -46,7 +46,8 @@ impl PageStarts {
         Ok(())
     }
 
-    /// Where the pages end, in a text of this length.
+    /// The byte at which the pages end: the start of the trailer, or `len`, the length of the text, if it has no
+    /// trailer.
     pub fn stop_or(&self, len: usize) -> usize
         ensures { result ≡ stop_at self.now.stop len }
     {
@@ -57,8 +58,8 @@ impl PageStarts {
     }
 }
 
-/// Finds in one pass where the pages, the trailer and the bodies of the pages begin. Once there are too many pages, it
-/// no longer looks for bodies. Refuses the text's first faulty data block.
+/// Finds in one pass where the pages, the trailer and the bodies of the pages begin. Once over 1,000,000 pages are
+/// found, bodies are no longer looked for. Refuses the text's first faulty data block.
 pub(crate) fn scan(alloc: Global, text: &[u8]) -> Result<(PageStarts, Vec<u32>), CutError>
     requires { length text.now ≤ most_input_bytes }
     ensures marks { GivesUnlessShort (λ s. marks_on MOST_STARTS s.0.starts.items s.0.stop (length text.now) []) block_fault_told

@@ -17,15 +17,15 @@ pub(crate) struct LineOrBlock<'d> {
     pub is_block: bool,
 }
 
-/// What is wrong with a data block. Its count is missing or isn't a number, or it counts more data than the text has.
+/// The fault of a data block: its count is missing or isn't a number, or it counts more data than the text has.
 #[derive(Debug, Clone, Copy)]
 pub enum UnitError {
     BadCount,
     ShortData,
 }
 
-/// The text after the colon of a line that begins a data block, and whether the data may be counted in lines. That is
-/// so for `%%BeginData:`, but not for `%%BeginBinary:`. None if the line begins no data block.
+/// The text after the colon of a line that begins a data block, and whether the data may be counted in lines. Data
+/// after `%%BeginBinary:` is counted in bytes only. None if the line begins no data block.
 fn data_heading(content: &[u8]) -> Option<(&[u8], bool)>
     ensures { MatchOption result (begins_block content.now ≡ false) (λ h.
         (begins_block content.now ≡ true) × (fields content.now ≡ fields_in h.0.now)

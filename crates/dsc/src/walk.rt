@@ -1,4 +1,4 @@
-//! Walks over the units of a text. The pass that cuts a document and the filters share this walk.
+//! Walks over the units of a text, for the pass that cuts a document and for the filters.
 ghost use Rattle.std.specs.Prelude.{◌≡◌, ◌<◌, length, codes, IfOk, IfErr, true, false, Err};
 ghost use Rattle.rules.specs.Parts.{begins_page, begins_trailer};
 ghost use Rattle.rules.specs.Units.{first_unit};

@@ -1,14 +1,16 @@
-//! Laws of lines that are inserted into a document. Each function states one in its contract, and does nothing.
+//! Laws of lines that are inserted into a document. Each function states one law in its `ensures`, and has an empty
+//! body.
 ghost use Rattle.guard.specs.Laws.{GuardIsShort, GuardStays, LinesStay};
 
 /// Lines that are inserted after the header comments of a document change only its preamble. Unless the document
-/// becomes too long, it is still accepted, with the same pages and the same trailer. Its units are the old ones and
-/// the inserted lines.
+/// becomes too long, it is still accepted, with the same pages and the same trailer. Its units are those that it had
+/// before, and the inserted lines.
 pub fn lines_stay()
     ensures { LinesStay }
 {}
 
-/// The guard changes only the preamble of a document, whatever the paper of the sheet.
+/// For any paper of the sheet, the guard changes only the preamble of a document. Unless the document becomes too long,
+/// it is still accepted.
 pub fn guard_stays()
     ensures { GuardStays }
 {}

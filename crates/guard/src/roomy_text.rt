@@ -29,7 +29,7 @@ impl Model for RoomyText {
 }
 
 impl RoomyText {
-    /// The text that begins at the byte `start`. The bytes before it become free space.
+    /// The text that begins at the byte `start` of `bytes`. The bytes before `start` become free space.
     pub fn with_headroom(start: usize, bytes: Vec<u8>) -> RoomyText
         requires { start ≤ vec_len bytes }
         ensures { result.items ≡ drop start bytes.items }

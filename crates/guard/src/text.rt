@@ -52,7 +52,7 @@ const OTHER_LINES: &[u8] = b"\
     end} bind if\n\
     %%EndResource\n";
 
-/// The room in bytes that is reserved for the guard. The guard is shorter, whatever the paper.
+/// The number of bytes that are reserved for the guard. The guard is shorter, for any paper of the sheet.
 const ROOM: usize = 2_560;
 
 /// A copy of the text with the guard inserted after its header comments. These are the first line and the comments
@@ -75,7 +75,7 @@ pub fn guarded(
     Ok(out)
 }
 
-/// Inserts the guard into the text itself, where `guarded` inserts it into a copy. If memory is refused, the call
+/// Inserts the guard into `text`, at the place where `guarded` inserts it into a copy. If memory is refused, the call
 /// fails, and the text is unchanged.
 pub fn put_guard(text: &mut Vec<u8>, sheet_paper: Option<&Paper>) -> Result<(), AllocError>
     ensures put_in { OnOk result (text.new.items ≡ guarded (option_map (λ p. p.now) sheet_paper.entry) text.old.items) }
@@ -123,7 +123,7 @@ pub fn put_guard_before(
     Ok(start)
 }
 
-/// The header comments, with a line end at their end, followed by the guard.
+/// The header comments, with a line end added if they lack one, followed by the guard.
 fn guarded_header(
     alloc: Global,
     header: &[u8],
@@ -139,7 +139,7 @@ fn guarded_header(
     Ok(front)
 }
 
-/// Replaces bytes from `begin` on by those of `front`. The number of bytes stays the same.
+/// Replaces the bytes from `begin` on by those of `front`. The number of bytes stays the same.
 fn overwrite(bytes: &mut Vec<u8>, begin: usize, front: &[u8])
     requires { begin + length front.now ≤ vec_len bytes.old }
     ensures put { bytes.new.items ≡ take begin bytes.old.items
@@ -160,7 +160,7 @@ fn append_guard(sheet_paper: Option<&Paper>, out: &mut Vec<u8>) -> Result<(), Al
     Ok(())
 }
 
-/// Appends the line that sets the page size to the sheet's paper, if there is one.
+/// Appends the line that sets the page size to `sheet_paper`. Without such a paper, appends nothing.
 fn append_page_size(sheet_paper: Option<&Paper>, out: &mut Vec<u8>) -> Result<(), AllocError>
     ensures { OnOk result (out.new.items ≡
         out.old.items ++ flat_map line (guard_size_lines (option_map (λ p. p.now) sheet_paper.entry))) }

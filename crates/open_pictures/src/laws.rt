@@ -1,9 +1,9 @@
-//! Laws of a PostScript machine with further operators, of sheets on several papers and with strokes (marks and lines
-//! for notes), and of two real documents (docs/PICTURES.md, 'Further operators').
+//! Laws of a PostScript machine with further operators, of sheets on several papers and with strokes, and of two real
+//! documents. Strokes are marks and lines for notes. The premises are in docs/PICTURES.md, 'Further operators'.
 //!
-//! An operator is placeless if its result in a placed state is the placed form of its result in the state itself. It
-//! is blind if it is placeless and doesn't ask for the names that the sheet's text defines. The premises are in
-//! docs/PICTURES.md. Each function states one law in its contract, and does nothing.
+//! An operator is placeless if its result in a placed state is the placed form of its result in the state itself. It is
+//! blind if it is placeless and doesn't look up the names that the sheet's text defines. Each function states one law
+//! in its contract, and does nothing.
 ghost use Rattle.open_pictures.specs.Blindness.{PlacelessRunsPreambles};
 ghost use Rattle.open_pictures.specs.Documents.{OpenMadeSheetsShowThePages, OpenOwnPicture, OpenSheetsShowThePages};
 ghost use Rattle.open_pictures.specs.DocumentRun.{OpenSheetsShowTheDocument};
@@ -23,7 +23,7 @@ ghost use Rattle.open_pictures.specs.Unguarded.{DressedSheetsShowThePages, OpenD
 ghost use Rattle.open_pictures.specs.Barcode.{BarcodeIsShown};
 ghost use Rattle.open_pictures.specs.Groff.{GroffIsShown};
 
-/// With further operators that are placeless, if the machine goes from one state to another by itself, it also goes
+/// Suppose that further operators are placeless. If the machine goes from one state to another by itself, it also goes
 /// from the placed first state to the placed second state.
 pub fn open_placing_commutes()
     ensures { OpenPlacingCommutes }
@@ -57,73 +57,76 @@ pub fn point_is_placeless()
     ensures { PointIsPlaceless }
 {}
 
-/// Operators that can't see where a page is placed are placeless, whatever else they do.
+/// Operators are placeless if they are functions of operands, dictionaries, matrices, settings and the current point in
+/// user space.
 pub fn tables_are_placeless()
     ensures { TablesArePlaceless }
 {}
 
-/// Operators that can't see where a page is placed are blind if they don't ask for the names that the sheet's text
-/// defines.
+/// The operators of `tables_are_placeless` are blind if they don't look up the names that the sheet's text defines.
 pub fn tables_are_blind()
     ensures { TablesAreBlind }
 {}
 
-/// If the result of an operator depends only on its operands and the settings, the operator doesn't ask for the names
+/// If the result of an operator depends only on its operands and the settings, the operator doesn't look up the names
 /// that the sheet's text defines.
 pub fn answers_ask_for_none()
     ensures { AnswersAskForNone }
 {}
 
-/// What `open_sheets_show_the_pages` says also holds for made sheets on which each page has a paper of its own.
+/// The law `open_sheets_show_the_pages` also holds for made sheets, on which each page has a paper of its own. Only
+/// comments may be added to the sheets.
 pub fn open_made_sheets_show_the_pages()
     ensures { OpenMadeSheetsShowThePages }
 {}
 
-/// Operators that are placeless may also be used by the preamble. A preamble may also have other operators, which look
-/// at their place.
+/// Operators that are placeless may be used by the preamble as well as by pages. A preamble may also have operators
+/// that look at their place.
 pub fn placeless_runs_preambles()
     ensures { PlacelessRunsPreambles }
 {}
 
-/// With further operators that are blind, if the pages of a document are independent, a machine that runs an output
-/// prints, sheet by sheet, the pictures that the document itself prints, each in its place.
+/// Suppose that further operators are blind, and that the pages of a document are independent. Then a machine that runs
+/// an output prints, sheet by sheet, the pictures that the document itself prints, each in its place.
 pub fn open_sheets_show_the_document()
     ensures { OpenSheetsShowTheDocument }
 {}
 
 // Laws of guarded documents.
 
-/// What a page with further operators does by itself, the machine with the guard's procedures does in the page's
-/// place.
+/// Suppose that further operators are placeless in guarded documents, and that a page goes from one state to another by
+/// itself. Then the machine with the guard's procedures goes from the placed first state to the placed second state.
 pub fn open_shelter_commutes()
     ensures { OpenShelterCommutes }
 {}
 
-/// Operators that don't look at the contents of matrices are placeless in guarded documents too.
+/// The operators of `tables_are_placeless` are placeless in guarded documents if they don't look at the contents of
+/// matrices.
 pub fn tables_are_placeless_there()
     ensures { TablesArePlacelessThere }
 {}
 
-/// A placed page of a guarded document with further operators paints on the sheet the picture that it paints by
-/// itself, in its place.
+/// A placed page of a guarded document paints on the sheet the picture that it paints by itself, in its place. The page
+/// may have further operators that are placeless in guarded documents.
 pub fn open_guarded_page_is_placed()
     ensures { OpenGuardedPageIsPlaced }
 {}
 
 /// A machine that runs an output of a document with the guard in its preamble prints the pictures that the pages paint
-/// by themselves, each in its place. Pages may have further operators.
+/// by themselves, each in its place. Pages may have further operators that are placeless in guarded documents.
 pub fn open_guarded_sheets_show_the_pages()
     ensures { OpenGuardedSheetsShowThePages }
 {}
 
-/// A machine that runs what impose makes of a guarded document by a specification prints the pictures of its pages,
-/// each in its place. Pages may have further operators that are placeless in guarded documents.
+/// Take the output of impose for a guarded document and a specification. A machine that runs it prints the pictures
+/// that the pages paint by themselves, each in its place. Pages may have further operators that are placeless in
+/// guarded documents.
 pub fn open_guarded_document_is_shown()
     ensures { OpenGuardedDocumentIsShown }
 {}
 
-/// What `open_guarded_document_is_shown` says of specifications holds for any sheets that are reported as having one
-/// paper.
+/// The law `open_guarded_document_is_shown` holds not only for specifications, but also for any sheets that are
+/// reported as having one paper.
 pub fn open_made_document_is_shown()
     ensures { OpenMadeDocumentIsShown }
 {}
@@ -135,46 +138,47 @@ pub fn answers_see_no_matrices()
 {}
 
 /// If a document has a `showpage` of its own, its placed pages paint on the sheet the pictures that they paint by
-/// themselves, each in its place. Pages may have further operators.
+/// themselves, each in its place. Pages may have further operators that are placeless in guarded documents.
 pub fn open_own_page_is_placed()
     ensures { OpenOwnPageIsPlaced }
 {}
 
-/// A machine that runs what impose makes, by a specification, of a document with a `showpage` of its own prints, sheet
-/// by sheet, the pictures that the pages paint by themselves, each in its place. Pages may have further operators.
+/// Take the output of impose for a specification and a document with a `showpage` of its own. A machine that runs it
+/// prints, sheet by sheet, the pictures that the pages paint by themselves, each in its place. Pages may have further
+/// operators that are placeless in guarded documents. The first sheet must have a page.
 pub fn open_own_showpage_is_shown()
     ensures { OpenOwnShowpageIsShown }
 {}
 
-/// What `open_own_showpage_is_shown` says of specifications holds for any sheets that are reported as having one
-/// paper.
+/// The law `open_own_showpage_is_shown` holds not only for specifications, but also for any sheets that are reported as
+/// having one paper.
 pub fn open_own_made_document_is_shown()
     ensures { OpenOwnMadeDocumentIsShown }
 {}
 
 /// If a document leaves the `showpage` of userdict empty, its placed pages paint on the sheet the pictures that they
-/// paint by themselves, each in its place. Pages may have further operators.
+/// paint by themselves, each in its place. Pages may have further operators that are placeless in guarded documents.
 pub fn open_silenced_page_is_placed()
     ensures { OpenSilencedPageIsPlaced }
 {}
 
-/// A machine that runs what impose makes, by a specification, of a document that leaves the `showpage` of userdict
-/// empty prints, sheet by sheet, the pictures that the pages paint by themselves, each in its place. Pages may have
-/// further operators.
+/// Take the output of impose for a specification and a document that leaves the `showpage` of userdict empty. A machine
+/// that runs it prints, sheet by sheet, the pictures that the pages paint by themselves, each in its place. Pages may
+/// have further operators that are placeless in guarded documents. The first sheet must have a page.
 pub fn open_silenced_document_is_shown()
     ensures { OpenSilencedDocumentIsShown }
 {}
 
-/// What `open_silenced_document_is_shown` says of specifications holds for any sheets that are reported as having one
-/// paper.
+/// The law `open_silenced_document_is_shown` holds not only for specifications, but also for any sheets that are
+/// reported as having one paper.
 pub fn open_silenced_made_document_is_shown()
     ensures { OpenSilencedMadeDocumentIsShown }
 {}
 
 // Laws of operators on values.
 
-/// An operator on values sees the entries of dictionaries, except those that the sheet's text defines. Therefore it
-/// doesn't ask for these names.
+/// An operator on values sees the entries of dictionaries, except those for names that the sheet's text defines. So it
+/// can't look these names up.
 pub fn stores_ask_for_none()
     ensures { StoresAskForNone }
 {}
@@ -184,54 +188,55 @@ pub fn stores_see_no_matrices()
     ensures { StoresSeeNoMatrices }
 {}
 
-/// A table of operators on values is blind, even with other operators that don't ask for the names that the sheet's
-/// text defines.
+/// A table of operators on values is blind. It stays blind if other operators are added that don't look up the names
+/// that the sheet's text defines.
 pub fn stores_are_blind()
     ensures { StoresAreBlind }
 {}
 
-/// A table of operators on values is placeless in guarded documents too, even with other operators that don't look at
-/// the contents of matrices.
+/// A table of operators on values is placeless in guarded documents. It stays placeless if other operators are added
+/// that don't look at the contents of matrices.
 pub fn stores_are_placeless_there()
     ensures { StoresArePlacelessThere }
 {}
 
-/// The project's table of operators on values is blind. It stays blind if operators are added that don't ask for the
+/// The project's table of operators on values is blind. It stays blind if operators are added that don't look up the
 /// names that the sheet's text defines.
 pub fn values_are_blind()
     ensures { ValuesAreBlind }
 {}
 
-/// The project's table of operators on values is placeless in guarded documents too. It stays so if operators are
+/// The project's table of operators on values is placeless in guarded documents. It stays placeless if operators are
 /// added that don't look at the contents of matrices.
 pub fn values_are_placeless_there()
     ensures { ValuesArePlacelessThere }
 {}
 
-/// If sheets have several papers, each sheet calls `setpagedevice` with the size of its own paper.
+/// If sheets have several papers, the lines at the start of each sheet call `setpagedevice` with the size of the
+/// sheet's own paper.
 pub fn device_size_is_set()
     ensures { DeviceSizeIsSet }
 {}
 
-/// A machine that runs anything that impose writes of a document with the guard prints, sheet by sheet, the pictures
+/// Take any output of impose for a document with the guard. A machine that runs it prints, sheet by sheet, the pictures
 /// that the document's pages paint by themselves, each in its place. The strokes of a sheet come after its pages.
 pub fn dressed_document_is_shown()
     ensures { DressedDocumentIsShown }
 {}
 
-/// What `dressed_document_is_shown` says also holds if pages have further operators that are placeless in guarded
+/// The law `dressed_document_is_shown` also holds if pages have further operators that are placeless in guarded
 /// documents.
 pub fn open_dressed_document_is_shown()
     ensures { OpenDressedDocumentIsShown }
 {}
 
-/// A machine that runs anything that impose writes of a document without the guard prints, sheet by sheet, the
+/// Take any output of impose for a document without the guard. A machine that runs it prints, sheet by sheet, the
 /// pictures that the document's own pages print, each in its place. The strokes of a sheet come after its pages.
 pub fn dressed_sheets_show_the_pages()
     ensures { DressedSheetsShowThePages }
 {}
 
-/// What `dressed_sheets_show_the_pages` says also holds if pages have further operators that are blind.
+/// The law `dressed_sheets_show_the_pages` also holds if pages have further operators that are blind.
 pub fn open_dressed_sheets_show_the_pages()
     ensures { OpenDressedSheetsShowThePages }
 {}

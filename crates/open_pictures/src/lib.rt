@@ -1,5 +1,5 @@
-//! Laws of what a PostScript machine with further operators paints on all sheets that impose writes, and on those of
-//! two real documents. This crate has only definitions and laws.
+//! Laws of the pictures that a PostScript machine with further operators paints on the sheets that impose writes. Two
+//! laws are about the sheets of real documents. This crate has only definitions and laws.
 #![tactic(auto)]
 
 pub mod laws;

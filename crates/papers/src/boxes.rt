@@ -7,17 +7,17 @@ use crate::fields::{is_zero, points_of};
 use dsc::next_field;
 use lengths::{Grains, Paper};
 
-/// Two sides that differ by at most 15 points count as equal, because programs round the sizes of one paper
-/// differently.
+/// The greatest difference, in grains, between two sides that count as equal: 15 points. Programs round the sizes of
+/// one paper differently.
 const NEARNESS: i128 = 15 * 127_000_000_000;
 
-/// The grains of one point. No side of a paper is shorter.
+/// The number of grains in a point. A paper that a comment or a setup gives has no side shorter than a point.
 const ONE_POINT: i128 = 127_000_000_000;
 
-/// The grains of 100,000 points. All numbers in a box are below this.
+/// The number of grains in 100,000 points. Each number in a box is below this.
 const TOO_LONG: i128 = 100_000 * ONE_POINT;
 
-/// The edges of a bounding box, in grains from the origin of the page.
+/// The edges of a bounding box, in grains from the point 0 0 of the page.
 #[derive(Clone, Copy)]
 pub struct Edges {
     pub left: Grains,
@@ -26,11 +26,10 @@ pub struct Edges {
     pub top: Grains,
 }
 
-/// The paper that a bounding box gives (docs/RULES.md, 12.2). A box that begins at 0 0 gives its right and top edges
-/// as width and height. Any other box gives a paper only if it begins nowhere below 0, and its right or top edge lies
-/// more than 15 points past the side of `paper`, which is the paper that counts without a box. The paper that such a
-/// box gives leaves as much room to the right of the box as to its left, and as much above as below. None if the box
-/// gives no paper.
+/// The paper that a bounding box gives (docs/RULES.md, 12.2). A box that begins at 0 0 gives its right and top edges as
+/// width and height. Any other box must have a left and a bottom edge of at least 0, and must reach more than 15 points
+/// past the right or the top side of `paper`. `paper` is the paper that counts without a box. Such a box is in the
+/// middle of the paper that it gives. None if the box gives no paper.
 pub fn paper_of_box(paper: &Paper, value: &[u8]) -> Option<Paper>
     ensures { result ≡ meaning.paper_of_box paper.now (fields_in value.now) }
 {
@@ -41,7 +40,8 @@ pub fn paper_of_box(paper: &Paper, value: &[u8]) -> Option<Paper>
 }
 
 /// The paper of a box that begins at 0 0: its width is the right edge, and its height the top edge. The value has the
-/// fields left, bottom, right and top; further fields aren't read.
+/// fields left, bottom, right and top; further fields aren't read. None if the box begins elsewhere, or if its sides
+/// can't be those of a paper.
 pub(crate) fn box_paper(value: &[u8]) -> Option<Paper>
     ensures { result ≡ meaning.box_paper (fields_in value.now) }
 {
@@ -92,7 +92,8 @@ fn is_past(side: Grains, edge: Grains) -> bool
     side.get() + NEARNESS < edge.get()
 }
 
-/// The paper that leaves as much room to the right of a box as to its left, and as much above as below.
+/// The paper that has a box in its middle: as wide a strip to the right of the box as to its left, and as high a strip
+/// above as below. None if a side of this paper is shorter than a point, or has 100,000 points or more.
 fn paper_round(edges: &Edges) -> Option<Paper>
     ensures { result ≡ meaning.paper_round edges.now }
 {
@@ -160,8 +161,7 @@ fn paper_of_sides(width: i128, height: i128) -> Option<Paper>
     Paper::new(Grains::new(width)?, Grains::new(height)?)
 }
 
-/// The paper with these sides in grains. None if a side is shorter than a point or too long for a paper, or has
-/// 100,000 points or more.
+/// The paper with these sides in grains. None if a side is shorter than a point, or has 100,000 points or more.
 fn shorter_paper(width: i128, height: i128) -> Option<Paper>
     ensures { result ≡ meaning.shorter_paper width height }
 {

@@ -6,8 +6,8 @@ ghost use Rattle.papers.specs.Media.{comment_values, contents, continued, value_
 
 use dsc::{comment_value, first_content, line_end_after};
 
-/// For the first comment with this key, returns its value, which is the text after its colon, and the text after its
-/// line. The caller also passes the key followed by a colon.
+/// Finds the first comment with the key `key`. Returns its value, which is the text after its colon, and the text
+/// after its line. None if there is no such comment. `with_colon` is the key followed by a colon.
 pub fn first_comment<'t>(
     header: &'t [u8],
     key: &[u8],

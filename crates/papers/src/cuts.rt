@@ -7,7 +7,7 @@ ghost use Rattle.papers.specs.Cuts.{cut_of, is_cut as is_cut_by, with_cut_page a
 use crate::smallest_cover;
 use lengths::Paper;
 
-/// Two sides that differ by at most this number of grains, which is 15 points, count as equal.
+/// The greatest difference, in grains, between two sides that count as equal: 15 points.
 const NEARNESS: u128 = 15 * 127_000_000_000;
 
 /// The pages of a document that a paper cuts.
@@ -19,13 +19,13 @@ pub struct Cut {
     pub last: usize,
     /// The number of these pages.
     pub pages: usize,
-    /// The smallest paper that covers the own papers of all these pages.
+    /// The smallest paper that covers these pages' own papers.
     pub paper: Paper,
 }
 
-/// The pages that `paper` cuts. `own` has the own paper of each page. A page is cut if `paper` doesn't cover its own
-/// paper, and the two don't count as equal. Papers count as equal if their sides differ by at most 15 points. None if
-/// no page is cut.
+/// The pages that `paper` cuts. `own` has each page's own paper. A page is cut if `paper` doesn't cover the page's own
+/// paper, and the two papers don't count as equal. Papers count as equal if their sides differ by at most 15 points.
+/// None if no page is cut.
 pub fn cut_by(paper: &Paper, own: &[Paper]) -> Option<Cut>
     ensures { result ≡ cut_of paper.now own.now }
 {
@@ -38,7 +38,7 @@ pub fn cut_by(paper: &Paper, own: &[Paper]) -> Option<Cut>
     cut
 }
 
-/// Adds one more page, with this own paper, after the cut pages found so far.
+/// The cut pages found so far, and page `page`, whose own paper is `paper`.
 fn with_cut_page(cut: Option<Cut>, page: usize, paper: &Paper) -> Cut
     requires few { IfSome cut (λ c. c.pages < usize.MAX) }
     ensures { result ≡ with_one cut page paper.now }
@@ -73,7 +73,7 @@ fn covers(paper: &Paper, other: &Paper) -> bool
     other.width().get() <= paper.width().get() && other.height().get() <= paper.height().get()
 }
 
-/// Whether two papers count as equal: each side differs by at most 15 points.
+/// Whether two papers count as equal: their widths differ by at most 15 points, and so do their heights.
 pub(crate) fn is_near(paper: &Paper, other: &Paper) -> bool
     ensures { result ≡ is_near_to paper.now other.now }
 {

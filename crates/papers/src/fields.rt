@@ -66,7 +66,7 @@ fn name_len(text: &[u8]) -> usize
     }
 }
 
-/// The length of the text before the first blank.
+/// The length of the text before the first blank, or of the whole text if it has none.
 fn len_before_blank(text: &[u8]) -> usize
     ensures value { result ≡ meaning.plain_len text.now }
     ensures within { result ≤ length text.now }
@@ -76,7 +76,8 @@ fn len_before_blank(text: &[u8]) -> usize
         .count()
 }
 
-/// The length in grains of a field that is a number of points. None if the field isn't a number, or more follows it.
+/// The length, in grains, that a field gives in points. None if the field isn't a number, or if the integer part of the
+/// number is over 99,999.
 pub(crate) fn points_of(field: &[u8]) -> Option<Grains>
     ensures { result ≡ meaning.points_of field.now }
 {
@@ -88,7 +89,7 @@ pub(crate) fn points_of(field: &[u8]) -> Option<Grains>
     Some(to_grains(number, Unit::Pt, &a4()))
 }
 
-/// Whether this is a length, and is 0.
+/// Whether a length is given and is 0.
 pub(crate) fn is_zero(length: Option<Grains>) -> bool
     ensures { result ≡ meaning.is_zero length }
 {

@@ -18,8 +18,9 @@ use lengths::Paper;
 use std::alloc::{AllocError, Global};
 
 /// The paper of each page of a document, in the order of the pages (docs/RULES.md, 12.3). If `asked` is a paper, all
-/// pages have it. Otherwise a page has the paper that it names itself. If it names none, it has the paper that its
-/// document names, and if there is none, the paper `home`. Fails only if memory is refused.
+/// pages have it. Otherwise a page has the paper that its own comments give, or else the one that the document's
+/// comments give. A page without either has the paper that the document's setup asks for, or else `home`. Fails only if
+/// memory is refused.
 pub fn page_papers(
     alloc: Global,
     document: &Document<'_>,
@@ -35,7 +36,7 @@ pub fn page_papers(
     }
 }
 
-/// The papers of this number of pages, which all have this paper.
+/// The paper `paper` for each of `pages` pages.
 fn pages_of_one_paper(alloc: Global, pages: u32, paper: Paper) -> Result<Vec<Paper>, AllocError>
     ensures { IfOk result (λ papers. papers.items ≡ replicate pages paper) }
 {
@@ -44,7 +45,7 @@ fn pages_of_one_paper(alloc: Global, pages: u32, paper: Paper) -> Result<Vec<Pap
     Ok(papers)
 }
 
-/// The paper of each page if none is asked for: from the page itself, from the document, or `home`.
+/// The paper of each page if no paper is asked for, as in `page_papers`.
 fn declared_papers(
     alloc: Global,
     document: &Document<'_>,
@@ -74,8 +75,8 @@ fn document_or(text: &[u8], other: &Paper) -> Paper
     }
 }
 
-/// The paper of each page: the one that the page names itself, or `other` if it names none. A page can name a medium
-/// of these header comments.
+/// The paper of each page: the one that the page's own comments give, or `other` if they give none. `header` has the
+/// header comments, whose media a page can name.
 fn each_or(
     alloc: Global,
     document: &Document<'_>,
@@ -89,8 +90,8 @@ fn each_or(
     each_with(alloc, document, &known, other)
 }
 
-/// The paper of each page: the one that the page names itself, or `other` if it names none. `known` has the media that
-/// pages can name.
+/// The paper of each page: the one that the page's own comments give, or `other` if they give none. `known` has the
+/// media that pages can name.
 fn each_with(
     alloc: Global,
     document: &Document<'_>,

@@ -12,22 +12,23 @@ use std::alloc::{AllocError, Global};
 /// The most kinds of papers. Each page is compared with all kinds, so a higher limit would cost time.
 const MOST_KINDS: usize = 64;
 
-/// A kind: papers that count as equal.
+/// A kind of paper: papers that count as equal to the largest of them.
 #[derive(Clone, Copy)]
 struct PaperKind {
-    /// The largest paper of the kind. Each side of the others differs from its side by at most 15 points.
+    /// The largest paper of the kind. Each paper of the kind has sides that differ from those of this paper by at most
+    /// 15 points.
     first: Paper,
     /// The smallest paper that covers all papers of the kind.
     paper: Paper,
 }
 
-/// Makes papers equal whose sizes differ only by rounding (docs/RULES.md, 12.4). `own` has the paper of each page, and
-/// `taken` has the papers of the pages that are imposed.
+/// Makes papers equal if their sizes differ only by rounding (docs/RULES.md, 12.4). `own` has the paper of each page,
+/// and `taken` has the papers of the pages that are imposed.
 ///
-/// The largest of the taken papers is the widest, and the highest of these. It forms a kind with all taken papers
-/// whose sides differ from its own by at most 15 points. Then the largest paper that is left forms the next kind, up
-/// to 64 kinds. The result has, for each page, the smallest paper that covers the kind of the page's paper. A paper
-/// that belongs to no kind stays as it is. Fails only if memory is refused.
+/// The largest of the taken papers is the widest, and the highest of equally wide ones. It forms a kind with all taken
+/// papers whose sides differ from its own by at most 15 points. Then the largest of the remaining papers forms the next
+/// kind, up to 64 kinds. The result has, for each page, the smallest paper that covers the kind of the page's paper. A
+/// paper that belongs to no kind stays as it is. Fails only if memory is refused.
 pub fn merge_near_sizes(
     alloc: Global,
     taken: &[Paper],
@@ -73,7 +74,7 @@ fn kinds_of(alloc: Global, room: usize, papers: &[Paper]) -> Result<Vec<PaperKin
     Ok(kinds)
 }
 
-/// Moves the next kind from `rest`, which has the papers without a kind, to `kinds`. Does nothing if no paper is left.
+/// Moves the next kind from `rest`, which has the papers without a kind, to `kinds`. Does nothing if `rest` is empty.
 fn take_kind(kinds: &mut Vec<PaperKind>, rest: &mut Vec<Paper>) -> Result<(), AllocError>
     ensures { OnOk result ((room : ℕ) → kinds.new.items ++ kinds_with room rest.new.items
         ≡ kinds.old.items ++ kinds_with (suc room) rest.old.items) }
@@ -132,7 +133,8 @@ fn kind_of(first: &Paper, papers: &[Paper]) -> PaperKind
     }
 }
 
-/// The paper that replaces this one: the paper of the first kind to which it belongs, or itself if it belongs to none.
+/// The paper that replaces `paper`: the paper of the first kind to which it belongs, or `paper` if it belongs to no
+/// kind.
 fn paper_among(kinds: &[PaperKind], paper: &Paper) -> Paper
     ensures { result ≡ paper_in kinds.now paper.now }
 {

@@ -25,8 +25,8 @@ pub(crate) struct KnownMedia {
 }
 
 impl KnownMedia {
-    /// Finds the media that the pages of a document name. They are in the first `%%DocumentMedia:` of its header
-    /// comments and in the `%%+` lines that continue it. Fails only if memory is refused.
+    /// Finds the media that the pages of a document name. They are looked for in the first `%%DocumentMedia:` of the
+    /// header comments and in the `%%+` lines that continue this comment. Fails only if memory is refused.
     pub(crate) fn read(
         alloc: Global,
         document: &Document<'_>,
@@ -46,7 +46,7 @@ impl KnownMedia {
         }
     }
 
-    /// Collects the names of the media that the pages name; no medium is found yet.
+    /// Collects the names of the media that the pages name. No paper is found for them yet.
     fn named(alloc: Global, document: &Document<'_>) -> Result<KnownMedia, AllocError>
         ensures { IfOk result (λ known. (k : ℕ) → k < length (pages document.now)
             → IsNameKept known (slice_index_or (pages document.now) k [])) }
@@ -74,7 +74,7 @@ impl KnownMedia {
         }
     }
 
-    /// Stores what was found for this name, in place of what was stored before.
+    /// Stores `found` for this name, in place of the value that was stored for it before.
     fn put(&mut self, name: Vec<u8>, found: Option<Option<Paper>>) -> Result<(), AllocError>
         ensures { OnOk result ((at : List ℕ) → found_at self.new at ≡ update bytes_eq (found_at self.old) name.items (Some found) at) }
     {
@@ -82,8 +82,8 @@ impl KnownMedia {
         Ok(())
     }
 
-    /// Finds the papers of the named media in the header. `first` is the value of `%%DocumentMedia:`, and `others` is
-    /// the text after that line, which may continue it.
+    /// Finds, in the header, the papers of the media that pages name. `first` is the value of `%%DocumentMedia:`.
+    /// `others` is the text after the line of this comment, and may begin with lines that continue the comment.
     fn find(&mut self, alloc: Global, first: &[u8], others: &[u8]) -> Result<(), AllocError>
         ensures { OnOk result ((at : List ℕ) → found_at self.new at
             ≡ option_map (λ found. with_media at found (flat_map medium_in (first.now ∷ continued (contents others.now))))
@@ -93,7 +93,7 @@ impl KnownMedia {
         self.take_continued(alloc, others)
     }
 
-    /// Takes the media of the `%%+` lines at the start of the text.
+    /// Stores the papers of the media in the `%%+` lines at the start of the text, as `take` does for one value.
     fn take_continued(&mut self, alloc: Global, text: &[u8]) -> Result<(), AllocError>
         ensures { OnOk result ((at : List ℕ) → found_at self.new at
             ≡ option_map (λ found. with_media at found (flat_map medium_in (continued (contents text.now)))) (found_at self.old at)) }
@@ -106,7 +106,8 @@ impl KnownMedia {
         Ok(())
     }
 
-    /// Takes the medium in this value, if a page names it and no earlier medium has its name.
+    /// Stores the paper of the medium in this value, if a page names the medium and no earlier medium has the same
+    /// name.
     fn take(&mut self, alloc: Global, value: &[u8]) -> Result<(), AllocError>
         ensures { OnOk result ((at : List ℕ) → found_at self.new at
             ≡ option_map (λ found. with_media at found (medium_in value.now)) (found_at self.old at)) }

@@ -1,4 +1,4 @@
-//! Laws of papers. Each function states one in its contract, and does nothing.
+//! Laws of papers. Each function states one law in its `ensures`, and has an empty body.
 ghost use Rattle.papers.specs.Told.{TellingIsTame};
 ghost use Rattle.papers.specs.SetSizes.{SizeIsSet};
 ghost use Rattle.papers.specs.Found.{PapersAreFound};
@@ -9,20 +9,21 @@ pub fn telling_is_tame()
     ensures { TellingIsTame }
 {}
 
-/// Suppose that the page size was first set to the paper of any one sheet. Then each sheet has the page size of its
-/// own paper: either the last of its first lines sets this size, or the size that was set is printed alike.
+/// Suppose that the page size is that of any sheet's paper when a sheet begins. If the sheet has first lines, the last
+/// of them sets the page size of the sheet's own paper. If it has none, the two papers have the same printed size.
 pub fn size_is_set()
     ensures { SizeIsSet }
 {}
 
-/// If the output is read again, the paper of each sheet is found, with sides as they are printed. This holds for any
-/// papers with sides from 1 point to 99,999.99999 points, and any lines at the ends of sheets that begin nothing. The
+/// If the output is read again, the paper of each sheet is found, with sides as they are printed. This holds for 1 to
+/// 1,000,000 sheets whose papers have sides from 1 point to 99,999.99999 points. The lines at the end of a sheet must
+/// begin no part of a document, no data and no embedded document, and must not continue the comments at its head. The
 /// document's last page must leave no embedded document open, and the output must not be too long.
 pub fn papers_are_found()
     ensures { PapersAreFound }
 {}
 
-/// Each paper that is taken is covered by the paper that replaces it, so no page is cut.
+/// The paper that replaces a taken paper covers it, so no page is cut.
 pub fn nothing_is_cut()
     ensures { NothingIsCut }
 {}
@@ -32,12 +33,12 @@ pub fn near_are_one()
     ensures { NearAreOne }
 {}
 
-/// The paper that each kind is formed around is the largest of the papers that belong to no earlier kind.
+/// Each kind is formed around the largest of the papers that belong to no earlier kind.
 pub fn kinds_are_of_largest()
     ensures { KindsAreOfLargest }
 {}
 
-/// The paper that replaces a paper depends neither on the order of the pages nor on how often they are taken.
+/// The paper that replaces another depends neither on the order of the pages nor on how often they are taken.
 pub fn order_is_nothing()
     ensures { OrderIsNothing }
 {}

@@ -14,8 +14,8 @@ use dsc::{header_len, next_field, trailer_box};
 use lengths::{Grains, Paper};
 use paper_names::paper_by_name;
 
-/// Two sides that differ by at most 15 points count as equal, because programs round the sizes of one paper
-/// differently.
+/// The greatest difference, in grains, between two sides that count as equal: 15 points. Programs round the sizes of
+/// one paper differently.
 const NEARNESS: u128 = 15 * 127_000_000_000;
 
 /// The comment, or the setup, that gives a document's paper.
@@ -27,7 +27,7 @@ pub enum Comment {
     DocumentPaperSizes,
     /// The first `%%BoundingBox:`.
     BoundingBox,
-    /// No comment. The setup asks for the paper, with the first `/PageSize [width height]` before the first page.
+    /// No comment, but the setup: the first `/PageSize [width height]` before the first page.
     Setup,
 }
 
@@ -37,7 +37,7 @@ pub enum Comment {
 /// 1. the width and height in the first `%%DocumentMedia:`;
 ///
 /// 2. the first known name in `%%DocumentPaperSizes:`. The paper is turned on its side if a `%%BoundingBox:` that
-/// begins at 0 0 has its sides exchanged, to 15 points;
+/// begins at 0 0 has the sides of this paper exchanged, to within 15 points;
 ///
 /// 3. `%%BoundingBox:`, as `paper_of_box` reads it. If its value is `(atend)`, the first `%%BoundingBox:` of the
 /// trailer counts. A text with a faulty data block has no trailer;
@@ -56,7 +56,7 @@ pub fn document_paper(text: &[u8], usual: &Paper) -> Option<(Paper, Comment)>
     }
 }
 
-/// The paper that the comments alone give, and which comment gives it. A box that doesn't begin at 0 0 must reach
+/// The paper that the comments alone give, and the comment that gives it. A box that doesn't begin at 0 0 must reach
 /// beyond the paper `usual`.
 pub(crate) fn document_told(text: &[u8], usual: &Paper) -> Option<(Paper, Comment)>
     ensures { result ≡ meaning.document_told usual.now text.now }
@@ -89,7 +89,7 @@ fn corner_paper(value: Option<&[u8]>) -> Option<Paper>
     box_paper(value?)
 }
 
-/// The paper, turned on its side if `told`, the paper of a box, has its sides exchanged.
+/// `paper`, turned on its side if `told`, the paper of a box, has the sides of `paper` exchanged, to within 15 points.
 fn lying_as(told: Option<Paper>, paper: Paper) -> Paper
     ensures { result ≡ meaning.lying_as told paper }
 {
@@ -99,7 +99,7 @@ fn lying_as(told: Option<Paper>, paper: Paper) -> Paper
     }
 }
 
-/// Whether one paper has the sides of the other exchanged, to 15 points.
+/// Whether one paper has the sides of the other exchanged, to within 15 points.
 fn has_exchanged_sides(told: &Paper, paper: &Paper) -> bool
     ensures { result ≡ (meaning.are_near told.now.width paper.now.height && meaning.are_near told.now.height paper.now.width) }
 {
@@ -172,7 +172,8 @@ pub(crate) fn box_of<'t>(header: &'t [u8], text: &'t [u8]) -> Option<&'t [u8]>
     box_or_last(value_of(header, b"%%BoundingBox", b"%%BoundingBox:")?, text)
 }
 
-/// The value of a box: this value from the header, or if it is `(atend)`, that of the trailer's first box.
+/// The value of a box: `value`, which is from the header, or the value of the trailer's first `%%BoundingBox:` if
+/// `value` is `(atend)`.
 #[tactic(auto, using(crate::proofs::Contents::trailer_box_is))]
 fn box_or_last<'t>(value: &'t [u8], text: &'t [u8]) -> Option<&'t [u8]>
     ensures { option_map (λ v. fields_in v.now) result
@@ -230,7 +231,7 @@ pub fn media_paper(value: &[u8]) -> Option<Paper>
 }
 
 /// The paper of a medium, from the text after its name: its width and its height in points; further fields aren't
-/// read.
+/// read. None if the sides can't be those of a paper.
 pub(crate) fn sides_paper(rest: &[u8]) -> Option<Paper>
     ensures { result ≡ meaning.sides_paper (fields_in rest.now) }
 {

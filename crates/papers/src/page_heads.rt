@@ -10,7 +10,7 @@ use crate::comments::value_after;
 use crate::fields::{name_and_rest, name_in};
 use dsc::{first_content, is_header, key_of, line_end_after};
 
-/// The text without its first line.
+/// The text after its first line.
 pub(crate) fn behind_first_line(text: &[u8]) -> &[u8]
     ensures { result.now ≡ drop (line_len text.now) text.now }
 {
@@ -58,7 +58,7 @@ pub(crate) fn value_in_head<'t>(text: &'t [u8], key: &[u8], with_colon: &[u8]) -
     text_in_head(text, key, with_colon)
 }
 
-/// The name of the medium in `%%PageMedia:`, among the comments at the start of the text.
+/// The name of the medium in `%%PageMedia:`, among the comments at the start of the text, as it is written.
 pub(crate) fn medium_name(text: &[u8]) -> Option<&[u8]>
     ensures { option_map (λ name. name_meant name.now) result ≡ medium_told (head_of (length text.now) text.now) }
 {
@@ -66,8 +66,8 @@ pub(crate) fn medium_name(text: &[u8]) -> Option<&[u8]>
     Some(name)
 }
 
-/// The name at the start of a comment's value, after blanks and without parentheses. None if the value has only
-/// blanks.
+/// The name at the start of a comment's value, after blanks, as it is written between its parentheses, if it has them.
+/// None if the value has only blanks.
 pub fn first_name(value: &[u8]) -> Option<&[u8]>
     ensures { option_map (λ name. name.now) result ≡ name_told value.now }
 {
@@ -75,8 +75,8 @@ pub fn first_name(value: &[u8]) -> Option<&[u8]>
     Some(name_in(name))
 }
 
-/// Whether a line with this content belongs to the comments after a page's first line. It must have the form of a
-/// comment. Of the keys that begin with `%%Begin`, only `%%BeginPageSetup` belongs to them.
+/// Whether a line with this content belongs to the comments after a page's first line. The line must have the form of
+/// a comment. If its key begins with `%%Begin`, the key must be `%%BeginPageSetup`.
 fn is_in_head(content: &[u8]) -> bool
     ensures { result ≡ is_in_head content.now }
 {

@@ -1,4 +1,4 @@
-//! Finds pages that reach beyond the papers with which they are placed.
+//! Finds pages that reach beyond the papers for which they are placed.
 ghost use Rattle.std.specs.Prelude.{◌≡◌, ◌<◌, ◌+ℤ◌, false, codes, get_or, int_lt, length, map, option_and_then, option_map, IfOk, IfSome, None, Some};
 ghost use Rattle.rules.specs.Parts.{bytes_of, pages};
 ghost use Rattle.dsc.specs.Fields.{fields_in};
@@ -44,7 +44,7 @@ fn edges_if(value: Option<&[u8]>) -> Option<Edges>
     edges_of(value?)
 }
 
-/// The pages of a document, with the papers with which they are placed.
+/// The pages of a document, each with the paper for which it is placed.
 #[derive(Clone, Copy)]
 pub struct PlacedPages<'p, 'd> {
     /// The document, which gives the box of each page: the page's own, or else the document's. The document's box
@@ -52,20 +52,20 @@ pub struct PlacedPages<'p, 'd> {
     pub document: &'p Document<'d>,
     /// For each page, whether it is taken for a sheet.
     pub taken: &'p [bool],
-    /// For each page, the paper with which it is placed.
+    /// For each page, the paper for which it is placed.
     pub papers: &'p [Paper],
     /// For each page, its own paper.
     pub own: &'p [Paper],
-    /// Whether pages that their papers cut are left out, because `cut_by` reports them.
+    /// Whether pages that their papers cut are left out, since `cut_by` reports them.
     pub cut_apart: bool,
 }
 
-/// The pages that reach beyond the papers with which they are placed.
+/// The pages that reach beyond the papers for which they are placed.
 #[derive(Clone, Copy)]
 pub struct Reach {
     /// The first of these pages, counted from 0.
     pub first: usize,
-    /// The paper with which the first of these pages is placed.
+    /// The paper for which the first of these pages is placed.
     pub paper: Paper,
     /// The edges to which the first of these pages reaches.
     pub edges: Edges,
@@ -73,8 +73,9 @@ pub struct Reach {
     pub pages: usize,
 }
 
-/// The taken pages that reach more than one point beyond the paper with which they are placed. If that paper cuts the
-/// page, its own paper shows how far it reaches; otherwise its box does. None if there are no such pages.
+/// The taken pages that reach more than one point beyond the paper for which they are placed. A page reaches as far as
+/// its box or, if the paper cuts the page, as far as its own paper. Cut pages are left out if `cut_apart` is true. None
+/// if there are no such pages.
 pub fn reach_beyond(pages: &PlacedPages<'_, '_>) -> Option<Reach>
     ensures { result ≡ meaning.reach_of (meaning.placing pages.now.taken.now pages.now.own.now
         (meaning.page_boxes (bytes_of pages.now.document.now) pages.now.document.now) pages.now.cut_apart) pages.now.papers.now }
@@ -98,7 +99,7 @@ fn reach_with(pages: &PlacedPages<'_, '_>, other: Option<&[u8]>) -> Option<Reach
     reach
 }
 
-/// The pages found so far, and also this page if its edges are beyond its paper.
+/// The pages found so far, and page `page` as well if its edges are beyond its paper.
 fn with_if_beyond(
     reach: Option<Reach>,
     page: usize,
@@ -116,7 +117,7 @@ fn with_if_beyond(
     }
 }
 
-/// The pages found so far, and also this page.
+/// The pages found so far, and page `page`.
 fn with_reaching_page(reach: Option<Reach>, page: usize, paper: &Paper, edges: Edges) -> Reach
     requires few { IfSome reach (λ r. r.pages < usize.MAX) }
     ensures { result ≡ meaning.with_reaching_page reach (page, paper.now, edges) }
@@ -158,7 +159,7 @@ fn extent_at(
     }
 }
 
-/// Whether the page with this number is taken.
+/// Whether this page, counted from 0, is taken.
 fn is_taken(taken: &[bool], page: usize) -> bool
     ensures { result ≡ get_or taken.now page false }
 {
@@ -168,7 +169,7 @@ fn is_taken(taken: &[bool], page: usize) -> bool
     }
 }
 
-/// The own paper of the page with this number, or `other` if there is no such page.
+/// The own paper of this page, counted from 0, or `other` if there is no such page.
 fn own_at(own: &[Paper], page: usize, other: &Paper) -> Paper
     ensures { result ≡ get_or own.now page other.now }
 {
@@ -178,7 +179,7 @@ fn own_at(own: &[Paper], page: usize, other: &Paper) -> Paper
     }
 }
 
-/// The box of the page with this number. None if it has no box, or if there is no such page.
+/// The box of this page, counted from 0. None if the page has no box, or if there is no such page.
 fn box_at(document: &Document<'_>, other: Option<&[u8]>, page: usize) -> Option<Edges>
     ensures { result
         ≡ get_or (meaning.boxes_or (option_map (λ v. fields_in v.now) other.entry) document.now) page None }
@@ -202,10 +203,10 @@ fn paper_edges(paper: &Paper) -> Option<Edges>
     })
 }
 
-/// A page may reach this number of grains, which is one point, beyond its paper, because sizes are rounded.
+/// The number of grains in one point. A page may reach one point beyond its paper, because sizes are rounded.
 const ROUNDING: i128 = 127_000_000_000;
 
-/// Whether an edge is beyond a paper by more than one point.
+/// Whether an edge lies outside a paper by more than one point.
 fn is_beyond(paper: &Paper, edges: &Edges) -> bool
     ensures { result ≡ meaning.is_beyond paper.now edges.now }
 {
@@ -213,7 +214,7 @@ fn is_beyond(paper: &Paper, edges: &Edges) -> bool
         || (is_past(paper.width(), edges.right.get()) || is_past(paper.height(), edges.top.get()))
 }
 
-/// Whether a place, in grains, is past this length by more than one point.
+/// Whether the coordinate `grains` lies more than one point past `length`.
 fn is_past(length: Grains, grains: i128) -> bool
     ensures { result ≡ int_lt (length +ℤ meaning.rounding) grains }
 {

@@ -35,21 +35,22 @@ pub(crate) fn set_size(text: &[u8]) -> Option<Paper>
     None
 }
 
-/// Whether a line with this content begins a page, as a `%%Page:` line does.
+/// Whether a line with this content is a `%%Page:` line.
 fn begins_page(content: &[u8]) -> bool
     ensures { result ≡ is_comment (codes "%%Page") content.now }
 {
     comment_value(content, b"%%Page", b"%%Page:").is_some()
 }
 
-/// The paper that a line asks for: two numbers of points in brackets, directly after the line's first `/PageSize`.
+/// The paper that a line asks for: its width and its height in points, in brackets after the line's first `/PageSize`.
 fn size_asked(content: &[u8]) -> Option<Paper>
     ensures { result ≡ meaning.size_asked content.now }
 {
     size_behind(behind_key(content)?)
 }
 
-/// The paper in brackets at the start of this text, which follows `/PageSize`. Blanks may be before the brackets.
+/// The paper in brackets at the start of this text, which follows `/PageSize`. Blanks may come before the opening
+/// bracket.
 fn size_behind(text: &[u8]) -> Option<Paper>
     ensures { result ≡ meaning.size_behind text.now }
 {
@@ -72,7 +73,8 @@ fn behind_key(content: &[u8]) -> Option<&[u8]>
     None
 }
 
-/// The text between the brackets at the start of this text.
+/// The text after the opening bracket at the start of this text, up to the first closing bracket or the end. None if
+/// this text doesn't begin with an opening bracket.
 fn in_brackets(text: &[u8]) -> Option<&[u8]>
     ensures { option_map (λ inside. inside.now) result ≡ meaning.in_brackets text.now }
 {
@@ -84,7 +86,7 @@ fn in_brackets(text: &[u8]) -> Option<&[u8]>
     Some(inside)
 }
 
-/// The length of the text before the first closing bracket.
+/// The length of the text before the first closing bracket, or of the whole text if it has none.
 fn open_len(text: &[u8]) -> usize
     ensures value { result ≡ meaning.open_len text.now }
     ensures within { result ≤ length text.now }
@@ -92,7 +94,8 @@ fn open_len(text: &[u8]) -> usize
     text.iter().take_while(|b| **b != b']').count()
 }
 
-/// The paper whose width and height are the two fields of this text. None if it has more or fewer fields.
+/// The paper whose width and height are the two fields of this text. None if it has more or fewer fields, or if they
+/// can't be the sides of a paper.
 fn two_sides(inside: &[u8]) -> Option<Paper>
     ensures { result ≡ meaning.two_sides (fields_in inside.now) }
 {

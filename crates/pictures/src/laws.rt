@@ -44,8 +44,8 @@ pub fn sheets_are_printed()
     ensures { SheetsArePrinted }
 {}
 
-/// If a text that ends between tokens is followed by another text, the tokens of both together are those of the first,
-/// followed by those of the second.
+/// If a text that ends between tokens is followed by another text, the tokens of both are the tokens of the first,
+/// followed by the tokens of the second.
 pub fn tokens_join()
     ensures { TokensJoin }
 {}
@@ -62,12 +62,13 @@ pub fn output_is_printed()
 {}
 
 /// To read a point through a placed transformation, first read it through the picture's own matrices, and then through
-/// those of the place.
+/// the matrices of the place.
 pub fn reading_follows()
     ensures { ReadingFollows }
 {}
 
-/// A point of a page with whole coordinates is read on the sheet where the specification's item puts it.
+/// A point of a page, if its coordinates are whole numbers, is read on the sheet at the point where the specification's
+/// item puts it.
 pub fn points_are_put()
     ensures { PointsArePut }
 {}
@@ -100,13 +101,14 @@ pub fn places_compose()
     ensures { PlacesCompose }
 {}
 
-/// The prepared body of a page has the same tokens as the whole page, if each dropped line begins between tokens.
+/// The prepared body of a page has the same tokens as the whole page, if the page ends between tokens and each dropped
+/// line begins between tokens.
 pub fn kept_runs_alike()
     ensures { KeptRunsAlike }
 {}
 
-/// The preamble of an output has the same tokens as the document's preamble, if its first line ends between tokens,
-/// and each dropped line begins between tokens.
+/// Suppose that the preamble of a document and its first line end between tokens, and that each dropped line begins
+/// between tokens. Then the preamble of an output has the same tokens as the document's preamble.
 pub fn preamble_runs_alike()
     ensures { PreambleRunsAlike }
 {}
@@ -144,13 +146,13 @@ pub fn device_is_handed()
     ensures { DeviceIsHanded }
 {}
 
-/// After the text of the guard, each name of a paper that was defined means a procedure that does nothing. A name of a
-/// paper that wasn't defined stays undefined.
+/// After the text of the guard, each paper name that was defined before means a procedure that does nothing. A paper
+/// name that wasn't defined stays undefined.
 pub fn papers_are_left()
     ensures { PapersAreLeft }
 {}
 
-/// With the guard, a page that names a paper paints the same as without the name, both by itself and in its place.
+/// With the guard, a page that names a paper paints the same picture as without the name, by itself and in its place.
 pub fn paper_is_nothing()
     ensures { PaperIsNothing }
 {}
@@ -160,8 +162,8 @@ pub fn showpage_stays_a_name()
     ensures { ShowpageStaysAName }
 {}
 
-/// The guard's `showpage` does nothing in a placed page, and prints the sheet elsewhere. This is also so if it was
-/// loaded into another name.
+/// The guard's `showpage` does nothing in a placed page, and prints the sheet elsewhere. It does the same under another
+/// name, if a program has loaded it and stored it under that name.
 pub fn loaded_showpage()
     ensures { LoadedShowpage }
 {}
@@ -176,13 +178,14 @@ pub fn default_is_the_pages()
     ensures { DefaultIsThePages }
 {}
 
-/// The guard's procedure `ImposeClip` clips to the outline of the page and to the outlines of all pages around it.
+/// The guard's procedure `ImposeClip` clips to the outline of the page, and to the outlines of all pages in which this
+/// page is placed.
 pub fn outer_is_kept()
     ensures { OuterIsKept }
 {}
 
-/// With the guard, `initclip` clips to the outline of the page and to the outlines of all pages around it, and to
-/// nothing else.
+/// With the guard, `initclip` clips to the outline of the page, to the outlines of all pages in which this page is
+/// placed, and to nothing else.
 pub fn clip_is_the_pages()
     ensures { ClipIsThePages }
 {}
@@ -198,8 +201,8 @@ pub fn save_saves()
     ensures { SaveSaves }
 {}
 
-/// If a dictionary has a `showpage` of its own, the guard replaces it where a page begins. The new procedure looks up
-/// the `showpage` of userdict.
+/// If a dictionary has a `showpage` of its own, the guard replaces this `showpage` where a page begins. The new
+/// procedure looks up the `showpage` of userdict.
 pub fn asks_userdict()
     ensures { AsksUserdict }
 {}
@@ -215,13 +218,14 @@ pub fn page_begins()
     ensures { PageBegins }
 {}
 
-/// What a page does by itself, the machine with the guard's procedures does in the page's place.
+/// Suppose that a page goes from one state to another by itself. Then the machine with the guard's procedures goes from
+/// the placed first state to the placed second state.
 pub fn shelter_commutes()
     ensures { ShelterCommutes }
 {}
 
 /// For a page by itself, the guard's `initgraphics`, `initclip`, `initmatrix` and `defaultmatrix` have the effect that
-/// the operators have for a page that isn't placed. Its `initclip` also makes a matrix.
+/// the operators of these names have for a page that isn't placed. The guard's `initclip` also makes a matrix.
 pub fn by_itself_as_the_operators()
     ensures { ByItselfAsTheOperators }
 {}
@@ -252,8 +256,8 @@ pub fn stays_guarded()
     ensures { StaysGuarded }
 {}
 
-/// A machine that runs what impose makes of a document by a specification prints, sheet by sheet, the pictures that
-/// the pages paint by themselves, each in its place.
+/// Take the output of impose for a document and a specification. A machine that runs it prints, sheet by sheet, the
+/// pictures that the pages paint by themselves, each in its place.
 pub fn guarded_document_is_shown()
     ensures { GuardedDocumentIsShown }
 {}
@@ -263,19 +267,19 @@ pub fn one_paper_is_told_as_one()
     ensures { OnePaperIsToldAsOne }
 {}
 
-/// If sheets are reported as having one paper, the lines that report it are comments.
+/// If all sheets are reported as having one paper, the lines that report this paper are comments.
 pub fn telling_is_quiet()
     ensures { TellingIsQuiet }
 {}
 
-/// A machine that runs what impose makes of a document in any layout prints the pictures that the document's pages
+/// A machine that runs the output of impose for a document and any layout prints the pictures that the document's pages
 /// paint by themselves, each in its place. The sheets must be reported as having one paper.
 pub fn made_document_is_shown()
     ensures { MadeDocumentIsShown }
 {}
 
-/// If a document has a `showpage` of its own in a dictionary on the stack, its placed pages paint on the sheet the
-/// pictures that they paint by themselves, each in its place.
+/// Suppose that a document has a `showpage` of its own in a dictionary on the stack. Then its placed pages paint on the
+/// sheet the pictures that they paint by themselves, each in its place.
 pub fn own_page_is_placed()
     ensures { OwnPageIsPlaced }
 {}
@@ -286,14 +290,15 @@ pub fn own_sheets_are_printed()
     ensures { OwnSheetsArePrinted }
 {}
 
-/// A machine that runs what impose makes, by a specification, of a document with a `showpage` of its own prints, sheet
-/// by sheet, the pictures that the pages paint by themselves, each in its place. The first sheet must have a page.
+/// Take the output of impose for a specification and a document with a `showpage` of its own. A machine that runs it
+/// prints, sheet by sheet, the pictures that the pages paint by themselves, each in its place. The first sheet must
+/// have a page.
 pub fn own_showpage_is_shown()
     ensures { OwnShowpageIsShown }
 {}
 
-/// What `own_showpage_is_shown` says of specifications holds for any layout whose sheets are reported as having one
-/// paper.
+/// The law `own_showpage_is_shown` holds not only for specifications, but also for any layout whose sheets are reported
+/// as having one paper.
 pub fn own_made_document_is_shown()
     ensures { OwnMadeDocumentIsShown }
 {}
@@ -315,15 +320,15 @@ pub fn silenced_sheets_are_printed()
     ensures { SilencedSheetsArePrinted }
 {}
 
-/// A machine that runs what impose makes, by a specification, of a document that leaves the `showpage` of userdict
-/// empty prints, sheet by sheet, the pictures that the pages paint by themselves, each in its place. The first sheet
-/// must have a page.
+/// Take the output of impose for a specification and a document that leaves the `showpage` of userdict empty. A machine
+/// that runs it prints, sheet by sheet, the pictures that the pages paint by themselves, each in its place. The first
+/// sheet must have a page.
 pub fn silenced_document_is_shown()
     ensures { SilencedDocumentIsShown }
 {}
 
-/// What `silenced_document_is_shown` says of specifications holds for any layout whose sheets are reported as having
-/// one paper.
+/// The law `silenced_document_is_shown` holds not only for specifications, but also for any layout whose sheets are
+/// reported as having one paper.
 pub fn silenced_made_document_is_shown()
     ensures { SilencedMadeDocumentIsShown }
 {}
@@ -333,46 +338,48 @@ pub fn guard_takes_sheets()
     ensures { GuardTakesSheets }
 {}
 
-/// A state in which sheets can be placed as pages stays such a state if a name is defined that the guard and the
-/// sheets don't need.
+/// If sheets can be placed as pages in some state, they can still be placed after the definition of a name that neither
+/// the guard nor the sheets need.
 pub fn stays_taking_sheets()
     ensures { StaysTakingSheets }
 {}
 
-/// A sheet of another document that is placed as a page paints its own picture, in its place.
+/// If a sheet of another document is placed as a page, it paints its own picture, in its place.
 pub fn sheet_is_placed()
     ensures { SheetIsPlaced }
 {}
 
-/// The picture of a sheet that is placed as a page consists of the pictures of the sheet's pages. Each of them is in
-/// its place on that sheet and in the sheet's place, combined.
+/// The picture of a sheet that is placed as a page consists of the pictures of the sheet's pages. The place of each is
+/// its place on that sheet, combined with the sheet's place.
 pub fn sheet_is_composed()
     ensures { SheetIsComposed }
 {}
 
-/// If the sheets of one run are imposed again, each new sheet is printed with the pictures of its sheets in their
-/// places.
+/// If the sheets of one run are imposed again, each new sheet is printed with the pictures of the old sheets on it,
+/// each in its place.
 pub fn sheets_of_sheets_are_printed()
     ensures { SheetsOfSheetsArePrinted }
 {}
 
-/// A machine that runs what impose makes of the output of an earlier run prints the sheets of the earlier run, each in
-/// its place. Both runs are those of specifications.
+/// A machine that runs the output of impose for the output of an earlier run prints the sheets of the earlier run, each
+/// in its place. Both runs use specifications.
 pub fn two_runs_are_shown()
     ensures { TwoRunsAreShown }
 {}
 
-/// What `two_runs_are_shown` says of specifications also holds for runs with any layouts that add only comments.
+/// The law `two_runs_are_shown` holds not only for specifications, but also for any layouts, if both runs add only
+/// comments to their sheets.
 pub fn two_made_runs_are_shown()
     ensures { TwoMadeRunsAreShown }
 {}
 
-/// If sheets can be placed as pages in some state, they can also be placed within a page that begins there.
+/// If sheets can be placed as pages in some state, they can also be placed within a page that begins in this state.
 pub fn sheets_are_taken_within()
     ensures { SheetsAreTakenWithin }
 {}
 
-/// If pages are imposed any number of times, each sheet is printed with the pictures of its sheets in their places.
+/// If pages are imposed any number of times, each sheet of the last output is printed with the pictures of the sheets
+/// on it, each in its place.
 pub fn nests_are_printed()
     ensures { NestsArePrinted }
 {}
