@@ -11,8 +11,8 @@ use sheet_plan::MadeSheets;
 use sheet_text::{Numbers, SheetExtras};
 use std::alloc::{AllocError, Global};
 
-/// The dress of an output of these sheets: the lines that it has besides its pages. They report the papers of the sheets. At the end of each sheet
-/// they draw the strokes and then the page numbers. Refused for lack of memory, and for 2^32 sheets or more.
+/// The dress of an output with these sheets: the lines that the output has besides its pages. They report the papers of the sheets, and draw the
+/// strokes and then the page numbers at the end of each sheet. Fails if memory is refused, or if there are 2^32 sheets or more.
 pub fn dress_of(
     alloc: Global,
     sheets: &MadeSheets,

@@ -1,21 +1,22 @@
-//! Laws of the marks, the lines for notes and the page numbers. Each contract is a law; the functions do nothing.
+//! Laws of the marks, the lines for notes and the page numbers. Each function states one law in its `ensures`, and has an empty body.
 ghost use Rattle.dressing.specs.Between.{FoldMarksAreOnFold, MarksAreBetween};
 ghost use Rattle.dressing.specs.Laws.{DrawnIsTame, LinesAreBeside, LinesAreInCell, MarksAreInMargin, MarksAreOutside, MarksMissPages, PiecesAreLike};
 ghost use Rattle.dressing.specs.AtFoot.{NumbersAreAtFoot};
 ghost use Rattle.dressing.specs.Numbered.{NoMarksAreTelling};
 ghost use Rattle.dressing.specs.Quiet.{DrawnAreFound, DrawnIsQuiet};
 
-/// If a sheet is cut along all lines that run in one direction, its pieces are equally wide.
+/// If a sheet is cut along all lines that run in one direction, its pieces are equally wide. The margin before the first cell must have room for half
+/// a gap.
 pub fn pieces_are_like()
     ensures { PiecesAreLike }
 {}
 
-/// Marks lie at both ends of lines that run midway between cells, or half a gap outside the outer cells.
+/// If cells have a width and a height, marks lie at both ends of lines that run midway between cells, or half a gap outside the outer cells.
 pub fn marks_are_between()
     ensures { MarksAreBetween }
 {}
 
-/// The fold marks of a booklet lie on its fold.
+/// The fold marks of a booklet lie on its fold. If pages are trimmed, the marks lie half of 10^-5 of a point below the fold.
 pub fn fold_marks_are_on_fold()
     ensures { FoldMarksAreOnFold }
 {}
@@ -30,7 +31,7 @@ pub fn marks_miss_pages()
     ensures { MarksMissPages }
 {}
 
-/// If a sheet has margins, all marks lie in them.
+/// If a sheet has margins along all four edges, all marks lie in them.
 pub fn marks_are_in_margin()
     ensures { MarksAreInMargin }
 {}
@@ -45,12 +46,12 @@ pub fn lines_are_beside()
     ensures { LinesAreBeside }
 {}
 
-/// If a page is in the middle of its cell, its number is at the foot of the cell, in the middle.
+/// If a page is centred in its cell, its number is centred at the foot of the cell.
 pub fn numbers_are_at_foot()
     ensures { NumbersAreAtFoot }
 {}
 
-/// The lines that draw marks and numbers begin no page, data or embedded document, so sheets that have them can be imposed again.
+/// The lines that draw marks and numbers begin no page, data or embedded document, so sheets with such lines can be imposed again.
 pub fn drawn_is_tame()
     ensures { DrawnIsTame }
 {}
@@ -61,7 +62,8 @@ pub fn drawn_is_quiet()
 {}
 
 /// In an output whose sheets report their papers, the paper of each sheet is found again, as it is printed, whatever is drawn on the sheets. The
-/// output must have at least one sheet and be within the limits of an input, and the last page of the document must leave no embedded document open.
+/// sides of the papers must be from 1 point to 99,999.99999 points. The output must have at least one sheet and be within the limits of an input, and
+/// the last page of the document must leave no embedded document open.
 pub fn drawn_are_found()
     ensures { DrawnAreFound }
 {}

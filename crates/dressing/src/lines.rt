@@ -8,7 +8,8 @@ use lengths::{Grains, print_points};
 use sheet_text::Lines;
 use std::alloc::{AllocError, Global};
 
-/// The PostScript lines that draw these strokes, one line for each; none if there are no strokes.
+/// The PostScript lines that draw these strokes: one line for each, after a line that sets their style and before one that restores the old style.
+/// Without strokes there are no lines.
 pub fn mark_lines(alloc: Global, strokes: &[Stroke]) -> Result<Lines, AllocError>
     ensures { IfOk result (λ lines. lines ≡ lines_of strokes.now) }
 {

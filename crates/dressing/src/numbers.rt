@@ -6,6 +6,6 @@ use lengths::Grains;
 pub struct Numbering {
     /// The size of the font, in grains.
     pub size: Grains,
-    /// The number of the row's first page.
+    /// The number to print on the row's first page. The following pages count on from it.
     pub first: u32,
 }

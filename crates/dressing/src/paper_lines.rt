@@ -13,7 +13,7 @@ use papers::smallest_cover;
 use sheet_text::Lines;
 use std::alloc::{AllocError, Global};
 
-/// The header lines that report these papers: none without papers, one medium for a single paper, and one medium for each of several.
+/// The header lines that report these papers, with a medium for each paper. Without papers there are no lines.
 pub(crate) fn header_lines(alloc: Global, told: &[Paper]) -> Result<Lines, AllocError>
     ensures { IfOk result (λ lines. lines ≡ (telling_of told.now).header) }
 {
@@ -55,7 +55,7 @@ fn push_others(alloc: Global, lines: &mut Lines, others: &[Paper]) -> Result<(),
     Ok(())
 }
 
-/// The smallest paper that covers all of these.
+/// The smallest paper that covers all of these papers.
 fn covering_all(first: &Paper, others: &[Paper]) -> Paper
     ensures { result ≡ fold covering_paper first.now others.now }
 {
@@ -66,8 +66,8 @@ fn covering_all(first: &Paper, others: &[Paper]) -> Paper
     large
 }
 
-/// Adds the `%%BoundingBox:` line of a paper, in whole points. If a side isn't a whole number of points, the exact `%%HiResBoundingBox:` line
-/// follows.
+/// Adds the `%%BoundingBox:` line of a paper, in whole points. If a printed side isn't a whole number of points, the `%%HiResBoundingBox:` line with
+/// the printed sides follows.
 fn push_boxes(alloc: Global, lines: &mut Lines, paper: &Paper) -> Result<(), AllocError>
     ensures { OnOk result (lines.new ≡ lines.old ++ box_lines paper.now) }
 {
@@ -89,7 +89,7 @@ fn push_box(alloc: Global, lines: &mut Lines, paper: &Paper) -> Result<(), Alloc
     Ok(())
 }
 
-/// Adds the `%%HiResBoundingBox:` line of a paper, with its exact sides in points.
+/// Adds the `%%HiResBoundingBox:` line of a paper, with its sides in points, printed with up to five decimals.
 fn push_exact_box(alloc: Global, lines: &mut Lines, paper: &Paper) -> Result<(), AllocError>
     ensures { OnOk result (lines.new ≡ lines.old ++ exact_box_line paper.now ∷ []) }
 {
@@ -107,7 +107,7 @@ fn is_in_whole_points(paper: &Paper) -> bool
     printed_parts(paper.width()) % 100_000 == 0 && printed_parts(paper.height()) % 100_000 == 0
 }
 
-/// The side, as it is printed, rounded up to whole points, in grains.
+/// The printed side, rounded up to whole points. The result is in grains.
 fn whole_up(side: Grains) -> i128
     requires { IsTrue (is_side side) }
     ensures value { result ≡ up_to_whole side }
@@ -155,7 +155,8 @@ fn push_continued(alloc: Global, lines: &mut Lines, paper: &Paper) -> Result<(),
     Ok(())
 }
 
-/// Appends the rest of a medium's line, after its name: the sides in points, the weight 0, and an empty colour and type, which stand for unknown.
+/// Appends the end of a medium's line, after the medium's name: the sides in points, the weight 0, an empty colour and an empty type. An empty colour
+/// or type means that it is unknown.
 fn append_medium_sides(line: &mut Vec<u8>, paper: &Paper) -> Result<(), AllocError>
     ensures { OnOk result (line.new.items ≡ line.old.items ++ medium_text [] paper.now) }
 {

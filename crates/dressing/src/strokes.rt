@@ -11,7 +11,7 @@ use layouts::{Grid, HUNDRED_THOUSANDTH, Room, from_far, gap_at, grains, in_grain
 use lengths::Grains;
 use std::alloc::{AllocError, Global};
 
-/// The marks that are requested: for folding, for cutting, lines for notes, and page numbers.
+/// The marks that are requested: marks for folding, marks for cutting, lines for notes, and page numbers.
 #[derive(Clone, Copy, Debug, PartialEq, Eq)]
 pub struct Marks {
     pub fold: bool,
@@ -30,7 +30,7 @@ pub struct Stroke {
 /// The greatest length of a mark, in 10^-5 of a point: 18 points.
 const LONGEST: u64 = 1_800_000;
 
-/// Marks for cutting a sheet between its cells, and also around the outer cells if all margins have room for half a gap.
+/// Marks for cutting a sheet between its cells. If no margin is 0 and each has room for half a gap, there are marks around the outer cells, too.
 pub fn cut_marks(alloc: Global, room: &Room, grid: Grid) -> Result<Vec<Stroke>, AllocError>
     ensures { IfOk result (λ strokes. strokes.items ≡ cut_of room.now grid) }
 {
@@ -40,7 +40,8 @@ pub fn cut_marks(alloc: Global, room: &Room, grid: Grid) -> Result<Vec<Stroke>, 
     Ok(strokes)
 }
 
-/// Marks for cutting around the outer cells of a sheet that is folded between its cells. There are none unless all margins have room for half a gap.
+/// Marks for cutting around the outer cells of a sheet that is folded between its cells. There are none if a margin is 0 or has no room for half a
+/// gap.
 pub fn outer_cut_marks(alloc: Global, room: &Room, grid: Grid) -> Result<Vec<Stroke>, AllocError>
     ensures { IfOk result (λ strokes. strokes.items ≡ outer_cut_of room.now grid) }
 {
@@ -67,7 +68,7 @@ fn push_between(room: &Room, grid: Grid, strokes: &mut Vec<Stroke>) -> Result<()
     Ok(())
 }
 
-/// Adds the marks around the outer cells, if all margins have room for half a gap.
+/// Adds the marks around the outer cells, unless a margin is 0 or has no room for half a gap.
 fn push_round_if_room(room: &Room, grid: Grid, strokes: &mut Vec<Stroke>) -> Result<(), AllocError>
     ensures { OnOk result (strokes.new.items ≡ strokes.old.items ++ outer_cut_of room.now grid) }
 {
@@ -106,7 +107,7 @@ fn push_level_round(room: &Room, parts: u32, strokes: &mut Vec<Stroke>) -> Resul
     Ok(())
 }
 
-/// Whether the margins at all four edges have room for half a gap.
+/// Whether no margin is 0 and each has room for half a gap.
 fn has_room_round(room: &Room) -> bool
     ensures { result ≡ round_has_room room.now }
 {
@@ -151,7 +152,7 @@ fn push_level_between(room: &Room, parts: u32, strokes: &mut Vec<Stroke>) -> Res
 }
 
 /// Adds the marks at both ends of the upright line to the left of column k, counted from 0. If k is the number of columns, the line is to the right
-/// of the last one.
+/// of the last column.
 fn push_upright(
     room: &Room,
     parts: u32,
@@ -175,7 +176,7 @@ fn push_upright(
 }
 
 /// Adds the marks at both ends of the level line below row k, counted from 0 at the bottom. If k is the number of rows, the line is above the last
-/// one.
+/// row.
 fn push_level(room: &Room, parts: u32, k: u32, strokes: &mut Vec<Stroke>) -> Result<(), AllocError>
     requires some { 0 < parts }
     requires part { k ≤ parts }
@@ -193,8 +194,8 @@ fn push_level(room: &Room, parts: u32, k: u32, strokes: &mut Vec<Stroke>) -> Res
     Ok(())
 }
 
-/// How far from the edge of the sheet marks end, in grains. They end at the inner end of this margin, whose width is in 10^-5 of a point. Without a
-/// margin they end 18 points from the edge.
+/// The distance, in grains, from an edge of the sheet to the inner ends of its marks. It is the width `edge` of the margin, which is given in 10^-5
+/// of a point, or 18 points without a margin.
 fn far_end(edge: u64) -> Grains
     requires { edge ≤ 10_000_000_000 }
     ensures value { result ≡ pos (far_of edge) }
@@ -207,7 +208,8 @@ fn far_end(edge: u64) -> Grains
     }
 }
 
-/// How far from the edge of the sheet marks begin, in grains. They begin 18 points nearer to the edge than they end, or at the edge if that is less.
+/// The distance, in grains, from an edge of the sheet to the outer ends of its marks. It is 18 points less than `far_end`, or 0 if `far_end` is below
+/// 18 points.
 fn near_end(edge: u64) -> Grains
     requires { edge ≤ 10_000_000_000 }
     ensures value { result ≡ pos (near_of edge) }

@@ -16,8 +16,8 @@ struct Size {
     height: i128,
 }
 
-/// The papers that these sheets report, each printed size once, in the order of its first sheet. Refused for lack of memory, and for 2^32 sheets or
-/// more.
+/// The papers that these sheets report, one for each printed size, in the order of the first sheets that have them. Fails if memory is refused, or if
+/// there are 2^32 sheets or more.
 pub fn reported_papers(alloc: Global, sheets: &MadeSheets) -> Result<Vec<Paper>, AllocError>
     ensures { IfOk result (λ told. told.items ≡ papers_told (papers_of sheets.now)) }
 {
@@ -51,7 +51,7 @@ fn add_paper(
     Ok(())
 }
 
-/// The sides of a paper as they are printed.
+/// The sides of a paper as they are printed, in whole 10^-5 of a point.
 fn size_in_print(paper: &Paper) -> Size
     ensures { result ≡ size_of paper.now }
 {
@@ -70,7 +70,7 @@ pub(crate) fn printed_parts(side: Grains) -> u128
     in_print(side).unsigned_abs()
 }
 
-/// The side in whole 10^-5 of a point, rounded to the nearest whole number; halves are rounded away from zero.
+/// The side in whole 10^-5 of a point, rounded to the nearest whole number, half away from zero.
 fn in_print(side: Grains) -> i128
     requires { IsTrue (is_side side) }
     ensures value { result ≡ printed side }

@@ -20,10 +20,10 @@ impl<'s> GatherTable<'s> {
     /// Makes a table for a plan, and the seat that has all its shares. Blank slots are marked from the start, and
     /// groups that have only blank slots are closed. Fails only if memory is refused.
     ///
-    /// The table has one word for the index of each page. The bits of a sheet of up to 64 slots are side by side in
-    /// one word; they are its lane. A lane takes the next free bits of the current word if there are enough, and
-    /// otherwise the first bits of the next word. A wide sheet has words of its own after the lanes: a closing word,
-    /// and then one word for each group.
+    /// The table has one word for the index of each page. A sheet of up to 64 slots has a lane: adjacent bits of one
+    /// word. A lane takes the next free bits of the current word if there are enough, and otherwise the first bits of
+    /// the next word. A wide sheet has words of its own after the lanes: a closing word, and then one word for each
+    /// group.
     pub fn new(alloc: Global, plan: &Plan<'s>) -> Result<(GatherTable<'s>, Seat), AllocError>
         ensures layout { IfOk result (λ made. made.0.layout ≡ layout plan.now) }
         ensures seat { IfOk result (λ made. made.1 ≡ opening_seat made.0) }
@@ -79,8 +79,8 @@ fn lane_words(plan: &Plan) -> u32
     next.word + 1
 }
 
-/// The lane of the next sheet, which needs `count` bits. It begins at `next` if that word has enough bits left, and
-/// otherwise at the first bit of the next word.
+/// The lane of the next sheet, which needs `count` bits. It begins at `next` if the word of `next` has enough bits
+/// left, and otherwise at the first bit of the following word.
 fn fit(next: Lane, count: u8) -> Lane
     requires { (next.first ≤ 64) × (count ≤ 64) × (next.word < most_sheets) }
     ensures { result ≡ lane_for next count }
@@ -105,7 +105,7 @@ fn lane_width(slots: u16) -> u8
 }
 
 /// The number of words that a sheet with this many slots has for itself. A wide sheet has a closing word and one word
-/// for each group. Any other sheet has none.
+/// for each group. A sheet that isn't wide has none.
 fn own_words(slots: u16) -> u32
     requires { slots ≤ most_slots }
     ensures { result ≡ (if nat_lt 64 slots then 1 + (slots + 63) / 64 else 0) }
@@ -116,8 +116,8 @@ fn own_words(slots: u16) -> u32
     0
 }
 
-/// The place of a sheet's bits. `lane` is the lane that it has if it isn't wide. `wide` is the next word after those
-/// of the earlier wide sheets.
+/// The place of a sheet with `slots` slots, in a table for `pages` pages. `lane` is the sheet's lane; it is ignored if
+/// the sheet is wide. `wide` is the first word after the words of the earlier wide sheets.
 fn home_at(slots: u16, pages: u32, lane: Lane, wide: u32) -> Home
     requires { (pages ≤ most_pages) × (lane.word ≤ most_sheets) }
     ensures { result ≡ (if nat_lt 64 slots then record { slots = slots; word = wide; first = 0 }

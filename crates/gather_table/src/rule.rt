@@ -1,10 +1,10 @@
-//! What a seat knows, and the rule that every step of the table keeps.
+//! The knowledge of a seat, and the rule that every step of the table keeps.
 use atomic_table::TableRule;
 use sheet_plan::Plan;
 use std::marker::Model;
 
-/// What a seat knows: a history that its caller has seen, and the caller's own calls in it. Only contracts use this
-/// type; no value of it is ever made.
+/// The knowledge of a seat: a history that its caller has seen, and the caller's own calls in this history. Only
+/// contracts use this type; no value of it is ever made.
 pub struct SeatKnowledge {
     nothing: (),
 }

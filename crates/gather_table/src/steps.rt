@@ -1,4 +1,4 @@
-//! What a seat learns from each step of the table, and how seats are split and joined.
+//! Says what a seat learns from each step of the table, and how seats are split and joined.
 use crate::rule::SeatKnowledge;
 use atomic_table::{Join, Play, Split};
 use std::marker::{Brand, PhantomData};
@@ -21,8 +21,8 @@ impl Play<(), SeatKnowledge> for Finds {
     ghost then = { finds };
 }
 
-/// A ghost parameter, which the proof of each call chooses: the call that a step is, given the word that it finds. It
-/// has no code.
+/// A ghost parameter that the proof of each call chooses: the call that a step makes, depending on the word that the
+/// step finds. The trait has no code.
 pub trait StepIs {
     ghost use Rattle.std.specs.Prelude.{ℕ};
     ghost use Rattle.gather_table.specs.History.{Entry};
@@ -68,8 +68,8 @@ impl Play<(), SeatKnowledge> for Learns {
     ghost then = { learns };
 }
 
-/// A ghost parameter, which the proof of each call chooses: for a seat that becomes two, the places of each one's own
-/// calls, and the share of the second. It has no code.
+/// A ghost parameter that the proof of each call chooses, for a seat that is split in two. It says which own calls each
+/// part gets, by their positions in the history, and which share the second part gets. The trait has no code.
 pub trait Parts {
     ghost use Rattle.std.specs.Prelude.{ℕ, List};
 
@@ -90,7 +90,7 @@ impl Parts for Brand {
     ghost share = { 1 };
 }
 
-/// The split of a seat into two. Each of them has its own calls and its share.
+/// The split of a seat into two. `P` says which own calls each part gets, and which share the second part gets.
 pub(crate) struct Parted<P: Parts> {
     of: PhantomData<P>,
 }

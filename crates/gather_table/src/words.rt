@@ -1,5 +1,5 @@
-//! The meaning of the words of a table. A page's word holds its index. A group's word has a bit for each slot, bit k
-//! for its slot k. The closing word of a wide sheet has a bit for each group.
+//! The meaning of the words of a table. A page's word holds its index. In the word of a group, bit k is for slot k of
+//! the group. In the closing word of a wide sheet, bit g is for group g.
 ghost use Rattle.std.specs.Prelude.{◌≡◌, ◌+◌, ◌-◌, ◌*◌, ◌/◌, ◌<◌, ◌≤◌, ◌^◌, nat_lt, if◌then◌else◌, length};
 ghost use Rattle.rules.specs.Admissible.{most_slots};
 ghost use Rattle.rules.specs.Sheets.{layout};
@@ -42,7 +42,8 @@ pub(crate) fn group_size(slots: u16, group: u8) -> u16
     }
 }
 
-/// The word in which the bits of this many slots or groups are set, and no others.
+/// The word in which only the lowest `count` bits are set: one for each slot of a group, or one for each group of a
+/// sheet.
 pub(crate) fn full_bits(count: u16) -> u64
     requires { (0 < count) × (count ≤ 64) }
     ensures { result ≡ 2 ^ count - 1 }
@@ -73,8 +74,7 @@ pub(crate) fn published_by(found: u64) -> Published
 }
 
 /// The reply to setting a bit. `found` has the bits that were set before, and `full` has all bits that can be set. The
-/// bit was already set (`Repeated`), was the last one missing (`Completing`), or other bits are still missing
-/// (`Fresh`).
+/// reply is `Repeated` if the bit was already set, `Completing` if no other bit was missing, and otherwise `Fresh`.
 pub(crate) fn reply_by(found: u64, bit: u64, full: u64) -> Reply
     ensures { result ≡ reply_in found bit full }
 {
@@ -87,7 +87,8 @@ pub(crate) fn reply_by(found: u64, bit: u64, full: u64) -> Reply
     }
 }
 
-/// The reply to a mark in a group of a wide sheet. `reply` is the reply that the slot has within the group.
+/// The reply to a mark in a group of a wide sheet. `reply` is the reply that the mark would have if the group were a
+/// whole sheet.
 pub(crate) fn group_reply(group: u8, reply: Reply) -> Reply
     ensures { result ≡ group_reply group reply }
 {
@@ -97,7 +98,7 @@ pub(crate) fn group_reply(group: u8, reply: Reply) -> Reply
     }
 }
 
-/// The reply to closing a group. `reply` is the reply that the group has within its sheet.
+/// The reply to closing a group. `reply` is the reply to setting the group's bit in the closing word.
 pub(crate) fn closing_by(reply: Reply) -> Closing
     ensures { result ≡ closing_by reply }
 {

@@ -13,7 +13,8 @@ pub struct Entry<'d> {
     pub(crate) is_own: bool,
 }
 
-/// The rule for the entries of a shelf: a page that was put as one of the shelf's document is one.
+/// The rule for the entries of a shelf: each page that was put as a page of the shelf's document is a page of that
+/// document.
 pub struct OwnFlagIsTrue;
 
 impl<'d> Keeps<Entry<'d>> for OwnFlagIsTrue {
@@ -22,7 +23,7 @@ impl<'d> Keeps<Entry<'d>> for OwnFlagIsTrue {
     ghost holds = { λ tag _ entry. IsToldTruly tag entry };
 }
 
-/// How the tag of a shelf names the shelf's document: by the bytes of its pages.
+/// The way in which the tag of a shelf names the shelf's document: by the bytes of the document's pages.
 pub(crate) struct ItsPages;
 
 impl<'d> Names<Document<'d>> for ItsPages {

@@ -24,26 +24,26 @@ pub fn whole_pass_made_all()
 {}
 
 /// If a pass has all shares, it took each sheet that it put, unless the sheet is still in the queue. A sheet that it
-/// put several times counts as often.
+/// put several times counts once for each put.
 pub fn whole_pass_loses_none()
     ensures { WholePassLosesNone }
 {}
 
-/// A move becomes an own move of its pass. A joined pass has the own moves of both passes, and a split takes none
-/// away.
+/// Each move of a pass becomes one of its own moves. A joined pass has the own moves of both passes, and a split takes
+/// none away.
 pub fn own_moves_are_kept()
     ensures { OwnMovesAreKept }
 {}
 
-/// The moves of a pass are in one history of the queue. The history has each move once, in the order in which they
-/// were made, and after all that the caller had seen.
+/// The moves of a pass are in one history of the queue. The history has each of these moves once, in the order in which
+/// they were made, after all that the caller had seen.
 pub fn moves_stand_in_one_history()
     ensures { MovesStandInOneHistory }
 {}
 
-/// A caller may split its pass, make moves with both parts at the same time, and join them again. All these moves are
-/// in one history of the queue, each once. Those of each part are in order, after the moves before the split and
-/// before the moves after the join.
+/// A caller may split its pass, make moves with both parts at the same time, and join the parts again. One history of
+/// the queue has each of these moves once. The moves of each part are in order, after all moves made before the split
+/// and before all moves made after the join.
 pub fn split_moves_stand_in_one_history()
     ensures { SplitMovesStandInOneHistory }
 {}

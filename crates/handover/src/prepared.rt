@@ -13,21 +13,21 @@ use std::fmt;
 use std::marker::Model;
 
 /// A page of a document with its prepared body, which is the part of the page that is placed on a sheet. The page
-/// comments and the page setup lines of DSC 3.0 are dropped from it. A prepared page takes 32 bytes. It takes more
-/// memory only if its body isn't the rest of the page, or if it was made by `new`.
+/// comments and the page setup lines of DSC 3.0 are dropped from the body. A prepared page takes 32 bytes. It takes
+/// more memory only if `new` made it, or if its body isn't a suffix of the page.
 #[derive(Drop)]
 pub struct Prepared<'d> {
     kept: KeptBody<'d>,
 }
 
-/// How the body of a page is stored. A shelf keeps all pages until the run ends, so each should take little memory.
-/// Most bodies are the rest of their page, and need only the byte at which they begin.
+/// The stored form of a page's body. A shelf keeps all pages until the run ends, so each should take little memory.
+/// Most bodies are a suffix of their page, and only the byte at which they begin is stored.
 #[derive(Drop)]
 enum KeptBody<'d> {
     Rest {
         raw: &'d [u8],
         page: u32,
-        /// The byte of the page at which its body begins.
+        /// The number of bytes of the page that come before its body.
         start: u32,
     },
     Boxed(Box<Whole<'d>>),
@@ -56,8 +56,8 @@ impl<'d> Model for Prepared<'d> {
 impl<'d> Prepared<'d> {
     /// Prepares a page from its bytes `raw`. `page` is its number in the document, counted from 0.
     ///
-    /// Refuses the first faulty data block of `raw`, with `BadCount` or `ShortData`. A page of an accepted document
-    /// has no faulty block. Without enough memory the error is `NoMemory`.
+    /// Refuses the first faulty data block of `raw`, with `BadCount` or `ShortData`. A page of an accepted document has
+    /// no faulty block. If memory is refused, the error is `NoMemory`.
     pub fn new(alloc: Global, page: u32, raw: &'d [u8]) -> Result<Prepared<'d>, DscError>
         ensures answer { GivesUnlessShort (λ p. p.body) page_fault_told result (prepared raw.now) }
         ensures page { IfOk result (λ p. (p.page ≡ page) × (p.raw ≡ raw.now)) }

@@ -18,18 +18,18 @@ use std::marker::{Brand, Model};
 use std::sync::Wait;
 use thiserror::Error;
 
-/// A put was refused, because the queue or the pass had no room. The error contains the sheet.
+/// The error of a put for which the queue or the pass had no room. It contains the sheet.
 #[derive(Clone, Copy, Debug, PartialEq, Eq, Error)]
 #[error("the queue has no room for sheet {0}")]
 pub struct Full(pub u32);
 
 type Line = RuledArrayQueue<u32, PassKnowledge, HandoverHistory>;
 
-/// The sheets that are ready to be imposed, oldest first, in a bounded queue for many threads, without a lock.
+/// A bounded queue of the sheets that are ready to be imposed, oldest first. Many threads share it without a lock.
 ///
 /// Each call takes a `Pass` of the queue. However the threads are scheduled, an accepted put is a single step, and so
-/// is a take that returns a sheet. These steps are in one history of the queue, which begins with all that the caller
-/// had seen.
+/// is a take that returns a sheet. All these steps are in one history of the queue. In it, each step of a pass comes
+/// after all that the pass had seen.
 #[derive(Drop)]
 pub struct Ready {
     line: Line,
@@ -45,8 +45,8 @@ impl Model for Ready {
 }
 
 impl Ready {
-    /// Makes a queue with room for `capacity` sheets, at least one, and the pass that has all its shares. Fails only
-    /// if memory is refused.
+    /// Makes a queue with room for `capacity` sheets, and the pass that has all its shares. `capacity` must be at least
+    /// 1. Fails only if memory is refused.
     pub fn new(alloc: Global, capacity: u32) -> Result<(Ready, Pass), AllocError>
         requires { 0 < capacity }
         ensures capacity { IfOk result (λ made. made.0.capacity ≡ capacity) }
@@ -63,10 +63,11 @@ impl Ready {
         Ok((ready, pass))
     }
 
-    /// Makes a queue that guarantees `capacity` puts (puts by right), and the pass that has all its shares. The pass
-    /// has room for `capacity` puts. This room can be split among several passes. While a pass has room, its puts are
-    /// never refused, and each put lowers its room by one. A pass without room is refused, unless it has all shares,
-    /// because free places in the queue may belong to other passes. Fails only if memory is refused.
+    /// Makes a queue that guarantees `capacity` puts (puts by right), and the pass that has all its shares. `capacity`
+    /// must be at least 1. The pass has room for `capacity` puts, and this room can be split among several passes.
+    /// While a pass has room, its puts are never refused, and each put lowers its room by one. A put by a pass without
+    /// room is refused, unless the pass has all shares: free places in the queue may be guaranteed to other passes.
+    /// Fails only if memory is refused.
     ///
     /// A take gives no room back: the queue never guarantees more than `capacity` puts in all.
     pub fn by_right(alloc: Global, capacity: u32) -> Result<(Ready, Pass), AllocError>
@@ -85,9 +86,9 @@ impl Ready {
         Ok((ready, pass))
     }
 
-    /// Puts a sheet behind all others. The call may wait for another thread that is in the way. A refused put returns
-    /// the sheet in `Full`. In a queue made by `new`, a put is refused only if the queue was full at some moment of
-    /// the call. In a queue made by `by_right`, it is refused only if the pass has no room.
+    /// Puts a sheet at the end of the queue. The call may wait until another thread has finished its step. A refused
+    /// put returns the sheet in `Full`. In a queue made by `new`, a put is refused only if the queue was full at some
+    /// moment of the call. In a queue made by `by_right`, a put is refused only if the pass has no room.
     pub fn put<R: Wait>(&self, rt: &R, pass: &mut Pass, sheet: u32) -> Result<(), Full>
         requires { IsPassOf self.now pass.old }
         ensures pass { IsPassOf self.now pass.new }
@@ -113,8 +114,8 @@ impl Ready {
         }
     }
 
-    /// Takes the oldest sheet. The call may wait for another thread that is in the way. It returns `None` only if the
-    /// queue was empty at some moment of the call.
+    /// Takes the oldest sheet. The call may wait until another thread has finished its step. The result is `None` only
+    /// if the queue was empty at some moment of the call.
     pub fn take<R: Wait>(&self, rt: &R, pass: &mut Pass) -> Option<u32>
         requires { IsPassOf self.now pass.old }
         ensures pass { IsPassOf self.now pass.new }
@@ -127,8 +128,8 @@ impl Ready {
         self.line.pop_as::<Takes, R>(rt, &mut pass.token)
     }
 
-    /// Splits off a new pass with the share `give`. It has seen the same history, and has no moves of its own and no
-    /// room.
+    /// Splits off a new pass with the share `give`. The new pass has seen the same history as `pass`, and has no moves
+    /// of its own and no room.
     pub fn split(&self, pass: &mut Pass, give: u64) -> Pass
         requires pass { IsPassOf self.now pass.old }
         requires share { (0 < give) × (give < pass.old.share) }
@@ -139,8 +140,8 @@ impl Ready {
         self.split_with_room(pass, give, 0)
     }
 
-    /// Splits off a new pass with the share `give` and this much of the room. It has seen the same history, and has no
-    /// moves of its own.
+    /// Splits off a new pass with the share `give`, and with room for `room` puts, taken from the room of `pass`. The
+    /// new pass has seen the same history as `pass`, and has no moves of its own.
     pub fn split_with_room(&self, pass: &mut Pass, give: u64, room: u32) -> Pass
         requires pass { IsPassOf self.now pass.old }
         requires share { (0 < give) × (give < pass.old.share) }
@@ -178,8 +179,8 @@ impl Ready {
         }
     }
 
-    /// Joins two passes into one. It has seen what either had seen, and has the moves, the shares and the room of
-    /// both.
+    /// Joins two passes into one. The joined pass has seen all that either pass had seen, and has the own moves, the
+    /// shares and the room of both.
     pub fn join(&self, one: Pass, two: Pass) -> Pass
         requires one { IsPassOf self.now one }
         requires two { IsPassOf self.now two }
@@ -205,7 +206,7 @@ impl Ready {
     }
 }
 
-/// Lets the first pass of a new queue know the queue's capacity, and gives it its room. This changes only what
+/// Tells the first pass of a new queue the queue's capacity, and gives the pass its room. This changes only what
 /// contracts see.
 fn open<N: Picks>(line: &Line, token: &mut crossbeam_queue::Pass<u32, PassKnowledge>)
     requires token { Rattle.crossbeam_queue.specs.Passes.IsPassOf line.now token.old × (view token.old ≡ first_sight) }

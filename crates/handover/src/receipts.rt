@@ -1,4 +1,4 @@
-//! What a shelf returns for a put: a receipt or an error.
+//! The answers of a shelf to a put: receipts and errors.
 ghost use Rattle.std.specs.Prelude.{◌≡◌, ◌<◌};
 
 use crate::entry::{Entry, OwnFlagIsTrue};
@@ -8,7 +8,8 @@ use std::alloc::Global;
 use std::fmt;
 use std::marker::Model;
 
-/// The token of an entry of a shelf. Contracts see which page was put there, and at which index.
+/// The token of an entry of a shelf. Contracts see the entry's page and index, and whether the page was put as one of
+/// the shelf's document.
 #[derive(Drop)]
 pub struct Receipt<'d> {
     pub(crate) token: Pushed<Entry<'d>, Global, OwnFlagIsTrue>,
@@ -61,7 +62,7 @@ impl<'d> Overflow<'d> {
     }
 }
 
-/// Why a put returns no receipt.
+/// The reason why a put returns no receipt.
 #[derive(Debug, Drop)]
 pub enum PutError<'d> {
     /// Memory was refused. The shelf is unchanged, and the page is returned.

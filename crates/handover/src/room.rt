@@ -7,9 +7,8 @@ ghost use Rattle.handover.specs.Passes.{puts_in, room_after, room_kept, room_giv
 
 use crate::pass::WHOLE_SHARE;
 
-/// Whether a pass with this room and this share may try to put a sheet. In a queue that guarantees puts, a pass
-/// without room may not try, because free places in the queue may belong to other passes. A pass with all shares may
-/// always try.
+/// Whether a pass with this room and this share may try to put a sheet. In a queue that guarantees puts, a pass without
+/// room may not try unless it has all shares: free places in the queue may be guaranteed to other passes.
 pub(crate) fn may_put(room: Option<u32>, share: u64) -> bool
     ensures may { IsTrue result → room ≡ Some 0 → share ≡ whole_share }
     ensures none_left { result ≡ false → (room ≡ Some 0) × (share ≢ whole_share) }
@@ -30,7 +29,7 @@ pub(crate) fn room_after_put(room: Option<u32>) -> Option<u32>
     }
 }
 
-/// The room that a pass keeps if it gives this much of its room away.
+/// The room that a pass keeps if it gives away room for `give` puts.
 pub(crate) fn room_kept(give: u32, room: Option<u32>) -> Option<u32>
     requires { give ≤ puts_in room }
     ensures { result ≡ room_kept give room }
@@ -41,7 +40,7 @@ pub(crate) fn room_kept(give: u32, room: Option<u32>) -> Option<u32>
     }
 }
 
-/// The room that a pass gets if it is given this much.
+/// The room of a pass that gets room for `give` puts from a pass with the room `room`.
 pub(crate) fn room_given(give: u32, room: Option<u32>) -> Option<u32>
     ensures { result ≡ room_given give room }
 {

@@ -1,9 +1,9 @@
-//! What a pass knows, and the rule that every step of the queue keeps.
+//! The knowledge of a pass, and the rule that every step of the queue keeps.
 use crossbeam_queue::protocol::Protocol;
 use std::marker::Model;
 
-/// What a pass knows: a history that its caller has seen, the caller's own moves in it, and the number of puts that
-/// the queue guarantees to it. Only contracts use this type; no value of it is ever made.
+/// The knowledge of a pass: a history that its caller has seen, the caller's own moves in this history, and the room of
+/// the pass. Only contracts use this type; no value of it is ever made.
 pub struct PassKnowledge {
     nothing: (),
 }
@@ -16,9 +16,9 @@ impl Model for PassKnowledge {
     ghost view = { λ v. spent_pass };
 }
 
-/// The rule of the queue. Between any two steps there is one history. The queue holds the sheets that were put and not
-/// yet taken in it, and each pass has seen a beginning of the history. The capacity is enough for the sheets in the
-/// queue and for all puts that are still guaranteed.
+/// The rule of the queue. Between any two steps there is one history. The queue holds the sheets that were put but not
+/// yet taken in this history, and each pass has seen a beginning of the history. The capacity is enough for the sheets
+/// in the queue and for all puts that are still guaranteed.
 pub struct HandoverHistory;
 
 impl Protocol<u32, PassKnowledge> for HandoverHistory {

@@ -12,8 +12,8 @@ use std::alloc::{AllocError, Global};
 use std::marker::Model;
 use std::sync::Wait;
 
-/// Prepared pages, which many threads share without a lock. A shelf only grows, and a page keeps its index. A shelf
-/// may belong to a document. It then knows of each page whether it was put as a page of this document.
+/// Prepared pages, which many threads share without a lock. A shelf only grows, and a page keeps its index. A shelf may
+/// belong to a document. It then records, for each page, whether the page was put as one of this document.
 #[derive(Drop)]
 pub struct Shelf<'d> {
     list: boxcar::Vec<Entry<'d>, Global, OwnFlagIsTrue>,
@@ -27,7 +27,8 @@ impl<'d> Model for Shelf<'d> {
     ghost view = { λ s. s.list };
 }
 
-/// What a shelf has at an index: a page, its receipt, and whether it was put as a page of the shelf's document.
+/// The content of a shelf at an index: a page, its receipt, and whether the page was put as one of the shelf's
+/// document.
 #[derive(Drop)]
 pub struct Shelved<'a, 'd> {
     pub page: &'a Prepared<'d>,
@@ -62,8 +63,8 @@ impl<'d> Shelf<'d> {
         self.put_as(rt, prepared, false)
     }
 
-    /// Puts a page on the shelf, as `put` does. If `is_own` is true, it is put as a page of the shelf's document, and
-    /// it must be one.
+    /// Puts a page on the shelf, as `put` does. If `is_own` is true, the page must be a page of the shelf's document,
+    /// and is put as one.
     pub fn put_as<R: Wait>(
         &self,
         rt: &R,
@@ -100,7 +101,7 @@ impl<'d> Shelf<'d> {
     }
 
     /// The page at an index, or `None` if the shelf has no page there. `find` also returns a receipt, with which
-    /// contracts can say which page it is.
+    /// contracts can say which page is at the index.
     pub fn at(&self, index: u32) -> Option<&Prepared<'d>>
         ensures prepared { IfSome result (λ page. IsPrepared page.now) }
     {
@@ -108,8 +109,8 @@ impl<'d> Shelf<'d> {
         Some(found.page)
     }
 
-    /// The page at an index, with its receipt, and with whether it was put as a page of the shelf's document. None if
-    /// the shelf has no page there.
+    /// The page at an index, its receipt, and whether the page was put as a page of the shelf's document. `None` if the
+    /// shelf has no page at this index.
     pub fn find(&self, index: u32) -> Option<Shelved<'_, 'd>>
         ensures shown { IfSome result (λ found. IsOn self.now found.receipt × (found.receipt.index ≡ index)
             × (found.receipt.value ≡ found.page.now)) }
@@ -129,8 +130,8 @@ impl<'d> Shelf<'d> {
         })
     }
 
-    /// Shows that two receipts of this shelf with the same index are of the same page, put in the same way. It doesn't
-    /// matter which threads got them. Only the contract of this function is of use: it does nothing.
+    /// Shows that two receipts of this shelf with the same index are for the same page, put with the same `is_own`. Any
+    /// threads may hold them. The function does nothing: only its contract is of use.
     pub fn agree(&self, one: &Receipt<'d>, two: &Receipt<'d>)
         requires one { IsOn self.now one.now }
         requires two { IsOn self.now two.now }

@@ -1,4 +1,4 @@
-//! What a pass learns from each step of the queue, and how passes are split and joined.
+//! Says what a pass learns from each step of the queue, and how passes are split and joined.
 use crate::rule::PassKnowledge;
 use crossbeam_queue::protocol::{Join, Lesson, Outcome, Split};
 use std::marker::{Brand, PhantomData};
@@ -35,8 +35,8 @@ impl Lesson<u32, PassKnowledge> for Takes {
     ghost fact = { Sees };
 }
 
-/// A ghost parameter, which the proof of each call chooses: a number, which is a share to give away or a capacity, and
-/// a room. It has no code.
+/// A ghost parameter that the proof of each call chooses: a number, which is a share to give away or a capacity, and a
+/// room. The trait has no code.
 pub trait Picks {
     ghost use Rattle.std.specs.Prelude.{ℕ, Option};
 
@@ -53,7 +53,7 @@ impl Picks for Brand {
     ghost room = { None };
 }
 
-/// The split of a pass. The number is the share that is given away, with the room.
+/// The split of a pass. `N` has the share and the room that are given away.
 pub(crate) struct HistoryCut<N: Picks> {
     of: PhantomData<N>,
 }
@@ -86,8 +86,8 @@ impl Lesson<u32, PassKnowledge> for JoinPasses {
     ghost fact = { Learns };
 }
 
-/// The step before the first move. In it the first pass learns the capacity of the queue, which is the number, and
-/// gets its room.
+/// The step before the first move. In it the first pass learns the capacity of the queue, `N.number`, and gets its
+/// room.
 pub(crate) struct Opens<N: Picks> {
     of: PhantomData<N>,
 }

@@ -5,16 +5,17 @@ use std::sync::atomic::AtomicU64;
 use std::sync::atomic::Ordering::SeqCst;
 use std::time::Duration;
 
-/// About how many bytes of pages a worker handles in one stint.
+/// The approximate number of bytes of pages that a worker handles in one stint.
 const BYTES_OF_A_STINT: usize = 524_288;
 
-/// The cost of a page besides that of its bytes, however small it is. It is an estimate, given as a number of bytes.
+/// The cost of a page apart from the cost of its bytes. It is an estimate, expressed as a number of bytes.
 const BYTES_BESIDE: usize = 512;
 
 /// The greatest number of pages, or batches of sheets, in one stint.
 const LONGEST_STINT: usize = 512;
 
-/// The fewest pages in a stint for which workers take turns. If a stint has fewer, pages are so large that workers don't get in each other's way.
+/// The least number of pages in a stint for which workers take turns. If a stint has fewer pages, the pages are so large that workers don't get in
+/// each other's way.
 const FEWEST_IN_TURN: u32 = 32;
 
 /// The number of times that a worker sleeps while it waits for its turn. After that it goes on without the turn.
@@ -25,7 +26,7 @@ const MICROSECONDS_OF_A_NAP: u64 = 500;
 
 /// The turns that the workers of one kind take. If pages are small, workers that run at the same time mostly compete for the same words of the table
 /// and of the queue. So one worker does a stint while the others sleep. A turn is advice and not a lock: a worker that has slept for about 10
-/// milliseconds goes on without a turn. So no worker waits forever, even if the one that has the turn waits for something else.
+/// milliseconds goes on without a turn. So no worker waits forever, even if the worker that has the turn waits for something else.
 #[derive(Drop)]
 pub(crate) struct Baton {
     /// 1 if a worker has the turn, 0 if none has.
@@ -34,7 +35,7 @@ pub(crate) struct Baton {
     len: u32,
 }
 
-/// How far a worker is in its stint.
+/// The progress of a worker in its stint.
 #[derive(Drop)]
 pub(crate) struct Shift {
     /// Whether the worker has the turn.
@@ -65,7 +66,8 @@ impl Baton {
         }
     }
 
-    /// Counts one more page, or batch of sheets, of this worker. At the end of its stint the worker gives up the turn and waits for the next one.
+    /// Counts one more page, or batch of sheets, of this worker. At the end of its stint the worker gives up its turn, and waits for the next turn if
+    /// workers take turns.
     pub(crate) fn pass_if_due<R: Wait>(&self, rt: &R, stint: &mut Shift) {
         if stint.left > 0 {
             stint.left -= 1;

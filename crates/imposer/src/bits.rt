@@ -47,8 +47,8 @@ pub(crate) fn cover(words: &mut Vec<u64>, number: u32) -> Result<(), AllocError>
     Ok(())
 }
 
-/// The index of the first word, from the word `from` on, that has a set bit. If no word up to the one with the bit of `end` has one, the index after
-/// that word, or `from` if it is greater.
+/// The index of the first word that has a set bit, from the word `from` to the word with the bit of `end`. If none of these words has a set bit, the
+/// result is the index after the last of them, or `from` if that is greater.
 pub(crate) fn next_filled(words: &[u64], from: usize, end: u32) -> usize
     ensures forward { from ≤ result }
     ensures blank { (k : ℕ) → 64 * from ≤ k → k < 64 * result → bit words.now k ≡ false }

@@ -8,7 +8,7 @@ use crossbeam_queue::ArrayQueue;
 use sheet_text::{Job, Texts};
 use std::marker::{Brand, PhantomData};
 
-/// The text that each sheet of the run's job must have. It is a ghost parameter, which has no code and is chosen in the proof of each call.
+/// The text that each sheet of the run's job must have. This is a ghost parameter that the proof of each call chooses; the trait has no code.
 pub(crate) trait SheetTexts {
     ghost text: { ℕ → List ℕ };
 }

@@ -17,8 +17,8 @@ use sheet_writer::{Progress, Sink, write_early, write_text};
 use std::sync::Wait;
 use std::sync::atomic::Ordering::SeqCst;
 
-/// The state of the collector: its sink, its desk and its progress. It only borrows the sink and the desk, so that their owner can prove how they
-/// have changed.
+/// The state of the collector: its sink, its desk and its progress. It only borrows the sink and the desk, so that the owner of these can prove how
+/// they have changed.
 #[derive(Drop)]
 pub(crate) struct CollectorState<'a, 'r, S> {
     pub(crate) sink: &'a mut S,
@@ -70,7 +70,7 @@ fn take_all<'r, R: Wait, T: SheetTexts, G: Gate, S: Sink>(
     }
 }
 
-/// Takes one message from the channel and writes the sheets that are next in order. If there is no message, sleeps for a short time. Returns false if
+/// Takes one message from the channel and writes the sheets that are next in order. If there is no message, waits for a short time. Returns false if
 /// no further message will come, or if nothing more may be written.
 fn take_turn<'r, R: Wait, T: SheetTexts, G: Gate, S: Sink>(
     rt: &R,

@@ -3,9 +3,9 @@
 /// A step of a run.
 #[derive(Clone, Copy, Debug, PartialEq, Eq)]
 pub enum Step {
-    /// The prepared page with this number is delivered.
+    /// The prepared page with this number, counted from 0, is delivered.
     Deliver(u32),
-    /// The sheet with this number is imposed.
+    /// The sheet with this number, counted from 0, is imposed.
     Impose(u32),
 }
 
@@ -18,18 +18,18 @@ pub enum Look {
     Channel,
 }
 
-/// A gate is called before and after each step, by the thread that takes it. It may make the thread wait, which tests use to order the steps.
+/// A gate is called before and after each step, by the thread that takes the step. It may make the thread wait; tests use this to order the steps.
 pub trait Gate {
-    /// Called before this step.
+    /// Is called before this step.
     fn before(&self, step: Step);
 
-    /// Called after this step.
+    /// Is called after this step.
     fn after(&self, step: Step);
 
-    /// Called before each look. By default it does nothing. How many looks there are depends on how threads are scheduled.
+    /// Is called before each look. By default it does nothing. The number of looks depends on how threads are scheduled.
     fn before_look(&self, _look: Look) {}
 
-    /// Called after each look. By default it does nothing.
+    /// Is called after each look. By default it does nothing.
     fn after_look(&self, _look: Look) {}
 }
 

@@ -48,22 +48,23 @@ use std::thread::Threads;
 /// The result of a run whose workers have all ended.
 #[derive(Debug, Drop)]
 pub struct Gathered<'d> {
-    /// How the run ended. The only errors are refused memory and a failed write.
+    /// The end of the run. The only errors are `NoMemory`, for refused memory or a refused thread, and `Write`.
     pub outcome: Result<Report, RunError>,
-    /// The token of a page for which the shelf gave no receipt, if there was one. None if memory was refused.
+    /// The token of a page for which the shelf gave no receipt. None if there was no such page, or if a thread or memory was refused before all
+    /// workers had ended.
     pub unshelved: Option<Overflow<'d>>,
-    /// The seat and the pass that join those of all workers. None if memory was refused.
+    /// The seat and the pass that join the seats and the passes of all workers. None if memory or a thread was refused.
     pub tokens: Option<(Seat, Pass)>,
 }
 
 /// Makes and writes the sheets of a job. Preparers deliver the pages of the document, and imposers impose the sheets, each in a thread of its own.
 /// The caller's thread writes the sheets in order, each as soon as all sheets before it are written. Sheets that no imposer has sent are made at the
-/// end, and are also written in order.
+/// end.
 ///
 /// The table must be one of the job's plan, the seat and the pass must be unused, and the queue must have room for every sheet. Each worker gets a
 /// seat and a pass of its own, and these are joined when the worker ends. If the pass has room for all puts of the preparers, each preparer gets the
-/// room that it needs, and the queue refuses no put. If the pass has less room, some puts are refused even though the queue isn't full, and the
-/// sheets of these puts are made at the end.
+/// room that it needs, and the queue refuses no put. If the pass has less room, puts may be refused even though the queue isn't full, and the sheets
+/// of these puts are made at the end.
 pub fn gather<'j, 'd, R: Threads + Wait + Sync, G: Gate + Sync, S: Sink>(
     rt: &R,
     alloc: Global,
@@ -123,7 +124,7 @@ pub fn gather<'j, 'd, R: Threads + Wait + Sync, G: Gate + Sync, S: Sink>(
 }
 
 /// Gathers on these objects like `gather`. If the shelf belongs to the job's document, pages are put there as this document's own, and imposers don't
-/// compare their bytes.
+/// compare their bytes with the document's.
 pub(crate) fn gather_objects<'d, R: Threads + Wait + Sync, G: Gate + Sync, S: Sink>(
     rt: &R,
     floor: RunObjects<'_, '_, '_, 'd, G>,
@@ -158,7 +159,7 @@ pub(crate) fn gather_objects<'d, R: Threads + Wait + Sync, G: Gate + Sync, S: Si
     gather_with_rule::<Brand, R, G, S>(rt, &shared, tokens, workers, sink)
 }
 
-/// Gathers like `gather`. `T` is the text of each sheet in the channel's rule.
+/// Gathers like `gather`. `T` is the text that the channel's rule gives for each sheet.
 fn gather_with_rule<
     'r,
     'd,
@@ -220,8 +221,8 @@ fn gather_with_rule<
     gathered
 }
 
-/// Runs the workers and the collector, once the sheets without pages are on the queue, and then writes the rest of the output. The collector's state
-/// is taken apart at the end, so that it is known how the sink has changed.
+/// Runs the workers and the collector, and then writes the remaining output. The sheets without pages must have been put on the queue before the
+/// call. The collector's state is taken apart at the end, so that it is known how the sink has changed.
 fn gather_on_threads<
     'r,
     'd,
@@ -290,7 +291,7 @@ fn put_blank_sheets<R: Wait, G: Gate>(
     }
 }
 
-/// The result after memory was refused.
+/// The result after memory or a thread was refused.
 fn out_of_memory<'d>(written: u64) -> Gathered<'d>
     ensures { GivesUp written result }
 {
@@ -301,8 +302,8 @@ fn out_of_memory<'d>(written: u64) -> Gathered<'d>
     }
 }
 
-/// The result once all workers have ended. If memory was refused to one of them (`ended` is None), the run was refused memory. Otherwise the rest of
-/// the output is written.
+/// The result once all workers have ended. If their results were lost (`ended` is None), the error is `NoMemory`. Otherwise the remaining output is
+/// written.
 fn finish<'d, S: Sink>(
     alloc: Global,
     job: &Job<'_, 'd>,
@@ -326,7 +327,7 @@ fn finish<'d, S: Sink>(
     }
 }
 
-/// Writes the sheets that are left and the trailer, and returns the result. All workers have ended.
+/// Writes the remaining sheets and the trailer, and returns the result. All workers have ended.
 fn conclude<'d, S: Sink>(
     alloc: Global,
     job: &Job<'_, 'd>,

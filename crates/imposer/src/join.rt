@@ -8,7 +8,7 @@ use crate::thread_work::Work;
 use std::alloc::AllocError;
 use std::thread::Threads;
 
-/// Waits for all preparers, and joins their results to those that the caller holds. None if memory was refused to one of them.
+/// Waits for all preparers, and joins their results to `held`, which is the caller's. None if a preparer was refused memory.
 pub(crate) fn join_preparers<'s, R: Threads, H: Drop, W: Work<H>>(
     rt: &R,
     shared: &'s W,
@@ -32,7 +32,7 @@ pub(crate) fn join_preparers<'s, R: Threads, H: Drop, W: Work<H>>(
     all
 }
 
-/// Waits for all imposers, and joins their results to those of the preparers. None if memory was refused to a preparer or to an imposer.
+/// Waits for all imposers, and joins their results to the results of the preparers. None if a preparer or an imposer was refused memory.
 pub(crate) fn join_imposers<'s, R: Threads, H: Drop, W: Work<H>>(
     rt: &R,
     shared: &'s W,
@@ -58,7 +58,7 @@ pub(crate) fn join_imposers<'s, R: Threads, H: Drop, W: Work<H>>(
     all
 }
 
-/// Joins the result of one worker to the results joined before. None if one of the two is missing.
+/// Joins the result of one worker to the results joined before. None if either of the two is missing.
 fn merge<H: Drop, W: Work<H>>(
     shared: &W,
     all: Option<H>,

@@ -1,4 +1,4 @@
-//! Listeners, which learn how a run ended.
+//! Listeners, which get the objects of a run that has ended.
 ghost use Rattle.std.specs.Prelude.{List, Option, None};
 ghost use Rattle.imposer.specs.Listening.{Hears};
 ghost use Rattle.imposer.specs.declared.listener.GatheredPlan.{GatheredPlan};
@@ -7,7 +7,8 @@ use crate::gathering::Gathered;
 use gather_table::GatherTable;
 use handover::Ready;
 
-/// A run whose workers have ended, with its table and its queue. The tokens in `gathered` show all calls that the workers made on these.
+/// A run whose workers have ended, with its table and its queue. The tokens in `gathered`, if there are any, show all calls that were made on the
+/// table and the queue.
 #[derive(Drop)]
 pub struct GatheredPlan<'j, 'd> {
     pub table: GatherTable<'j>,
@@ -15,12 +16,12 @@ pub struct GatheredPlan<'j, 'd> {
     pub gathered: Gathered<'d>,
 }
 
-/// A listener is called once, at the end of a run.
+/// A listener is called once, at the end of a run. It isn't called if memory is refused before the run has a table.
 pub trait Listener {
     // The runs with which it has been called, if it records them.
     ghost heard: { Self → Option (List GatheredPlan) };
 
-    /// Called with a run that has ended.
+    /// Is called with a run that has ended.
     fn ended(&mut self, ended: GatheredPlan<'_, '_>)
         ensures { Hears (heard self.old) (heard self.new) ended.entry };
 }

@@ -13,9 +13,9 @@ use sheet_plan::are_sides;
 pub struct Options {
     /// The paper of the pages.
     pub paper: Paper,
-    /// The width, in grains, of a border round each placed page; None for no border. It must be above 0.
+    /// The width, in grains, of a border around each placed page. The width must be above 0. None if pages have no border.
     pub border: Option<Grains>,
-    /// The number of sides of a signature; None if pages aren't put into signatures. It must be a multiple of 4 from 4 to 1,000,000.
+    /// The number of sides of a signature, which must be a multiple of 4 from 4 to 1,000,000. None if pages aren't put into signatures.
     pub sides: Option<u32>,
     /// The numbers of threads.
     pub workers: Workers,

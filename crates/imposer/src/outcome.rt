@@ -1,4 +1,4 @@
-//! How a run ends.
+//! The ends of a run: a report or an error.
 use dsc::DscError;
 use pagespec::SpecError;
 use sheet_plan::PlanError;
@@ -14,13 +14,13 @@ pub struct Report {
     pub sheets: u32,
     /// The number of sheets that have no page.
     pub born: u32,
-    /// The number of sheets that no worker imposed, and that were made when the rest was written.
+    /// The number of sheets that never came from an imposer. They were made only at the end of the run.
     pub swept: u32,
     /// The number of bytes in the output.
     pub bytes: u64,
 }
 
-/// Why a run didn't finish. The variants are in the order in which a run checks them.
+/// The reason why a run didn't finish. The options, the specification, the document and the plan are checked in this order.
 #[derive(Clone, Copy, Debug, PartialEq, Eq, Error)]
 pub enum RunError {
     /// An option is out of range. Numbers of threads are from 1 to 16, a border is wider than 0, and a signature has a multiple of 4 sides, from 4 to
@@ -33,10 +33,10 @@ pub enum RunError {
     Document(DscError),
     #[error(transparent)]
     Plan(PlanError),
-    /// Memory was refused. The sink has taken the first `written` bytes of the output.
+    /// Memory or a thread was refused. The sink has taken the first `written` bytes of the output.
     #[error("out of memory")]
     NoMemory { written: u64 },
-    /// The sink failed. It has taken the first `written` bytes of the output.
+    /// The sink refused a call. It has taken the first `written` bytes of the output.
     #[error("cannot write output")]
     Write { written: u64 },
 }

@@ -28,11 +28,12 @@ use std::alloc::{AllocError, Global};
 use std::sync::Wait;
 use std::thread::Threads;
 
-/// Imposes and writes the sheets of a job. Its document has been read. Its sheets have been planned by a specification, or they are a layout's
-/// sheets, with the lines of a dress.
+/// Imposes and writes the sheets of a job, whose document has been read and whose sheets have been planned. The sheets are those of a specification,
+/// or made sheets with added lines.
 ///
 /// The only errors are `NoMemory` and `Write`. After an error the sink has taken the first `written` bytes of the output. The sink isn't flushed. At
-/// the end the listener gets the table and the queue, with the tokens of all calls that were made on them.
+/// the end the listener gets the table, the queue and the result. Unless memory or a thread was refused, the result has the tokens that show all
+/// calls on the table and the queue. The listener isn't called if memory is refused before there is a table.
 ///
 /// Preparers and imposers run in threads of their own. The caller's thread writes the sheets in order, each as soon as all sheets before it are
 /// written.
@@ -109,7 +110,8 @@ fn gather_plan<'j, 'd, R: Threads + Wait + Sync, G: Gate + Sync, S: Sink>(
     })
 }
 
-/// A table of this plan and a queue with room for all puts of this number of preparers, with an unused seat and pass.
+/// A table of this plan and a queue with room for all puts of a run with this number of preparers, with an unused seat and an unused pass. The only
+/// error is refused memory.
 fn table_and_queue<'j>(
     alloc: Global,
     plan: &Plan<'j>,

@@ -1,4 +1,4 @@
-//! The greatest number of times that workers put sheets on the queue, and a queue with room for all these puts.
+//! The greatest numbers of puts that workers make on the queue, and a queue with room for all these puts.
 ghost use Rattle.std.specs.Prelude.{◌≡◌, ◌+◌, ◌<◌, ◌≤◌, length, min, IfOk};
 ghost use Rattle.rules.specs.Sheets.{layout};
 ghost use Rattle.sheet_plan.specs.Places.{places_of};
@@ -14,7 +14,8 @@ use sheet_plan::Plan;
 use std::alloc::{AllocError, Global};
 
 impl<'s, 'r, 't, 'd, G: Gate> Shared<'s, 'r, 't, 'd, G> {
-    /// The part of this pass's room that preparer `number` of `count` gets: as much as it needs, or all that is left.
+    /// The part of this pass's room that preparer `number` of `count` gets: the room that the preparer needs, or the whole room of the pass if that
+    /// is less.
     pub(crate) fn room_for(&self, pass: &Pass, number: u32, count: u32) -> u32
         requires number { number < count }
         ensures { result ≡ min (most_puts self.now.floor.table.now.layout count number) (puts_in pass.now.room) }
@@ -38,7 +39,7 @@ pub(crate) fn most_puts(plan: &Plan<'_>, number: u32, count: u32) -> u32
     puts
 }
 
-/// The greatest number of puts once this page is counted too, if it was `puts` before. It never exceeds the number of sheets.
+/// The greatest number of puts with this page included, if it was `puts` without the page. It never exceeds the number of sheets.
 fn with_puts_of(plan: &Plan<'_>, page: u32, puts: u32) -> u32
     requires page { page < plan.now.pages }
     ensures { result ≡ min (puts + length (places_of (layout plan.now) page)) (length plan.now.sheets) }
@@ -61,7 +62,8 @@ pub(crate) fn most_puts_in_all(plan: &Plan<'_>, count: u32) -> u64
     puts + plan.born_complete().len() as u64
 }
 
-/// A queue for the sheets of this plan, and its pass. Both have room for all puts of a run with this number of preparers.
+/// A queue for the sheets of this plan, and its pass. Both have room for all puts of a run with this number of preparers. The only error is refused
+/// memory.
 pub(crate) fn ready_for(
     alloc: Global,
     plan: &Plan<'_>,

@@ -29,8 +29,8 @@ use std::thread::Threads;
 /// Reads the page specification and the document, imposes the sheets, and writes them to the sink.
 ///
 /// If the request is refused, the error is that of the first check that fails. The options are checked first, then the specification, the document
-/// and the plan; nothing has been written then. After `NoMemory` and `Write` the sink has taken the first `written` bytes of the output. The sink
-/// isn't flushed.
+/// and the plan. A refusal comes before anything is written. After `NoMemory` and `Write` the sink has taken the first `written` bytes of the output.
+/// The sink isn't flushed.
 ///
 /// Preparers and imposers run in threads of their own. The caller's thread writes the sheets in order, each as soon as all sheets before it are
 /// written. The output depends neither on the numbers of threads nor on how threads are scheduled.
@@ -117,7 +117,7 @@ fn run_read<R: Threads + Wait + Sync, G: Gate + Sync, S: Sink>(
     )
 }
 
-/// Plans the sheets for pages in their order, or, if a number of sides is given, for pages in signatures of that number of sides.
+/// Plans the sheets for pages in their order, or for pages in signatures if `sides`, the number of sides of a signature, is given.
 fn plan_pages<'s>(
     alloc: Global,
     spec: &'s Spec,

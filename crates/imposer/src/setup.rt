@@ -11,8 +11,7 @@ use sheet_text::Job;
 use sheet_writer::ReorderBuffer;
 use std::alloc::{AllocError, Global};
 
-/// The objects at the collector's desk: the header and the trailer of the output, a buffer for sheets that wait until earlier ones are written, and a
-/// ticket for receiving.
+/// The objects at the collector's desk: the header and the trailer of the output, a reorder buffer, and a ticket for receiving.
 #[derive(Drop)]
 pub(crate) struct CollectorParts<'r> {
     pub(crate) header: Vec<u8>,
@@ -30,8 +29,8 @@ pub(crate) struct Setup<'r, T: SheetTexts> {
 }
 
 impl<'r, T: SheetTexts> Setup<'r, T> {
-    /// Makes the desk and the channel of a job. The buffer, the channel and the queue of written texts each have room for all sheets of a window of
-    /// this size, so that no imposer waits for room.
+    /// Makes the desk and the channel of a job. The reorder buffer, the channel and the queue of written texts each have room for all sheets of a
+    /// window of this size. So imposers needn't wait for room. The only error is refused memory.
     pub(crate) fn new(alloc: Global, job: &Job<'_, '_>, window: u32) -> Result<Self, AllocError>
         ensures desk { IfOk result (λ s. IsDeskOf job.now s.desk) }
         ensures receiving { IfOk result (λ s. IsSeatAt (receives_on s.channel.receiver) s.desk.receiving) }
@@ -56,7 +55,7 @@ impl<'r, T: SheetTexts> Setup<'r, T> {
     }
 }
 
-/// A channel with room for this number of messages, a ticket for sending, and a ticket for receiving.
+/// A channel with room for this number of messages, a ticket for sending, and a ticket for receiving. The only error is refused memory.
 fn channel_of<'r, T: SheetTexts>(
     alloc: Global,
     room: usize,

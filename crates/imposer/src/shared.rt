@@ -20,7 +20,8 @@ pub(crate) struct RunObjects<'s, 'r, 't, 'd, G> {
     pub(crate) job: &'s Job<'r, 'd>,
     pub(crate) table: &'s GatherTable<'t>,
     pub(crate) shelf: &'r Shelf<'d>,
-    /// Whether the shelf belongs to the job's document. Pages are then put there as this document's own, and imposers don't compare their bytes.
+    /// Whether the shelf belongs to the job's document. If it does, pages are put there as this document's own, and imposers don't compare their
+    /// bytes with the document's.
     pub(crate) is_of_document: bool,
     pub(crate) ready: &'s Ready,
     ghost of_document: { IsTrue is_of_document → IsShelfOf shelf.now job.now.units },
@@ -31,7 +32,7 @@ pub(crate) struct RunObjects<'s, 'r, 't, 'd, G> {
 #[derive(Drop)]
 pub(crate) struct Shared<'s, 'r, 't, 'd, G> {
     pub(crate) floor: RunObjects<'s, 'r, 't, 'd, G>,
-    /// Whether the queue guarantees all puts, so that it refuses none.
+    /// Whether the queue guarantees all puts of the run, so that it refuses none of them.
     pub(crate) by_right: bool,
     /// The number of preparers that haven't ended.
     pub(crate) preparers_left: AtomicU32,
@@ -45,12 +46,12 @@ pub(crate) struct Shared<'s, 'r, 't, 'd, G> {
     pub(crate) imposing: Baton,
 }
 
-/// The objects that all threads of a run need, the caller's included: those that the workers share, and the channel of finished sheets.
+/// The objects that all threads of a run need, including the caller's: the objects that the workers share, and the channel of finished sheets.
 #[derive(Drop)]
 pub(crate) struct RunInput<'s, 'r, 't, 'd, T: SheetTexts, G> {
     pub(crate) shared: &'s Shared<'s, 'r, 't, 'd, G>,
     pub(crate) channel: &'s Channel<'r, T>,
-    /// The job again, with the text that the channel's rule gives for each sheet.
+    /// The same job, with the text that the channel's rule gives for each sheet.
     pub(crate) ruled: &'s RuledJob<'s, 'r, 'd, T>,
     ghost same_job: { ruled.now.job.now ≡ shared.now.floor.job.now },
 }

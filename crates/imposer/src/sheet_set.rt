@@ -30,7 +30,7 @@ impl Model for SheetSet {
 }
 
 impl SheetSet {
-    /// The empty set. It allocates no memory.
+    /// Makes an empty set, without allocating memory.
     pub fn new(alloc: Global) -> Self
         ensures { result ≡ set.empty }
     {

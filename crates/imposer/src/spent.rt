@@ -1,4 +1,4 @@
-//! Hands the memory of written sheets back to the imposers.
+//! Returns the memory of written sheets to the imposers.
 use crossbeam_queue::ArrayQueue;
 use sheet_text::Texts;
 use sheet_writer::Spent;

@@ -1,4 +1,4 @@
-//! The work of the threads of a run, as type parameters, and the promise of each thread.
+//! The work of the threads of a run, as traits, and the promise of each thread.
 ghost use Rattle.std.specs.Prelude.{◌≡◌, ℕ, ◌+◌, ◌-◌, ◌<◌, IfOk};
 ghost use Rattle.imposer.specs.Growth.{StaysGathered, GainsPreparer, GainsImposer};
 
@@ -6,8 +6,8 @@ use std::alloc::AllocError;
 use std::sync::Wait;
 use std::thread::Promise;
 
-/// The work of preparers, on an object that all threads share (`Self`). A worker holds an `H`, and returns it when it ends. An `H` has a number of
-/// shares: the caller begins with several, gives one to each worker, and has them back once all workers are joined.
+/// The work of preparers, on an object that all threads share (`Self`). A worker holds an `H`, and returns it when its work ends. An `H` has shares.
+/// The caller begins with several shares, gives one to each worker, and has all of them back once all workers are joined.
 ///
 /// The code that starts and joins threads sees no lifetime in `H` or `Self`. With a lifetime, the promise of a thread couldn't be proved.
 pub trait Work<H> {
@@ -98,7 +98,7 @@ pub trait Imposing<H, T>: Work<H> {
         ensures given { sends self.now result };
 }
 
-/// The work of the caller's thread while the workers run. `S` is the state that it changes.
+/// The work of the caller's thread while the workers run. `S` is the state that this work changes.
 pub trait Collector<S> {
     // The state is one with which collecting may start.
     ghost is_ready_to_collect: { Self → S → Type 0 };
@@ -110,7 +110,7 @@ pub trait Collector<S> {
     // the reference is known to be the same at the end.
     ghost reference: { Self → S → ℕ };
 
-    /// Takes the sheets that the workers finish, until all workers have ended.
+    /// Takes the sheets that the workers finish, until no further sheet will come or may be taken.
     fn collect<R: Wait>(&self, rt: &R, state: &mut S)
         requires { is_ready_to_collect self.now state.old }
         ensures same_reference { reference self.now state.new ≡ reference self.now state.old }

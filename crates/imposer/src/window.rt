@@ -17,24 +17,24 @@ use std::sync::atomic::Ordering::SeqCst;
 use std::sync::atomic::{AtomicBool, AtomicU64};
 use std::time::Duration;
 
-/// About how many bytes the texts of a window have together.
+/// The approximate number of bytes that the texts of a window have together.
 const BYTES_AHEAD: usize = 786_432;
 
-/// About how many bytes of text surround a placed page.
+/// The approximate number of bytes of text around a placed page.
 const BYTES_ROUND_A_PAGE: usize = 256;
 
-/// The cost of a sheet besides that of its text, however small it is. It is an estimate, given as a number of bytes.
+/// The cost of a sheet apart from the cost of its text. It is an estimate, expressed as a number of bytes.
 const BYTES_BESIDE: usize = 32;
 
 /// The greatest number of sheets in a window.
 const MOST_SHEETS: usize = 4_096;
 
-/// The least number of sheets in a long window. Such a window moves by a quarter of its length at a time, and a worker that finds no work in it
-/// sleeps at once.
+/// The least number of sheets in a long window. While messages come, such a window moves by at least a quarter of its length at a time. A worker that
+/// finds no work in it sleeps at once.
 const MANY_SHEETS: u32 = 256;
 
-/// In one message an imposer sends at most an eighth of a window's sheets, at most an eighth of its share of all sheets, and at least one sheet. So
-/// imposers work at the same time as each other and as the collector.
+/// The divisor for batches. In one message an imposer sends at most an eighth of a window's sheets, at most an eighth of its share of all sheets, and
+/// at least one sheet. So imposers work at the same time as each other and as the collector.
 const BATCHES: u32 = 8;
 
 /// The length of the shortest nap, in microseconds.
@@ -43,17 +43,17 @@ const SHORTEST_NAP: u64 = 50;
 /// The length of the longest nap, in microseconds.
 const LONGEST_NAP: u64 = 400;
 
-/// The sheets that may be imposed now: `len` sheets, beginning with the next one to be written. Finished texts take memory until they are written. So
-/// an imposer only notes the number of a sheet past the window, and imposes the sheet when the window reaches it.
+/// The sheets that may be imposed now: `len` sheets, beginning with the next sheet to be written. Finished texts take memory until they are written.
+/// So an imposer only notes the number of a sheet past the window, and imposes the sheet when the window reaches it.
 #[derive(Drop)]
 pub(crate) struct Window {
-    /// The next sheet to be written, or one a little before it.
+    /// The next sheet to be written (counted from 0), or a sheet shortly before it.
     next: CachePadded<AtomicU64>,
-    /// Whether the window has no end. It has none once the next sheet to be written may never come.
+    /// Whether the window has no end. It loses its end once a sheet may never come, or once nothing more is collected.
     lifted: AtomicBool,
     /// The number of sheets in the window.
     pub(crate) len: u32,
-    /// The number of sheets that must be written before the window moves.
+    /// The number of sheets that must be written before `come_to` moves the window.
     step: u32,
     /// The greatest number of sheets that an imposer sends in one message.
     pub(crate) batch: u32,
@@ -85,7 +85,7 @@ impl Window {
         }
     }
 
-    /// The first sheet past the window; `u32::MAX` if the window has no end.
+    /// The first sheet past the window, counted from 0. It is `u32::MAX` if the window has no end.
     pub(crate) fn end(&self) -> u32 {
         if self.lifted.load(SeqCst) {
             return u32::MAX;
@@ -93,30 +93,30 @@ impl Window {
         self.next().saturating_add(self.len)
     }
 
-    /// The next sheet to be written, or one a little before it.
+    /// The next sheet to be written (counted from 0), or a sheet shortly before it.
     fn next(&self) -> u32 {
         u32::try_from(self.next.load(SeqCst)).unwrap_or(u32::MAX)
     }
 
-    /// Tells the window that all sheets before `next` are written. The window moves only if a whole step has been written since it last moved. A long
-    /// step spares imposers, which read this word for each sheet, from fetching it anew each time.
+    /// Tells the window that all sheets before `next` are written. The window moves only if a whole step has been written since it last moved.
+    /// Imposers read the position of the window for each sheet. With long steps, the position stays in their caches.
     pub(crate) fn come_to(&self, next: u32) {
         if next >= self.next().saturating_add(self.step) {
             self.move_to(next);
         }
     }
 
-    /// Moves the window so that it begins with `next`. All sheets before that one have been written.
+    /// Moves the window so that it begins with the sheet `next`. All sheets before this sheet have been written.
     pub(crate) fn move_to(&self, next: u32) {
         self.next.store(u64::from(next), SeqCst);
     }
 
-    /// Takes away the end of the window, since a sheet won't come or nothing more will be written.
+    /// Removes the end of the window, since a sheet may never come or nothing more will be written.
     pub(crate) fn lift(&self) {
         self.lifted.store(true, SeqCst);
     }
 
-    /// Yields the processor or sleeps, for at most 400 microseconds. Nothing wakes a sleeping thread earlier.
+    /// Yields the processor once, or sleeps for at most 400 microseconds. Nothing wakes a sleeping thread earlier.
     pub(crate) fn rest<R: Wait>(&self, rt: &R, idling: &mut Idling) {
         if self.step == 1 && !idling.backoff.is_completed() {
             idling.backoff.snooze();
@@ -135,12 +135,12 @@ impl Window {
     }
 }
 
-/// How a thread waits for work. If sheets are large, it first yields the processor a few times, and then takes short naps, until it has found work.
-/// If they are small, it takes a nap at once, and each nap is twice as long as the one before, up to the longest.
+/// The way in which a thread waits for work. If sheets are large, it first yields the processor a few times, and then takes short naps, until it has
+/// found work. If sheets are small, it takes a nap at once, and each nap is twice as long as the one before, up to the longest.
 #[derive(Drop)]
 pub(crate) struct Idling {
     backoff: Backoff,
-    /// The length of the next nap, in microseconds. A nap isn't longer than the longest one, even if this number is greater.
+    /// The length of the next nap, in microseconds. If this number is greater than the longest nap, the longest nap is taken.
     nap: u64,
     /// Whether naps become longer.
     grows: bool,
@@ -152,7 +152,7 @@ impl Idling {
         self.backoff.reset();
     }
 
-    /// The length of the nap to take now. The next one is twice as long, if naps become longer.
+    /// The length of the nap to take now. If naps become longer, the next nap is twice as long, up to the longest.
     fn next_nap(&mut self) -> Duration
         ensures most { as_nanos result ≤ (if self.old.grows then 400_000 else 50_000) }
         ensures grows { self.new.grows ≡ self.old.grows }
@@ -168,7 +168,7 @@ impl Idling {
     }
 }
 
-/// The number of bytes of all pages, and about the number of bytes in the texts of all slots. Each is `usize::MAX` if it would be greater.
+/// The number of bytes of all pages, and the approximate number of bytes in the texts of all slots. Each is `usize::MAX` if it would be greater.
 pub(crate) fn bytes_of_pages(job: &Job<'_, '_>) -> (usize, usize)
     ensures pages { result.0 ≡ min (bytes_together (pages job.now.units)) usize.MAX }
     ensures texts { result.1 ≡ min (bytes_of_texts job.now) usize.MAX }
@@ -185,7 +185,7 @@ pub(crate) fn bytes_of_pages(job: &Job<'_, '_>) -> (usize, usize)
     (of_pages, of_slots)
 }
 
-/// The sheets that an imposer holds: it took them off the queue, and they lay past the window.
+/// The sheets that an imposer holds: it took them off the queue while they were past the window.
 #[derive(Drop)]
 pub(crate) struct Held {
     sheets: SheetSet,
@@ -194,7 +194,7 @@ pub(crate) struct Held {
 }
 
 impl Held {
-    /// Holds no sheet yet. It allocates no memory.
+    /// Makes an empty set of held sheets, without allocating memory.
     pub(crate) fn new(alloc: Global) -> Self
         ensures { result.sheets ≡ set.empty }
     {
@@ -211,7 +211,7 @@ impl Held {
         self.sheets.is_empty()
     }
 
-    /// Holds one more sheet. If memory is refused, nothing changes.
+    /// Holds one more sheet. If memory is refused, the set is unchanged.
     pub(crate) fn push(&mut self, sheet: u32) -> Result<(), AllocError>
         ensures held { OnOk result (self.new.sheets ≡ set.insert self.old.sheets sheet) }
         ensures refused { OnErr result (self.new.sheets ≡ self.old.sheets) }
@@ -219,7 +219,7 @@ impl Held {
         self.sheets.insert(sheet)
     }
 
-    /// Removes and returns the first held sheet, if it lies before `end`.
+    /// Removes and returns the first held sheet, if it is before `end`. Otherwise returns None and changes nothing.
     pub(crate) fn pop_before(&mut self, end: u32) -> Option<u32>
         ensures first { IfSome result (IsSmallest self.old.sheets) }
         ensures before { IfSome result (λ sheet. sheet < end) }
@@ -230,8 +230,8 @@ impl Held {
         self.sheets.take_first_before(end)
     }
 
-    /// Whether sheets are held and the window has moved since the last call. If so, the imposer should wait for these sheets instead of taking
-    /// further ones off the queue, which other imposers may want.
+    /// Whether sheets are held and the window has moved since the last call. If so, the imposer should wait for these sheets, and leave the sheets on
+    /// the queue to other imposers.
     pub(crate) fn come_nearer(&mut self, end: u32) -> bool
         ensures kept { self.new.looked_to ≡ end }
         ensures same { self.new.sheets ≡ self.old.sheets }

@@ -11,9 +11,9 @@ use dsc::{
 use memchr::memmem::FinderRev;
 use papers::first_comment;
 
-/// The number of pages that a document declares in its comments (DSC 3.0, 5.1). It is given by the first `%%Pages:` of the header. If that is
-/// `(atend)`, it is given by the first `%%Pages:` that follows the last `%%Trailer` line and isn't in an embedded document. None if there is no such
-/// comment, or if its value isn't a number.
+/// The number of pages that a document declares in its comments (DSC 3.0, 5.1). It is given by the first `%%Pages:` of the header. If the value there
+/// is `(atend)`, the number is given by the first `%%Pages:` that follows the last `%%Trailer` line and isn't in an embedded document. None if there
+/// is no such comment, or if its value isn't a number.
 pub fn declared_page_count(text: &[u8]) -> Option<usize>
     ensures { result ≡ meaning.declared_page_count text.now }
 {
@@ -21,7 +21,8 @@ pub fn declared_page_count(text: &[u8]) -> Option<usize>
     count_by(pages_field(header)?, text)
 }
 
-/// The number of pages that this first field of the header's `%%Pages:` declares. If the field is `(atend)`, the end of the text is read.
+/// The number of pages that `field`, the first field of the header's `%%Pages:`, declares. If the field is `(atend)`, the number is read from the end
+/// of the text.
 fn count_by(field: &[u8], text: &[u8]) -> Option<usize>
     ensures { result ≡ meaning.count_by field.now (meaning.last_lines text.now) }
 {
@@ -39,14 +40,14 @@ fn pages_field(lines: &[u8]) -> Option<&[u8]>
     first_field(pages_value(lines)?)
 }
 
-/// The first field after the first `%%Pages:` in these lines that isn't in an embedded document.
+/// The first field after the first `%%Pages:` that is in these lines but not in an embedded document.
 fn last_field(lines: &[u8]) -> Option<&[u8]>
     ensures { option_map (λ field. field.now) result ≡ meaning.first_field (meaning.pages_outside 0 (contents lines.now)) }
 {
     first_field(value_outside(lines)?)
 }
 
-/// The text after the first `%%Pages:` in these lines that isn't in an embedded document.
+/// The text after the first `%%Pages:` that is in these lines but not in an embedded document.
 fn value_outside(lines: &[u8]) -> Option<&[u8]>
     ensures { option_map (λ value. fields_in value.now) result ≡ meaning.pages_outside 0 (contents lines.now) }
 {
@@ -64,8 +65,8 @@ fn value_outside(lines: &[u8]) -> Option<&[u8]>
     None
 }
 
-/// The text after the colon, if this line is a `%%Pages:` comment and `depth`, the number of embedded documents that are open, is 0. `content` is the
-/// line without its line end.
+/// The text after the colon, if this line is a `%%Pages:` comment and `depth`, the number of embedded documents that are open, is 0. None otherwise.
+/// `content` is the line without its line end.
 fn value_at(depth: usize, content: &[u8]) -> Option<&[u8]>
     ensures { option_map (λ value. fields_in value.now) result ≡ meaning.pages_at depth content.now }
 {
@@ -161,7 +162,7 @@ fn is_trailer_line(content: &[u8]) -> bool
     key_of(content) == b"%%Trailer".as_slice()
 }
 
-/// The value of a field of digits, or `usize::MAX` if it is greater. None if the field has other characters.
+/// The value of a field of digits, or `usize::MAX` if the value is greater. None if the field has other characters.
 fn value_of_digits(field: &[u8]) -> Option<usize>
     ensures { result ≡ meaning.value_of_digits field.now }
 {

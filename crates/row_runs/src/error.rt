@@ -1,4 +1,4 @@
-//! Why a row can't be imposed.
+//! The reasons why a row can't be imposed.
 ghost use Rattle.std.specs.Prelude.{◌≡◌};
 ghost use Rattle.row_runs.specs.Errors.{of_made_plan};
 
@@ -8,22 +8,22 @@ use rows::RowError;
 use sheet_plan::MadeError;
 use thiserror::Error;
 
-/// Why a row can't be imposed. The variants are in the order in which a row is checked.
+/// The reason why a row can't be imposed. The variants are in the order in which `RowJob::lay` checks a row; memory may be refused at any point.
 #[derive(Clone, Copy, Debug, PartialEq, Eq, Error)]
 pub enum SheetError {
-    /// The row can't be made. This error is never refused memory, which is `NoMemory`.
+    /// The row can't be made. Refused memory is reported as `SheetError::NoMemory`.
     #[error(transparent)]
     Row(RowError),
-    /// A page of the row can't be placed in a cell. This error is never refused memory, which is `NoMemory`.
+    /// A page of the row can't be placed in a cell. Refused memory is reported as `SheetError::NoMemory`.
     #[error(transparent)]
     Arrangement(ArrangementError),
-    /// A page of the row can't be made into such a poster. This error is never refused memory, which is `NoMemory`.
+    /// A page of the row can't be made into the requested poster. Refused memory is reported as `SheetError::NoMemory`.
     #[error(transparent)]
     Poster(PosterError),
-    /// The sheets can't be planned. This error is never refused memory, which is `NoMemory`.
+    /// The sheets can't be planned. Refused memory is reported as `SheetError::NoMemory`.
     #[error(transparent)]
     Sheets(MadeError),
-    /// A page would be placed 100,000 points or more away from the sheet's corner, because it is shifted on a back or turned.
+    /// A page or its number would be placed 100,000 points or more away from the sheet's corner, because it is shifted on a back or turned.
     #[error("a page would be placed 100,000 points or more away")]
     OutOfReach,
     /// Memory was refused.

@@ -8,8 +8,8 @@ use layouts::ArrangementError;
 use lengths::Paper;
 use row_sheets::at_one_scale;
 
-/// The same laying, or if `same_scale` is set and pages are in cells, one in which all pages of the row have the least of their scales. Refused for
-/// the first page that fits no cell.
+/// Returns the laying, changed if `same_scale` is set and pages are in cells. All pages of the row then get the least of their scales, and the first
+/// page that fits no cell is refused.
 pub(crate) fn at_common_scale<'l>(
     same_scale: bool,
     laying: &'l Laying<'_>,

@@ -15,7 +15,8 @@ use preview::{Guide, GuideKind};
 use row_sheets::Poster;
 use std::alloc::{AllocError, Global};
 
-/// The guides of a laying: its margins, the cuts between cells, the folds of booklets and zines, and the lines for notes if they are requested.
+/// The guides of a laying: its margins, the cuts of cards, stacks and leaves, the folds of booklets and zines, and the requested lines for notes of a
+/// grid. Specifications and pages that are left as they are have no guides.
 pub(crate) fn guides_of(
     alloc: Global,
     marks: Marks,
@@ -46,7 +47,7 @@ fn push_guides(laying: &Laying<'_>, guides: &mut Vec<Guide>) -> Result<(), Alloc
     }
 }
 
-/// Adds the lines for notes, if they are requested and the cells of the laying are filled in turn.
+/// Adds the lines for notes, if they are requested and the laying is a grid.
 fn push_notes(
     alloc: Global,
     marks: Marks,
@@ -87,7 +88,7 @@ fn note_guide(line: &Stroke) -> Guide
     }
 }
 
-/// One sheet of a poster, with the poster's margins and no gaps.
+/// The room of one sheet of a poster: its paper and the poster's margins, without gutters.
 fn tile_room(poster: &Poster) -> Room
     requires { poster.now.edge ≤ 10_000_000_000 }
     ensures { result ≡ tile_room_of poster.now }
@@ -104,7 +105,7 @@ fn tile_room(poster: &Poster) -> Room
     }
 }
 
-/// Adds the guides of a setting: those of its margins, and lines of this kind between its cells.
+/// Adds the guides of a setting: its margins, and lines of this kind between its cells.
 fn push_lines(kind: GuideKind, setting: &Setting, guides: &mut Vec<Guide>) -> Result<(), AllocError>
     ensures { OnOk result (guides.new.items ≡ guides.old.items ++ setting_guides kind setting.now) }
 {
@@ -113,7 +114,7 @@ fn push_lines(kind: GuideKind, setting: &Setting, guides: &mut Vec<Guide>) -> Re
     Ok(())
 }
 
-/// Adds the guides of the margins that aren't 0.
+/// Adds the guides of the four margins.
 fn push_margin(room: &Room, guides: &mut Vec<Guide>) -> Result<(), AllocError>
     ensures { OnOk result (guides.new.items ≡ guides.old.items ++ margin_lines room.now) }
 {
@@ -188,7 +189,7 @@ fn push_level_lines(
     Ok(())
 }
 
-/// The upright line to the left of column k, counted from 0. `parts` is the number of columns.
+/// The vertical line to the left of column k, counted from 0. `parts` is the number of columns.
 fn upright_line(kind: GuideKind, room: &Room, parts: u32, k: u32) -> Guide
     requires { k < parts }
     ensures { result ≡ upright_line_of kind room.now parts k }
@@ -197,7 +198,7 @@ fn upright_line(kind: GuideKind, room: &Room, parts: u32, k: u32) -> Guide
     upright(kind, &room.paper, x)
 }
 
-/// The level line below row k, counted from 0 at the bottom. `parts` is the number of rows.
+/// The horizontal line below row k, counted from 0 at the bottom. `parts` is the number of rows.
 fn level_line(kind: GuideKind, room: &Room, parts: u32, k: u32) -> Guide
     requires { k < parts }
     ensures { result ≡ level_line_of kind room.now parts k }
@@ -206,7 +207,7 @@ fn level_line(kind: GuideKind, room: &Room, parts: u32, k: u32) -> Guide
     level(kind, &room.paper, y)
 }
 
-/// An upright line over the whole sheet, at this distance from the left edge, in grains.
+/// A vertical line across the whole sheet, at this distance from the left edge, in grains.
 fn upright(kind: GuideKind, paper: &Paper, x: Grains) -> Guide
     ensures { result ≡ upright_of kind paper.now x }
 {
@@ -217,7 +218,7 @@ fn upright(kind: GuideKind, paper: &Paper, x: Grains) -> Guide
     }
 }
 
-/// A level line over the whole sheet, at this distance from the lower edge, in grains.
+/// A horizontal line across the whole sheet, at this distance from the lower edge, in grains.
 fn level(kind: GuideKind, paper: &Paper, y: Grains) -> Guide
     ensures { result ≡ level_of kind paper.now y }
 {

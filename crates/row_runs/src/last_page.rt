@@ -9,8 +9,8 @@ use std::alloc::AllocError;
 
 const MOST_ENTRIES: usize = 1_000_000;
 
-/// The row with the blanks that fill up the last signature before its last entry, so the last page is at the back of the booklet. Without signatures it
-/// stays as it is, and so does a row that fills its signatures.
+/// The row, with the blanks that fill up the last signature inserted before its last entry. So the last page is at the back of the booklet. The row
+/// is unchanged if it has no signatures or fills them. The only error is refused memory.
 pub(crate) fn last_at_back(
     row: Vec<Option<u32>>,
     signing: Option<Signing>,
@@ -31,7 +31,7 @@ pub(crate) fn last_at_back(
     }
 }
 
-/// The number of entries of whole signatures for a row with this many entries, but no more than a row may have.
+/// The number of entries that a row of `entries` entries has when its last signature is filled up, but at most the number that a row may have.
 fn filled_length(how: Signing, entries: usize) -> usize
     requires sides { MayBeSewn how }
     requires some { 0 < entries }
@@ -44,7 +44,7 @@ fn filled_length(how: Signing, entries: usize) -> usize
     (entries.div_ceil(sides) * sides).min(MOST_ENTRIES)
 }
 
-/// The row with blanks before its last entry, so it has this many entries.
+/// The row with as many blanks inserted before its last entry as give it `filled` entries.
 fn with_blanks(row: Vec<Option<u32>>, filled: usize) -> Result<Vec<Option<u32>>, AllocError>
     requires some { 0 < length row.items }
     requires more { length row.items ≤ filled }

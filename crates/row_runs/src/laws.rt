@@ -8,9 +8,9 @@ ghost use Rattle.row_runs.specs.Turning.{TurnedStands, TurnsAddUp};
 ghost use Rattle.row_runs.specs.NumbersLie.{NumbersInCells, NumbersInHalves};
 ghost use Rattle.row_runs.specs.Written.{NothingIsMoved, TurnedStaysInCell, UprightIsUnturned, WrittenAreRead, WrittenInCells, WrittenInPlaces, WrittenIsBound, WrittenKeepRoom, WrittenStand};
 
-/// On sheets as they are laid, pages are fitted into their cells, in reading order. Once the sheets of a stack are cut and piled, its pages are in
-/// the order of the row. Once a zine is folded and cut, so are its pages. The fold marks of a booklet are on its fold. Each point of a poster's page
-/// is on one of its sheets.
+/// On sheets as they are laid, pages are fitted into their cells, in reading order. The pages of a stack are in the order of the row once its sheets
+/// are cut and piled. So are the pages of a zine once it is folded and cut. The fold marks of a booklet are on its fold. Each point of a poster's
+/// page is on one of its sheets.
 pub fn asked_stand_in_places()
     ensures { AskedStandInPlaces }
 {}
@@ -20,7 +20,7 @@ pub fn asked_is_read()
     ensures { AskedIsRead }
 {}
 
-/// A booklet with blanks before its last page, folded and read, has that page at its back.
+/// If a booklet has blanks before its last page, that page is at the back of the booklet once it is folded.
 pub fn last_page_is_last()
     ensures { LastPageIsLast }
 {}
@@ -37,13 +37,13 @@ pub fn turns_add_up()
     ensures { TurnsAddUp }
 {}
 
-/// Turning a page moves none of its points by more than 10^-5 of a point from where the same point of a page with the turned paper would be.
+/// Each point of a turned page lies within 10^-5 of a point of the place that it would have on a page with the turned paper.
 pub fn turned_stands()
     ensures { TurnedStands }
 {}
 
-/// If pages lie between the margins of a sheet and apart from each other, they also do so after left and right margins are exchanged on backs
-/// (`stands`). Fitted pages have their offsets in points, which this law needs (`points`).
+/// If pages lie between the margins of a sheet and apart from each other, they still do so after left and right margins are exchanged on backs
+/// (`stands`). This law needs offsets in points, which fitted pages have (`points`).
 pub fn swapped_stands()
     ensures stands { SwappedStands }
     ensures points { FittedAreInPoints }
@@ -55,12 +55,12 @@ pub fn written_as_laid()
     ensures turned { UprightIsUnturned }
 {}
 
-/// A page that lies in a cell still does when it is turned. If pages are trimmed, it may reach 10^-5 of a point past the cell.
+/// A page that lies in a cell still lies there when it is turned. If pages are trimmed, it may reach 10^-5 of a point past the cell.
 pub fn turned_stays_in_cell()
     ensures { TurnedStaysInCell }
 {}
 
-/// Where the pages are on the sheets that are written. If no page is turned, pages are where they are laid, and on backs between the margins of the
+/// The places of pages on the sheets that are written. If no page is turned, pages are where they are laid, and on backs between the margins of the
 /// back (`stand`). If no margins are exchanged either, pages are in the places of the laying (`places`). Whether turned or not, each page lies in its
 /// cell (`cells`), and pages that aren't trimmed lie between the margins and apart from each other (`room`). Cells, stacks and zines (`read`) and
 /// booklets (`bound`) are read in the order of the row.
@@ -73,7 +73,7 @@ pub fn written_keeps_place()
     ensures bound { WrittenIsBound }
 {}
 
-/// The number of a page is at the foot of the page's cell, in the middle. In a booklet the cells are the halves of a sheet's side.
+/// The number of a page is centred at the foot of the page's cell. In a booklet the cells are the halves of a sheet's side.
 pub fn numbers_lie_in_cells()
     ensures cells { NumbersInCells }
     ensures halves { NumbersInHalves }

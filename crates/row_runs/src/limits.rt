@@ -14,8 +14,8 @@ const MOST_SLOTS: u128 = 4_096;
 /// The greatest number of slots on all sheets of a plan together.
 const MOST_PLACES: u128 = 4_000_000;
 
-/// The limit of a plan that a row with this number of entries would exceed, if any. It is checked for cards and posters only, since they need many
-/// more slots than there are entries. The sheets of a specification are checked while they are laid.
+/// The limit of a plan that a row with this number of entries would exceed, if any. Only cards and posters are checked, since they need many more
+/// slots than there are entries. The sheets of a specification are checked while they are laid.
 pub(crate) fn limit_in(laying: &Laying<'_>, entries: usize) -> Option<MadeError>
     ensures { result ≡ limit_of_laying laying.now entries }
 {
@@ -32,7 +32,7 @@ pub(crate) fn limit_in(laying: &Laying<'_>, entries: usize) -> Option<MadeError>
     }
 }
 
-/// The first limit that this number of sheets with this number of slots on each would exceed; None if there is no such limit.
+/// The first limit that this number of sheets with this number of slots on each would exceed. None if there is no such limit.
 fn limit_passed(sheets: u128, places: u128) -> Option<MadeError>
     requires { places < 2 ^ 32 }
     ensures { result ≡ first_passed sheets places }

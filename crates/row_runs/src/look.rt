@@ -20,8 +20,8 @@ use preview::{Guide, plan_text, preview_text};
 use sheet_plan::{MadeError, MadeSheets, Plan};
 use std::alloc::{AllocError, Global};
 
-/// A list of the sheets that a run would impose, as text. If there are more than `most` sheets or leaves, those in the middle are left out. The
-/// errors are those of the run.
+/// A list of the sheets that a run would impose, as text. If there are more than `most` sheets or leaves, only the first and the last ones are
+/// listed, `most` in all. The errors are those of the run.
 pub fn row_plan(alloc: Global, job: &RowJob<'_, '_>, most: u32) -> Result<Vec<u8>, SheetError>
     requires asked { MayBeAsked job.now.asked }
     ensures told { IfOk result (λ text. TellsPlan job.now most text.items) }
@@ -68,7 +68,7 @@ fn drawn(
     Ok(text)
 }
 
-/// The guides to draw on each sheet of a job. There are none if margins are exchanged on backs, where they would be elsewhere.
+/// The guides to draw on each sheet of a job. There are none if margins are exchanged on backs, since the guides of fronts and backs would differ.
 fn guides_for(alloc: Global, job: &RowJob<'_, '_>) -> Result<Vec<Guide>, AllocError>
     requires { MayBeAsked job.now.asked }
     ensures { IfOk result (λ guides. guides.items ≡ guides_on job.now) }
@@ -80,7 +80,7 @@ fn guides_for(alloc: Global, job: &RowJob<'_, '_>) -> Result<Vec<Guide>, AllocEr
     }
 }
 
-/// The sheets that a run would impose, with pages on backs shifted and pages turned.
+/// The sheets that a run would impose, with pages shifted on backs and turned as the job requests.
 fn planned_sheets(alloc: Global, job: &RowJob<'_, '_>) -> Result<MadeSheets, SheetError>
     requires asked { MayBeAsked job.now.asked }
     ensures made { IfOk result (ArePlanned job.now) }

@@ -7,8 +7,8 @@ use dressing::{Marks, Stroke, cut_marks, fold_marks, note_lines, outer_cut_marks
 use layouts::Setting;
 use std::alloc::{AllocError, Global};
 
-/// The strokes that are drawn on each sheet of a laying, for the requested marks. Grids, cards and stacks have cut marks, and booklets have fold
-/// marks and cut marks. Only grids have lines for notes. Zines, posters, specifications and pages that are left as they are have no strokes.
+/// The strokes that are drawn on each sheet of a laying, for the requested marks. Grids, cards, stacks and leaves have cut marks, and booklets have
+/// fold marks and cut marks. Only grids have lines for notes. Zines, posters, specifications and pages that are left as they are have no strokes.
 pub(crate) fn strokes_of(
     alloc: Global,
     marks: Marks,

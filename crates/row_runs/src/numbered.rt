@@ -23,8 +23,8 @@ use sheet_text::Numbers;
 use std::alloc::{AllocError, Global};
 
 /// The page numbers for the sheets of this request, if numbers are requested (`how`). `pages` is the number of pages of the document. If `swap` is
-/// given, its left and right margins are exchanged on backs, and numbers there are shifted like their pages. Refused as `OutOfReach` if a shifted
-/// number would be 100,000 points or more away, or if there are too many sheets.
+/// given, its left and right margins are exchanged on backs, and numbers there are shifted like their pages. The error is `OutOfReach` if a shifted
+/// number would be 100,000 points or more away from the sheet's corner, and `NoMemory` if memory is refused.
 pub(crate) fn numbers_on(
     alloc: Global,
     pages: u32,
@@ -113,7 +113,7 @@ fn named_at(row: &[Option<u32>], place: u32) -> Option<u32>
     }
 }
 
-/// The papers of the row's pages, in the order of the row. Where a page's paper isn't known, it is `other`.
+/// The papers of the row's entries, in the order of the row. A blank, or a page whose paper isn't known, has the paper `other`.
 fn papers_on_row(
     alloc: Global,
     papers: &[Paper],

@@ -1,4 +1,4 @@
-//! Checks that pages that are shifted or turned still have places that can be written.
+//! Checks that pages that are shifted or turned still have offsets that can be written.
 ghost use Rattle.std.specs.Prelude.{◌≡◌, ◌⊎◌, ◌<◌, ◌≤◌, IfErr, OnOk, false, length, true};
 ghost use Rattle.std.specs.List.{list_all};
 ghost use Rattle.rules.specs.Run.{most_sheets};
@@ -16,8 +16,8 @@ use sheet_plan::{MadeError, MadeSheets, PlacedSlot};
 /// The greatest number of sheets in a plan.
 const MOST_SHEETS: usize = 1_000_000;
 
-/// Checks that these sheets can be shifted and turned: there are at most 1,000,000 sheets, and no page gets an offset of 100,000 points or more. If
-/// `swap` is given, its left and right margins are exchanged on backs.
+/// Checks that these sheets can be shifted and turned. The error is `TooManySheets` if there are more than 1,000,000 sheets, and `OutOfReach` if a
+/// page would get an offset of 100,000 points or more. If `swap` is given, its left and right margins are exchanged on backs.
 pub(crate) fn check_reach(
     turn: Turn,
     swap: &Option<Room>,

@@ -1,4 +1,4 @@
-//! How the sheets of a laying are printed and read.
+//! The way in which the sheets of a laying are printed and read.
 ghost use Rattle.std.specs.Prelude.{◌≡◌, ◌<◌, ◌^◌, if◌then◌else◌, length, sum_by};
 ghost use Rattle.layouts.specs.Cells.{held_height, held_width};
 ghost use Rattle.layouts.specs.Grids.{plain_order as order_of_one};
@@ -15,7 +15,7 @@ use pagespec::{Item, Spec};
 use preview::{Edge, Places, Reading, Sides};
 use row_sheets::Poster;
 
-/// On which sides the sheets of a laying are printed, and where the places of their pages are. If `swap` is given, its left and right margins are
+/// The sides on which the sheets of a laying are printed, and the places of pages on each sheet. If `swap` is given, its left and right margins are
 /// exchanged on backs.
 pub(crate) fn reading_of(swap: &Option<Room>, laying: &Laying<'_>) -> Reading
     ensures { result ≡ reading_in swap.now laying.now }
@@ -26,7 +26,7 @@ pub(crate) fn reading_of(swap: &Option<Room>, laying: &Laying<'_>) -> Reading
     }
 }
 
-/// On which sides sheets are printed: on both if margins are exchanged on backs, and otherwise as the laying says.
+/// The sides on which sheets are printed: both if margins are exchanged on backs, and otherwise those of the laying.
 pub(crate) fn sides_by(swap: &Option<Room>, laying: &Laying<'_>) -> Sides
     ensures { result ≡ sides_of_swapped_room swap.now laying.now }
 {
@@ -38,7 +38,7 @@ pub(crate) fn sides_by(swap: &Option<Room>, laying: &Laying<'_>) -> Sides
     }
 }
 
-/// The edge of a sheet that runs along its height, as it is printed: the short or the long one.
+/// The edge that runs along the height of a sheet as it is printed: the short edge or the long edge.
 fn edge_as_printed(paper: &Paper) -> Edge
     ensures { result ≡ edge_printed paper.now }
 {
@@ -49,7 +49,7 @@ fn edge_as_printed(paper: &Paper) -> Edge
     }
 }
 
-/// Whether the sheets of a laying are printed on one side or on both. If on both, also the edge on which leaves are flipped.
+/// The sides on which the sheets of a laying are printed: one side, or both sides with the edge on which leaves are flipped.
 fn printed_sides(laying: &Laying<'_>) -> Sides
     ensures { result ≡ sides_in laying.now }
 {
@@ -74,7 +74,7 @@ fn edge_of_backs(turned: bool) -> Edge
     if turned { Edge::Long } else { Edge::Short }
 }
 
-/// The edge on which leaves are turned over like the pages of a book, with the sheet held as one reads it.
+/// The edge on which leaves are turned over like the pages of a book, with the sheet held for reading.
 fn edge_at_side(setting: &Setting) -> Edge
     ensures { result ≡ edge_of setting.now }
 {
@@ -86,7 +86,7 @@ fn edge_at_side(setting: &Setting) -> Edge
     }
 }
 
-/// The width and the height of the sheet, held as one reads it, in 10^-5 of a point.
+/// The width and the height of the sheet, held for reading, in grains.
 fn sides_read(setting: &Setting) -> (u64, u64)
     ensures width { result.0 ≡ width_read setting.now }
     ensures height { result.1 ≡ height_read setting.now }
@@ -98,7 +98,7 @@ fn sides_read(setting: &Setting) -> (u64, u64)
     }
 }
 
-/// The width and the height of the sheet, held with its pages upright, in 10^-5 of a point. `turned` says whether pages are turned on the sheet.
+/// The width and the height of the sheet, held with its pages upright, in grains. `turned` says whether pages are turned on the sheet.
 fn sides_held(turned: bool, paper: &Paper) -> (u64, u64)
     ensures width { result.0 ≡ held_width turned paper.now }
     ensures height { result.1 ≡ held_height turned paper.now }
@@ -134,7 +134,7 @@ fn places_of(laying: &Laying<'_>) -> Places
     }
 }
 
-/// A row of places, as many as the longest group of a specification has items.
+/// A single row of places, one for each item in the longest group of a specification.
 fn listed(spec: &Spec) -> Grid
     ensures { result ≡ listed_grid spec.now }
 {
@@ -145,7 +145,7 @@ fn listed(spec: &Spec) -> Grid
     }
 }
 
-/// The number of items in the longest group; 1 if there is no group.
+/// The number of items in the longest group. 1 if there is no group.
 fn most_items(groups: &[Vec<Item>]) -> u32
     requires { sum_by length (groups_of groups.now) < 2 ^ 32 }
     ensures value { result ≡ most_items_in 1 (groups_of groups.now) }

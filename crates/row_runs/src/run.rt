@@ -24,7 +24,7 @@ use std::alloc::Global;
 pub struct RowJob<'j, 'd> {
     /// The document, which has been read.
     pub document: &'j Document<'d>,
-    /// How each page is turned before it is placed.
+    /// The turn of each page before it is placed.
     pub turn: Turn,
     /// The paper of each page after it is turned, in the order of the pages. A page that has no entry has the paper of the sheets.
     pub papers: &'j [Paper],
@@ -32,7 +32,7 @@ pub struct RowJob<'j, 'd> {
     pub asked: SheetRequest<'j>,
     /// Whether left and right margins are exchanged on every second sheet, since it is the back of a leaf.
     pub swapped: bool,
-    /// The width of a border round each page, in grains; None for no border. It is above 0.
+    /// The width of a border around each page, in grains and above 0. None if pages have no border.
     pub border: Option<Grains>,
     /// The distance of the border from the edges of its page, in grains.
     pub inset: Grains,
@@ -41,9 +41,9 @@ pub struct RowJob<'j, 'd> {
 }
 
 impl<'j, 'd> RowJob<'j, 'd> {
-    /// The sheets of the request, with pages on backs shifted and pages turned, and the lines that report papers and draw marks and numbers. The
-    /// first fault is reported: one of the row, then a page that fits no cell, then the others of `SheetError`. Not all sheets that this returns can
-    /// be planned, so a caller should call `Plan::of_sheets` before it creates an output.
+    /// The sheets of the request, with pages shifted on backs and turned as the job requests, and the lines that report papers and draw marks and
+    /// numbers. The first fault is reported, in the order of the variants of `SheetError`. Not all sheets that this call returns can be planned, so a
+    /// caller should call `Plan::of_sheets` before it creates an output.
     pub fn lay(&self, alloc: Global) -> Result<(MadeSheets, SheetExtras), SheetError>
         requires { MayBeAsked self.now.asked }
         ensures turned { IfOk result (λ laid. AreTurned self.now laid.0) }

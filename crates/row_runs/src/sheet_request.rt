@@ -28,7 +28,7 @@ use rows::{Choice, RowError, Signing, chosen_row};
 use sheet_plan::{MadeError, MadeSheets};
 use std::alloc::Global;
 
-/// How a row is laid on sheets.
+/// The ways in which a row is laid on sheets.
 #[derive(Clone, Copy)]
 pub enum Laying<'l> {
     /// Each page is left as it is, on a sheet of its own paper. Each blank is on a sheet of the paper `blank`.
@@ -54,7 +54,7 @@ pub enum Laying<'l> {
 }
 
 impl<'l> Laying<'l> {
-    /// The same laying, borrowed from this one. It only copies the reference to the specification.
+    /// A copy of this laying, which borrows its specification.
     pub fn lent(&self) -> Laying<'_>
         ensures { result ≡ self.now }
     {
@@ -74,7 +74,7 @@ impl<'l> Laying<'l> {
     }
 }
 
-/// Which entries of a row are in which cells of the sheets.
+/// The ways in which the entries of a row are put into the cells of sheets.
 #[derive(Clone, Copy)]
 pub enum Scheme {
     /// Each sheet takes the next `cells` entries of the row.
@@ -97,9 +97,9 @@ pub enum Scheme {
 /// A request for sheets of a document.
 #[derive(Clone, Copy)]
 pub struct SheetRequest<'t> {
-    /// Which pages are imposed.
+    /// The choice of the pages that are imposed.
     pub choice: Choice<'t>,
-    /// How the row is put into signatures; None without signatures.
+    /// The signatures into which the row is put. None if pages aren't put into signatures.
     pub signing: Option<Signing>,
     /// Whether the blanks that fill up the last signature come before the last page.
     pub last_at_back: bool,
@@ -111,7 +111,7 @@ pub struct SheetRequest<'t> {
 }
 
 impl SheetRequest<'_> {
-    /// The row to lay: what is chosen, with blanks before its last page if they are asked for.
+    /// The row to lay: the chosen pages and blanks, with the blanks that fill up the last signature before the last page if `last_at_back` is set.
     pub(crate) fn row(&self, alloc: Global, pages: u32) -> Result<Vec<Option<u32>>, RowError>
         requires pages { pages ≤ most_entries }
         requires sewn { IfSome self.now.signing MayBeSewn }
@@ -131,11 +131,11 @@ impl SheetRequest<'_> {
     }
 }
 
-/// The sheets that are requested of a document with this number of pages. `papers` has the paper of each page, in order; a page that has no entry
+/// The sheets that are requested of a document with this number of pages. `papers` has the paper of each page, in order. A page that has no entry
 /// there has the paper of the sheets.
 ///
-/// The first fault is reported. A fault of the row comes first, and then the first page that fits no cell or can't be made into a poster. The last
-/// fault is a limit of a plan that cards, a poster or a specification would exceed. After a refusal no sheets are made.
+/// The first fault is reported. A fault of the row comes first, and then the first page that fits no cell or can't be made into a poster. A limit of
+/// a plan that cards, a poster or a specification would exceed comes last. After a refusal no sheets are made.
 pub fn make_sheets(
     alloc: Global,
     pages: u32,
@@ -166,7 +166,7 @@ pub fn make_sheets(
     lay_row(alloc, &laying, leaves, papers, entries)
 }
 
-/// The number of leaves in a signature of this row; 0 without signatures.
+/// The number of leaves in a signature of this row. 0 without signatures.
 pub(crate) fn leaves_in(signing: Option<Signing>, row: &[Option<u32>]) -> u32
     requires sewn { IfSome signing MayBeSewn }
     requires some { 0 < length row.now }
@@ -257,7 +257,7 @@ pub(crate) fn lay_row(
     }
 }
 
-/// Why a row whose sheets would exceed this limit isn't laid. A page that fits no cell, or can't be made into a poster, is reported before the limit.
+/// The fault of a row whose sheets would exceed this limit. A page that fits no cell, or can't be made into a poster, is reported before the limit.
 fn over_limit(
     laying: &Laying<'_>,
     papers: &[Paper],

@@ -1,4 +1,4 @@
-//! Left and right margins that are exchanged on backs. Sheets are printed on both sides, so that they are fronts and backs in turn.
+//! Exchanges left and right margins on backs. Leaves are printed on both sides, so sheets are fronts and backs in turn.
 ghost use Rattle.std.specs.Prelude.{◌≡◌, ◌^◌, ◌≤◌, IfOk, IfSome, is_some, length, nat_abs, true};
 ghost use Rattle.rules.specs.Run.{most_sheets};
 ghost use Rattle.rules.specs.Specification.{Upright};
@@ -13,7 +13,7 @@ use pagespec::{Item, Turn};
 use sheet_plan::MadeSheets;
 use std::alloc::{AllocError, Global};
 
-/// The margins and gaps of a laying in cells, if they are exchanged on backs.
+/// The room of a laying in cells, if its left and right margins are exchanged on backs. None otherwise.
 pub(crate) fn swapped_room_in(swapped: bool, laying: &Laying<'_>) -> Option<Room>
     ensures { result ≡ meaning.swapped_room_in swapped laying.now }
 {
@@ -23,7 +23,7 @@ pub(crate) fn swapped_room_in(swapped: bool, laying: &Laying<'_>) -> Option<Room
     }
 }
 
-/// The same sheets, with left and right margins exchanged on backs. Pages are shifted by the difference of the margins.
+/// These sheets, with left and right margins exchanged on backs if `swap` is given. Pages on backs are shifted by the difference of the margins.
 pub(crate) fn swapped_sheets(
     alloc: Global,
     swap: &Option<Room>,
@@ -36,8 +36,8 @@ pub(crate) fn swapped_sheets(
     turned_sheets(alloc, Turn::None, swap, sheets)
 }
 
-/// The room whose left and right margins are exchanged on this sheet, counted from 0. Sheets with odd numbers are backs, and only on these are
-/// margins exchanged.
+/// The room whose left and right margins are exchanged on this sheet (counted from 0). None on sheets with even numbers, since only sheets with odd
+/// numbers are backs.
 pub(crate) fn swapped_room_on(swap: &Option<Room>, sheet: u32) -> Option<Room>
     ensures { result ≡ meaning.swapped_room_on swap.now sheet }
 {
@@ -62,8 +62,8 @@ pub(crate) fn moved_item(swap: &Option<Room>, item: &Item) -> Option<Item>
     }
 }
 
-/// How far pages are shifted to the right if left and right margins of this room are exchanged, in 10^-5 of a point. It is negative if they are
-/// shifted to the left.
+/// The distance by which pages are shifted to the right if the left and right margins of this room are exchanged, in 10^-5 of a point. It is negative
+/// if pages are shifted to the left.
 fn swap_shift(room: &Room) -> i64
     ensures value { result ≡ meaning.swap_shift room.now }
     ensures in_range { nat_abs result ≤ 10 ^ 17 }

@@ -52,7 +52,7 @@ fn all_papers(alloc: Global, turn: Turn, papers: &[Paper]) -> Result<Vec<Paper>,
     Ok(turned)
 }
 
-/// The same sheets, with all pages turned. The given sheets must be laid for pages with the turned papers. If `swap` is given, its left and right
+/// These sheets, with all pages turned. The sheets must have been laid for pages with the turned papers. If `swap` is given, its left and right
 /// margins are exchanged on backs, and pages there are shifted before they are turned.
 pub(crate) fn turned_sheets(
     alloc: Global,
@@ -160,7 +160,7 @@ fn turned_item(turn: Turn, paper: &Paper, item: &Item) -> Option<Item>
     })
 }
 
-/// The turn that is the same as one turn followed by another.
+/// The turn that results from `turn` followed by `other`.
 fn turn_sum(turn: Turn, other: Turn) -> Turn
     ensures { turn_of result ≡ meaning.turn_sum (turn_of turn) (turn_of other) }
 {
@@ -184,7 +184,7 @@ fn quarter_left(turn: Turn) -> Turn
     }
 }
 
-/// Where the lower left corner of a page of this width and height is on its turned paper, in the unit of these lengths.
+/// The point of the turned paper at which the lower left corner of a page of this width and height lies, in the unit of these lengths.
 fn turned_corner(turn: Turn, width: i64, height: i64) -> (i64, i64)
     requires width { nat_abs width ≤ 10 ^ 17 }
     requires height { nat_abs height ≤ 10 ^ 17 }
@@ -201,7 +201,7 @@ fn turned_corner(turn: Turn, width: i64, height: i64) -> (i64, i64)
     }
 }
 
-/// Turns a point about the origin.
+/// Turns a point about the point (0, 0).
 fn turned_by(turn: Turn, x: i64, y: i64) -> (i64, i64)
     requires x { nat_abs x ≤ 10 ^ 17 }
     requires y { nat_abs y ≤ 10 ^ 17 }

@@ -23,20 +23,20 @@ use std::sync::Wait;
 pub struct Delivered<'d> {
     /// The receipt with which any thread can read the page from the shelf.
     pub receipt: Receipt<'d>,
-    /// Whether the page got the index in the receipt, or already had an earlier index, which it keeps.
+    /// The reply to the publishing of the page: the page got the index in the receipt, or keeps an earlier index.
     pub published: Published,
     /// The reply to each mark, one for each place (a sheet and a slot) of the page, in order.
     pub replies: Vec<Reply>,
     /// The reply to each closing of a group, in order. A group of a wide sheet is closed if a mark filled it.
     pub closings: Vec<Closing>,
-    /// The sheets that the page completed and that the queue refused because it was full, in order.
+    /// The sheets that the page completed and that the queue refused, in order. The queue or the pass had no room for them.
     pub handed_back: Vec<u32>,
 }
 
-/// Why a page wasn't delivered. The table, the queue, the seat and the pass are unchanged.
+/// The reason why a page wasn't delivered. The table, the queue, the seat and the pass are unchanged.
 #[derive(Drop)]
 pub enum DeliverError<'d> {
-    /// Memory was refused. The shelf is unchanged too, and the page is returned.
+    /// Memory was refused. The page is returned, and the shelf is unchanged.
     NoMemory(Prepared<'d>),
     /// The page is on the shelf, but its index has more than 32 bits, so there is no receipt for it.
     ShelfFull(Overflow<'d>),
@@ -56,8 +56,8 @@ impl Debug for DeliverError<'_> {
 /// the group is closed before the next place is marked. If a mark or a closing completes a sheet, the sheet is put on the queue at once. The call may
 /// wait for other threads that are using the shelf or the queue.
 ///
-/// The table must be one of this plan. All memory is reserved before the first call on the table or the queue, so that a refusal leaves both
-/// unchanged.
+/// The table must be one of this plan. All memory is reserved before the first call on the table or the queue, so that a refusal of memory leaves
+/// both unchanged.
 pub fn deliver<'d, R: Wait>(
     rt: &R,
     alloc: Global,
@@ -106,20 +106,21 @@ pub fn deliver<'d, R: Wait>(
     delivery.deliver(rt, seat, pass, prepared, Answers::new(alloc))
 }
 
-/// Where pages are delivered: the table of a plan, the shelf for prepared pages, and the queue for completed sheets.
+/// The objects that deliveries use: a plan, the table of this plan, the shelf for prepared pages, and the queue for completed sheets.
 #[derive(Drop)]
 pub struct Delivery<'f, 'p, 't, 'd> {
     pub plan: &'f Plan<'p>,
     pub table: &'f GatherTable<'t>,
     pub shelf: &'f Shelf<'d>,
     pub ready: &'f Ready,
-    /// Whether pages are put on the shelf as those of the shelf's own document. An imposer then needn't compare their bytes.
+    /// Whether pages are put on the shelf as pages of the shelf's own document. If they are, an imposer needn't compare their bytes with the
+    /// document's.
     pub as_own: bool,
     ghost same_plan: { table.now.layout ≡ layout plan.now },
 }
 
 impl<'f, 'p, 't, 'd> Delivery<'f, 'p, 't, 'd> {
-    /// Delivers a page like the function `deliver`, but reuses the memory of an earlier delivery for the answers.
+    /// Delivers a page like the function `deliver`, but stores the answers in the memory of `answers`.
     pub fn deliver<R: Wait>(
         &self,
         rt: &R,
@@ -185,8 +186,8 @@ impl<'f, 'p, 't, 'd> Delivery<'f, 'p, 't, 'd> {
         })
     }
 
-    /// Marks these places in order. After each mark, closes the group that it filled and puts the sheet that it completed on the queue. The lists of
-    /// answers must be empty and have enough memory reserved.
+    /// Marks these places in order. After each mark, closes the group if the mark filled one, and puts the sheet on the queue if the mark or the
+    /// closing completed it. The lists of answers must be empty, with memory reserved for one entry per place.
     fn mark_places<R: Wait>(
         &self,
         rt: &R,
@@ -228,7 +229,7 @@ impl<'f, 'p, 't, 'd> Delivery<'f, 'p, 't, 'd> {
     }
 }
 
-/// Lists for the answers of a delivery and for the sheets handed back. Their memory is reused from one delivery to the next.
+/// The lists for the answers of a delivery and for the sheets handed back. Their memory is reused from one delivery to the next.
 #[derive(Drop)]
 pub struct Answers {
     replies: Vec<Reply>,
@@ -237,7 +238,7 @@ pub struct Answers {
 }
 
 impl Answers {
-    /// Empty lists. They allocate no memory.
+    /// Makes empty lists, without allocating memory.
     pub fn new(alloc: Global) -> Self {
         Answers {
             replies: Vec::new(alloc),
@@ -246,7 +247,7 @@ impl Answers {
         }
     }
 
-    /// The lists of an earlier delivery. They are emptied when they are used again.
+    /// The lists of an earlier delivery. The next delivery empties them before it uses them.
     pub fn of(delivered: Delivered<'_>) -> Self {
         let Delivered {
             receipt: _,
@@ -262,7 +263,7 @@ impl Answers {
         }
     }
 
-    /// Empties the lists, and reserves memory for the answers of a page with this number of places.
+    /// Empties the lists, and reserves memory for the answers of a page with this number of places. The only error is refused memory.
     fn reserve(&mut self, places: usize) -> Result<(), AllocError>
         ensures replies { OnOk result ((self.new.replies.items ≡ []) × (places ≤ vec_capacity self.new.replies)) }
         ensures closings { OnOk result ((self.new.closings.items ≡ []) × (places ≤ vec_capacity self.new.closings)) }
@@ -299,7 +300,7 @@ fn mark_and_close(
     (reply, Some(closing))
 }
 
-/// Adds the reply of a closing, if there was one. The list must have memory reserved for it.
+/// Adds the reply to a closing to the list, if there was a closing. The list must have memory reserved for one more reply.
 fn push_closing(closings: &mut Vec<Closing>, closing: Option<Closing>)
     requires room { length closings.old.items < vec_capacity closings.old }
     ensures items { closings.new.items ≡ closings.old.items ++ answer_list closing }
@@ -321,7 +322,8 @@ fn completes_sheet(reply: Reply, closing: Option<Closing>) -> bool
     }
 }
 
-/// Puts the sheet on the queue if it was completed. If the queue is full, the sheet is added to `handed_back`.
+/// Puts the sheet on the queue if it was completed. If the queue refuses the sheet, it is added to `handed_back`, which must have memory reserved for
+/// it.
 fn hand_on_completed<R: Wait>(
     rt: &R,
     ready: &Ready,

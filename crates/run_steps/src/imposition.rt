@@ -27,7 +27,7 @@ pub struct Imposed {
     pub text: Vec<u8>,
 }
 
-/// Why a sheet wasn't imposed.
+/// The reason why a sheet wasn't imposed.
 #[derive(Clone, Copy, Debug, PartialEq, Eq, Error)]
 pub enum ImposeError {
     #[error("out of memory")]
@@ -37,9 +37,9 @@ pub enum ImposeError {
     NotShown,
 }
 
-/// Makes the text of a complete sheet, counted from 0, from the prepared pages on the shelf. The text is the one that `sheet_text` makes. The table
+/// Makes the text of a complete sheet (counted from 0) from the prepared pages on the shelf. The text is the one that `sheet_text` makes. The table
 /// must be one of the job's plan, and the seat must have seen that the sheet is complete (`is_complete`). The pages are looked up in the order of
-/// their slots. After an error only some of the first pages have been looked up; after `NotShown` at least one has.
+/// their slots. An error may end the look-ups before the last page; after `NotShown`, at least one page has been looked up.
 pub fn impose<'d>(
     alloc: Global,
     seat: &mut Seat,
@@ -78,15 +78,16 @@ pub struct Imposition<'s, 'r, 't, 'd> {
     pub job: &'s Job<'r, 'd>,
     pub table: &'s GatherTable<'t>,
     pub shelf: &'r Shelf<'d>,
-    /// Whether the shelf belongs to the job's document. A page that was put there as one of this document's needn't be compared with it.
+    /// Whether the shelf is known to belong to the job's document. If it is, a page that was put there as one of this document needn't be compared
+    /// with the document.
     pub is_of_document: bool,
     ghost of_document: { IsTrue is_of_document → IsShelfOf shelf.now job.now.units },
     ghost same_plan: { table.now.layout ≡ layout job.now.plan },
 }
 
 impl<'s, 'r, 't, 'd> Imposition<'s, 'r, 't, 'd> {
-    /// Imposes a sheet like the function `impose`, but reuses the memory of `text`, whose old content is dropped, and the openings kept from earlier
-    /// sheets.
+    /// Imposes a sheet like the function `impose`. The call replaces the content of `text`, reuses its memory, and reuses the openings kept from
+    /// earlier sheets.
     pub fn impose(
         &self,
         text: &mut Rope<'r>,
@@ -197,7 +198,8 @@ impl<'s, 'r, 't, 'd> Imposition<'s, 'r, 't, 'd> {
         Ok(found.page)
     }
 
-    /// Whether the entry is page `page` of the document. Bytes are compared with the document's, unless the page was put as one of this document's.
+    /// Whether the entry is page `page` of the document. If the shelf is known to belong to the document, and the entry was put there as one of its
+    /// pages, the bytes aren't compared.
     fn is_page(&self, found: &Shelved<'_, 'd>, page: u32) -> bool
         requires in_document { page < length (pages self.now.job.now.units) }
         requires own { IsTrue found.now.is_own → IsOwn self.now.shelf.now found.now.page.now }
@@ -215,8 +217,8 @@ impl<'s, 'r, 't, 'd> Imposition<'s, 'r, 't, 'd> {
     }
 }
 
-/// Looks once at a sheet in the table, and returns whether it is complete. A sheet is complete if all its slots are marked, and a wide sheet if all
-/// its groups are closed.
+/// Looks once at a sheet in the table, and returns whether the sheet is complete. A wide sheet is complete if all its groups are closed, and any
+/// other sheet if all its slots are marked.
 pub fn is_complete(seat: &mut Seat, table: &GatherTable<'_>, sheet: u32) -> bool
     requires seat { IsSeatOf table.now seat.old }
     requires sheet { sheet < length table.now.layout.sheets }

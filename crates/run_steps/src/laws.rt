@@ -1,20 +1,22 @@
-//! Laws of the calls that deliveries make. Each contract is a law; the functions do nothing.
+//! Laws of the calls that deliveries make. Each function states one law in its contract, and does nothing.
 ghost use Rattle.run_steps.specs.Delivery.{DeliveriesClose, CompletedAreCounted, CompletedAreFew, NoneHandedBack};
 ghost use Rattle.run_steps.specs.Duty.{DeliveriesWeigh, SharesAreAll};
 ghost use Rattle.run_steps.specs.Gathered.{GathersAll, GatheredAreFound, TakenAtMostOnce};
 
-/// A delivery makes exactly the changes of the table that its page needs: the publishing of the page, and a mark for each of its places.
+/// A delivery makes exactly the changes to the table that its page needs: it publishes the page, and marks each place of the page.
 pub fn deliveries_weigh()
     ensures { DeliveriesWeigh }
 {}
 
-/// If pages are shared out to preparers by their number modulo the count of preparers, all shares together are all the work.
+/// If each page goes to a preparer by the page's number modulo the count of preparers, the shares of all preparers are together the work of all
+/// pages.
 pub fn shares_are_all()
     ensures { SharesAreAll }
 {}
 
-/// Take a seat that has all shares. Suppose its own calls made the changes that all pages need, and closed each group that a mark filled. Then each
-/// page was published once, each slot with a page was marked once, each group with such a slot was closed once, and every sheet is complete.
+/// Take a seat that has all shares. Suppose that its own calls made exactly the changes to the table that all pages need, and closed each group that
+/// a mark filled. Then each page was published once, each slot with a page was marked once, each group with such a slot was closed once, and every
+/// sheet is complete.
 pub fn gathers_all()
     ensures { GathersAll }
 {}
@@ -24,7 +26,7 @@ pub fn gathered_are_found()
     ensures { GatheredAreFound }
 {}
 
-/// In the queue of a run that has gathered all its pages, no sheet was taken twice, and no sheet that is still there was taken.
+/// From the queue of a run that has gathered all its pages, no sheet was taken twice, and none that is still in it was taken.
 pub fn taken_at_most_once()
     ensures { TakenAtMostOnce }
 {}
@@ -34,7 +36,7 @@ pub fn deliveries_close()
     ensures { DeliveriesClose }
 {}
 
-/// In the list of sheets that a series of calls completed, each sheet occurs as often as one of the calls completed it.
+/// In the list of sheets that a series of calls completed, each sheet occurs once for each call that completed it.
 pub fn completed_are_counted()
     ensures { CompletedAreCounted }
 {}
@@ -44,7 +46,8 @@ pub fn completed_are_few()
     ensures { CompletedAreFew }
 {}
 
-/// If the pass has room for the sheets that a delivery completes, none of them is handed back. Each put then lowers the room of the pass by 1.
+/// If the pass has room for the sheets that a delivery completes, none of them is handed back. The room of the pass is then lowered by the number of
+/// these sheets.
 pub fn none_handed_back()
     ensures { NoneHandedBack }
 {}

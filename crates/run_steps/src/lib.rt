@@ -1,4 +1,4 @@
-//! The two steps of a run: delivering a page and imposing a sheet. Any number of threads may take such steps at the same time.
+//! The two steps of a run: delivering a page and imposing a sheet. Any number of threads may take these steps at the same time.
 #![tactic(auto)]
 
 mod delivery;

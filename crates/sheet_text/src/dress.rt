@@ -1,4 +1,4 @@
-//! The lines that an output has besides its pages.
+//! The lines that an output has besides its pages, such as strokes and page numbers.
 ghost use Rattle.std.specs.Prelude.{◌≡◌, ◌++◌, OnOk};
 ghost use Rattle.rules.specs.Dress.{lines_text};
 ghost use Rattle.sheet_text.specs.Dressings.{report_lines_if, with_numbers};
@@ -10,22 +10,23 @@ use crate::told::append_paper_report;
 use lengths::Paper;
 use std::alloc::AllocError;
 
-/// The lines that an output has besides its pages: header lines, which follow the number of sheets, and lines at the start and the end of each sheet.
-/// Only lines that are the same on all sheets are stored; the lines that differ from sheet to sheet are made when a sheet is written.
+/// The lines that an output has besides its pages: header lines, which come after the `%%Pages:` line, and lines at the start and the end of each
+/// sheet. Only lines that are the same on all sheets are stored. The lines that differ from sheet to sheet are made when a sheet is written.
 #[derive(Drop)]
 pub struct SheetExtras {
-    /// The lines of the header.
+    /// The lines to add to the header.
     pub header: Lines,
-    /// Whether each sheet begins, after its `%%Page:` line, with lines that name its paper and set the device's page size.
+    /// Whether each sheet has, after its `%%Page:` line, lines that report its paper and set the device's page size.
     pub tells_papers: bool,
-    /// The lines that every sheet has at its end, before its `showpage`.
+    /// The lines that every sheet has at its end, before its `showpage` and its page numbers.
     pub finish: Lines,
-    /// The page numbers, which are drawn after the lines of `finish`; None if pages aren't numbered.
+    /// The page numbers, which are drawn after the lines of `finish`. None if pages aren't numbered.
     pub numbers: Option<Numbers>,
 }
 
 impl SheetExtras {
-    /// Appends the lines that begin a sheet of this paper; none unless `tells_papers` is set.
+    /// Appends the lines that report this paper at the start of a sheet. Appends nothing unless `tells_papers` is set. The only error is refused
+    /// memory.
     pub(crate) fn append_start(&self, paper: &Paper, text: &mut Rope<'_>) -> Result<(), AllocError>
         ensures { OnOk result (text.new ≡ text.old ++ lines_text (report_lines_if self.now.tells_papers paper.now)) }
     {
@@ -35,8 +36,8 @@ impl SheetExtras {
         Ok(())
     }
 
-    /// Appends the lines that end this sheet (counted from 0): those of `finish`, then those that draw its page numbers. The lines of `finish` are
-    /// borrowed, not copied, if they have 4,096 bytes or more.
+    /// Appends the lines at the end of this sheet (counted from 0): the lines of `finish`, then the lines that draw the sheet's page numbers. The
+    /// lines of `finish` are borrowed, not copied, if they have 4,096 bytes or more in all. The only error is refused memory.
     pub(crate) fn append_finish<'n>(
         &'n self,
         sheet: u32,

@@ -1,4 +1,4 @@
-//! A job: a document, the plan of its sheets, and the lines that these have besides their pages.
+//! A job: a document, the plan of its sheets, and the lines that the sheets have besides their pages.
 ghost use Rattle.std.specs.Prelude.{◌≡◌, ℕ, ◌<◌, ◌++◌, [], length, IsTrue, IfSome, OnOk, Option, Some, slice_get, slice_index_or};
 ghost use Rattle.rules.specs.Parts.{pages};
 ghost use Rattle.rules.specs.Specification.{Spec};
@@ -20,13 +20,13 @@ use sheet_plan::{MadeSheets, PlacedSlot, Plan};
 use std::alloc::AllocError;
 use std::marker::Model;
 
-/// The work of a run. A document's pages are placed on sheets by a plan. Each page has a paper, and a border if one is requested. The output may have
-/// further lines besides its pages.
+/// The work of a run: the pages of a document, placed on sheets by a plan. Each page has a paper, and a border if one is requested. The output may
+/// have further lines besides its pages.
 #[derive(Drop)]
 pub struct Job<'j, 'd> {
     plan: &'j Plan<'j>,
     document: &'j Document<'d>,
-    /// The width of the border, in grains; None if pages have no border.
+    /// The width of the border, in grains. None if pages have no border.
     pub(crate) border: Option<Grains>,
     /// The distance of the border from the edges of its page, in grains.
     pub(crate) inset: Grains,
@@ -58,8 +58,8 @@ impl<'j, 'd> Model for Job<'j, 'd> {
 }
 
 impl<'j, 'd> Job<'j, 'd> {
-    /// The job of a plan whose pages all have the same paper. The output has no lines besides its pages. A border has this width in grains, and lies
-    /// along the edges of its page.
+    /// The job of a plan, with the same paper for all pages. It adds no lines to the output. A border has this width in grains, and lies along the
+    /// edges of its page. The plan must be for as many pages as the document has.
     pub fn new(
         plan: &'j Plan<'j>,
         document: &'j Document<'d>,
@@ -88,8 +88,8 @@ impl<'j, 'd> Job<'j, 'd> {
         }
     }
 
-    /// The job of these sheets, in which a dress gives the lines that the output has besides its pages. The plan must be the one made of the same
-    /// sheets, for a document with the same number of pages. A border has a width in grains, and lies `inset` grains inside each edge of its page.
+    /// The job of these made sheets, with the lines of `dress` besides their pages. The plan must be the one that these sheets give, for as many
+    /// pages as the document has. A border has this width in grains, and lies `inset` grains inside each edge of its page.
     pub fn made(
         plan: &'j Plan<'j>,
         document: &'j Document<'d>,
@@ -121,7 +121,7 @@ impl<'j, 'd> Job<'j, 'd> {
         }
     }
 
-    /// The plan of this job. It plans as many pages as the document has.
+    /// The plan of this job. It is for as many pages as the document has.
     pub fn plan(&self) -> &'j Plan<'j>
         ensures value { result.now ≡ self.now.plan }
         ensures same_pages { self.now.plan.pages ≡ length (pages self.now.units) }
@@ -145,7 +145,7 @@ impl<'j, 'd> Job<'j, 'd> {
         self.sheets
     }
 
-    /// The text of the lines that the job adds to the header, with their line ends; empty if it adds none.
+    /// The text of the lines that the job adds to the header, with their line ends. Empty if the job adds none.
     pub fn header(&self) -> &'j [u8]
         ensures { result.now ≡ lines_text self.now.header }
     {
@@ -155,7 +155,7 @@ impl<'j, 'd> Job<'j, 'd> {
         }
     }
 
-    /// Appends the lines at the start of this sheet (counted from 0), after its `%%Page:` line.
+    /// Appends the lines at the start of this sheet (counted from 0), after its `%%Page:` line. The only error is refused memory.
     pub(crate) fn append_start(&self, sheet: u32, text: &mut Rope<'_>) -> Result<(), AllocError>
         requires { sheet < length self.now.plan.sheets }
         ensures { OnOk result (text.new ≡ text.old ++ lines_text (sheet_of self.now sheet).start) }
@@ -166,7 +166,7 @@ impl<'j, 'd> Job<'j, 'd> {
         }
     }
 
-    /// Appends the lines at the end of this sheet, before its `showpage`.
+    /// Appends the lines at the end of this sheet (counted from 0), before its `showpage`. The only error is refused memory.
     pub(crate) fn append_finish(&self, sheet: u32, text: &mut Rope<'j>) -> Result<(), AllocError>
         requires { sheet < length self.now.plan.sheets }
         ensures { OnOk result (text.new ≡ text.old ++ lines_text (sheet_of self.now sheet).finish) }
@@ -177,7 +177,7 @@ impl<'j, 'd> Job<'j, 'd> {
         }
     }
 
-    /// The page in this slot of a sheet, with its place and its paper; None if the slot is blank.
+    /// The page in this slot of a sheet, with its item and its paper. None if the slot is blank.
     pub(crate) fn placed(&self, sheet: u32, slot: u16) -> Option<PlacedSlot<'_>>
         requires sheet { sheet < length self.now.plan.sheets }
         requires slot { slot < length (pages_on self.now.plan sheet) }

@@ -1,5 +1,5 @@
-//! Makes the text of a sheet: its `%%Page:` line, each page placed in its slot, the lines that the sheet has besides its pages, and one `showpage`.
-//! No threads are involved.
+//! Makes the text of a sheet: its `%%Page:` line, each page placed in its slot, the lines that are added at its start and its end, and one
+//! `showpage`. No threads are involved.
 #![tactic(auto)]
 
 mod dress;

@@ -25,7 +25,7 @@ impl Model for Lines {
 }
 
 impl Lines {
-    /// An empty list of lines. It allocates no memory.
+    /// Makes an empty list of lines, without allocating memory.
     pub fn new(alloc: Global) -> Lines
         ensures { result ≡ [] }
     {

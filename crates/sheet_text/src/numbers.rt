@@ -22,15 +22,16 @@ const ABOVE_FOOT: i128 = 2_286_000_000_000;
 pub struct Numbers {
     /// The size of the font, in grains.
     pub size: Grains,
-    /// The number to draw on the first page of the row; the following pages are numbered from it in steps of 1.
+    /// The number to draw on the first page of the row. The number grows by 1 from page to page.
     pub first: u32,
-    /// The sheets to number. A slot names its page by the page's place in the row, counted from 0, and not by its number in the document.
+    /// The sheets to number. A slot names its page by the page's place in the row, counted from 0, and not by the page's number in the document.
     pub places: MadeSheets,
     /// The distance in grains from the middle of a page down to the foot of its cell. None if each page is its own cell.
     pub below: Option<Grains>,
 }
 
-/// Appends the lines that draw the numbers of the pages on this sheet (counted from 0); none if there is no such sheet.
+/// Appends the lines that draw the page numbers of this sheet (counted from 0). Appends nothing if `numbers` has no such sheet. The only error is
+/// refused memory.
 pub(crate) fn append_numbers(
     numbers: &Numbers,
     sheet: u32,
@@ -47,7 +48,7 @@ pub(crate) fn append_numbers(
     Ok(())
 }
 
-/// Appends the line that draws the number of the page in this slot; nothing if the slot is blank.
+/// Appends the line that draws the number of the page in this slot. Appends nothing if the slot is blank.
 fn append_slot_number(
     numbers: &Numbers,
     slot: Option<PlacedSlot<'_>>,
@@ -88,7 +89,7 @@ fn append_font(size: Grains, text: &mut Rope<'_>) -> Result<(), AllocError>
     Ok(())
 }
 
-/// Appends the operators that move the origin to the page's lower left corner and turn the axes as the page is turned.
+/// Appends the operators that move the origin to the lower left corner of the placed page and rotate the axes with the page.
 fn append_page_corner(placed: &PlacedSlot<'_>, text: &mut Rope<'_>) -> Result<(), AllocError>
     ensures { OnOk result (text.new ≡ text.old ++ corner_text placed.now.paper.now (item_of placed.now.item.now)) }
 {
@@ -114,7 +115,7 @@ fn degrees(turn: Turn) -> &'static [u8]
     }
 }
 
-/// Appends the point where the page's number is drawn, in points from the page's lower left corner, and the operator `moveto`.
+/// Appends the point at which the page's number is drawn, in points from the lower left corner of the placed page, and the operator `moveto`.
 fn append_foot(
     below: Option<Grains>,
     placed: &PlacedSlot<'_>,
@@ -129,7 +130,7 @@ fn append_foot(
     Ok(())
 }
 
-/// The height of a number above the lower edge of its page, in grains. It is negative if the page's edge lies above the number.
+/// The height of a number above the lower edge of its page, in grains. It is negative if the number is below that edge.
 fn rise(below: Option<Grains>, placed: &PlacedSlot<'_>) -> i128
     ensures value { result ≡ rise_of below placed.now.paper.now (item_of placed.now.item.now) }
     ensures in_range { nat_abs result ≤ 2 * 10 ^ 23 }
@@ -142,7 +143,8 @@ fn rise(below: Option<Grains>, placed: &PlacedSlot<'_>) -> i128
     }
 }
 
-/// Half the length that this side of a page has on the sheet, in grains.
+/// Half the length that a side of a page has on the sheet, in grains, rounded down. `scale` is the scale of the page, and `side` the length of the
+/// side on the page's paper.
 fn middle(scale: Number, side: Grains) -> i128
     requires { IsTrue (is_side side) }
     ensures value { result ≡ pos (middle_of scale side) }
@@ -151,7 +153,7 @@ fn middle(scale: Number, side: Grains) -> i128
     (scaled(scale, side) / 2_000_000_000) as i128
 }
 
-/// The length that this side of a page has on the sheet, in 10^-9 of a grain.
+/// The length that a side of a page has on the sheet, in 10^-9 of a grain. `side` is the length of the side on the page's paper.
 fn scaled(scale: Number, side: Grains) -> u128
     requires { IsTrue (is_side side) }
     ensures value { result ≡ nat_abs scale * nat_abs side }

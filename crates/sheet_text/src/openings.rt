@@ -1,4 +1,4 @@
-//! Keeps the texts that open placed pages, so that each is made only once.
+//! Keeps texts that come before placed pages, so that they needn't be made again.
 ghost use Rattle.std.specs.Prelude.{◌≡◌, ◌++◌, OnOk, IfOk, IfSome, true, false};
 ghost use Rattle.rules.specs.Output.{Frame, border_within, opening_text as opening};
 ghost use Rattle.pagespec.specs.Items.{item_of};
@@ -14,8 +14,8 @@ use std::marker::Model;
 /// The largest number of texts that are kept.
 const MOST_KEPT: usize = 64;
 
-/// The texts that open placed pages, kept for reuse. Most jobs place all their pages by a few items, so at most 64 texts are kept. A contract sees
-/// the number of kept texts.
+/// The texts that come before placed pages, kept for reuse. Most jobs place all their pages by a few items, so at most 64 texts are kept. A contract
+/// sees the number of kept texts.
 #[derive(Drop)]
 pub struct Openings {
     alloc: Global,
@@ -32,8 +32,8 @@ impl Model for Openings {
     ghost invariant = { λ o. vec_len o.kept ≤ 64 };
 }
 
-/// The text that opens a page of this paper if this item places it. A border, if there is one, has this width, and lies `inset` grains inside the
-/// page's edges.
+/// The text that comes before a page with this paper, placed by this item. A border, if there is one, has this width in grains, and lies `inset`
+/// grains inside the page's edges.
 #[derive(Drop)]
 struct Opening {
     item: Item,
@@ -46,7 +46,7 @@ struct Opening {
 }
 
 impl Openings {
-    /// Keeps no texts yet. It allocates no memory.
+    /// Makes an empty store of texts, without allocating memory.
     pub fn new(alloc: Global) -> Openings
         ensures { result ≡ 0 }
     {
@@ -56,7 +56,8 @@ impl Openings {
         }
     }
 
-    /// Appends the text that opens a page of this paper if this item places it. A text that isn't kept is made, and kept if there is room for it.
+    /// Appends the text that comes before a page with this paper, placed by this item. A text that isn't kept is made, and then kept unless 64 texts
+    /// are kept already. The only error is refused memory.
     pub(crate) fn append(
         &mut self,
         job: &Job<'_, '_>,
@@ -76,7 +77,7 @@ impl Openings {
         Ok(())
     }
 
-    /// Appends the text for this item and paper if it is kept, and returns whether it is.
+    /// Appends the text for this item and paper if it is kept, and returns whether it is kept.
     fn append_kept(
         &self,
         job: &Job<'_, '_>,
@@ -123,7 +124,7 @@ impl Openings {
 }
 
 impl Opening {
-    /// The kept text, if it was made for the same item, paper and border; None otherwise.
+    /// The kept text, if it was made for this item, this paper, and the width and inset of the job's border. None otherwise.
     fn text_for(&self, job: &Job<'_, '_>, item: &Item, paper: &Paper) -> Option<&[u8]>
         ensures { IfSome result (λ text. text.now ≡ opening (record { paper = paper.now; border = job.now.border }) (item_of item.now)) }
     {

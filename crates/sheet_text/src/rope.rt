@@ -1,4 +1,4 @@
-//! Text made of several pieces, so that long slices needn't be copied.
+//! Text that is made of pieces, so that long slices needn't be copied.
 ghost use Rattle.std.specs.Prelude.{◌≡◌, ◌+◌, ◌*◌, ◌^◌, ◌<◌, ◌≤◌, ◌++◌, [], length, nat_abs, IfOk, IfSome, IsNone, OnOk, OnErr};
 ghost use Rattle.rules.specs.Numbers.{points_text};
 ghost use Rattle.rules.specs.Output.{closing_text as closing};
@@ -8,10 +8,10 @@ use placement::closing_text;
 use std::alloc::{AllocError, Global};
 use std::marker::Model;
 
-/// Slices of at least this number of bytes are borrowed. Copying a shorter slice is cheaper than keeping a reference to it.
+/// The least number of bytes of a slice that is borrowed. Copying a shorter slice is cheaper than keeping a reference to it.
 pub(crate) const LEAST_BORROWED: usize = 4_096;
 
-/// Text made of pieces: bytes that the rope owns, and between them borrowed slices, which aren't copied. A contract sees the list of all bytes, in
+/// Text made of pieces: bytes that the rope owns, and borrowed slices between them, which aren't copied. A contract sees the list of all bytes, in
 /// order.
 #[derive(Drop)]
 pub struct Rope<'r> {
@@ -19,7 +19,7 @@ pub struct Rope<'r> {
     pub(crate) slices: Vec<Borrowed<'r>>,
 }
 
-/// A borrowed slice. It comes before the owned byte with index `at`, or after all owned bytes if there is no such byte.
+/// A borrowed slice. It comes before the owned byte with index `at`, or after all owned bytes if no owned byte has this index.
 #[derive(Clone, Copy)]
 pub(crate) struct Borrowed<'r> {
     pub(crate) at: usize,
@@ -38,7 +38,7 @@ impl<'r> Model for Rope<'r> {
 }
 
 impl<'r> Rope<'r> {
-    /// An empty rope. It allocates no memory.
+    /// Makes an empty rope, without allocating memory.
     pub fn new(alloc: Global) -> Rope<'r>
         ensures { result ≡ [] }
     {
@@ -56,7 +56,7 @@ impl<'r> Rope<'r> {
         self.slices.clear();
     }
 
-    /// Reserves memory for this number of further bytes to own.
+    /// Reserves memory for this number of further bytes that the rope will own.
     pub fn reserve(&mut self, count: usize) -> Result<(), AllocError>
         ensures { self.new ≡ self.old }
     {
@@ -88,7 +88,7 @@ impl<'r> Rope<'r> {
         Ok(())
     }
 
-    /// Appends the text that closes a placed page. If memory is refused, nothing is appended.
+    /// Appends the text after a placed page. If memory is refused, nothing is appended.
     pub(crate) fn append_closing(&mut self) -> Result<(), AllocError>
         ensures { OnOk result (self.new ≡ self.old ++ closing) }
     {
@@ -127,7 +127,7 @@ impl<'r> Rope<'r> {
         }
     }
 
-    /// Copies the whole text into one vector.
+    /// Copies the whole text into one vector. The only error is refused memory.
     pub fn to_vec(&self, alloc: Global) -> Result<Vec<u8>, AllocError>
         ensures { IfOk result (λ copy. copy.items ≡ self.now) }
     {
@@ -165,7 +165,8 @@ impl<'p, 'r> Model for Pieces<'p, 'r> {
 }
 
 impl<'p, 'r> Pieces<'p, 'r> {
-    /// The number of bytes in all remaining pieces. None if it exceeds `usize::MAX`, which can happen because one slice may occur many times.
+    /// The number of bytes in all remaining pieces. None if this number exceeds `usize::MAX`, which can happen because one slice may occur many
+    /// times.
     pub fn len(&self) -> Option<usize>
         ensures counted { IfSome result (λ count. count ≡ length self.now) }
         ensures uncounted { IsNone result → usize.MAX < length self.now }
@@ -177,7 +178,7 @@ impl<'p, 'r> Pieces<'p, 'r> {
         Some(count)
     }
 
-    /// Takes the next piece, which has at least one byte; None if no piece is left.
+    /// Takes the next piece, which has at least one byte. None if no piece is left.
     pub fn take_next(&mut self) -> Option<&'p [u8]>
         ensures taken { IfSome result (λ piece. self.old ≡ piece.now ++ self.new) }
         ensures some { IfSome result (λ piece. 0 < length piece.now) }

@@ -19,8 +19,9 @@ use crate::rope::{LEAST_BORROWED, Rope};
 use itoa::Buffer;
 use std::alloc::{AllocError, Global};
 
-/// The text of a sheet, counted from 0: its `%%Page:` line, the page of each slot in order, placed on the sheet, and one `showpage`. The bodies of
-/// the pages are taken from the document and prepared anew. The only error is refused memory.
+/// The text of this sheet (counted from 0). It consists of the `%%Page:` line, the job's lines for the start, the placed page of each slot in order,
+/// the job's lines for the end, and one `showpage`. The bodies of the pages are taken from the document and prepared anew. The only error is refused
+/// memory.
 pub fn sheet_text(alloc: Global, job: &Job<'_, '_>, sheet: u32) -> Result<Vec<u8>, AllocError>
     requires { sheet < length job.now.plan.sheets }
     ensures { IfOk result (λ text. text.items ≡ text_of job.now sheet) }
@@ -29,7 +30,7 @@ pub fn sheet_text(alloc: Global, job: &Job<'_, '_>, sheet: u32) -> Result<Vec<u8
     text.to_vec(alloc)
 }
 
-/// The text that `sheet_text` returns, as a rope.
+/// The text that `sheet_text` returns, as a rope. The only error is refused memory.
 pub fn sheet_rope<'r>(alloc: Global, job: &Job<'r, '_>, sheet: u32) -> Result<Rope<'r>, AllocError>
     requires { sheet < length job.now.plan.sheets }
     ensures { IfOk result (λ text. text ≡ text_of job.now sheet) }
@@ -41,8 +42,8 @@ pub fn sheet_rope<'r>(alloc: Global, job: &Job<'r, '_>, sheet: u32) -> Result<Ro
     Ok(text)
 }
 
-/// Begins the text of a sheet, counted from 0: replaces the content of this rope by the sheet's `%%Page:` line and the lines at its start. A rope
-/// that has no memory yet reserves about as much as the whole sheet will need.
+/// Begins the text of this sheet (counted from 0): replaces the content of this rope by the sheet's `%%Page:` line and the job's lines for its start.
+/// A rope without memory first reserves memory for about as many bytes as it will own. The only error is refused memory.
 pub fn begin_sheet(text: &mut Rope<'_>, job: &Job<'_, '_>, sheet: u32) -> Result<(), AllocError>
     requires { sheet < length job.now.plan.sheets }
     ensures { OnOk result (text.new ≡ page_line sheet ++ lines_text (sheet_of job.now sheet).start) }
@@ -57,8 +58,8 @@ pub fn begin_sheet(text: &mut Rope<'_>, job: &Job<'_, '_>, sheet: u32) -> Result
     Ok(())
 }
 
-/// Ends the text of a sheet: appends the lines at its end, and `showpage`. Lines that are the same on all sheets are borrowed, not copied, if they
-/// have 4,096 bytes or more.
+/// Ends the text of this sheet (counted from 0): appends the job's lines for its end, and `showpage`. Lines that are the same on all sheets are
+/// borrowed, not copied, if they have 4,096 bytes or more in all. The only error is refused memory.
 pub fn end_sheet<'r>(text: &mut Rope<'r>, job: &Job<'r, '_>, sheet: u32) -> Result<(), AllocError>
     requires { sheet < length job.now.plan.sheets }
     ensures { OnOk result (text.new ≡
@@ -69,8 +70,8 @@ pub fn end_sheet<'r>(text: &mut Rope<'r>, job: &Job<'r, '_>, sheet: u32) -> Resu
     Ok(())
 }
 
-/// An estimate of the number of bytes that the rope of a sheet will own, without the lines besides its pages. It is seldom too small, so the rope
-/// seldom has to be moved to a larger block of memory.
+/// An estimate of the number of bytes that the rope of a sheet will own, not counting the lines that the sheet has besides its pages. It is seldom
+/// too small, so the rope seldom has to be moved to a larger block of memory.
 fn likely_len(job: &Job<'_, '_>, sheet: u32) -> usize
     requires { sheet < length job.now.plan.sheets }
     ensures { result ≤ most_room job.now sheet }
@@ -83,7 +84,7 @@ fn likely_len(job: &Job<'_, '_>, sheet: u32) -> usize
 }
 
 /// An estimate of the number of bytes that the rope of a sheet will own for this slot. It is 0 if the slot is blank. Otherwise it is 256, for the
-/// texts that open and close the page, plus the length of the page's body unless the body is borrowed.
+/// texts before and after the page, plus the length of the page if the page is too short to be borrowed.
 fn likely_slot_len(job: &Job<'_, '_>, sheet: u32, slot: u16) -> usize
     requires sheet { sheet < length job.now.plan.sheets }
     requires slot { slot < length (pages_on job.now.plan sheet) }
@@ -97,7 +98,7 @@ fn likely_slot_len(job: &Job<'_, '_>, sheet: u32, slot: u16) -> usize
     copied_len(body).saturating_add(256)
 }
 
-/// How many of these bytes are copied: none if there are enough of them to be borrowed.
+/// The number of these bytes that a rope copies: all of them, or none if they are long enough to be borrowed.
 fn copied_len(bytes: &[u8]) -> usize
     ensures { result ≤ length bytes.now }
 {
@@ -139,7 +140,7 @@ fn append_slots(
     Ok(())
 }
 
-/// Appends the text of a slot: the placed page, or nothing if the slot is blank.
+/// Appends the text of a slot: the placed page. A blank slot has no text.
 fn append_slot(
     alloc: Global,
     text: &mut Rope<'_>,
@@ -163,8 +164,8 @@ fn append_slot(
     Ok(())
 }
 
-/// Appends the page in this slot: the text that opens it, this prepared body, and the text that closes it. The body is borrowed, not copied, if it
-/// has 4,096 bytes or more. The slot must not be blank; if it is, the appended text isn't specified.
+/// Appends the page in this slot: the text before it, this prepared body, and the text after it. The body is borrowed, not copied, if it has 4,096
+/// bytes or more. The slot must not be blank; if it is, the appended text isn't specified. The only error is refused memory.
 pub fn append_placed<'r>(
     text: &mut Rope<'r>,
     openings: &mut Openings,

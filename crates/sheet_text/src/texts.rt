@@ -8,8 +8,8 @@ use std::alloc::{AllocError, Global};
 use std::marker::Model;
 use std::mem;
 
-/// Sheets, counted from 0, each with its text. The bytes that the texts own are stored in one vector. A contract sees a list of pairs of a sheet and
-/// its text.
+/// Sheets, counted from 0, each with its text. The bytes that the texts own are stored in one vector. A contract sees the list of the sheets, each
+/// paired with its text.
 #[derive(Drop)]
 pub struct Texts<'r> {
     alloc: Global,
@@ -17,8 +17,8 @@ pub struct Texts<'r> {
     parts: Vec<TextPart<'r>>,
 }
 
-/// The text of one sheet: the bytes from `start` to `end` of the common vector, and the borrowed slices between them, whose places are counted from
-/// `start`.
+/// The text of one sheet: the bytes from `start` to before `end` of the common vector, with the borrowed slices between them. The indexes at which
+/// the slices lie are counted from `start`.
 #[derive(Drop)]
 struct TextPart<'r> {
     sheet: u32,
@@ -38,7 +38,7 @@ impl<'r> Model for Texts<'r> {
 }
 
 impl<'r> Texts<'r> {
-    /// An empty list of sheets. It allocates no memory.
+    /// Makes an empty list of sheets, without allocating memory.
     pub fn new(alloc: Global) -> Texts<'r>
         ensures { result ≡ [] }
     {
@@ -49,7 +49,7 @@ impl<'r> Texts<'r> {
         }
     }
 
-    /// Removes all sheets, but keeps the allocated memory.
+    /// Removes all sheets. The memory of the list and of the owned bytes is kept for further sheets.
     pub fn clear(&mut self)
         ensures { self.new ≡ [] }
     {
@@ -57,8 +57,8 @@ impl<'r> Texts<'r> {
         self.parts.clear();
     }
 
-    /// Adds a sheet with its text at the end of the list. The rope is left empty and keeps its memory for the next sheet. If memory is refused,
-    /// nothing changes.
+    /// Adds a sheet with its text at the end of the list. The rope is left empty, and keeps the memory of its own bytes for the next sheet. If memory
+    /// is refused, neither the list nor the rope changes.
     pub fn push(&mut self, sheet: u32, text: &mut Rope<'r>) -> Result<(), AllocError>
         ensures pushed { OnOk result (self.new ≡ self.old ++ (sheet, text.old) ∷ []) }
         ensures emptied { OnOk result (text.new ≡ []) }
@@ -85,7 +85,7 @@ impl<'r> Texts<'r> {
         self.parts.len()
     }
 
-    /// The number of the sheet at this index of the list, counted from 0.
+    /// The sheet at the index `nth` of the list. Sheets and indexes are counted from 0.
     pub fn sheet(&self, nth: usize) -> u32
         requires nth { nth < length self.now }
         ensures { slice_get (sheets_of self.now) nth ≡ Some result }
@@ -93,8 +93,8 @@ impl<'r> Texts<'r> {
         self.parts[nth].sheet
     }
 
-    /// Text for a single write: that of this sheet, followed by those of up to `most - 1` next sheets that adjoin it in memory. Returns the number of
-    /// these sheets and their bytes; None if the sheet isn't at index `nth` of the list.
+    /// The text for a single write: that of this sheet, and then those of up to `most - 1` sheets that follow it in number and in memory. Returns the
+    /// number of sheets, and the bytes of their text. None if this sheet isn't at the index `nth` of the list.
     pub fn joined(&self, sheet: u32, nth: usize, most: u32) -> Option<(u32, Pieces<'_, 'r>)>
         requires most { 0 < most }
         ensures count { IfSome result (λ j. (0 < j.0) × (j.0 ≤ most)) }
@@ -113,8 +113,8 @@ impl<'r> Texts<'r> {
     }
 }
 
-/// The text of this sheet, which is at index `nth`, followed by those of up to `most - 1` next sheets that adjoin it in memory. Returns the number of
-/// these sheets and their bytes. A text with borrowed slices is returned alone.
+/// The text of this sheet, which is at the index `nth`, and then the texts of up to `most - 1` sheets that follow it in number and in memory. Returns
+/// the number of sheets, and the bytes of their text. A text with borrowed slices is returned alone.
 fn neighbours<'p, 'r>(
     own: &'p [u8],
     parts: &'p [TextPart<'r>],

@@ -33,8 +33,8 @@ fn append_medium(paper: &Paper, text: &mut Rope<'_>) -> Result<(), AllocError>
     Ok(())
 }
 
-/// Appends the line that sets the device's page size. The line takes a Boolean off the stack, which the lines before it leave there, and sets the size
-/// only if that is true and the interpreter has `setpagedevice`.
+/// Appends the line that sets the device's page size. The line takes from the stack the Boolean that the lines before it leave there. It sets the
+/// size only if the Boolean is true and the interpreter has `setpagedevice`.
 fn append_size_if_shown(paper: &Paper, text: &mut Rope<'_>) -> Result<(), AllocError>
     ensures { OnOk result (text.new ≡ text.old ++ line (setting_line paper.now)) }
 {

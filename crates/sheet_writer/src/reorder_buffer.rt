@@ -1,4 +1,4 @@
-//! A buffer for finished sheets that must wait, because earlier sheets haven't been written yet.
+//! The reorder buffer: it holds finished sheets that must wait, because earlier sheets haven't been written yet.
 ghost use Rattle.std.specs.Prelude.{◌≡◌, ◌≢◌, ℕ, ◌<◌, ◌≤◌, Some, None, length, slice_get, true, false, All, IfOk, IfSome, IsNone, MatchOption};
 ghost use Rattle.sheet_text.specs.Jobs.{JobView, text_of};
 ghost use Rattle.sheet_text.specs.Texts.{TextsView, sheets_of};
@@ -10,30 +10,30 @@ use std::alloc::{AllocError, Global};
 
 /// Receives the texts of sheets that have been written, so that their memory can be reused.
 pub trait Spent<'r> {
-    /// Takes the texts of sheets that have been written.
+    /// Takes the texts of sheets that have been written, whose memory may now be reused.
     fn give_back(&mut self, sheets: Texts<'r>);
 }
 
-/// Where a sheet is in the buffer: the index of its group in `groups`, and its own index in that group.
+/// The position of a sheet in the buffer: the index of its group in `groups`, and its own index in that group.
 #[derive(Clone, Copy)]
 pub struct Place {
     pub group: usize,
     pub nth: usize,
 }
 
-/// Finished sheets that wait until all sheets before them are written. Each sheet number has a place: the number modulo the count of places. So the
-/// sheets of one window, which has at most that many sheets, have different places. Sheets arrive in groups. A group is stored at the place of its
-/// last sheet (the one with the greatest number), since the whole group has been written once that sheet has.
+/// Finished sheets that wait until all sheets before them are written. The place of a sheet is its number modulo the number of places. So the sheets
+/// of one window, which has at most one sheet per place, have different places. Sheets arrive in groups. A group is stored at the place of its last
+/// sheet (the sheet with the greatest number), since the whole group has been written once that sheet has.
 #[derive(Drop)]
 pub struct ReorderBuffer<'r> {
-    /// For each place, where the sheet with this place is.
+    /// For each place, the position that was last recorded for a sheet with this place. At first it is index 0 of group 0.
     pub places: Vec<Place>,
-    /// The groups, each at the place of its last sheet; None if the place is free.
+    /// For each place, the group whose last sheet has this place. None if the place is free.
     pub groups: Vec<Option<Texts<'r>>>,
 }
 
 impl<'r> ReorderBuffer<'r> {
-    /// A buffer with this number of places, all of them free. The only error is refused memory.
+    /// Makes a buffer with this number of places, all of them free. The only error is refused memory.
     pub fn new(alloc: Global, count: u32) -> Result<Self, AllocError>
         ensures early { IfOk result (λ early. (job : JobView) → AreEarly job early.groups.items) }
         ensures places { IfOk result (λ early. length early.places.items ≡ count) }
@@ -50,8 +50,8 @@ impl<'r> ReorderBuffer<'r> {
     }
 
     /// Stores a group of finished sheets at the place of its last sheet. If that place isn't free, the new group is dropped, and its sheets are made
-    /// again when they are to be written. All sheets of the group can be found afterwards if no two of them have the same place. A sheet whose place
-    /// another sheet takes over counts as one that never came.
+    /// again when they are to be written. After the call all sheets of a stored group can be found, if no two of them have the same place. An earlier
+    /// sheet whose place is taken over counts as one that never came.
     pub fn put(&mut self, finished: Texts<'r>)
         ensures early { (job : JobView) → HaveTexts (text_of job) finished.entry
             → AreEarly job self.old.groups.items → AreEarly job self.new.groups.items }
@@ -77,7 +77,7 @@ impl<'r> ReorderBuffer<'r> {
         self.groups[group] = Some(finished);
     }
 
-    /// Records for each sheet of a group where it is.
+    /// Records the position of each sheet of a group.
     fn mark_all(&mut self, finished: &Texts<'_>, group: usize)
         ensures groups { self.new.groups ≡ self.old.groups }
         ensures count { length self.new.places.items ≡ length self.old.places.items }
@@ -93,7 +93,7 @@ impl<'r> ReorderBuffer<'r> {
         }
     }
 
-    /// Records where a sheet is. Whatever was recorded for the same place is lost.
+    /// Records the position of a sheet. The position that was recorded for the same place before is lost.
     fn mark(&mut self, sheet: u32, at: Place)
         ensures groups { self.new.groups ≡ self.old.groups }
         ensures count { length self.new.places.items ≡ length self.old.places.items }
@@ -108,15 +108,15 @@ impl<'r> ReorderBuffer<'r> {
         }
     }
 
-    /// The place of a sheet.
+    /// The place of a sheet, counted from 0: its number modulo the number of places.
     fn place_of(&self, sheet: u32) -> usize
         ensures { 0 < length self.now.groups.items → result ≡ buffer_place self.now sheet }
     {
         sheet as usize % self.groups.len().max(1)
     }
 
-    /// Text for a single write: that of this sheet, followed by those of up to `most - 1` next sheets that adjoin it in memory. Returns the number of
-    /// these sheets and their bytes; None if this sheet hasn't come.
+    /// The text for a single write: that of this sheet, and then those of up to `most - 1` sheets that follow it in number and in memory. Returns the
+    /// number of sheets, and the bytes of their text. None if this sheet hasn't come.
     pub fn joined(&self, sheet: u32, most: u32) -> Option<(u32, Pieces<'_, 'r>)>
         requires most { 0 < most }
         ensures count { IfSome result (λ j. (0 < j.0) × (j.0 ≤ most)) }
@@ -138,7 +138,7 @@ impl<'r> ReorderBuffer<'r> {
         finished.joined(sheet, nth, most)
     }
 
-    /// Removes and returns the group whose last sheet this is, and frees its place. None, and no change, if there is no such group.
+    /// Removes and returns the group whose last sheet this is, and frees its place. If there is no such group, returns None and changes nothing.
     pub fn take_written(&mut self, sheet: u32) -> Option<Texts<'r>>
         ensures early { (job : JobView) → AreEarly job self.old.groups.items → AreEarly job self.new.groups.items }
         ensures places { self.new.places ≡ self.old.places }
@@ -164,7 +164,7 @@ impl<'r> ReorderBuffer<'r> {
     }
 }
 
-/// The greatest number of a sheet in the group; 0 if the group is empty.
+/// The greatest sheet number in the group. 0 if the group is empty.
 fn last(finished: &Texts<'_>) -> u32
     ensures { result ≡ last_entry (sheets_of finished.now) }
 {

@@ -10,16 +10,16 @@ use std::alloc::{AllocError, Global};
 use std::io;
 use std::marker::Model;
 
-/// The sink refused a call and took none of its bytes.
+/// The error of a call that a sink refused. The sink has taken no byte in this call.
 #[derive(Clone, Copy, Debug, PartialEq, Eq)]
 pub struct SinkFault;
 
-/// A destination for bytes, which it takes in order. A call may take only some of the bytes that are offered, from the front.
+/// A destination for bytes, which it takes in order. A call may take fewer bytes than it is given, always from the front.
 pub trait Sink {
     // The bytes that it has taken, if it reports them, and the number of calls that it has refused.
     ghost seen: { Self → SinkView };
 
-    /// Takes one or more bytes from the front of this slice, and returns their number. After an error it has taken none.
+    /// Takes one or more bytes from the front of this slice, and returns their number. The slice must not be empty. A call that fails takes no bytes.
     fn accept(&mut self, bytes: &[u8]) -> Result<usize, SinkFault>
         requires some { 0 < length bytes.now }
         requires countable { IsCountable (seen self.old) }
@@ -30,13 +30,13 @@ pub trait Sink {
         ensures raised { OnErr result ((seen self.new).failures ≡ (seen self.old).failures + 1) };
 }
 
-/// A sink refused a call after it had taken the first `written` bytes of a text.
+/// The error of a write that a sink broke off: it took the first `written` bytes of the text, and then refused a call.
 #[derive(Clone, Copy, Debug, PartialEq, Eq)]
 pub(crate) struct Stopped {
     pub(crate) written: usize,
 }
 
-/// Gives the sink all these bytes, in as many calls as are needed. Stops at the first call that the sink refuses.
+/// Passes all these bytes to the sink, in as many calls as are needed. Stops at the first call that the sink refuses.
 pub(crate) fn write_all<S: Sink>(sink: &mut S, bytes: &[u8]) -> Result<(), Stopped>
     requires countable { IsCountable (S.seen sink.old) }
     ensures whole { OnOk result (Appends (S.seen sink.old).bytes (S.seen sink.new).bytes bytes.now) }
@@ -55,7 +55,7 @@ pub(crate) fn write_all<S: Sink>(sink: &mut S, bytes: &[u8]) -> Result<(), Stopp
     Ok(())
 }
 
-/// Gives the sink all pieces of a text, in order. Stops at the first call that the sink refuses.
+/// Passes all pieces of a text to the sink, in order. Stops at the first call that the sink refuses.
 pub(crate) fn write_pieces<S: Sink>(sink: &mut S, text: Pieces<'_, '_>) -> Result<(), Stopped>
     requires countable { IsCountable (S.seen sink.old) }
     requires counted { length text ≤ u64.MAX }
@@ -147,7 +147,7 @@ impl Model for MemorySink {
 }
 
 impl MemorySink {
-    /// An empty sink. Memory for `room` bytes is reserved now, so that no later call needs any; the only error is that this memory is refused.
+    /// Makes an empty sink. Memory for `room` bytes is reserved now, so that no later call needs memory. The only error is refused memory.
     pub fn new(alloc: Global, room: usize, per_call: usize, calls: u64) -> Result<Self, AllocError>
         ensures { IfOk result (λ s. s ≡ record {
           bytes = [];

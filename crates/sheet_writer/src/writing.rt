@@ -1,4 +1,4 @@
-//! Writes the output of a job: each sheet once all sheets before it are written, and at the end the remaining sheets and the trailer.
+//! Writes the output of a job: each sheet as soon as all sheets before it are written, and at the end the remaining sheets and the trailer.
 ghost use Rattle.std.specs.Prelude.{◌≡◌, ℕ, ◌+◌, ◌-◌, ◌<◌, ◌≤◌, ◌⊎◌, None, Some, IfErr, OnOk, length};
 ghost use Rattle.std.specs.Prelude.{if◌then◌else◌, false};
 ghost use Rattle.rules.specs.Filters.{trailer_text};
@@ -12,7 +12,7 @@ use crate::sink::{Sink, Stopped, write_all, write_pieces};
 use sheet_text::{Job, Pieces, sheet_rope};
 use std::alloc::Global;
 
-/// Why nothing more is written.
+/// The reason why writing has stopped.
 #[derive(Clone, Copy, Debug)]
 pub enum Halt {
     /// The sink refused a call.
@@ -21,21 +21,21 @@ pub enum Halt {
     NoMemory,
 }
 
-/// How much of the output has been written.
+/// The progress of writing an output.
 #[derive(Clone, Copy, Debug)]
 pub struct Progress {
     /// The number of the next sheet to write, counted from 0.
     pub next: u32,
     /// The number of bytes that the sink has taken.
     pub written: u64,
-    /// The number of sheets that no worker imposed, and that were made only when they were to be written.
+    /// The number of sheets that never came. They were made only when they were to be written.
     pub swept: u32,
-    /// Why writing has stopped; None if it hasn't.
+    /// The reason why writing has stopped. None if it hasn't stopped.
     pub halted: Option<Halt>,
 }
 
-/// Writes a text to the sink, and adds the number of bytes that the sink took to `written`. If the sum would exceed 2^64 - 1 with the whole text,
-/// nothing is written, and the result is halted with `NoMemory`.
+/// Writes a text to the sink, and increases `written` by the number of bytes that the sink took. If the sum for the whole text would exceed 2^64 - 1,
+/// nothing is written, and writing is halted with `NoMemory`. If the sink refuses a call, writing is halted with `Failed`.
 pub fn write_text<S: Sink>(sink: &mut S, progress: Progress, text: &[u8]) -> Progress
     requires countable { IsCountable (S.seen sink.old) }
     ensures handed { Handed text.now (S.seen sink.old) (S.seen sink.new) progress result }
@@ -64,7 +64,7 @@ pub fn write_in_pieces<S: Sink>(sink: &mut S, progress: Progress, text: Pieces<'
     }
 }
 
-/// The progress after the sink was given a text. `total` is the number of bytes written once the sink has taken the whole text.
+/// The progress after a text was passed to the sink. `total` is the number of bytes written if the sink took the whole text.
 fn advanced(progress: Progress, total: u64, handed: Result<(), Stopped>) -> Progress
     requires { IfErr handed (λ e. progress.written + e.written ≤ total) }
     ensures written { OnOk handed (result ≡ record progress { written = total; halted = None }) }
@@ -120,8 +120,8 @@ fn write_sheets<S: Sink>(
     }
 }
 
-/// Writes the sheets in the buffer that are next, until the next sheet hasn't come or all sheets are written. Groups of which all sheets are written
-/// are handed to `spent`.
+/// Writes the next sheets from the buffer, until the next sheet hasn't come, all sheets are written, or writing is halted. A group whose sheets are
+/// all written is passed to `spent`.
 pub fn write_early<'r, S: Sink, B: Spent<'r>>(
     job: &Job<'_, '_>,
     sink: &mut S,
@@ -157,8 +157,8 @@ pub fn write_early<'r, S: Sink, B: Spent<'r>>(
     progress
 }
 
-/// Writes the rest of the output after all workers have ended: the remaining sheets in order, then the trailer. A sheet that never came is made here.
-/// Nothing is written after a halt.
+/// Writes the end of the output after all workers have ended: the remaining sheets in order, then the trailer. A sheet that never came is made by
+/// this call. Nothing is written after a halt.
 pub fn write_rest<S: Sink>(
     alloc: Global,
     job: &Job<'_, '_>,
@@ -194,7 +194,7 @@ pub fn write_rest<S: Sink>(
     write_text(sink, progress, trailer)
 }
 
-/// Writes the next sheet. If it never came, it is made here, and `swept` is increased by 1.
+/// Writes the next sheet. If the sheet never came, this call makes it, and increases `swept` by 1.
 fn write_next<S: Sink>(
     alloc: Global,
     job: &Job<'_, '_>,
