@@ -37,7 +37,8 @@ pub fn caret_below(alloc: Global, text: &str, place: usize) -> Result<String, Al
     format!(in alloc; "{above}{below}")
 }
 
-/// The place of a fault in the range that begins at byte `start` of this text: the text before it is the longest beginning that a range can have.
+/// The place of a fault in the range that begins at byte `start` of this text. The bytes of the range before this place are its longest prefix that
+/// some range also begins with.
 pub fn range_place(text: &str, start: usize) -> usize {
     let Some((_, range)) = text.split_at_checked(start) else {
         return start;
@@ -50,7 +51,8 @@ pub fn range_place(text: &str, start: usize) -> usize {
     text.len().saturating_sub(left.len())
 }
 
-/// The rest of the text, after the page number, `last` or `blank` at its beginning, if there is one.
+/// The text after the page at its start: a number, `_` with or without a number, `last` or `blank`. A text that begins with none of these is returned
+/// whole.
 fn behind_place(text: &str) -> &str {
     if let Some(behind) = text.strip_prefix("last") {
         return behind;
@@ -65,22 +67,23 @@ fn behind_place(text: &str) -> &str {
     digits.trim_start_matches(|letter: char| letter.is_ascii_digit())
 }
 
-/// Whether the text begins with a page that a range can begin with, and `left` is the rest. `blank` and a lone `_` aren't such pages.
+/// Whether `text` begins with a page at which a range can begin. `left` is the text after this page. `blank` and a `_` without a number aren't such
+/// pages.
 fn is_place(text: &str, left: &str) -> bool {
     left.len() < text.len() && !text.starts_with("blank") && !text.starts_with("_-")
 }
 
-/// The place of an item of a specification. Items are counted from 0 through all groups.
+/// The place at which an item of a specification begins. Items are counted from 0 through all groups.
 pub fn item_place(text: &str, item: u32) -> usize {
     place_behind(text.as_bytes(), item, true)
 }
 
-/// The place of a group of a specification, counted from 0.
+/// The place at which a group of a specification begins. Groups are counted from 0.
 pub fn group_place(text: &str, group: u32) -> usize {
     place_behind(text.as_bytes(), group, false)
 }
 
-/// The place after the first `count` items (if `of_items`) or groups, and after the modulo.
+/// The place after the modulo and the first `count` items. If `of_items` is false, it is the place after the modulo and the first `count` groups.
 fn place_behind(text: &[u8], count: u32, of_items: bool) -> usize {
     let mut start = 0usize;
     let mut left = count;
@@ -103,8 +106,7 @@ fn place_behind(text: &[u8], count: u32, of_items: bool) -> usize {
     start
 }
 
-/// The place of the first number in a specification whose integer part is greater than 99,999. It has six digits or more without
-/// leading zeros.
+/// The place, in a specification, of the first number with an integer part above 99,999. Without leading zeros, such a part has six digits or more.
 pub fn large_place(text: &str) -> usize {
     let mut start = 0usize;
     let mut digits = 0u32;

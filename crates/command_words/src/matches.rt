@@ -21,7 +21,7 @@ pub fn number_of(matches: &ArgMatches<'_>, id: &str) -> Option<u32>
     matches.get_one::<u32>(id)
 }
 
-/// Whether a flag is given. Clap then finds the text `true` for it.
+/// Whether a flag is given. Clap finds the text `true` for a flag that is given.
 pub fn is_set(matches: &ArgMatches<'_>, id: &str) -> bool
     ensures { result ≡ has_true (first_of id.now (rows_of (found_of matches.now))) }
 {
@@ -37,7 +37,7 @@ fn is_true(text: Option<&str>) -> bool
     }
 }
 
-/// A copy of this text, which the caller then owns. The only error is refused memory.
+/// A copy of this text that the caller owns, or None if there is no text. Fails only if memory is refused.
 pub fn owned(alloc: Global, text: Option<&str>) -> Result<Option<String>, AllocError>
     ensures { IfOk result (λ own. option_map string_bytes own ≡ option_map (λ s. s.now) text.entry) }
 {

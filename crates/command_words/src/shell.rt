@@ -7,7 +7,7 @@ ghost use Rattle.command_words.specs.Shell as meaning;
 use lengths::{Grains, Number, print_number};
 use std::alloc::AllocError;
 
-/// Appends the text if the condition holds.
+/// Appends the text if `said` is true.
 pub fn append_if(said: bool, text: &[u8], out: &mut Vec<u8>) -> Result<(), AllocError>
     ensures { OnOk result (out.new.items ≡ out.old.items ++ meaning.text_if said text.now) }
 {
@@ -25,8 +25,8 @@ pub fn begins_with_minus(text: &str) -> bool
     text.as_bytes().starts_with(b"-")
 }
 
-/// Appends a length with its unit. The unit is the first of pt, mm, in and cm in which the length is a number with at most nine decimals. Nothing is
-/// appended if there is none, or if the length is below 0 or 100,000 units or more.
+/// Appends a length with its unit: the first of pt, mm, in and cm in which the length is a number from 0 to 99,999.999999999 with at most nine
+/// decimals. Nothing is appended if there is no such unit.
 pub fn append_length(length: Grains, out: &mut Vec<u8>) -> Result<(), AllocError>
     ensures { OnOk result (out.new.items ≡ out.old.items ++ meaning.length_text length) }
 {
@@ -73,7 +73,7 @@ fn in_units(length: Grains, grains: u128) -> Option<Number>
     Number::new(billionths as i64)
 }
 
-/// Appends the option `-s` with the number of sides of a signature, if one is given.
+/// Appends the option `-s` with the number of sides of a signature, if this number is given.
 pub fn append_sides(sides: Option<u32>, out: &mut Vec<u8>) -> Result<(), AllocError>
     ensures { OnOk result (out.new.items ≡ out.old.items ++ meaning.sides_option sides) }
 {
@@ -100,7 +100,8 @@ pub fn append_border_option(border: Option<Grains>, out: &mut Vec<u8>) -> Result
     }
 }
 
-/// Appends the names of the input file and the output file. A standard stream is left out, unless a name follows it.
+/// Appends the names of the input file and the output file. Nothing is appended for a file without a name, which is a standard stream. If only the
+/// output file has a name, `/dev/stdin` is appended for the input.
 pub fn append_files(
     infile: Option<&str>,
     outfile: Option<&str>,
@@ -124,8 +125,8 @@ pub fn append_files(
     }
 }
 
-/// Appends a blank and the name of a file in single quotes. A name that begins with a minus sign gets `./` before it, so that it isn't taken for an
-/// option.
+/// Appends a blank and the name of a file in single quotes. A name that begins with a minus sign gets `./` before it, so that a command doesn't read
+/// it as an option.
 fn append_file(name: &str, out: &mut Vec<u8>) -> Result<(), AllocError>
     ensures { OnOk result (out.new.items ≡ out.old.items ++ meaning.file_text name.now) }
 {
@@ -144,8 +145,8 @@ fn append_quoted(name: &str, out: &mut Vec<u8>) -> Result<(), AllocError>
     Ok(())
 }
 
-/// Appends a character of a text in single quotes. A single quote ends the quoted text, is written with a backslash, and begins quoted text again. A
-/// hidden character also ends and begins it; between these its bytes are written as octal digits in `$'..'`, for example `$'\033'`.
+/// Appends a character of a text in single quotes. For a single quote, the quoted text ends, `\'` follows, and quoted text begins again. For a hidden
+/// character, the quoted text also ends and begins again, with the character's bytes as octal digits in between, for example `$'\033'`.
 fn append_char(letter: char, out: &mut Vec<u8>) -> Result<(), AllocError>
     ensures { OnOk result (out.new.items ≡ out.old.items ++ meaning.quoted_char letter) }
 {

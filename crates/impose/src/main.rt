@@ -1,4 +1,4 @@
-//! The program: it reads a document and writes its pages on sheets, as its command line says.
+//! The `impose` program: reads a document and writes its pages on sheets, as the command line asks.
 #![tactic(auto)]
 
 ghost use Rattle.std.specs.Prelude.{◌≡◌, []};
@@ -45,8 +45,8 @@ fn main(rt: HostRuntime) -> ExitCode {
     ExitCode::from(tell(&mut rt.stderr(), text.as_slice(), status))
 }
 
-/// The text that reports how the program ended, and its exit status. `ended` is taken by value, so that the output is closed before anything is
-/// printed: if standard error was closed at the start, the output may have got its file descriptor.
+/// The text that reports how the program ended, and its exit status. `ended` is taken by value, so that the output is closed before the text is
+/// printed. If standard error was closed at the start, its file descriptor may have been given to the output.
 fn said<W: World>(
     alloc: Global,
     report: ReportText,
@@ -76,7 +76,8 @@ fn paper_size(rt: &(impl Env + AllocGlobal)) -> String {
     }
 }
 
-/// Ends the program with a fault that comes before the command line is read, or while the help or the version is printed.
+/// Ends the program with a fault that comes before the command line is read, or while the help or the version is printed. Prints the fault to
+/// standard error.
 fn end_with(rt: &HostRuntime, fault: ImposeFault) -> ExitCode {
     let status = fault_status(&fault);
     let text = text_of_fault(rt.alloc(), &fault, None, &[]);

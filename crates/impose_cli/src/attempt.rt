@@ -12,7 +12,7 @@ pub(crate) struct Attempt<W: World, T> {
     pub rest: Rest<W, W::Output>,
 }
 
-/// An attempt that ended with a fault before an output was created, and so left the world.
+/// An attempt that ended with this fault before an output was created. It leaves the world.
 pub(crate) fn refused_before<W: World, T>(fault: ImposeFault, world: W) -> Attempt<W, T>
     ensures outcome { result.outcome ≡ Err fault }
     ensures rest { result.rest ≡ rests.World world }

@@ -12,8 +12,8 @@ use lengths::Paper;
 use papers::{Comment, document_paper, first_comment, first_name, is_at_end};
 use row_runs::declared_page_count;
 
-/// Finds the statements of a document about itself that messages mention: the number of its pages, and the name of its paper if no such paper is
-/// known. No memory is allocated.
+/// The facts for messages that a document states in its comments: the number of its pages, and the name of its paper if no paper of this name is
+/// known. The name is left out if the command line names a paper for the pages. No memory is allocated.
 pub(crate) fn claims_of(request: &ImposeRequest, input: &[u8]) -> Claims
     ensures { meaning.IsToldBy request.now input.now result }
 {
@@ -27,7 +27,7 @@ pub(crate) fn claims_of(request: &ImposeRequest, input: &[u8]) -> Claims
     }
 }
 
-/// A name as messages show it.
+/// The name, as messages show it.
 fn shown(name: Option<&[u8]>) -> Option<ShownName>
     ensures { result ≡ option_map shown_name (option_map (λ n. n.now) name.entry) }
 {
@@ -37,7 +37,7 @@ fn shown(name: Option<&[u8]>) -> Option<ShownName>
     }
 }
 
-/// The name of the document's paper, if no such paper is known and the command line names no paper for the pages.
+/// The name of the document's paper, if no paper of this name is known and the command line names no paper for the pages.
 fn unknown_paper<'t>(request: &ImposeRequest, input: &'t [u8]) -> Option<&'t [u8]>
     ensures { option_map (λ name. name.now) result
         ≡ meaning.unknown_paper request.now.page_paper request.now.default_paper input.now }
@@ -48,7 +48,7 @@ fn unknown_paper<'t>(request: &ImposeRequest, input: &'t [u8]) -> Option<&'t [u8
     }
 }
 
-/// The first name in the document's `%%DocumentPaperSizes:` (DSC 2.1), unless the document's paper is found by a name.
+/// The first name in the header's `%%DocumentPaperSizes:` (DSC 2.1). `None` if there is no such name, or if the document's paper is found by a name.
 fn unknown_name<'t>(usual: &Paper, input: &'t [u8]) -> Option<&'t [u8]>
     ensures { option_map (λ name. name.now) result ≡ meaning.unknown_name usual.now input.now }
 {
@@ -58,7 +58,8 @@ fn unknown_name<'t>(usual: &Paper, input: &'t [u8]) -> Option<&'t [u8]>
     told_name(header_value(input, b"%%DocumentPaperSizes", b"%%DocumentPaperSizes:")?)
 }
 
-/// The name at the start of a comment's value. `None` if the value is `(atend)`, which leaves the name to the trailer: trailers aren't read here.
+/// The name at the start of a comment's value. `None` if there is no name, or if the value is `(atend)`, which leaves the name to the trailer. The
+/// trailer isn't read for names.
 fn told_name(value: &[u8]) -> Option<&[u8]>
     ensures { option_map (λ name. name.now) result ≡ meaning.told_name value.now }
 {
@@ -69,6 +70,7 @@ fn told_name(value: &[u8]) -> Option<&[u8]>
     }
 }
 
+/// Whether a paper was found in a comment that names papers or media.
 fn is_by_name(found: Option<(Paper, Comment)>) -> bool
     ensures { result ≡ meaning.is_by_name found }
 {

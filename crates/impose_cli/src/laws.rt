@@ -1,8 +1,9 @@
 //! Laws of the output of impose. The functions do nothing.
 ghost use Rattle.impose_cli.specs.Laws.{GuardIsOfFirst, WroteDocument};
 
-/// The bytes that are appended for a request are a document again, unless there are more than 2^30. Its preamble and trailer are those that were
-/// written. Its pages are the sheets, if the last page of the imposed document leaves no embedded document open or that document has a trailer.
+/// The bytes that a finished request appends to its output are a document again, if they have at least one sheet and are at most 2^30 bytes long. The
+/// new document has the preamble and the trailer that were written. Its pages are the sheets if the imposed document has a trailer, or if the last
+/// page of that document leaves no embedded document open.
 pub fn wrote_document()
     ensures { WroteDocument }
 {}

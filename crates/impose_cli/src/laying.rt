@@ -1,4 +1,4 @@
-//! How a layout lays a row of pages on sheets.
+//! The laying of a row of pages on sheets, for each layout.
 ghost use Rattle.std.specs.Prelude.{◌≡◌, ◌↔◌, ◌≤◌, IfErr, IfOk, IfSome, IsTrue, OnOk, None, Some, option_map, true};
 ghost use Rattle.layouts.specs.Grids.{cells_per_sheet};
 ghost use Rattle.layouts.specs.Refusals.{most_on_sheet, why_not_arranged};
@@ -45,7 +45,7 @@ pub(crate) fn papers_for(request: &ImposeRequest, page_paper: &Paper) -> Papers
     Papers { page, sheet }
 }
 
-/// How a task lays its row of pages on sheets.
+/// The way in which a task lays its row of pages on sheets.
 #[derive(Drop)]
 pub(crate) enum RowLaying {
     /// The laying of a layout that isn't a specification.
@@ -60,7 +60,7 @@ pub(crate) enum RowLaying {
 }
 
 impl RowLaying {
-    /// This laying, as the type that the crate `row_runs` takes. The result borrows the specification.
+    /// This laying, in the type of the crate `row_runs`. The result borrows the specification, if there is one.
     pub(crate) fn lent(&self) -> Laying<'_>
         requires { MayBeLaidSo self.now }
         ensures is { IsLayingOf self.now result }
@@ -77,7 +77,7 @@ impl RowLaying {
     }
 }
 
-/// How the layout of a request lays its row of pages on sheets. The error says why it can't.
+/// The way in which the layout of a request lays its row of pages on sheets. The error says why the row can't be laid in this way.
 pub(crate) fn row_laying(
     alloc: Global,
     request: &ImposeRequest,
@@ -119,7 +119,7 @@ pub(crate) fn spec_named(alloc: Global, specs: &str) -> Result<Spec, ImposeFault
     }
 }
 
-/// How the layout lays pages on sheets. `None` if the layout is a specification. The error says why it can't.
+/// The way in which the layout lays pages on sheets. `None` if the layout is a specification. The error says why the pages can't be laid in this way.
 pub(crate) fn laying_for(
     layout: &Layout,
     spacing: &Spacing,
@@ -151,7 +151,8 @@ pub(crate) fn laying_for(
     }
 }
 
-/// Checks that sheets of the paper that the command line names, if it names one, may have room for pages of some paper.
+/// Checks that the margins leave room for pages of some paper on sheets of `sheet_paper`. If `sheet_paper` is `None`, or the layout has no
+/// cells, there is nothing to check.
 pub(crate) fn check_sheets(
     layout: &Layout,
     spacing: &Spacing,
@@ -172,7 +173,7 @@ pub(crate) fn check_sheets(
     }
 }
 
-/// The margins and gaps of a layout that has cells. `None` for another layout.
+/// The margins and gaps of a layout that has cells. `None` for a layout without cells.
 fn kept_free(layout: &Layout, spacing: &Spacing) -> Option<Free>
     ensures { result ≡ kept_free_in layout.now spacing.now }
 {
@@ -187,8 +188,8 @@ fn kept_free(layout: &Layout, spacing: &Spacing) -> Option<Free>
     }
 }
 
-/// Whether the margins are equal where the layout needs it: opposite margins in a zine and in a stack that is printed on both sides, and all four
-/// margins in a poster.
+/// Whether the margins are equal where the layout needs equal ones: opposite margins in a zine and in a stack that is printed on both sides, and all
+/// four margins in a poster.
 fn is_even_enough(layout: &Layout, free: &Free) -> bool
     ensures { result ≡ are_even_enough layout.now free.now }
 {
@@ -200,7 +201,7 @@ fn is_even_enough(layout: &Layout, free: &Free) -> bool
     }
 }
 
-/// The laying of pages in the cells that the layout asks for.
+/// The laying of pages in the cells that the layout asks for, never `Ok(None)`. The error says why the pages can't be put into these cells.
 fn cell_laying(
     layout: &Layout,
     spacing: &Spacing,
@@ -374,7 +375,7 @@ fn named_signing(layout: &Layout) -> Option<Signing>
     }
 }
 
-/// Whether the border can be drawn, if one is requested: its width is above 0.
+/// Whether the border, if there is one, has a width above 0.
 pub(crate) fn is_drawn(border: Option<Grains>) -> bool
     ensures { result ≡ is_border border }
 {
@@ -384,7 +385,7 @@ pub(crate) fn is_drawn(border: Option<Grains>) -> bool
     }
 }
 
-/// Whether a signature may have the number of sides that is named, if a number is named.
+/// Whether a signature may have the number of sides that `signing` names. True if `signing` names no number.
 fn may_be_sewn(signing: Signing) -> bool
     ensures { IsTrue result ↔ MayBeSewn signing }
 {

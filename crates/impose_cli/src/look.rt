@@ -30,7 +30,7 @@ pub enum Overview {
     Picture,
 }
 
-/// The list or drawing of the sheets that a request makes of a document. It is refused with the same faults as a run of the request.
+/// The list or drawing of the sheets that a request makes of a document. The errors are the faults for which a run of the request would be refused.
 pub fn look_text(
     alloc: Global,
     request: &ImposeRequest,

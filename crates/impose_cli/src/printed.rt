@@ -1,4 +1,4 @@
-//! The specification of a task as it is printed, with a command line of pstops that places pages in the same way.
+//! Prints the specification of a task, and a command line of pstops that places pages by this specification.
 ghost use Rattle.std.specs.Prelude.{◌≡◌, ◌++◌, IfOk, OnOk};
 ghost use Rattle.impose_cli.specs.Printed.{call_text, printed_command, comments_text, is_border_trimmed};
 ghost use Rattle.impose_cli.specs.Printed.{options_text, printed_text, quoted_spec};
@@ -12,8 +12,9 @@ use impose_words::ImposeRequest;
 use imposer::Options;
 use std::alloc::{AllocError, Global};
 
-/// The specification on one line, a command line of pstops with this specification on the next line, then comments on the differences between pstops
-/// and impose. pstops draws a border along the edges of the whole page even if the page is trimmed, and it inserts no guard.
+/// The specification on one line, then a pstops command with it on the next line. Comments follow on the ways in which this command differs from the
+/// request: pstops draws a border along the edges of the whole page even if the page is trimmed, and it inserts no guard. The only error is refused
+/// memory.
 pub fn printed_task(
     alloc: Global,
     request: &ImposeRequest,
@@ -40,7 +41,7 @@ fn append_command(request: &ImposeRequest, task: &Task, out: &mut Vec<u8>) -> Re
     append_files(name_of(&request.infile), name_of(&request.outfile), out)
 }
 
-/// Appends the command with its options.
+/// Appends the start of the pstops command line: `pstops` and its options.
 fn append_call(
     request: &ImposeRequest,
     options: &Options,
@@ -77,8 +78,8 @@ const TRIM_COMMENT: &[u8] =
 const GUARD_COMMENT: &[u8] =
     b"# impose also puts its guard into the document, which pstops doesn't\n";
 
-/// Appends a specification. None of its bytes has a meaning inside a shell's single quotes, so it may stand there. A specification that begins with a
-/// minus sign gets its modulo, because pstops would otherwise take it for an option.
+/// Appends a specification. It may be put inside a shell's single quotes, because none of its bytes has a meaning there. A specification that begins
+/// with a minus sign gets the modulo 1, because pstops would otherwise take it for an option.
 fn append_spec(spec: &str, out: &mut Vec<u8>) -> Result<(), AllocError>
     ensures { OnOk result (out.new.items ≡ out.old.items ++ quoted_spec spec.now) }
 {

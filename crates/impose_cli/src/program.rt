@@ -54,8 +54,9 @@ impl<W: World> Ended<W> {
 }
 
 /// The whole program. It reads the command line, whose first word is the program's name. It finds the user's default paper from `paper_size`, the
-/// value of `PAPERSIZE`, and from /etc/papersize, and checks the request. Then it reads the whole input and closes it. Finally it imposes the pages,
-/// prints the specification, or writes the list or the drawing of the sheets.
+/// value of `PAPERSIZE`, and from /etc/papersize. It reads the start of the output file, which may hold another program's document, and checks the
+/// request. Then it reads the whole input and closes it. Finally it imposes the pages, prints the specification, or writes the list or the drawing of
+/// the sheets.
 ///
 /// The output is created only when nothing is left that could be refused. A refused request therefore creates no output, and the input and the output
 /// may be the same file.
@@ -122,7 +123,8 @@ fn home_of<W: World>(paper_size: &[u8], world: &mut W) -> Paper
     default_paper(paper_size, &front[..count])
 }
 
-/// Checks the request, reads the input, and writes the output that the request asks for.
+/// Checks the request, reads the input, and writes the output that the request asks for. `is_foreign` says whether another program's document is in the
+/// output file.
 fn carry_out<R: Threads + Wait + Sync, W: World>(
     rt: &R,
     alloc: Global,

@@ -52,7 +52,7 @@ pub(crate) struct RowTask {
     pub(crate) text: RoomyText,
     pub(crate) page_paper: Paper,
     pub(crate) origin: PaperOrigin,
-    /// The papers of the document's pages, after they are turned.
+    /// The papers by which the document's pages are placed, each turned with its page.
     pub(crate) papers: Vec<Paper>,
     /// The pages that `--paper` cuts.
     pub(crate) cut: Option<Cut>,
@@ -66,7 +66,7 @@ pub(crate) struct RowTask {
     pub(crate) signing: Option<Signing>,
 }
 
-/// The task of a request for a document, and the parts of the task's text. The error is a fault that is found before the run.
+/// The task of a request for a document, and the parts of the task's text. The error is the first fault that is found before the pages are imposed.
 pub(crate) fn row_task(
     alloc: Global,
     request: &ImposeRequest,
@@ -106,13 +106,13 @@ struct FoundPapers {
     pages: u32,
     /// The paper for which sheets and cells are made.
     page_paper: Paper,
-    /// Where that paper comes from.
+    /// Where `page_paper` is taken from.
     origin: PaperOrigin,
-    /// The papers by which the pages are placed, after they are turned.
+    /// The papers by which the pages are placed, each turned with its page.
     papers: Vec<Paper>,
     /// The pages that `--paper` cuts.
     cut: Option<Cut>,
-    /// The pages that reach beyond those papers.
+    /// The pages that reach beyond the papers by which they are placed.
     reach: Option<Reach>,
     /// The number of pages after the trailer.
     behind: usize,
@@ -120,7 +120,7 @@ struct FoundPapers {
     taken: u32,
 }
 
-/// The papers of a document's pages, and the document's parts. The error says why the document is refused.
+/// The papers of a document's pages, and the document's parts. The only errors are a document that is refused, and refused memory.
 fn papers_of(
     alloc: Global,
     request: &ImposeRequest,
@@ -145,7 +145,8 @@ fn papers_of(
     Ok((found, document.into_parts()))
 }
 
-/// Whether all pages of the document have the paper `paper`, and sheets and cells are made for that paper.
+/// Whether `paper` has the size of all papers by which the document's pages are placed, and of the paper for which sheets and cells are made. The
+/// only errors are a document that is refused, and refused memory.
 pub(crate) fn has_one_paper(
     alloc: Global,
     request: &ImposeRequest,
@@ -231,8 +232,9 @@ fn papers_in(
     })
 }
 
-/// The paper for which sheets and cells are made, and where it comes from. It is the document's if a page of the row has that paper or one of nearly
-/// the same size, otherwise it is the paper of the row's first page. A specification places all pages by the document's paper.
+/// The paper for which sheets and cells are made, and where it is taken from. It is the paper of `paper_of_pages` if a page of the row has nearly the
+/// size of that paper, or if the row has no page. Otherwise it is the paper of the row's first page. A specification always takes the paper of
+/// `paper_of_pages`.
 fn paper_of_row(request: &ImposeRequest, input: &[u8], taken: &[Paper]) -> (Paper, PaperOrigin)
     ensures { result ≡ paper_for request.now.layout (page_paper_found request.now.page_paper request.now.default_paper input.now) taken.now }
 {
@@ -246,8 +248,8 @@ fn paper_of_row(request: &ImposeRequest, input: &[u8], taken: &[Paper]) -> (Pape
     }
 }
 
-/// The paper that stands for `paper` among `taken`, the papers of the row's pages. In a selection, papers of nearly the same size count as one, so
-/// that blank sheets get the same paper as sheets with pages. In other layouts it is `paper` itself.
+/// The paper that takes the place of `paper`. In a selection, papers of nearly the same size among `taken`, the papers of the row's pages, count as
+/// one. A blank sheet of nearly that size thus gets the same paper as these pages. In other layouts the result is `paper`.
 fn counted_paper(
     alloc: Global,
     layout: &Layout,
@@ -290,7 +292,7 @@ fn papers_placed(
     }
 }
 
-/// A list with the paper `one` for each of the papers `own`.
+/// A list that has the paper `one` for each of the papers `own`.
 fn all_of(alloc: Global, one: &Paper, own: &[Paper]) -> Result<Vec<Paper>, AllocError>
     ensures { IfOk result (λ papers. papers.items ≡ map (λ paper. one.now) own.now) }
 {
@@ -308,7 +310,7 @@ fn has_cuts_apart(layout: &Layout) -> bool
     !matches!(layout, Layout::SpecRow { .. })
 }
 
-/// The pages of the row that the paper of `--paper` cuts. `None` if there are none, or if they aren't reported separately.
+/// The pages of the row that the paper of `--paper` cuts. `None` without `--paper`, if it cuts no page, or if such pages aren't reported separately.
 fn cut_pages(
     alloc: Global,
     request: &ImposeRequest,
@@ -330,7 +332,7 @@ fn cut_pages(
     Ok(cut_by(&named, taken.as_slice()))
 }
 
-/// The paper whose size the guard sets: that of the sheets, or of a selection's first sheet.
+/// The paper whose size the guard sets: that of the sheets, or of a selection's first sheet. The only error is refused memory.
 fn guarded_paper(
     alloc: Global,
     request: &ImposeRequest,
@@ -349,7 +351,8 @@ fn guarded_paper(
     }
 }
 
-/// The paper of a selection's first sheet. `blank` is the paper of blank sheets.
+/// The paper of a selection's first sheet. It is `blank`, the paper of blank sheets, if that sheet is blank or the choice gives no row. The only
+/// error is refused memory.
 fn first_paper(
     alloc: Global,
     choice: &PageChoice,
@@ -371,7 +374,7 @@ fn first_paper(
     }
 }
 
-/// The paper of the sheet for a row's first entry.
+/// The paper of the sheet for a row's first entry. It is `blank` if the entry is blank, or if the row is empty.
 fn paper_of_first(row: &[Option<u32>], papers: &[Paper], blank: &Paper) -> Paper
     ensures { result ≡ first_paper_of (Ok row.now) papers.now blank.now }
 {
@@ -426,7 +429,7 @@ pub(crate) fn impose_task<R: Threads + Wait + Sync, W: World>(
     impose_job(rt, alloc, &job, name_of(&request.outfile), world)
 }
 
-/// The fault that reports an error of a run on a document of `pages` pages.
+/// The fault that reports why a row of a document of `pages` pages can't be imposed.
 pub(crate) fn asked_fault_of(error: SheetError, pages: u32) -> ImposeFault
     ensures { result ≡ asked_fault pages error }
 {

@@ -1,4 +1,4 @@
-//! Runs of requests. Their outputs are created only when nothing is left that could be refused.
+//! Runs of requests. An output is created only when nothing is left that could be refused.
 ghost use Rattle.std.specs.Prelude.{◌≡◌, ◌<◌, ◌⊎◌, [], ℕ, List, IfErr, IfOk, IsTrue, MatchResult, OnOk, None, Some, Ok, Err, option_map, string_bytes, true};
 ghost use Rattle.std.specs.IoError.{error_kind};
 ghost use Rattle.std.specs.declared.io.ErrorKind.TheVariants.{OutOfMemory};
@@ -44,8 +44,8 @@ use std::sync::Wait;
 use std::thread::Threads;
 use world::{Asked, Before, Buffered, Fate, Late, Output, Refused, Rest, World};
 
-/// Imposes a document as a request asks. A fault of the document is found first, then one of the layout, then one of the run. The output is created
-/// after all checks, so a refused request creates none.
+/// Imposes a document as a request asks. Faults are found in this order: a fault of the document, a fault of the layout, a fault of the run. The
+/// output is created after all checks, so a refused request creates none.
 pub(crate) fn run_on_document<R: Threads + Wait + Sync, W: World>(
     rt: &R,
     alloc: Global,
@@ -99,7 +99,7 @@ fn run_row<R: Threads + Wait + Sync, W: World>(
     }
 }
 
-/// Imposes the row of a job, into the output of this name.
+/// Imposes the row of a job, and writes the sheets to the output of this name.
 pub(crate) fn impose_job<R: Threads + Wait + Sync, W: World>(
     rt: &R,
     alloc: Global,
@@ -213,7 +213,7 @@ fn read_task<'t>(
     Ok((spec, document))
 }
 
-/// Facts about a run that are reported beside its numbers.
+/// Facts about a run that are reported together with its counts.
 #[derive(Drop)]
 struct About {
     page_paper: Paper,
@@ -225,7 +225,7 @@ struct About {
     told: Claims,
 }
 
-/// The outcome of a run, with the facts that are reported about it.
+/// The outcome of a run. If the run finished, the facts in `about` are added to its report.
 fn reported(outcome: Result<Report, ImposeFault>, about: About) -> Result<Done, ImposeFault>
     ensures { result ≡ reported_by about outcome }
 {
@@ -246,7 +246,7 @@ fn reported(outcome: Result<Report, ImposeFault>, about: About) -> Result<Done, 
 
 // ---- writing the sheets
 
-/// The size of the output's buffer, in bytes. Sheets that are smaller are gathered in it and written together.
+/// The size of the output's buffer, in bytes. Smaller sheets are gathered in the buffer and written together.
 const WRITTEN_AT_ONCE: usize = 16_384;
 
 /// Writes the sheets of a job to the output of this name, which is created when the first byte is to be written. The job has been checked, so it
@@ -265,7 +265,7 @@ fn write_job<R: Threads + Wait + Sync, W: World>(
     write_asked::<Brand, R, W>(rt, alloc, job, Asked { name, world })
 }
 
-/// Does the work of `write_job`. The parameter `B` tells the contracts the output's name and what was seen of the world before.
+/// Does the work of `write_job`. The parameter `B` gives contracts the output's name and the record of the world before the output is created.
 fn write_asked<B: Before, R: Threads + Wait + Sync, W: World>(
     rt: &R,
     alloc: Global,
@@ -293,7 +293,8 @@ fn write_asked<B: Before, R: Threads + Wait + Sync, W: World>(
     }
 }
 
-/// The end of a run after all bytes were written. An output that got no bytes is created now.
+/// The end of a run after all bytes were taken. An output for which there were no bytes is created only now. If the output couldn't be created, the
+/// end is that of `uncreated`.
 fn written_out<'n, B: Before, W: World>(
     report: Report,
     name: Option<&str>,
@@ -322,7 +323,8 @@ fn written_out<'n, B: Before, W: World>(
     }
 }
 
-/// The end of a run in which memory ran out or a write failed, after the sink had taken `taken` bytes.
+/// The end of a run in which memory ran out, the output couldn't be created, or a write failed. `taken` is the number of bytes that the sink had
+/// taken, including those that wait in its buffer.
 fn broken_off<'n, B: Before, W: World>(
     taken: u64,
     sink: Buffered<Late<'n, W, B>>,
@@ -350,7 +352,7 @@ fn taken_before(error: &RunError) -> u64
     }
 }
 
-/// The end of a run whose output couldn't be created. The fault is a lack of memory if that was the cause, otherwise a write that failed after 0
+/// The end of a run whose output couldn't be created. The fault is a lack of memory if memory was refused, otherwise a write that failed after 0
 /// bytes.
 fn uncreated<W: World>(refused: Refused<W>) -> Attempt<W, Report>
     ensures fault { ((error_kind refused.cause ≡ OutOfMemory) × (result.outcome ≡ Err without_memory))
@@ -367,7 +369,8 @@ fn uncreated<W: World>(refused: Refused<W>) -> Attempt<W, Report>
     refused_before(fault, refused.world)
 }
 
-/// The end of a run that leaves an output with `written` bytes. The fault is that of the output if the output failed, otherwise a lack of memory.
+/// The end of a run that leaves an output with `written` bytes. If the output failed, the fault is a failed write with the output's cause. Otherwise
+/// it is a lack of memory.
 fn failed<W: World>(written: u64, output: W::Output) -> Attempt<W, Report>
     requires begun { (W.Output.seen output).failures ≡ 0 → (W.Output.seen output).has_taken ≡ true }
     ensures fault { MatchResult result.outcome (λ report. ⊥) (IsSaidOf (W.Output.seen output) written) }

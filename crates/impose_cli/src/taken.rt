@@ -12,7 +12,7 @@ use lengths::Paper;
 use rows::{RowError, imposed_row};
 use std::alloc::{AllocError, Global};
 
-/// The row of pages that a choice gives, before it is put into signatures. It is empty if the choice gives no row; the run reports the reason.
+/// The row of pages that a choice gives, before it is put into signatures. The row is empty if the choice gives none; the run reports the reason.
 pub(crate) fn row_of_choice(
     alloc: Global,
     pages: u32,
@@ -62,7 +62,7 @@ fn counted(count: u32, is_taken: bool) -> u32
     if is_taken { count + 1 } else { count }
 }
 
-/// The papers of the pages in a row, in the order of the row. `own` are the papers of all pages of the document.
+/// The papers of the pages in a row, in the order of the row. Blanks have no paper. `own` has the papers of all pages of the document.
 pub(crate) fn papers_on_row(
     alloc: Global,
     row: &[Option<u32>],
@@ -100,7 +100,7 @@ fn paper_of_entry(own: &[Paper], entry: Option<u32>) -> Option<Paper>
     }
 }
 
-/// The papers `own` of a document's pages, with `other` in place of the paper of each page that isn't in the row.
+/// The papers `own` of a document's pages, where `other` replaces the paper of each page that isn't in the row.
 pub(crate) fn papers_taken(
     alloc: Global,
     row: &[Option<u32>],

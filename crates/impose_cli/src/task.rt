@@ -42,16 +42,16 @@ use std::alloc::{AllocError, Global};
 pub struct Task {
     /// The document, with the guard unless the request leaves it out.
     pub text: RoomyText,
-    /// The specification by which its pages are placed.
+    /// The specification by which the document's pages are placed.
     pub spec: String,
     pub options: Options,
-    /// Where the paper of the pages comes from.
+    /// Where the paper of the pages is taken from.
     pub origin: PaperOrigin,
     /// The counts of the document's pages.
     pub counted: CountedPages,
 }
 
-/// Counts of a document's pages, for pages that are all placed by one paper.
+/// The counts of a document's pages, which are all placed by one paper, and the pages that reach beyond that paper.
 #[derive(Clone, Copy)]
 pub struct CountedPages {
     /// The number of all pages.
@@ -64,15 +64,15 @@ pub struct CountedPages {
     pub reach: Option<Reach>,
 }
 
-/// One preparer and one imposer: more save no time (bench/README.md).
+/// One preparer and one imposer. More threads save no time (bench/README.md).
 pub(crate) const WORKERS: Workers = Workers {
     preparers: 1,
     imposers: 1,
 };
 
-/// Makes the checks of a layout that don't need the document, so that a mistake is found before a byte is read. A specification is read. Another
-/// layout is tried with the paper of the pages if the command line names it; otherwise it is only checked whether the named sheets may have room for
-/// pages.
+/// Checks the layout as far as possible without the document, so that a mistake is found before the input is read. A specification must have no
+/// fault. Any other layout is tried with the paper of the pages, if the command line names it. If the command line names only the paper of the
+/// sheets, and the layout has cells, the margins must leave some of that paper.
 pub fn check_layout(alloc: Global, request: &ImposeRequest) -> Result<(), ImposeFault>
     ensures possible { OnOk result
         (IsPossible request.now.layout request.now.spacing (named_cells_paper request.now) request.now.sheet_paper) }
@@ -103,8 +103,8 @@ fn check_spec(alloc: Global, specs: &str) -> Result<(), ImposeFault>
     }
 }
 
-/// Whether a specification can express the request apart from its layout: its pages, blanks before the last one, their turn, marks, scale, and places on
-/// backs.
+/// Whether a specification can express the request apart from its layout: its pages, blanks before the first and the last one, their turn, marks, scale,
+/// and places on backs.
 fn is_said(request: &ImposeRequest) -> bool
     ensures { result ≡ says request.now }
 {
@@ -118,9 +118,17 @@ fn is_said(request: &ImposeRequest) -> bool
         && !request.swaps_margins()
 }
 
-/// The task of a request, with the specification that places pages as the request asks, and the parts of the task's text. In this order it is refused
-/// for: the document; pages that are chosen or turned, marks or numbers, one scale for pages of several papers, or an inner margin of `nup`; pages of
-/// other papers; the layout.
+/// The task of a request, with the specification that places pages as the request asks, and the parts of the task's text. The first of these faults
+/// is reported:
+///
+/// A fault of the document.
+///
+/// `NoSpecification` for chosen or turned pages, blanks before the last page, marks, page numbers, one scale for all pages, or an inner margin of
+/// `nup`.
+///
+/// `SeveralPapers` for `nup` and `booklet`, if the pages don't all have the same paper.
+///
+/// `NoSpecification` for a layout that no specification can express, or a fault of the layout.
 pub fn task_for(
     alloc: Global,
     request: &ImposeRequest,
@@ -167,7 +175,8 @@ pub fn task_for(
     Ok((task, parts))
 }
 
-/// Checks that all pages have this paper, if the layout is one for which a specification is made.
+/// Checks that all pages have this paper, if the layout is one for which a specification is made (`nup` or `booklet`). The error is `SeveralPapers`
+/// if a page has another paper.
 fn check_one_paper(
     alloc: Global,
     request: &ImposeRequest,
@@ -188,14 +197,15 @@ fn check_one_paper(
     }
 }
 
-/// Whether a specification is made for the layout.
+/// Whether the layout is one for which a specification is made: `nup` or `booklet`.
 fn has_specification(layout: &Layout) -> bool
     ensures { result ≡ is_made_for layout.now }
 {
     matches!(layout, Layout::NUp(_) | Layout::Booklet { .. })
 }
 
-/// The document, with the guard unless the request leaves it out. The parts of the document also serve for this text.
+/// The document, with the guard if `is_guarded`. `Document::from_parts` can read this text with the parts of the document. The only error is refused
+/// memory.
 pub(crate) fn text_to_impose(
     is_guarded: bool,
     sheet_paper: &Paper,
@@ -212,7 +222,7 @@ pub(crate) fn text_to_impose(
     Ok(text)
 }
 
-/// The paper of the pages, and where it comes from: the command line, or else the document, or else the user's default paper.
+/// The paper of the pages, and where it is taken from: the command line, or else the document, or else the user's default paper.
 pub(crate) fn paper_of_pages(request: &ImposeRequest, input: &[u8]) -> (Paper, PaperOrigin)
     ensures { result ≡ page_paper_found request.now.page_paper request.now.default_paper input.now }
 {
@@ -225,7 +235,8 @@ pub(crate) fn paper_of_pages(request: &ImposeRequest, input: &[u8]) -> (Paper, P
     }
 }
 
-/// Counts of a document's pages, for pages that are all placed by this paper, and the document's parts.
+/// The counts of a document's pages, which are all placed by this paper, and the document's parts. The only errors are a document that is refused,
+/// and refused memory.
 pub(crate) fn pages_of(
     alloc: Global,
     request: &ImposeRequest,
@@ -297,7 +308,7 @@ fn placing(
     }
 }
 
-/// Whether leaves creep.
+/// Whether a creep other than 0 is requested.
 fn creeps(spacing: &Spacing) -> bool
     ensures { result ≡ not (int_eq spacing.now.creep (pos 0)) }
 {
@@ -361,7 +372,7 @@ fn written(alloc: Global, spec: &Spec, sides: Option<u32>) -> Result<PlacedItem,
     Ok((write_spec(alloc, spec)?, sides))
 }
 
-/// The number of sides of a signature, if the row of a specification goes into signatures.
+/// The number of sides of a signature, for this number of pages. `None` if the row of a specification isn't put into signatures.
 fn row_sides(signing: Option<Signing>, pages: u32) -> Option<u32>
     requires some { 0 < pages }
     requires few { pages ≤ most_pages }
@@ -373,7 +384,7 @@ fn row_sides(signing: Option<Signing>, pages: u32) -> Option<u32>
     }
 }
 
-/// The number of sides of a signature, for this number of pages.
+/// The number of sides that `signing` gives each signature, for this number of pages.
 fn signature_sides(signing: Signing, pages: u32) -> u32
     requires some { 0 < pages }
     requires few { pages ≤ most_pages }

@@ -7,14 +7,14 @@ use lengths::Paper;
 #[derive(Clone, Copy)]
 pub(crate) struct Context<'r> {
     pub(crate) infile: Option<&'r str>,
-    /// The name of the output file. `None` for standard output, and for a request that prints a specification or a plan.
+    /// The name of the file for the sheets or the drawing. `None` for standard output, and for a request that prints a specification or a list.
     pub(crate) written: Option<&'r str>,
     pub(crate) ranges: &'r str,
     pub(crate) spec: &'r str,
     pub(crate) is_selection: bool,
     /// Whether a scale is requested.
     pub(crate) is_scaled: bool,
-    /// The paper of the sheets, if the words name it.
+    /// The paper of the sheets, if the command line names it.
     pub(crate) sheet: Option<Paper>,
 }
 

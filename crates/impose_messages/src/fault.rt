@@ -26,7 +26,7 @@ pub enum ImposeFault {
     Layout(ArrangementError),
     /// A page can't be made into the requested poster.
     Poster(PosterError),
-    /// The page ranges and choices give no row of pages.
+    /// The choice of pages gives no row.
     Row(RowError),
     /// The document has only `pages` pages, and so lacks pages of the range at byte `place` of the page ranges.
     NoSuchPage {
@@ -41,7 +41,7 @@ pub enum ImposeFault {
     NoSpecification,
     /// The specification is to be printed, but not all pages have the same paper.
     SeveralPapers,
-    /// An option has no effect, or not the effect that its name promises.
+    /// An option or file name has no effect, or not the effect that its name promises.
     Idle(IdleOption),
     /// The drawing of the sheets would overwrite the input.
     OverInput,
@@ -49,7 +49,7 @@ pub enum ImposeFault {
     OverDocument,
     /// The input couldn't be opened or read. The cause is the system's error, if the system gave one.
     Read(Option<io::Error>),
-    /// The run was refused or failed. `Write` is for a write that failed.
+    /// The run was refused, or it failed. A failed write is reported as `Write`.
     Run(RunError),
     /// The input is empty.
     NoInput,

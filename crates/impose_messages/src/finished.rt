@@ -4,16 +4,17 @@ use imposer::Report;
 use lengths::Paper;
 use papers::{Comment, Cut, Reach};
 
-/// Where the paper of the pages comes from.
+/// Where the pages' paper is taken from.
 #[derive(Clone, Copy)]
 pub enum PaperOrigin {
-    /// The command line names it.
+    /// The command line names the paper.
     Named,
     /// This comment of the document's header names the paper.
     ByComment(Comment),
-    /// Neither the command line nor the document names a paper, so it is the user's default paper.
+    /// Neither the command line nor the document names a paper, so the pages have the user's default paper.
     ByDefault,
-    /// No page that is imposed has the document's paper, so it is the paper of the first page that is imposed.
+    /// No imposed page has nearly the size of the paper found for the whole document. Sheets are therefore made for the paper of the first imposed
+    /// page.
     FirstPage,
 }
 
@@ -31,7 +32,8 @@ pub enum Creator {
 pub struct Claims {
     /// The number of pages that the document declares, if it declares one.
     pub pages: Option<usize>,
-    /// The name of the document's paper as messages show it, if no paper of this name is known.
+    /// The name of the document's paper, as messages show it, if no paper of this name is known. `None` if the command line names a paper for the
+    /// pages.
     pub unknown: Option<ShownName>,
     /// The program that made the document, if it is one whose pages depend on the text before them.
     pub creator: Option<Creator>,
@@ -43,9 +45,9 @@ pub struct Finished {
     pub report: Report,
     /// The paper of the pages.
     pub page_paper: Paper,
-    /// Where the paper of the pages comes from.
+    /// Where `page_paper` is taken from.
     pub origin: PaperOrigin,
-    /// The pages that `--paper` cuts. If a specification places the pages, this is `None`, and `reach` includes such pages.
+    /// The pages that `--paper` cuts. If a specification places the pages, this is `None`, and `reach` includes the cut pages.
     pub cut: Option<Cut>,
     /// The pages that reach beyond the papers by which they are placed on sheets.
     pub reach: Option<Reach>,

@@ -6,9 +6,9 @@ use crate::fault::{Compression, ImposeFault};
 use dsc::DscError;
 use imposer::RunError;
 
-/// The fault for an input that can't be read as a document. An empty input, a PDF, a compressed file, a printer's job, a UTF-16 text, an EPS file in
-/// DOS format and an EPS file without pages each have a fault of their own. So has an input that is itself longer than a document may be. A document
-/// that only its guard makes too long gets its fault from the run.
+/// The fault for an input that can't be read as a document. Each of these inputs has a fault of its own: an empty one, a PDF, a compressed file, a
+/// printer's job, a UTF-16 text, and an EPS file in DOS format. So do an EPS file without pages, and an input that is longer than a document may be.
+/// If only the guard makes a document too long, the run reports the fault.
 pub fn refused_document(error: DscError, input: &[u8]) -> ImposeFault
     ensures { result ≡ document_fault error input.now }
 {
@@ -61,7 +61,7 @@ fn is_eps(input: &[u8]) -> bool
         || input.starts_with(b"%!PS-Adobe-3.1 EPSF-")
 }
 
-/// The compression of an input, recognised by its first bytes. `None` if they show none.
+/// The compression of an input, recognised by its first bytes. `None` if no compression has these bytes.
 fn packing_of(input: &[u8]) -> Option<Compression>
     ensures { result ≡ packed_by input.now }
 {

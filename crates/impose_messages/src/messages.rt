@@ -127,7 +127,7 @@ const DRAWN_OVER: &str = "--preview would write over ";
 const OVER_INPUT: &str =
     ", which is read: name another file, as sheets.svg, or - for standard output";
 
-/// The message about an option that has no effect, or not the effect that its name promises.
+/// The message about an option or file name that has no effect, or not the effect that its name promises.
 fn idle_message(option: IdleOption) -> &'static str {
     match option {
         IdleOption::Outfile => {
@@ -203,7 +203,7 @@ fn input_text(
     joined_texts(alloc, &[before, name.as_str(), behind])
 }
 
-/// The name of a file as messages show it. If the file has no name, it is a standard stream, and the result is `stream`.
+/// The name of a file, as messages show it. `None` is the standard stream that `stream` names. An empty name is shown with an explanation.
 fn file_name(alloc: Global, name: Option<&str>, stream: &str) -> Result<String, AllocError> {
     match name {
         None => String::from_str(alloc, stream),
@@ -257,7 +257,7 @@ fn shown(alloc: Global, message: &str, text: &str, place: usize) -> Result<Strin
     joined_texts(alloc, &[message, caret.as_str()])
 }
 
-/// The message about page ranges that give no row of pages.
+/// The message about a choice of pages that gives no row, because of its page ranges or because `--odd` or `--even` leaves no page.
 fn row_text(alloc: Global, error: &RowError, context: &Context<'_>) -> Result<String, AllocError> {
     let ranges = context.ranges;
     let (message, place) = match error {
@@ -295,7 +295,7 @@ fn no_range_text(alloc: Global, context: &Context<'_>, place: usize) -> Result<S
 const NO_RANGES: &str =
     "page ranges: they come before the file, and 1- are all pages: impose select 1- in.ps out.ps";
 
-/// The message about pages that can't be laid out. If their scale is out of range, it depends on whether the request names a scale.
+/// The message about pages that can't be laid out. If their scale is out of range, the message depends on whether the request names a scale.
 fn layout_text(
     alloc: Global,
     error: &ArrangementError,
@@ -326,7 +326,7 @@ fn layout_text(
     String::from_str(alloc, message)
 }
 
-/// Why a booklet's sheet would fold along its longer edge. A sheet can be wider than high only if `--sheet` names it.
+/// The reason why a booklet's sheet would fold along its longer edge, and advice. A sheet can be wider than high only if `--sheet` names it.
 fn fold_text(alloc: Global, context: &Context<'_>) -> Result<String, AllocError> {
     let reason = match context.sheet {
         Some(sheet) if sheet.width() > sheet.height() => "the sheet is wider than high, and",
@@ -353,7 +353,7 @@ fn poster_message(error: &PosterError) -> &'static str {
     }
 }
 
-/// The message about sheets that can't be planned, most often because they are too many.
+/// The message about sheets that can't be planned, for example because there are too many of them.
 fn sheets_message(error: &MadeError) -> &'static str {
     match error {
         MadeError::TooManyPages => "the document has more than 1,000,000 pages: split it first",
@@ -394,8 +394,8 @@ fn plan_message(error: &PlanError) -> &'static str {
     }
 }
 
-/// The message about a document that is refused. An input that is itself too long has a fault of its own (`TooLong`), so a document that is too long
-/// here is so only because of its guard.
+/// The message about a document that is refused. An input that is too long without a guard has a fault of its own, `ImposeFault::TooLong`. So
+/// `DscError::TooLong` is about a document that only its guard makes too long.
 fn document_text(
     alloc: Global,
     error: &DscError,
@@ -463,7 +463,7 @@ fn spec_message(error: &SpecError, spec: &str) -> &'static str {
 /// The largest number of sheets that a specification may have.
 const MOST_GROUPS: u32 = 10_000;
 
-/// The byte of the specification at which its fault is. `None` if the fault is at no single place.
+/// The byte of the specification at which its fault is, counted from 0. `None` if the fault is at no single place.
 fn spec_place(error: &SpecError, spec: &str) -> Option<usize> {
     match error {
         SpecError::Syntax(at) => Some(*at),

@@ -15,7 +15,8 @@ use layouts::is_of_size;
 use lengths::{Grains, Paper};
 use papers::{Comment, Cut, Edges, Reach};
 
-/// Appends the report: the counts, the paper of the pages and where it comes from, and the size of the sheets if it differs.
+/// Appends the report: the counts, the size of the pages' paper, where that paper is taken from, and the size of the sheets if it differs from that
+/// of the pages' paper.
 pub(crate) fn push_report(said: &mut ReportText, done: &Finished, request: &ImposeRequest)
     requires room { length said.old + 693 ≤ most_said }
     ensures text { said.new ≡ said.old ++ report_text done.now request.now }
@@ -55,7 +56,8 @@ fn push_sheet(said: &mut ReportText, sheet: &Paper)
     said.push(b" pt");
 }
 
-/// Appends the numbers of pages, blanks, sheets, leaves and bytes. Numbers of blanks and leaves are left out if they aren't known or don't apply.
+/// Appends the numbers of pages, blanks, sheets, leaves and bytes. The number of blanks is left out if it is 0. The number of leaves is left out
+/// unless every two sheets are the front and the back of a leaf.
 fn push_counts(said: &mut ReportText, taken: u32, report: &Report, request: &ImposeRequest)
     requires room { length said.old + 396 ≤ most_said }
     ensures text { said.new ≡ said.old ++ counts_text taken report.now request.now }
@@ -71,7 +73,7 @@ fn push_counts(said: &mut ReportText, taken: u32, report: &Report, request: &Imp
     said.push_number(u128::from(report.bytes));
 }
 
-/// Appends the number of the document's pages. If only some of them are imposed, it comes after their number, as in `3 of 8`.
+/// Appends the number of the document's pages. If only some pages are imposed, their number comes first, as in `3 of 8`.
 fn push_page_count(said: &mut ReportText, taken: u32, pages: u32)
     requires room { length said.old + 84 ≤ most_said }
     ensures text { said.new ≡ said.old ++ page_count_text taken pages }
@@ -84,8 +86,8 @@ fn push_page_count(said: &mut ReportText, taken: u32, pages: u32)
     said.push_number(u128::from(pages));
 }
 
-/// The number of places on the sheets that have no page. It is 0 if the request chooses pages, or if sheets of the layout have no fixed number of
-/// places, each for one page.
+/// The number of empty cells that the report gives as blanks. It is 0 if the request chooses pages, and for layouts whose empty cells aren't
+/// reported.
 fn blanks_of(request: &ImposeRequest, report: &Report) -> u128
     ensures { result ≡ blanks_in request.now report.now }
 {
@@ -96,7 +98,8 @@ fn blanks_of(request: &ImposeRequest, report: &Report) -> u128
     places.saturating_sub(u128::from(report.pages))
 }
 
-/// The number of places on each sheet, if the layout has a fixed number of them, each for one page. Otherwise 0.
+/// The number of pages that fill a sheet, for layouts whose empty cells are reported. It is 0 for cards, stacks, posters, selections and
+/// specifications, whose empty cells aren't reported.
 fn places_on(layout: &Layout) -> u64
     ensures { result ≡ places_in layout.now }
 {
@@ -122,7 +125,7 @@ fn push_blanks(said: &mut ReportText, blanks: u128)
     said.push_number(blanks);
 }
 
-/// Appends the number of leaves, if sheets are printed on both sides of leaves.
+/// Appends the number of leaves, if every two sheets are the front and the back of a leaf.
 fn push_leaves(said: &mut ReportText, request: &ImposeRequest, sheets: u32)
     requires room { length said.old + 160 ≤ most_said }
     ensures text { said.new ≡ said.old ++ (if are_sides_of request.now.layout request.now.spacing
@@ -195,7 +198,7 @@ pub(crate) fn push_unknown(said: &mut ReportText, name: &ShownName)
     said.push(name.as_slice());
 }
 
-/// Appends the message about the pages that `--paper` cuts: which pages, how large they are, and how large the named paper is.
+/// Appends the message about the pages that `--paper` cuts: their numbers, their size, and the size of the named paper.
 pub(crate) fn push_cut(said: &mut ReportText, cut: &Cut, named: &Paper)
     requires room { length said.old + 367 ≤ most_said }
     ensures text { said.new ≡ said.old ++ cut_message cut.now named.now }
@@ -209,7 +212,7 @@ pub(crate) fn push_cut(said: &mut ReportText, cut: &Cut, named: &Paper)
     push_size(said, named);
 }
 
-/// Appends which pages are cut, counted from 1.
+/// Appends the numbers of the pages that are cut, counted from 1.
 fn push_cut_pages(said: &mut ReportText, cut: &Cut)
     requires room { length said.old + 136 ≤ most_said }
     ensures text { said.new ≡ said.old ++ cut_pages_text cut.now }
@@ -230,7 +233,7 @@ fn push_cut_pages(said: &mut ReportText, cut: &Cut)
     }
 }
 
-/// Appends how many pages there are, and the numbers of the first and the last of them.
+/// Appends the number of pages, and the first and the last page by their numbers.
 fn push_some_pages(said: &mut ReportText, pages: usize, first: u128, last: u128)
     requires room { length said.old + 136 ≤ most_said }
     ensures text { said.new ≡ said.old ++ some_pages_text pages first last }
@@ -262,7 +265,8 @@ fn push_cut_size(said: &mut ReportText, cut: &Cut)
     push_size(said, &cut.paper);
 }
 
-/// Appends the message about pages that reach beyond the papers by which they are placed: how far the first one reaches, and the number of the rest.
+/// Appends the message about pages that reach beyond the papers by which they are placed. The message says how far the first of these pages reaches,
+/// and how many further pages reach beyond their papers.
 pub(crate) fn push_reach(said: &mut ReportText, reach: &Reach)
     requires room { length said.old + 536 ≤ most_said }
     ensures text { said.new ≡ said.old ++ reach_message reach.now }
@@ -277,7 +281,7 @@ pub(crate) fn push_reach(said: &mut ReportText, reach: &Reach)
     push_others(said, reach.pages.saturating_sub(1));
 }
 
-/// Appends how far a page reaches, in points: to its upper right corner, and from its lower left corner if a coordinate of that is negative.
+/// Appends how far a page reaches, in points: to its upper right corner, and also from its lower left corner if that has a negative coordinate.
 fn push_edges(said: &mut ReportText, edges: &Edges)
     requires room { length said.old + 215 ≤ most_said }
     ensures text { said.new ≡ said.old ++ edges_text edges.now }
@@ -349,7 +353,8 @@ pub(crate) fn push_told(said: &mut ReportText, told: usize, found: usize)
     said.push(told_advice(told, found));
 }
 
-/// The end of the message: whether the document is complete, if pages are missing; otherwise, that all pages are counted.
+/// The end of the message about the declared number of pages. It asks whether the document is complete if fewer pages were found. Otherwise it says
+/// that all pages are counted.
 fn told_advice(told: usize, found: usize) -> &'static [u8]
     ensures value { result.now ≡ advice_told told found }
     ensures short { length result.now ≤ 17 }
@@ -397,7 +402,7 @@ pub(crate) fn push_note(said: &mut ReportText, advice: &[u8], name: &str)
     said.push(name.as_bytes());
 }
 
-/// Where the paper of the pages comes from, in words.
+/// Where the pages' paper is taken from, in words.
 fn origin_text(origin: PaperOrigin) -> &'static [u8]
     ensures value { result.now ≡ text_of_origin origin }
     ensures short { length result.now ≤ 60 }

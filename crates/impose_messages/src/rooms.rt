@@ -9,8 +9,9 @@ use layouts::{HUNDRED_THOUSANDTH, Room, extent, grains, in_grains};
 use lengths::{Grains, Paper, print_points};
 use std::alloc::{AllocError, Global};
 
-/// The message about margins and gaps that leave no room for pages. It gives their lengths, the size of the sheet, and the size that the margins
-/// leave, all in points. The only error is running out of memory.
+/// The message about margins and gaps that leave no room for pages. It gives the lengths of the margins, the size that they leave, and the size of
+/// the sheet. It also gives the lengths of the gaps if the margins leave some room. All lengths are in points. The only error is running out of
+/// memory.
 pub(crate) fn no_room_text(alloc: Global, room: &Room) -> Result<String, AllocError>
     ensures { IfOk result (λ text. string_bytes text ≡ text_of_no_room room.now) }
 {
@@ -26,7 +27,7 @@ pub(crate) fn no_room_text(alloc: Global, room: &Room) -> Result<String, AllocEr
     )
 }
 
-/// The part of the message that says that gaps take all the room that the margins leave. It is empty if the margins leave none.
+/// The part of the message that says that gaps take all the room that the margins leave. It is empty if the margins leave no room.
 fn gaps_text(alloc: Global, room: &Room) -> Result<String, AllocError>
     ensures { IfOk result (λ text. string_bytes text ≡ text_of_gaps room.now) }
 {
@@ -55,7 +56,7 @@ fn lengths_text(alloc: Global, across: u64, up: u64) -> Result<String, AllocErro
     sides_text(alloc, in_grains(across), in_grains(up))
 }
 
-/// The length of a side without the length `taken`, which is in units of 10^-5 of a point. It is 0 if nothing is left of the side.
+/// The length of a side less the length `taken`, or 0 if `taken` is longer. `taken` is in units of 10^-5 of a point.
 fn left_of(length: Grains, taken: u64) -> Grains
     requires side { IsTrue (is_side length) }
     requires taken { taken ≤ 20_000_000_000 }

@@ -162,8 +162,8 @@ fn push_note_on(said: &mut ReportText, advice: &[u8], name: &str)
     said.push(b"\n");
 }
 
-/// The advice about an output file whose name ends as that of another kind of file, such as `.pdf`. It says that the file holds PostScript, and how
-/// to make a file of that kind. The line has the file's name before and after this text.
+/// The advice about an output file whose name has the ending of another kind of file, such as `.pdf`. It says that the file isn't of that kind, and
+/// how to make one that is. The line has the file's name before and after this text. `None` for other endings.
 fn advice_on(name: &str) -> Option<&'static [u8]>
     ensures value { option_map (λ advice. advice.now) result ≡ advice_by_name name.now }
     ensures short { IfSome result (λ advice. length advice.now ≤ 100) }

@@ -14,10 +14,11 @@ use std::io::ErrorKind;
 use suggestions::words_text;
 
 /// The text for standard error at the end of the program. If sheets were written, it is the report with all its lines, unless the request is quiet.
-/// If there is a fault, it is the message about the fault, unless the fault is that the reader of the output has closed it. Otherwise it is empty;
-/// help and version go to standard output.
+/// If there is a fault, it is the message about the fault, unless the reader of the output has closed the output. Otherwise the text is empty; help
+/// and version go to standard output.
 ///
-/// Memory for `report` was reserved before the run, so the report is complete even if no memory is left.
+/// Memory for `report` was reserved before the run, so the report is complete even if no memory is left. A message about a fault is left out if
+/// memory for the message is refused.
 pub fn text_said(
     alloc: Global,
     report: ReportText,
@@ -52,7 +53,8 @@ fn text_of_run(report: ReportText, done: &Finished, request: &ImposeRequest) -> 
     said.into_bytes()
 }
 
-/// The message about a fault. It is empty for help and version, if the reader of the output has closed it, and if memory for the message is refused.
+/// The message about a fault. It is empty for help and version, if the reader of the output has closed the output, and if memory for the message is
+/// refused.
 pub fn text_of_fault(
     alloc: Global,
     fault: &ImposeFault,
@@ -82,7 +84,7 @@ fn text_of_words(alloc: Global, error: &WordsError, words: &[String]) -> String
     }
 }
 
-/// Whether the fault is that the reader of the output has closed it (a broken pipe).
+/// Whether the fault is that the reader of the output has closed the output (a broken pipe).
 fn is_broken_pipe(fault: &ImposeFault) -> bool
     ensures { result ≡ is_broken_pipe fault.now }
 {
@@ -95,7 +97,7 @@ fn is_broken_pipe(fault: &ImposeFault) -> bool
     }
 }
 
-/// Adds the message as a line, if there was memory for the message and there is memory for the line.
+/// Appends the message as a line. Appends nothing if memory was refused for the message, or is refused for the line.
 fn add_line(alloc: Global, said: &mut String, message: Result<String, AllocError>)
     ensures { AddsText (IsMadeLine message) (string_bytes said.old) (string_bytes said.new) }
 {

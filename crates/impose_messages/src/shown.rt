@@ -1,4 +1,4 @@
-//! Names from documents in the form in which reports show them.
+//! Names from documents, as messages show them.
 ghost use Rattle.std.specs.Prelude.{◌≡◌, ◌≤◌, ◌++◌, length, map};
 ghost use Rattle.impose_messages.specs.Said.{shown_byte as byte_shown, shown_name};
 
@@ -6,8 +6,8 @@ use arrayvec::ArrayVec;
 use std::marker::Model;
 use suggestions::MOST_SHOWN;
 
-/// A name from a document, such as a paper's, as messages show it: its first hundred bytes, with a question mark in place of each byte that isn't
-/// printable ASCII, and two dots if the name is longer. It allocates no memory.
+/// A name from a document, such as a paper's, as messages show it: its first hundred bytes, and two dots if the name is longer. A question mark takes
+/// the place of each byte that isn't printable ASCII. The text is stored in place, without allocated memory.
 #[derive(Drop)]
 pub struct ShownName {
     text: ArrayVec<u8, 102>,
@@ -22,7 +22,7 @@ impl Model for ShownName {
 }
 
 impl ShownName {
-    /// The form in which messages show a name.
+    /// The name, as messages show it.
     pub fn of(name: &[u8]) -> ShownName
         ensures { result ≡ shown_name name.now }
     {

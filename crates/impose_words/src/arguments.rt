@@ -33,8 +33,8 @@ Examples:
   impose booklet --pages 3-14 in.ps out.ps
   impose-pdf booklet in.pdf out.pdf   a booklet of a PDF";
 
-/// An argument of a subcommand. Its texts are its name (for an option, the text after `--`), the name of its value in the help if it has a value, and
-/// its help. An option with a letter has that first.
+/// An argument of a subcommand. Its texts are its name, the name that the help gives its value if it takes one, and its help. A hidden option has no
+/// help text. The name of an option is the text after `--`. An option with a short form has the letter of that form before these texts.
 #[derive(Clone, Copy)]
 pub(crate) enum Argument {
     /// A required word.
@@ -43,20 +43,20 @@ pub(crate) enum Argument {
     Positional(&'static str, &'static str, &'static str),
     /// An option with a value.
     Valued(&'static str, &'static str, &'static str),
-    /// An option with a value that also has a form of one letter.
+    /// An option with a value, and with a short form of one letter.
     LetteredValued(char, &'static str, &'static str, &'static str),
     /// An option without a value.
     Flag(&'static str, &'static str),
-    /// An option without a value that also has a form of one letter.
+    /// An option without a value, and with a short form of one letter.
     LetteredFlag(char, &'static str, &'static str),
-    /// An option with a value that the help leaves out, because the subcommand refuses it.
+    /// An option with a value. The help leaves the option out, because the subcommand refuses it.
     HiddenValued(&'static str, &'static str),
-    /// An option without a value that the help leaves out, because the subcommand refuses it.
+    /// An option without a value. The help leaves the option out, because the subcommand refuses it.
     HiddenFlag(&'static str),
 }
 
-/// Arguments of one subcommand or of several. Each group is a constant of its own, because one constant with all texts takes the prover ten times as
-/// long.
+/// A group of arguments of one or more subcommands. Each group is a constant of its own, because one constant with all texts takes the prover ten
+/// times as long.
 #[derive(Clone, Copy)]
 enum Group {
     Count,
@@ -204,7 +204,7 @@ const DUPLEX: [Argument; 1] = [Argument::Flag(
     "Arrange the pages for sheets that are printed on both sides",
 )];
 
-/// The options of `nup`, whose sheets have an inner edge, after the number of cells.
+/// The options of `nup` about cells, after the number of cells. The sheets of `nup` have an edge at which they are bound.
 const BOUND_CELLS: [Argument; 11] = [
     ORDER,
     TURNED,
@@ -219,7 +219,7 @@ const BOUND_CELLS: [Argument; 11] = [
     RTL,
 ];
 
-/// The options of other commands that lay pages in cells, after the number of cells.
+/// The options of `cards` and `stack` about cells, after the number of cells.
 const CELLS: [Argument; 11] = [
     ORDER,
     TURNED,
@@ -367,7 +367,7 @@ const COMMON_OF_SELECTIONS: [Argument; 12] = [
     QUIET,
 ];
 
-/// The command with its subcommands.
+/// The command with its subcommands. The only error is refused memory.
 pub(crate) fn command<'a>(alloc: Global) -> Result<Command<'a>, AllocError>
     ensures { IfOk result (λ c. app_of c ≡ impose) }
 {

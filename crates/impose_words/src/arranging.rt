@@ -1,4 +1,4 @@
-//! The values of options and arguments about cells, the pages in them and the marks beside them.
+//! Reads the values of arguments that concern cells, the pages in cells, and marks.
 ghost use Rattle.std.specs.Prelude.{◌≡◌, ◌*◌};
 ghost use Rattle.impose_words.specs.Arranging as meaning;
 
@@ -8,7 +8,8 @@ use layouts::{Cells, FillOrder, MOST_ON_SHEET, Turned};
 use lengths::{Grains, read_digits};
 use pagespec::Turn;
 
-/// The cells that the text names: a number, or columns and rows with an `x` between them. `None` unless there are from 1 to 1,024 cells.
+/// The cells that the text names: a number, or columns and rows with an `x` between them. `None` for any other text, and for 0 or more than 1,024
+/// cells.
 pub fn cells_named(text: &str) -> Option<Cells>
     ensures { result ≡ meaning.cells_named text.now }
 {
@@ -20,7 +21,7 @@ pub fn cells_named(text: &str) -> Option<Cells>
     }
 }
 
-/// A grid of at least `count` cells. `None` unless `count` is from 1 to 1,024.
+/// A grid with at least `count` cells. `None` unless `count` is from 1 to 1,024.
 fn at_least(count: u32) -> Option<Cells>
     ensures { result ≡ meaning.at_least count }
 {
@@ -31,7 +32,8 @@ fn at_least(count: u32) -> Option<Cells>
     }
 }
 
-/// A grid with this number of columns and the number of rows that the text names. `None` unless it has from 1 to 1,024 cells.
+/// A grid with this number of columns and the number of rows that the text names. `None` if the text isn't a number of rows, or if the grid has 0 or
+/// more than 1,024 cells.
 fn with_rows(columns: u32, text: &[u8]) -> Option<Cells>
     ensures { result ≡ meaning.with_rows columns (meaning.digits_at text.now) }
 {
@@ -52,7 +54,7 @@ fn exactly(columns: u32, rows: u32) -> Option<Cells>
     }
 }
 
-/// The grid that the text names by its columns and rows. `None` if the text names a number of cells only, or no cells.
+/// The grid that the text names by its columns and rows. `None` if the text names only a number of cells, or no cells that a sheet can have.
 pub fn exact_cells(text: &str) -> Option<Cells>
     ensures { result ≡ meaning.exact_alone (meaning.cells_named text.now) }
 {
@@ -62,7 +64,8 @@ pub fn exact_cells(text: &str) -> Option<Cells>
     }
 }
 
-/// The number of pages that the text names, for sheets with a cell for notes beside each page. `None` unless it is from 1 to 512.
+/// The number of pages that the text names, as `Cells::AtLeast`, for sheets with a cell for notes beside each page. `None` unless the text is a
+/// number from 1 to 512.
 pub fn parse_note_count(text: &str) -> Option<Cells>
     ensures { result ≡ meaning.noted_alone (meaning.cells_named text.now) }
 {
@@ -83,7 +86,7 @@ fn with_notes(pages: u32) -> Option<Cells>
     }
 }
 
-/// The order that the text names: whether cells are filled by rows or by columns, and whether from right to left.
+/// The order that the text names: whether cells are filled by rows or by columns, and whether from right to left. `None` for another text.
 pub fn run_named(text: &str) -> Option<(FillOrder, bool)>
     ensures { result ≡ meaning.run_named text.now }
 {
@@ -96,7 +99,7 @@ pub fn run_named(text: &str) -> Option<(FillOrder, bool)>
     }
 }
 
-/// The turn of pages that the text names.
+/// The turn of pages that the text names: `left`, `right` or `half`. `None` for another text.
 pub(crate) fn turn_named(text: &str) -> Option<Turn>
     ensures { result ≡ meaning.turn_named text.now }
 {
@@ -108,7 +111,7 @@ pub(crate) fn turn_named(text: &str) -> Option<Turn>
     }
 }
 
-/// The side, left or right, to which a reader turns pages that lie on their sides.
+/// The side to which a sheet is turned to read pages that lie on their sides: `left` or `right`. `None` for another text.
 pub fn turned_named(text: &str) -> Option<Turned>
     ensures { result ≡ meaning.turned_named text.now }
 {
@@ -119,7 +122,7 @@ pub fn turned_named(text: &str) -> Option<Turned>
     }
 }
 
-/// The marks of a sheet on which none are drawn.
+/// No marks and no page numbers.
 pub(crate) const NO_MARKS: Marks = Marks {
     fold: false,
     cut: false,
@@ -127,7 +130,7 @@ pub(crate) const NO_MARKS: Marks = Marks {
     numbers: None,
 };
 
-/// The marks that the text names for a booklet: where it is folded, where its margins are cut off, or both.
+/// The marks that the text names for a booklet: at its fold, where its margins are cut off, or both. `None` for another text.
 pub(crate) fn booklet_marks_named(text: &str) -> Option<Marks>
     ensures { result ≡ meaning.booklet_marks_named text.now }
 {
@@ -149,7 +152,7 @@ pub(crate) fn booklet_marks_named(text: &str) -> Option<Marks>
     }
 }
 
-/// The marks that the text names for sheets that are cut but not folded.
+/// The marks that the text names for sheets that are cut but not folded. `None` for a text other than `cut`.
 pub(crate) fn cut_marks_named(text: &str) -> Option<Marks>
     ensures { result ≡ meaning.cut_marks_named text.now }
 {

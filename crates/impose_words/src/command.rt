@@ -37,15 +37,24 @@ use pagespec::Turn;
 use rows::{Part, Signing};
 use std::alloc::Global;
 
-/// The request that a command line makes. Its first word is the program's name. The user's default paper isn't looked up here; the request has a4 in
-/// its place, for the caller to replace.
+/// The request that a command line makes. The first of the words is the program's name. The default paper of the request is a4, for the caller to
+/// replace with the user's.
 ///
-/// A command line that the command doesn't take is refused as `Words`, with clap's message, and so is a call for help or for the version. Otherwise
-/// the fault is the first of these: an unknown paper after `--paper`, then after `--sheet`; a border that isn't a length, or is negative; an unknown
-/// turn; cells that a sheet can't have, or a signature that leaves can't have; margins or gaps that aren't lengths in the forms of these options; a
-/// trim, creep or overlap that isn't a length; an unknown order, a wrong side after `--turned`, no number after `--scale`; marks that the layout
-/// doesn't have; no size after `--numbers`, or no first number; both `--odd` and `--even`; an OUTFILE that begins with a minus sign; two of
-/// `--print-spec`, `--plan` and `--preview`; a drawing whose file isn't named as an SVG. Memory that is refused is a fault too.
+/// The fault is `Words` if clap refuses the command line, or if the command line asks for help or for the version. Refused memory is `NoMemory`.
+/// Otherwise the first of these faults is reported:
+///
+/// The sizes: an unknown paper after `--paper`, then after `--sheet`; a border that isn't a length, or is negative; an unknown turn.
+///
+/// The layout: a missing argument; cells that a sheet can't have; a signature that leaves can't have.
+///
+/// The spacing: margins or gaps in none of the forms of these options; a trim, creep or overlap that isn't a length.
+///
+/// The order and scale: an unknown order; an unknown side after `--turned`; no number after `--scale`.
+///
+/// The marks: marks that the layout doesn't have; no size after `--numbers`; no number after `--numbers-from`, or this option without `--numbers`.
+///
+/// The pages and files: both `--odd` and `--even`; an OUTFILE other than `-` that begins with a minus sign; two of `--print-spec`, `--plan` and
+/// `--preview`; a drawing whose file isn't an SVG by its name.
 #[tactic(auto, using(crate::proofs::Commands::impose_is_simple))]
 pub fn read_command(alloc: Global, words: &[String]) -> Result<ImposeRequest, RequestFault>
     // The command takes the command line, and the request is made from the values in it.
@@ -101,7 +110,8 @@ fn subcommand_request(
     request_for(alloc, sizes, layout, found)
 }
 
-/// The request for this layout, with the papers, border and turn in `sizes`. The remaining values are read in order, and the first fault is reported.
+/// The request for this layout, with the papers, border and turn in `sizes`. The remaining values are read in the order in which `read_command` names
+/// their faults, and the first fault is reported.
 fn request_for(
     alloc: Global,
     sizes: Sizes,
@@ -159,7 +169,7 @@ struct Sizes {
     turn: Turn,
 }
 
-/// Reads the papers, the border and the turn. The error is the first option that has an invalid value.
+/// Reads the papers, the border and the turn, in this order. The error is the first option that has an invalid value.
 fn sizes_of(found: &ArgMatches<'_>) -> Result<Sizes, OptionId>
     ensures read { IfOk result (λ sizes.
         ReadsSizes (rows_of (found_of found.now)) sizes.page_paper sizes.sheet_paper sizes.border sizes.turn) }
@@ -195,7 +205,8 @@ fn paper_option(found: &ArgMatches<'_>, option: OptionId) -> Option<Option<Paper
     }
 }
 
-/// The width of the requested border. `Some(None)` means no border, which the width 0 means too; `None` means an invalid value.
+/// The width of the requested border. `Some(None)` without the option, and for the width 0. `None` if the option's value isn't a length, or is
+/// negative.
 fn border_of(found: &ArgMatches<'_>) -> Option<Option<Grains>>
     ensures { result ≡ border_found (rows_of (found_of found.now)) }
 {
@@ -205,7 +216,7 @@ fn border_of(found: &ArgMatches<'_>) -> Option<Option<Grains>>
     }
 }
 
-/// The requested turn of pages. `None` if the option's value names no turn.
+/// The requested turn of pages, or `Some(Turn::None)` without `--turn`. `None` if the option's value names no turn.
 fn turn_of(found: &ArgMatches<'_>) -> Option<Turn>
     ensures { result ≡ turn_found (rows_of (found_of found.now)) }
 {
@@ -215,7 +226,7 @@ fn turn_of(found: &ArgMatches<'_>) -> Option<Turn>
     }
 }
 
-/// The fault of an option or argument with an invalid value.
+/// The fault for an invalid value of this option or argument: `BadValue`, or `NoMemory` if memory for the value is refused.
 fn bad_value(alloc: Global, found: &ArgMatches<'_>, option: OptionId) -> RequestFault
     ensures { (wrong : Option Wrong) → wrong ≡ Some (NoValue option) → SaysWrong (rows_of (found_of found.now)) result wrong }
 {
@@ -277,6 +288,7 @@ fn cells_layout(
 }
 
 /// The cells that the text after a command names. For notes the text is a number of pages, and for a poster it is the columns and rows of sheets.
+/// `None` if the text names no cells that a sheet can have.
 fn cells_in(command: CellCommand, text: &str) -> Option<Cells>
     ensures { result ≡ cells_of_command command text.now }
 {
@@ -339,14 +351,14 @@ fn spec_of(alloc: Global, found: &ArgMatches<'_>) -> Result<Layout, RequestFault
     }
 }
 
-/// Whether a specification is laid on a row: a named one, or that of all pages to list or draw its sheets.
+/// Whether the layout `spec` places a row of pages: if options choose the row, or if the sheets are to be listed or drawn.
 fn asks_for_row(found: &ArgMatches<'_>) -> bool
     ensures { result ≡ row_asked (rows_of (found_of found.now)) }
 {
     names_row(found) || is_set(found, "plan") || text_of(found, "preview").is_some()
 }
 
-/// Whether pages other than all in order are chosen, or signatures.
+/// Whether an option chooses the pages of the row, chooses their order, or puts them into signatures.
 fn names_row(found: &ArgMatches<'_>) -> bool
     ensures { result ≡ row_named (rows_of (found_of found.now)) }
 {
@@ -439,7 +451,7 @@ fn spacing_of(layout: &Layout, skipped: u32, found: &ArgMatches<'_>) -> Result<S
     })
 }
 
-/// The margins of a sheet; 0 without `--margin`. `None` if the option's value isn't margins.
+/// The margins of a sheet; 0 without `--margin`. `None` if the option's value gives no margins.
 fn margins_of(found: &ArgMatches<'_>) -> Option<Margins>
     ensures { result ≡ margins_found (rows_of (found_of found.now)) }
 {
@@ -449,7 +461,7 @@ fn margins_of(found: &ArgMatches<'_>) -> Option<Margins>
     }
 }
 
-/// The gaps between cells; 0 without `--gap`. `None` if the option's value isn't gaps.
+/// The gaps between cells; 0 without `--gap`. `None` if the option's value gives no gaps.
 fn gaps_of(found: &ArgMatches<'_>) -> Option<Free>
     ensures { result ≡ gaps_found (rows_of (found_of found.now)) }
 {
@@ -469,7 +481,7 @@ fn length_of(found: &ArgMatches<'_>, option: OptionId) -> Option<Grains>
     }
 }
 
-/// The order in which cells are filled. `--rtl` makes any order run from right to left.
+/// The order in which cells are filled. With `--rtl`, any order runs from right to left. The error is the first option that has an invalid value.
 fn order_of(found: &ArgMatches<'_>) -> Result<Order, OptionId>
     ensures read { IfOk result (λ order. order_found (rows_of (found_of found.now)) ≡ Some order) }
     ensures refused { IfErr result (λ option. wrong_order (rows_of (found_of found.now)) ≡ Some (NoValue option)) }
@@ -487,7 +499,8 @@ fn order_of(found: &ArgMatches<'_>) -> Result<Order, OptionId>
     })
 }
 
-/// Whether cells are filled by rows or by columns, and whether the order that `--order` names runs from right to left.
+/// The order that `--order` names: whether cells are filled by rows or by columns, and whether from right to left. `None` if the option's value names
+/// no order.
 fn run_of(found: &ArgMatches<'_>) -> Option<(FillOrder, bool)>
     ensures { result ≡ run_found (rows_of (found_of found.now)) }
 {
@@ -497,7 +510,7 @@ fn run_of(found: &ArgMatches<'_>) -> Option<(FillOrder, bool)>
     }
 }
 
-/// How pages lie in their cells: upright, or on one of their sides.
+/// The side to which a sheet is turned to read its pages; `Upright` without `--turned`. `None` if the option's value isn't a side.
 fn turned_of(found: &ArgMatches<'_>) -> Option<Turned>
     ensures { result ≡ turned_found (rows_of (found_of found.now)) }
 {
@@ -517,7 +530,7 @@ fn scale_of(found: &ArgMatches<'_>) -> Option<Option<Number>>
     }
 }
 
-/// The requested marks and page numbers, if the layout can have them. The error is the option that has an invalid value.
+/// The requested marks and page numbers. A layout that can't have them has none. The error is the first option that has an invalid value.
 fn marks_of(layout: &Layout, found: &ArgMatches<'_>) -> Result<Marks, OptionId>
     ensures read { IfOk result (λ marks. marks_found layout.now (rows_of (found_of found.now)) ≡ Some marks) }
     ensures refused { IfErr result (λ option. wrong_marks layout.now (rows_of (found_of found.now)) ≡ Some (NoValue option)) }
@@ -527,7 +540,8 @@ fn marks_of(layout: &Layout, found: &ArgMatches<'_>) -> Result<Marks, OptionId>
     Ok(Marks { numbers, ..lines })
 }
 
-/// The requested fold and cut marks. Sheets with cells for notes have ruled lines instead.
+/// The requested fold and cut marks, or the ruled lines that sheets with cells for notes always have. The error is the option that has an invalid
+/// value.
 fn lines_of(layout: &Layout, found: &ArgMatches<'_>) -> Result<Marks, OptionId>
     ensures read { IfOk result (λ marks. lines_found layout.now (rows_of (found_of found.now)) ≡ Some marks) }
     ensures refused { IfErr result (λ option. wrong_lines layout.now (rows_of (found_of found.now)) ≡ Some (NoValue option)) }
@@ -547,7 +561,8 @@ fn lines_of(layout: &Layout, found: &ArgMatches<'_>) -> Result<Marks, OptionId>
     }
 }
 
-/// The requested page numbers: their size, and the number of the first page. `None` without `--numbers`, and for a layout that can't have them.
+/// The requested page numbers: their size, and the number of the first page. `None` without `--numbers`, and for a layout that can't have page
+/// numbers. The error is the first option that has an invalid value.
 fn numbering_option(layout: &Layout, found: &ArgMatches<'_>) -> Result<Option<Numbering>, OptionId>
     ensures read { IfOk result (λ numbers. numbers_found layout.now (rows_of (found_of found.now)) ≡ Some numbers) }
     ensures refused { IfErr result (λ option.
@@ -565,7 +580,7 @@ fn numbering_option(layout: &Layout, found: &ArgMatches<'_>) -> Result<Option<Nu
     }
 }
 
-/// The size of page numbers, or `Some(None)` without them. `None` if the option's value isn't such a size.
+/// The size of page numbers, or `Some(None)` without `--numbers`. `None` if the option's value isn't a length from a tenth of a point to 72 points.
 fn number_size_of(found: &ArgMatches<'_>) -> Option<Option<Grains>>
     ensures { result ≡ number_size_found (rows_of (found_of found.now)) }
 {
@@ -575,8 +590,8 @@ fn number_size_of(found: &ArgMatches<'_>) -> Option<Option<Grains>>
     }
 }
 
-/// The number of the first page; 1 without `--numbers-from`. `None` if that option's value isn't a whole number, or if `--numbers` isn't given with
-/// it.
+/// The number that is drawn on the first page; 1 without `--numbers-from`. `None` if that option's value isn't a whole number, or if the option is
+/// given without `--numbers`.
 fn first_of(found: &ArgMatches<'_>) -> Option<u32>
     ensures { result ≡ first_found (rows_of (found_of found.now)) }
 {
@@ -587,7 +602,7 @@ fn first_of(found: &ArgMatches<'_>) -> Option<u32>
     }
 }
 
-/// The pages of the document that are laid out, and their order.
+/// The pages of the document that are laid out, and their order. `--odd` and `--even` together are refused.
 fn choice_of(
     alloc: Global,
     layout: &Layout,
@@ -604,7 +619,8 @@ fn choice_of(
     }
 }
 
-/// The pages that the argument `id` names by ranges, with the effect of `--odd`, `--even` and `--reverse`. `--odd` and `--even` together are refused.
+/// The pages that the argument `id` names by ranges, or all pages without it, with the effect of `--odd`, `--even` and `--reverse`. `--odd` and
+/// `--even` together are refused.
 fn choice_by(alloc: Global, id: &str, found: &ArgMatches<'_>) -> Result<PageChoice, RequestFault>
     ensures read { IfOk result (ChoosesBy (Some id.now) (rows_of (found_of found.now))) }
     ensures refused { IfErr result (λ f.
@@ -631,7 +647,8 @@ fn part_of(odd: bool, even: bool) -> Option<Part>
     }
 }
 
-/// The name of the output file. A name that begins with a minus sign is refused, because it is most likely an option that comes too late.
+/// The name of the output file. `None` for standard output. A name other than `-` that begins with a minus sign is refused, because it is most likely
+/// a misplaced option.
 fn outfile_of(alloc: Global, found: &ArgMatches<'_>) -> Result<Option<String>, RequestFault>
     ensures asked { IfOk result (λ outfile.
         file_asked (given opt.Outfile (rows_of (found_of found.now))) ≡ option_map string_bytes outfile) }
@@ -649,7 +666,8 @@ fn outfile_of(alloc: Global, found: &ArgMatches<'_>) -> Result<Option<String>, R
     }
 }
 
-/// The kind of output that is requested. A list or a drawing can be requested only for layouts that lay rows.
+/// The requested kind of output. A list or a drawing can be requested only for layouts that lay rows. Any two of `--print-spec`, `--plan` and
+/// `--preview` are refused.
 fn product_of(
     alloc: Global,
     layout: &Layout,
@@ -682,7 +700,7 @@ fn product_of(
     }
 }
 
-/// The specification as the kind of output if it is requested, otherwise the sheets.
+/// The kind of output without `--plan` and `--preview`: the specification if `printed`, otherwise the sheets.
 fn specification_if(printed: bool) -> Product
     ensures specification { is_specification result ≡ printed }
     ensures plan { is_plan result ≡ false }
@@ -695,7 +713,7 @@ fn specification_if(printed: bool) -> Product
     }
 }
 
-/// A drawing as the kind of output, in the file that `--preview` names. The file's name must end in `.svg`; `-` means standard output.
+/// The kind of output for `--preview`: a drawing in the file `name`, or on standard output for `-`. Any other name must end in `.svg`.
 fn picture_of(alloc: Global, name: &str, found: &ArgMatches<'_>) -> Result<Product, RequestFault>
     requires { given opt.Preview (rows_of (found_of found.now)) ≡ Some name.now }
     ensures picture { IfOk result (NamesPicture name.now) }

@@ -26,7 +26,7 @@ pub(crate) struct Edges {
 }
 
 impl Edges {
-    /// No edge is named.
+    /// The margins of a text that names no edge.
     fn none() -> Edges
         ensures { result ≡ meaning.no_edges }
     {
@@ -39,7 +39,7 @@ impl Edges {
         }
     }
 
-    /// The margins of these edges, with 0 for each edge that isn't named.
+    /// The margins of these edges, with 0 along each of the four edges that isn't named. Without a named inner edge there is no inner margin.
     fn margins(&self) -> Margins
         ensures { result ≡ meaning.along_edges self.now }
     {
@@ -66,7 +66,8 @@ impl Margins {
     }
 }
 
-/// The gaps that the text names: one length for both directions, or a list of two, the first between cells side by side. `None` for another text.
+/// The gaps that the text names: one length for both directions, or a list of two lengths. The first length is the gap between cells side by side,
+/// the second is the gap between cells one above another. `None` for another text.
 pub fn gaps_named(text: &str) -> Option<Free>
     ensures { result ≡ meaning.gaps_named text.now }
 {
@@ -87,8 +88,8 @@ fn gaps_of(across: Option<Grains>, up: Option<Grains>) -> Option<Free>
     })
 }
 
-/// The margins that the text names: one length for all edges; two, the first for left and right, the second for top and bottom; four, clockwise from
-/// the top; or edges by name, such as `left=2cm,top=1cm`. `None` for another text.
+/// The margins that the text names. The text is one length for all edges; two lengths, the first for left and right, the second for top and bottom;
+/// four lengths, clockwise from the top; or edges by name, such as `left=2cm,top=1cm`. `None` for another text.
 pub fn margins_named(text: &str) -> Option<Margins>
     ensures { result ≡ meaning.margins_named text.now }
 {
@@ -100,7 +101,7 @@ pub fn margins_named(text: &str) -> Option<Margins>
     }
 }
 
-/// The margins that a list of one, two or four lengths gives.
+/// The margins that a list of one, two or four lengths gives. `None` for another list.
 fn lengths_named(text: &str) -> Option<Free>
     ensures { result ≡ meaning.lengths_named text.now }
 {
@@ -135,7 +136,7 @@ fn margins_by(lengths: &[Grains]) -> Option<Free>
     })
 }
 
-/// The edges that a list names with their margins. `None` if the list names an edge twice, or isn't such a list.
+/// The edges that a list names, each with its margin. `None` if a part of the list isn't an edge with a margin, or names an edge again.
 fn edges_named(text: &str) -> Option<Edges>
     ensures { result ≡ meaning.edges_named text.now }
 {
@@ -147,7 +148,8 @@ fn edges_named(text: &str) -> Option<Edges>
     Some(edges)
 }
 
-/// The edges, with one more that the text names with its margin, such as `left=2cm`.
+/// These edges, and one more edge that the text names with its margin, such as `left=2cm`. `None` for another text, and for an edge that already has
+/// a margin.
 fn edge_in(edges: Edges, text: &str, is_listed: bool) -> Option<Edges>
     ensures { result ≡ meaning.edge_in is_listed (Some edges) text.now }
 {
@@ -156,7 +158,7 @@ fn edge_in(edges: Edges, text: &str, is_listed: bool) -> Option<Edges>
     with_edge(edges, name, margin)
 }
 
-/// The edges, with this margin for the edge that is named. `None` if there is no such edge, or if it has a margin already.
+/// These edges, with this margin for the edge of this name. `None` if no edge has the name, or if the edge already has a margin.
 fn with_edge(edges: Edges, name: &str, margin: Grains) -> Option<Edges>
     ensures { result ≡ meaning.with_edge edges name.now margin }
 {
@@ -185,7 +187,7 @@ fn with_edge(edges: Edges, name: &str, margin: Grains) -> Option<Edges>
     }
 }
 
-/// The margin as that of an edge. `None` if the edge has a margin already.
+/// This margin, for an edge whose margin was `before`. `None` if the edge already had a margin.
 fn once(before: Option<Grains>, margin: Grains) -> Option<Option<Grains>>
     ensures { result ≡ meaning.once before margin }
 {
@@ -195,7 +197,7 @@ fn once(before: Option<Grains>, margin: Grains) -> Option<Option<Grains>>
     }
 }
 
-/// The text before the first character `at`, and the text after it. `None` if the character isn't there.
+/// The text before the first character `at`, and the text after that character. `None` if the text lacks the character.
 fn cut_at(text: &str, at: char) -> Option<(&str, &str)>
     requires { at < 128 }
     ensures { option_map (λ x. (x.0.now, x.1.now)) result ≡ meaning.cut_at at text.now }

@@ -1,8 +1,9 @@
-//! Why a command line is refused.
+//! The reasons for which command lines are refused.
 use clap::Error as WordsError;
 use std::alloc::AllocError;
 
-/// A command whose first argument names cells: those of a grid, those of a column with a cell for notes beside each, or the sheets of a poster.
+/// A command whose first argument names cells. The argument of `notes` names the cells of pages, each of which has a cell for notes beside it. The
+/// argument of `poster` names sheets.
 #[derive(Clone, Copy, Debug, PartialEq, Eq)]
 pub enum CellCommand {
     NUp,
@@ -19,7 +20,7 @@ pub enum OptionId {
     Sheet,
     Border,
     Turn,
-    /// The first argument of such a command.
+    /// The first argument of this command.
     Count(CellCommand),
     /// `--skip` for a sheet with this number of cells.
     Skip(u64),
@@ -75,7 +76,7 @@ impl OptionId {
     }
 }
 
-/// An option that asks for another kind of output in place of the sheets.
+/// An option that asks for a specification, list or drawing in place of the sheets.
 #[derive(Clone, Copy, Debug, PartialEq, Eq)]
 pub enum ProductOption {
     PrintSpec,
@@ -83,22 +84,22 @@ pub enum ProductOption {
     Preview,
 }
 
-/// Why a command line is refused.
+/// The reason why a command line is refused.
 #[derive(Debug, Drop)]
 pub enum RequestFault {
-    /// The command doesn't take the command line, or the command line calls for help or for the version. The error is clap's.
+    /// clap refuses the command line, or the command line asks for help or for the version. The error is clap's.
     Words(WordsError),
     /// A word of the command line isn't UTF-8.
     NoText,
-    /// The command line lacks a subcommand or one of the subcommand's arguments, although clap accepts it.
+    /// Clap accepts the command line, but it lacks a subcommand or one of the subcommand's arguments.
     Lacking,
     /// The argument or option doesn't take this text as its value.
     BadValue(OptionId, String),
     /// Both `--odd` and `--even` are given.
     OddAndEven,
-    /// Two options are given that each ask for another kind of output in place of the sheets.
+    /// Two options are given, and each asks for a specification, list or drawing in place of the sheets.
     TwoProducts(ProductOption, ProductOption),
-    /// There was no memory for the request.
+    /// Memory for the request is refused.
     NoMemory,
 }
 

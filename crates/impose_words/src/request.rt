@@ -44,12 +44,12 @@ pub enum Layout {
     },
     /// Eight pages on one side of a sheet, to be folded thrice and cut once.
     Zine,
-    /// Each page unchanged, on a sheet of the page's own paper.
+    /// Each page alone on a sheet of the page's own paper.
     Selection,
     /// All pages in order, placed by a page specification of pstops.
     Spec(String),
-    /// A row of pages, placed by a page specification. The row is first put into signatures if `signing` names them. The page numbers in the
-    /// specification are places of the row.
+    /// A row of pages, placed by a page specification that applies to the row as to a document. If `signing` names signatures, the row is first put
+    /// in their order.
     SpecRow {
         specs: String,
         signing: Option<Signing>,
@@ -57,7 +57,7 @@ pub enum Layout {
 }
 
 impl Layout {
-    /// Whether the layout can have margins and the other settings of `Spacing`.
+    /// Whether the layout takes margins or other settings of `Spacing`.
     pub fn keeps_room(&self) -> bool
         ensures { result ≡ keeps_room self.now }
     {
@@ -69,7 +69,7 @@ impl Layout {
         }
     }
 
-    /// Whether numbers can be drawn on the pages of this layout.
+    /// Whether page numbers can be drawn on the sheets of this layout.
     pub fn has_numbers(&self) -> bool
         ensures { result ≡ has_numbers self.now }
     {
@@ -81,7 +81,8 @@ impl Layout {
         }
     }
 
-    /// Whether the layout itself lays rows of pages on sheets, without a specification. Only such sheets can be listed and drawn.
+    /// Whether the layout lays a row of pages on sheets. Every layout but `Spec` does; `Spec` places the pages of the document. Only the sheets of a
+    /// row can be listed and drawn.
     pub fn lays_rows(&self) -> bool
         ensures { result ≡ lays_rows self.now }
     {
@@ -97,8 +98,8 @@ impl Layout {
 pub struct Spacing {
     /// The margins along the edges of sheets, the gaps between cells, and the trim of pages.
     pub free: Free,
-    /// The margin along the edge at which leaves are bound. In a booklet this edge is the fold; on other sheets it is the left edge of fronts and the
-    /// right edge of backs.
+    /// The margin along the edge at which leaves are bound, if the command line names it. In a booklet this edge is the fold. On other sheets it is
+    /// the left edge of fronts and the right edge of backs.
     pub inner: Option<Grains>,
     /// The distance by which pages of a booklet's innermost leaves are moved towards the fold.
     pub creep: Grains,
@@ -106,16 +107,16 @@ pub struct Spacing {
     pub overlap: Grains,
     /// The order in which pages fill the cells. If it runs from right to left, a booklet is bound at the right.
     pub order: Order,
-    /// The scale of the pages; without it they are as large as possible.
+    /// The scale of the pages. `None` for pages that are as large as possible.
     pub scale: Option<Number>,
-    /// Whether pages of smaller papers have the scale of pages of the largest paper, so that all pages have one scale.
+    /// Whether all pages have one scale, the least of the scales that they would have otherwise.
     pub same_scale: bool,
     /// The number of cells at the beginning of the first sheet that are used already, and stay empty.
     pub skipped: u32,
 }
 
 impl Spacing {
-    /// No margins and gaps, cells filled by rows from the left, and pages as large as possible.
+    /// The spacing without margins, gaps, trim, creep and overlap. Cells are filled by rows from the left, and pages are as large as possible.
     pub fn none() -> Spacing
         ensures { result ≡ nothing_kept }
     {
@@ -133,7 +134,8 @@ impl Spacing {
         }
     }
 
-    /// The arrangement of these cells with the gaps, the order, the scale, and the margins of fronts, where an inner margin is the left one.
+    /// The arrangement of these cells on fronts, with this scale and order and these margins and gaps. An inner margin takes the place of the left
+    /// margin.
     pub fn arrangement(&self, cells: Cells) -> Arrangement
         ensures { result ≡ arrangement_in self.now cells }
     {
@@ -202,7 +204,7 @@ impl Spacing {
         }
     }
 
-    /// The form of a booklet's leaves, whose halves have these margins and gaps.
+    /// The binding of a booklet whose leaves have these margins and gaps. With `long_edge`, backs are turned for printers that flip on the long edge.
     pub fn binding(&self, long_edge: bool) -> Binding
         ensures { result ≡ binding_in self.now long_edge }
     {
@@ -227,7 +229,7 @@ fn at_fold(inner: Option<Grains>, free: Free) -> Free
     }
 }
 
-/// The gap plus a margin on both sides of it. If one of the two lengths is out of range, the result is -1 grain, which is out of range too.
+/// The gap plus the margin `inner` on each side of it. If the gap or the margin is out of range, the result is -1 grain, which is also out of range.
 fn fold_gap(gap: Grains, inner: Grains) -> Grains
     ensures { result ≡ gap_at_fold gap inner }
 {
@@ -238,7 +240,7 @@ fn fold_gap(gap: Grains, inner: Grains) -> Grains
     }
 }
 
-/// This gap, or the least length in place of 0.
+/// This gap, or one grain if the gap is 0.
 fn some_gap(gap: Grains) -> Grains
     ensures { result ≡ some_gap_of gap }
 {
@@ -251,11 +253,11 @@ fn some_gap(gap: Grains) -> Grains
 /// The pages to impose, and their order.
 #[derive(Drop)]
 pub struct PageChoice {
-    /// The page ranges as they are written. `None` for all pages.
+    /// The page ranges, as the command line gives them. `None` for all pages.
     pub ranges: Option<String>,
-    /// Which of these pages are taken by their places: all, the first, third and so on, or the second, fourth and so on.
+    /// The part of these pages that is imposed: all of them, every second one from the first on (odd), or every second one from the second on (even).
     pub part: Part,
-    /// Whether the order is reversed.
+    /// Whether the order of these pages is reversed.
     pub backwards: bool,
 }
 
@@ -271,14 +273,14 @@ impl PageChoice {
         }
     }
 
-    /// Whether the choice is all pages in the document's order, without page ranges.
+    /// Whether the choice has no page ranges, and takes all pages in the document's order.
     pub fn is_whole(&self) -> bool
         ensures { result ≡ is_all_pages self.now }
     {
         self.ranges.is_none() && self.part == Part::All && !self.backwards
     }
 
-    /// The same choice, as the type that the crate `rows` takes.
+    /// This choice in the type of the crate `rows`.
     pub fn as_choice(&self) -> Choice<'_>
         ensures { choice_of result ≡ choice_in self.now }
     {
@@ -321,7 +323,7 @@ pub struct ImposeRequest {
     pub spacing: Spacing,
     /// The pages to impose, and their order. `Layout::Spec` takes all pages.
     pub choice: PageChoice,
-    /// Whether the last page is at the back of the booklet: the blanks that fill up its last signature come before that page.
+    /// Whether a booklet's last page is kept at the back, after the blanks that fill up the last signature.
     pub last_at_back: bool,
     /// The turn of each page before it is placed.
     pub turn: Turn,
@@ -350,7 +352,8 @@ pub struct ImposeRequest {
 }
 
 impl ImposeRequest {
-    /// Whether the left and right margins are exchanged on every second sheet, because it is the back of a leaf.
+    /// Whether the left and right margins are exchanged on every second sheet, which is the back of a leaf. This is so for `nup` with an inner
+    /// margin.
     pub fn swaps_margins(&self) -> bool
         ensures { result ≡ swaps_margins self.now.layout self.now.spacing }
     {

@@ -50,14 +50,14 @@ pub(crate) const MARGIN: Argument = Argument::Valued(
     "Leave margins along the edges of a sheet: 5mm, SIDES,ENDS, TOP,RIGHT,BOTTOM,LEFT or left=2cm",
 );
 
-/// Margins of sheets that are folded, which are alike along opposite edges.
+/// The option `--margin` for folded sheets, whose margins are equal on opposite edges.
 pub(crate) const OPPOSITE_MARGIN: Argument = Argument::Valued(
     "margin",
     "LENGTHS",
     "Leave margins along the edges of a sheet: 5mm or SIDES,ENDS",
 );
 
-/// Margins of posters, which are alike along all edges.
+/// The option `--margin` for posters, whose margins are equal on all edges.
 pub(crate) const EQUAL_MARGIN: Argument = Argument::Valued(
     "margin",
     "LENGTH",

@@ -6,8 +6,8 @@ use crate::request::{ImposeRequest, Layout};
 use lengths::Paper;
 
 impl ImposeRequest {
-    /// The paper of the sheets for pages of `page_paper`: the paper that the command line names, or else that of the pages. A booklet takes the paper
-    /// of the pages upright.
+    /// The paper of the sheets for pages of `page_paper`. It is the paper that the command line names for sheets, if it names one. Otherwise it is
+    /// `page_paper`, held upright for a booklet.
     pub fn sheet_paper_for(&self, page_paper: &Paper) -> Paper
         ensures { result ≡ meaning.sheet_paper_for self.now.layout self.now.sheet_paper page_paper.now }
     {
@@ -27,7 +27,7 @@ fn paper_for_pages(layout: &Layout, page_paper: &Paper) -> Paper
     }
 }
 
-/// A paper held upright, so that it isn't wider than it is high.
+/// This paper, turned if it is wider than it is high.
 fn held_upright(paper: &Paper) -> Paper
     ensures { result ≡ meaning.held_upright paper.now }
 {

@@ -5,7 +5,7 @@ ghost use Rattle.impose_words.specs.Signatures.{of_sides as signing_of_sides, si
 
 use rows::Signing;
 
-/// The signatures that this word names: `auto`, or the number of sides of each, which is a multiple of four from 4 to 1,000,000. `None` for another
+/// The signatures that this word names: `auto`, or the number of sides of each signature, a multiple of four from 4 to 1,000,000. `None` for another
 /// word.
 pub fn signing_named(text: &str) -> Option<Signing>
     ensures { result ≡ signing_by text.now }
@@ -33,7 +33,7 @@ fn of_sides(sides: Option<u32>) -> Option<Signing>
     }
 }
 
-/// The whole number that a text of digits gives. `None` for a text with a sign, and for a number above 2^32 - 1.
+/// The whole number that a text of digits gives. `None` for any other text, such as one with a sign, and for a number above 2^32 - 1.
 pub fn whole_number(text: &str) -> Option<u32>
     ensures { result ≡ whole_number text.now }
 {
@@ -44,7 +44,7 @@ pub fn whole_number(text: &str) -> Option<u32>
     }
 }
 
-/// The whole number that a text of digits gives, with or without a plus sign before them.
+/// The whole number that a text of digits gives. A plus sign may come before the digits. `None` for any other text, and for a number above 2^32 - 1.
 fn parsed(text: &str) -> Option<u32>
     ensures { result ≡ u32_of text.now }
 {

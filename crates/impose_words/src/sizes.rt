@@ -13,7 +13,8 @@ pub fn size_named(text: &str) -> Option<Paper>
     read_paper(text.as_bytes()).ok()
 }
 
-/// The number that the whole text gives, if it is at most 99,999.999999999. Decimals after the ninth have no effect.
+/// The number that the whole text gives. `None` if the text isn't a number, or if the number is above 99,999.999999999. Decimals after the ninth have
+/// no effect.
 pub fn parse_number(text: &str) -> Option<Number>
     ensures { result ≡ meaning.number_alone text.now }
 {
@@ -33,7 +34,8 @@ pub fn lacks_unit(text: &str, is_listed: bool) -> bool
     }
 }
 
-/// The length that the text names. In a list, each length needs a unit; alone, 0 needs none.
+/// The length that the text names. Each length in a list needs a unit; a length alone needs one unless it is 0. `None` if the text isn't a length, or
+/// lacks a unit that it needs.
 pub(crate) fn length_in(text: &str, is_listed: bool) -> Option<Grains>
     ensures { result ≡ meaning.length_in is_listed text.now }
 {
@@ -44,14 +46,15 @@ pub(crate) fn length_in(text: &str, is_listed: bool) -> Option<Grains>
     }
 }
 
-/// The length that the text names: a number with its unit, or 0.
+/// The length that the text names: a number with its unit, or 0. `None` for another text.
 pub fn length_with_unit(text: &str) -> Option<Grains>
     ensures { result ≡ meaning.length_with_unit text.now }
 {
     length_in(text, false)
 }
 
-/// The width of a border that the text names. `Some(None)`, no border, if the width is 0. `None` if the text isn't the width of a border.
+/// The width of a border that the text names. `Some(None)` if the width is 0, which means no border. `None` if the text isn't a length, lacks a unit
+/// that it needs, or names a negative length.
 pub fn border_with_unit(text: &str) -> Option<Option<Grains>>
     ensures { result ≡ meaning.border_with_unit text.now }
 {

@@ -1,5 +1,5 @@
-//! The `pstops` program: reads a PostScript document and writes its imposed sheets. The command line may name the input file and the output file; a
-//! file that it doesn't name is standard input or standard output.
+//! The `pstops` program: reads a PostScript document and writes its imposed sheets. The command line may name the input file and the output file.
+//! Without these names, the program reads standard input and writes standard output.
 #![tactic(auto)]
 
 use pstops_cli::{CommandFault, Fault, fault_line, pstops};

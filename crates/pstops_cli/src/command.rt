@@ -20,11 +20,11 @@ use std::alloc::{AllocError, Global};
 /// A request, made from a command line.
 #[derive(Debug, Drop)]
 pub struct Request {
-    /// The page specification, as it was written.
+    /// The page specification, as the command line gives it.
     pub spec: String,
-    /// The name of the input file; None for standard input.
+    /// The name of the input file. `None` for standard input.
     pub infile: Option<String>,
-    /// The name of the output file; None for standard output.
+    /// The name of the output file. `None` for standard output.
     pub outfile: Option<String>,
     /// The paper, the border, the signatures and the numbers of threads.
     pub options: Options,
@@ -32,10 +32,11 @@ pub struct Request {
     pub quiet: bool,
 }
 
-/// Why a command line is refused.
+/// The reason why a command line is refused.
 #[derive(Clone, Copy, Debug, PartialEq, Eq)]
 pub enum CommandFault {
-    /// The words don't form a command line: one is missing or unknown, or an option with a whole number has another value.
+    /// The words don't form a command line: for example, the specification is missing, an option is unknown, or the value of `-s`, `-j` or `-k` isn't
+    /// a whole number in its range.
     BadWords,
     /// There is no paper with the given name.
     UnknownPaper,
@@ -57,14 +58,15 @@ impl From<AllocError> for CommandFault {
 /// [INFILE [OUTFILE]]`. `-s` is the option of psbook(1), `-j` and `-k` are this program's own, and the others are options of pstops(1).
 ///
 /// `-q` leaves out the report line. SPECS is a page specification; it isn't checked here. `-s` puts pages into signatures of this number of sides, a
-/// whole number from 4 to 1,000,000; only a run checks that it is a multiple of four. `-p` names the paper, which is a4 by default; `-w` replaces its
-/// width, and `-h` its height. `-d` sets the width of a border round each page; 0 is no border. A length is a number followed by `pt`, `cm`, `mm` or
-/// `in`, or by nothing for points. `-j` and `-k` set the numbers of threads that prepare pages and that impose sheets: whole numbers from 1 to 16,
-/// and 2 by default.
+/// whole number from 4 to 1,000,000. Only a run checks that the number is a multiple of four. `-p` names the paper, which is a4 by default. `-w`
+/// replaces the width of that paper, and `-h` its height. `-d` sets the width of a border round each page; 0 is no border. A length is a number
+/// followed by `pt`, `cm`, `mm` or `in`, or by nothing for points. `-j` and `-k` set the numbers of threads that prepare pages and that impose
+/// sheets: whole numbers from 1 to 16, and 2 by default.
 ///
-/// If the words don't form such a command line, or a value of `-s`, `-j` or `-k` isn't in its range, the error is `BadWords`. Otherwise an unknown
-/// paper is reported first, as `UnknownPaper`. Then `BadLength` reports the first wrong value of `-w`, `-h` and `-d`, in this order and not in that
-/// of the words. Values of `-w` and `-h` must be above 0, and a value of `-d` must not be below 0.
+/// The error is `BadWords` if the words don't form such a command line, or if a value of `-s`, `-j` or `-k` isn't in its range. Otherwise an unknown
+/// paper is reported first, as `UnknownPaper`. Then `BadLength` reports the first wrong value: that of `-w`, else that of `-h`, else that of `-d`,
+/// wherever these options are on the command line. Values of `-w` and `-h` must be above 0, and that of `-d` must not be below 0. Refused memory is
+/// `NoMemory`.
 #[tactic(auto, using(crate::proofs::SimpleCommand::pstops_is_simple))]
 pub fn read_command(alloc: Global, words: &[String]) -> Result<Request, CommandFault>
     ensures taken { IfOk result (λ _. TakesWords (map string_bytes words.now)) }
@@ -78,7 +80,7 @@ pub fn read_command(alloc: Global, words: &[String]) -> Result<Request, CommandF
     request_of(alloc, &matches)
 }
 
-/// The values that clap finds among the words.
+/// The values that clap finds among the words. The error is `NoMemory` if memory is refused, otherwise `BadWords`.
 fn parse<'a>(alloc: Global, words: &'a [String]) -> Result<ArgMatches<'a>, CommandFault>
     ensures taken { IfOk result (λ _. TakesWords (map string_bytes words.entry.now)) }
     ensures found { IfOk result (Finds (map string_bytes words.entry.now)) }
@@ -97,7 +99,7 @@ fn parse<'a>(alloc: Global, words: &'a [String]) -> Result<ArgMatches<'a>, Comma
     }
 }
 
-/// The request with these values.
+/// The request that these values give.
 fn request_of(alloc: Global, matches: &ArgMatches<'_>) -> Result<Request, CommandFault>
     requires { is_some (first_value (found_of matches.now) (codes "specs")) ≡ true }
     ensures read { IfOk result (Reads (rows_of (found_of matches.now))) }
@@ -117,7 +119,7 @@ fn request_of(alloc: Global, matches: &ArgMatches<'_>) -> Result<Request, Comman
     })
 }
 
-/// The options of a run with these values.
+/// The options of a run that these values give.
 fn options_of(matches: &ArgMatches<'_>) -> Result<Options, CommandFault>
     ensures { result ≡ options_found (rows_of (found_of matches.now)) }
 {
@@ -131,7 +133,7 @@ fn options_of(matches: &ArgMatches<'_>) -> Result<Options, CommandFault>
     )
 }
 
-/// The numbers of threads with these values.
+/// The numbers of threads that the values of `-j` and `-k` give.
 fn workers_of(matches: &ArgMatches<'_>) -> Workers
     ensures { result ≡ workers_found (rows_of (found_of matches.now)) }
 {
@@ -141,14 +143,14 @@ fn workers_of(matches: &ArgMatches<'_>) -> Workers
     }
 }
 
-/// The number of sides in the value of `-s`; None if the option isn't given.
+/// The number of sides that `-s` gives. `None` without the option.
 fn sides_option(matches: &ArgMatches<'_>) -> Option<u32>
     ensures { result ≡ sides_found (rows_of (found_of matches.now)) }
 {
     number_of(matches, "sides")
 }
 
-/// The number of threads in the value of an option; 2 if the option isn't given.
+/// The number of threads that the option `id` gives, or 2 without the option.
 fn worker_count(matches: &ArgMatches<'_>, id: &str) -> u32
     ensures { result ≡ meaning.count_named (one_of id.now (rows_of (found_of matches.now))) }
 {

@@ -3,7 +3,7 @@ ghost use Rattle.std.specs.Prelude.{◌≡◌, true};
 ghost use Rattle.clap.specs.Words.{is_simple};
 ghost use Rattle.pstops_cli.specs.Command.{pstops};
 
-/// Whether the command takes words, and which values it finds among them, depends on nothing but the words.
+/// The command is simple: whether it takes words, and which values it finds among them, depends only on the words.
 #[tactic(auto, using(crate::proofs::SimpleCommand::pstops_is_simple))]
 pub fn the_command_is_simple()
     ensures { is_simple pstops ≡ true }

@@ -22,20 +22,21 @@ use std::sync::Wait;
 use std::thread::Threads;
 use world::{ReadFault, ReadSource, Rest, World, created, read_input};
 
-/// How the program ended.
+/// The end of the program, as its caller sees it.
 #[derive(Drop)]
 pub struct ExitReport<W: World> {
     /// The exit status.
     pub status: u8,
     /// The line for standard error; empty if there is none.
     pub line: Vec<u8>,
-    /// The output if one was created, or else the world.
+    /// The output if one was created, otherwise the world.
     pub rest: Rest<W, W::Output>,
 }
 
-/// Runs the program: reads the words after its name, reads the whole input, creates the output, writes the imposed sheets to it, and flushes it.
+/// Runs the program: reads the request from the words after the program's name, reads the input, creates the output, writes the imposed sheets to it,
+/// and flushes it.
 ///
-/// The input is closed before the output is created. So both may be the same file.
+/// The input is closed before the output is created, so both may be the same file.
 pub fn pstops<R: Threads + Wait + Sync, W: World>(
     rt: &R,
     alloc: Global,
@@ -56,7 +57,7 @@ pub fn pstops<R: Threads + Wait + Sync, W: World>(
     }
 }
 
-/// Reads the request from the words, and then its whole input.
+/// Reads the request from the words, and then the input of the request.
 fn read<W: World>(
     alloc: Global,
     words: &[String],
@@ -78,7 +79,7 @@ fn read<W: World>(
     }
 }
 
-/// Reads all bytes of the file of this name, or of standard input.
+/// Reads the file with this name, or standard input without a name. Reading stops after `world::MOST_BYTES` bytes.
 fn input_of<W: World>(
     alloc: Global,
     name: Option<&str>,
@@ -104,7 +105,8 @@ fn input_of<W: World>(
     }
 }
 
-/// Ends the program with the status and the line for this fault.
+/// The end of the program with this fault, and with the fault's status and line. If memory for the line is refused, the line is empty and the status
+/// is 3.
 fn ended_with<W: World>(alloc: Global, fault: &Fault, rest: Rest<W, W::Output>) -> ExitReport<W>
     ensures said { IsSaid fault.now result.status result.line.items }
     ensures rest { result.rest ≡ rest }
@@ -117,7 +119,7 @@ fn ended_with<W: World>(alloc: Global, fault: &Fault, rest: Rest<W, W::Output>) 
     ExitReport { status, line, rest }
 }
 
-/// The size of the output's buffer, in bytes. Sheets that are smaller are written together.
+/// The size of the output's buffer, in bytes. Smaller sheets are gathered there and written together.
 const WRITTEN_AT_ONCE: usize = 16_384;
 
 /// Creates the output, runs the request, writes the sheets to the output, and flushes it.
@@ -151,7 +153,7 @@ fn run_in<R: Threads + Wait + Sync, W: World>(
     ExitReport { status, line, rest }
 }
 
-/// The fault to report if an output couldn't be created: refused memory, or a refusal of the world.
+/// The fault to report if an output couldn't be created: `NoMemory` if memory was refused, otherwise `Create`.
 fn fault_of_creating(cause: &io::Error) -> Fault
     ensures { ((error_kind cause.now ≡ OutOfMemory) × (result ≡ faults.Run (runs.NoMemory 0)))
         ⊎ (¬ (error_kind cause.now ≡ OutOfMemory) × (result ≡ faults.Create)) }

@@ -1,4 +1,4 @@
-//! Runs a request, and makes the exit status and the line that tell how the run ended.
+//! Runs a request. Makes the exit status and the line that report how the run ended.
 ghost use Rattle.std.specs.Prelude.{◌≡◌, ◌<◌, ◌^◌, [], false, Option, Result, IfOk, OnErr, string_bytes};
 ghost use Rattle.std.specs.Io.KnownBytes.{Appends};
 ghost use Rattle.rules.specs.Output.{output};
@@ -15,10 +15,10 @@ use std::alloc::{AllocError, Global};
 use std::sync::Wait;
 use std::thread::Threads;
 
-/// Runs a request on the bytes of its input, and returns the exit status and the line for standard error, which may be empty.
+/// Runs a request on the bytes of its input. Returns the exit status and the line for standard error, which may be empty.
 ///
-/// If the run finished, the status is 0, and the line is the report, or empty if the request is quiet. If memory for the line is refused, the line is
-/// empty and the status is 3.
+/// If the run finished, the status is 0. The line is then the report, or empty if the request is quiet. Otherwise the status and the line are those
+/// of the run's error. If memory for the line is refused, the line is empty and the status is 3.
 pub fn run_request<R: Threads + Wait + Sync, S: Sink>(
     rt: &R,
     alloc: Global,
@@ -51,7 +51,7 @@ pub fn run_request<R: Threads + Wait + Sync, S: Sink>(
     }
 }
 
-/// The exit status and the line for a run that ended like this.
+/// The exit status and the line for this end of a run. The only error is refused memory for the line.
 fn ending_of(
     alloc: Global,
     quiet: bool,

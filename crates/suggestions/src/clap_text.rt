@@ -19,7 +19,7 @@ pub(crate) struct Quoted<'t> {
     pub(crate) meant: Option<&'t str>,
 }
 
-/// The words that the text about a mistake of this kind has in quotes.
+/// The words that clap's text about a mistake of this kind has in quotes.
 pub(crate) fn quoted_words(kind: ErrorKind, text: &str) -> Quoted<'_> {
     match kind {
         ErrorKind::UnknownArgument => Quoted {
@@ -42,7 +42,7 @@ pub(crate) fn quoted_words(kind: ErrorKind, text: &str) -> Quoted<'_> {
 
 const SIMILAR_OPTION: &str = "  tip: a similar argument exists: ";
 
-/// Whether a line is one of clap's tips that the message leaves out. Such a tip names a similar word, or advises to put an option after `--`, where
+/// Whether a line is one of clap's tips that the message leaves out. Such a tip names a similar word, or advises putting an option after `--`, where
 /// it would be taken for a file.
 pub(crate) fn is_tip_left_out(line: &str) -> bool {
     line.starts_with("  tip: to pass ")

@@ -1,4 +1,4 @@
-//! What to type in place of words and values that the command doesn't take.
+//! Says what to type in place of words and values that the command doesn't take.
 #![tactic(auto)]
 
 mod clap_text;

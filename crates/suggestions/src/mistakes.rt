@@ -123,8 +123,8 @@ fn nearest_command(alloc: Global, word: &str) -> Result<Option<&'static str>, Al
     Ok(nearest)
 }
 
-/// The number of letters that are missing, added, replaced or exchanged between a word and a name, without `--` before either. It is 0 if they differ
-/// only in case. `None` if it is more than a third of the word's letters, so that the two aren't similar.
+/// The number of letters that are missing, added, replaced or exchanged in a word, compared with a name. A `--` before either isn't compared. The
+/// number is 0 if only the case differs. `None` if the number is more than a third of the word's bytes, or if the word is too long to be compared.
 fn distance(alloc: Global, word: &str, name: &str) -> Result<Option<usize>, AllocError> {
     let word = word.strip_prefix("--").unwrap_or(word);
     let name = name.strip_prefix("--").unwrap_or(name);
@@ -142,7 +142,8 @@ fn distance(alloc: Global, word: &str, name: &str) -> Result<Option<usize>, Allo
     }
 }
 
-/// The largest number of letters with which a word can be similar to a name. Longer words aren't compared.
+/// The largest number of bytes of a word that is compared letter by letter with names. A longer word resembles a name only if nothing but the case
+/// differs.
 const MOST_COMPARED: usize = 30;
 
 /// The tip on a mistake of this kind in the command line, if one is known that is better than clap's.
@@ -167,7 +168,7 @@ fn is_command(word: &str) -> bool {
     COMMANDS.iter().any(|name| *name == word)
 }
 
-/// The tip on a word that stands in place of the command, if one is known.
+/// The tip on a word in the place of the command, if one is known.
 fn tip_on_command(word: &str) -> Option<&'static str> {
     if begins_with_digit(word.strip_prefix("-").unwrap_or(word)) {
         Some("a command comes before its number, as in: impose nup 2 in.ps out.ps")
@@ -233,8 +234,8 @@ fn tip_on_option(command: &str, behind: &[String], word: &str) -> Option<&'stati
     others.or(tip_on_other(word))
 }
 
-/// Whether a word is the name of an option after a single minus sign, and clap refuses this letter of it, such as `-u` of `-quiet`. A word such as
-/// `-pa4` is excluded, because a paper follows `-p`.
+/// Whether a word looks like an option's long name after a single minus sign, such as `-quiet`, in which clap refuses this letter, such as `-u`. A
+/// word such as `-pa4` is excluded, because a paper follows `-p`.
 fn is_long_name(word: &str, letter: &str) -> bool {
     let (Some(name), Some(letter)) = (word.strip_prefix("-"), letter.strip_prefix("-")) else {
         return false;
@@ -263,7 +264,7 @@ fn in_place<'w>(behind: &'w [String], option: &str) -> (&'w str, &'w str) {
     ("", "")
 }
 
-/// The tip on a word that comes after the names of both files.
+/// The tip on a word that follows the two words that clap takes for the names of files.
 fn tip_on_file(command: &str, behind: &[String]) -> &'static str {
     let first = behind.first().map_or("", |word| word.as_str());
     let second = behind.get(1).map_or("", |word| word.as_str());

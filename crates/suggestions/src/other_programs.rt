@@ -1,7 +1,7 @@
 //! Tips on commands and options of other programs.
 use crate::tips::{Tip, tip_in};
 
-/// Tips on words that stand in place of a command. Other programs have a command of this name, or people expect it.
+/// Tips on words in the place of a command. Other programs have commands of these names, or people expect such commands.
 pub(crate) const FOR_COMMANDS: [Tip; 20] = [
     (&["version"], "the version is printed by: impose --version"),
     (

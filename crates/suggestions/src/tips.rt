@@ -1,6 +1,6 @@
 //! Tips on words that the command doesn't take.
 
-/// A list of words, and the tip that is printed if one of them is refused. Options are written as clap names them, such as `-d` for `-d1`.
+/// A list of words, and the tip that is printed about any of them. Options are written as clap names them, such as `-d` for `-d1`.
 pub(crate) type Tip = (&'static [&'static str], &'static str);
 
 /// The tip on a word, if the list has one.
@@ -107,7 +107,7 @@ pub(crate) const SIGNS: [Tip; 14] = [
     ),
 ];
 
-/// Tips on options that `booklet` doesn't have, or that other programs call by another name.
+/// Tips on options that `booklet` doesn't have, or has under another name than other programs.
 pub(crate) const FOR_BOOKLETS: [Tip; 5] = [
     (
         &["--nup", "-N", "--up"],
@@ -131,7 +131,7 @@ pub(crate) const FOR_BOOKLETS: [Tip; 5] = [
     ),
 ];
 
-/// Tips on options that `poster` doesn't have, or that other programs call by another name.
+/// Tips on options that `poster` doesn't have, or has under another name than other programs.
 pub(crate) const FOR_POSTERS: [Tip; 2] = [
     (
         &["--scale", "--size", "--poster-size"],
@@ -143,7 +143,7 @@ pub(crate) const FOR_POSTERS: [Tip; 2] = [
     ),
 ];
 
-/// Tips on options that `select` doesn't have, or that other programs call by another name.
+/// Tips on options that `select` doesn't have, or has under another name than other programs.
 pub(crate) const FOR_SELECTIONS: [Tip; 4] = [
     (
         &["--pages"],
@@ -163,7 +163,7 @@ pub(crate) const FOR_SELECTIONS: [Tip; 4] = [
     ),
 ];
 
-/// Tips on options that `spec` doesn't have, or that other programs call by another name.
+/// Tips on options that `spec` doesn't have, or has under another name than other programs.
 pub(crate) const FOR_SPECIFICATIONS: [Tip; 3] = [
     (
         &["--turn"],

@@ -135,8 +135,8 @@ fn length_text(alloc: Global, option: OptionId, text: &str) -> Result<String, Al
     }
 }
 
-/// The part of the text that only lacks its unit, if there is one: the whole text, or else the first such length in a list. In a list, a length may
-/// stand alone or after the name of an edge.
+/// The part of the text that only lacks its unit, if there is one: the whole text or, in a list, the first such length. In a list, a length may stand
+/// alone or after the name of an edge. A length with a minus sign isn't such a part.
 fn part_without_unit(text: &str, may_be_list: bool) -> Option<&str> {
     if lacks_unit(text, false) && !text.starts_with("-") {
         return Some(text);
@@ -250,7 +250,7 @@ fn refused_text(alloc: Global, option: OptionId, text: &str) -> Result<String, A
     )
 }
 
-/// What the message calls a refused value of this option, and its advice on what to give.
+/// The words by which the message calls a refused value of this option, and the message's advice on what to give.
 fn value_refusal(option: OptionId) -> (&'static str, &'static str) {
     match option {
         OptionId::Paper | OptionId::Sheet => ("size", "a side is zero, negative or too long"),
@@ -455,7 +455,7 @@ fn cells_text(alloc: Global, command: CellCommand, text: &str) -> Result<String,
     )
 }
 
-/// For the message about a missing argument: the name of a command, the command with an example of its argument, a phrase for the argument, and the
+/// Parts of the message about a missing argument: the command's name, the command with an example of the argument, a phrase for the argument, and the
 /// phrase that says that the argument comes after the command.
 fn command_named(command: CellCommand) -> (&'static str, &'static str, &'static str, &'static str) {
     let (name, example) = match command {
@@ -476,7 +476,7 @@ fn command_named(command: CellCommand) -> (&'static str, &'static str, &'static 
     )
 }
 
-/// What the message calls a refused argument of this command, and its advice on what to give.
+/// The words by which the message calls a refused argument of this command, and the message's advice on what to give.
 fn bad_cells(command: CellCommand, is_grid: bool) -> (&'static str, &'static str) {
     match command {
         CellCommand::Notes => ("bad number of pages", "one from 1 to 512, as 3"),

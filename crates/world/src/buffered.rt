@@ -1,4 +1,4 @@
-//! An output with a buffer in front of it.
+//! Outputs with buffers in front of them.
 ghost use Rattle.std.specs.Prelude.{◌≡◌, ◌+◌, ◌-◌, ◌<◌, ◌≤◌, [], ◌++◌, IfErr, IfOk, OnErr, OnOk, drop, false, length, take, true, vec_capacity, vec_len};
 ghost use Rattle.std.specs.Io.KnownBytes.{Appends, Keeps, append_known};
 ghost use Rattle.world.specs.Outputs.{IsFrontOf, IsSteady};
@@ -6,7 +6,7 @@ ghost use Rattle.world.specs.Outputs.{IsFrontOf, IsSteady};
 use crate::output::Output;
 use sheet_writer::{Sink, SinkFault};
 
-/// A write failed after the first `written` bytes of a text had been written.
+/// The error of a write that failed after the first `written` bytes of a text had been written.
 #[derive(Clone, Copy, Debug, PartialEq, Eq)]
 pub struct Broken {
     pub written: usize,
@@ -31,7 +31,7 @@ pub fn write_all<T: Output>(output: &mut T, bytes: &[u8]) -> Result<(), Broken>
     Ok(())
 }
 
-/// An output with a buffer in front of it, used as a sink. Bytes that fit into the buffer wait there until it is full.
+/// An output with a buffer in front of it, used as a sink. Bytes wait in the buffer until further bytes no longer fit.
 #[derive(Drop)]
 pub struct Buffered<T> {
     output: T,
@@ -39,7 +39,7 @@ pub struct Buffered<T> {
 }
 
 impl<T: Output> Buffered<T> {
-    /// Puts this buffer in front of an output. The buffer is emptied first; its capacity is the number of bytes that can wait in it.
+    /// Puts this buffer in front of an output. The content of the buffer is dropped, and its capacity is the number of bytes that can wait in it.
     pub fn new(buffer: Vec<u8>, output: T) -> Buffered<T>
         ensures told { (⟦<Buffered<T> as Sink>⟧.seen result).bytes ≡ (T.seen output).bytes }
         ensures failures { (⟦<Buffered<T> as Sink>⟧.seen result).failures ≡ (T.seen output).failures }
@@ -65,7 +65,7 @@ impl<T: Output> Buffered<T> {
         }
     }
 
-    /// Writes the bytes in the buffer to the output, and flushes the output. Returns whether both succeeded, and the output.
+    /// Writes the bytes in the buffer to the output, and flushes the output. Returns whether both actions succeeded, and the output.
     pub fn finish(self) -> (bool, T)
         requires countable { (⟦<Buffered<T> as Sink>⟧.seen self).failures < u64.MAX }
         ensures whole { result.0 ≡ true → Keeps (⟦<Buffered<T> as Sink>⟧.seen self).bytes (T.seen result.1).bytes }
@@ -118,8 +118,9 @@ impl<T: Output> Buffered<T> {
         }
     }
 
-    /// Takes bytes for which the buffer has too little room. The buffer is written to the output first. If the bytes are fewer than its capacity, all
-    /// of them are then put into the buffer. Otherwise they are offered to the output directly, which may take only the first of them.
+    /// Takes bytes for which the buffer has too little room. The content of the buffer is written to the output first. If the bytes are fewer than
+    /// the capacity of the buffer, all of them are then put into the buffer. Otherwise they are passed directly to the output, which may take only
+    /// the first of them.
     fn accept_many(&mut self, bytes: &[u8]) -> Result<usize, SinkFault>
         requires some { 0 < length bytes.now }
         requires countable { (T.seen self.old.output).failures < u64.MAX }

@@ -6,7 +6,7 @@ use crate::source::ReadSource;
 use std::io;
 use std::io::{ErrorKind, Read};
 
-/// How often a world has failed, and the kind of error of its last failure.
+/// The number of failures of a world, and the kind of error of its last failure.
 #[derive(Clone, Copy, Debug, PartialEq, Eq)]
 pub struct Failures {
     pub count: u64,
@@ -16,7 +16,7 @@ pub struct Failures {
 impl Failures {
     ghost use Rattle.world.specs.Worlds.{cause_of, failures_of};
 
-    /// No failure so far.
+    /// The count of a world that has not failed.
     pub fn none() -> Failures
         ensures { result ≡ record { count = 0; last = None } }
     {
@@ -35,7 +35,7 @@ impl Failures {
         self.last = Some(cause.kind());
     }
 
-    /// Adds the failures of an input, which is dropped and so closed. Returns the error of its last failure, or None if it hasn't failed.
+    /// Closes an input, and adds its failures. Returns the error of the input's last failure, or None if the input hasn't failed.
     pub fn close<T: Read + Drop>(&mut self, source: ReadSource<T>) -> Option<io::Error>
         requires { self.old.count + failures_of source ≤ u64.MAX }
         ensures cause { result ≡ cause_of source }

@@ -6,7 +6,7 @@ use crate::read::fill_behind;
 use crate::source::{Source, SourceFault};
 
 /// Reads the first bytes of the source into the buffer, until the buffer is full or the source ends. Returns the number of bytes read. No memory is
-/// allocated. The only error is that of the source.
+/// allocated. The only error is a failure of the source.
 pub fn read_front<S: Source>(buffer: &mut [u8], source: &mut S) -> Result<usize, SourceFault>
     requires countable { (S.seen source.old).failures < u64.MAX }
     ensures within { IfOk result (λ count. count ≤ length buffer.new) }

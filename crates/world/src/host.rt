@@ -39,7 +39,7 @@ pub enum HostOutput<F> {
 const STANDARD_INPUT: &str = "/dev/stdin";
 
 impl<'a, R: Files> Host<'a, R> {
-    /// The world with these files and standard streams. It has not failed yet.
+    /// The world with these files and standard streams. The world has not failed yet.
     pub fn new(files: &'a R, stdin: Stdin, stdout: Stdout) -> Host<'a, R>
         ensures { (⟦<Host<'a, R> as World>⟧.seen result).failures ≡ 0 }
     {

@@ -11,8 +11,8 @@ use crate::world::{Refused, World};
 use std::io;
 use std::marker::{Brand, PhantomData};
 
-/// The state of a world before an output of this name is created, as a contract sees it. It is a ghost parameter, which has no code and is chosen in
-/// the proof of each call.
+/// The state of a world, as a contract sees it, before an output of this name is created. This is a ghost parameter that the proof of each call
+/// chooses; the trait has no code.
 pub trait Before {
     ghost seen: { WorldView };
 
@@ -25,22 +25,22 @@ impl Before for Brand {
     ghost name = { None };
 }
 
-/// The name of an output (None for standard output), and the world that is to create it.
+/// A request for an output: the name of the output (None for standard output), and the world that is to create it.
 #[derive(Drop)]
 pub struct Asked<'n, W: World> {
     pub name: Option<&'n str>,
     pub world: W,
 }
 
-/// A world that refused to create an output, and the number of writes that have failed because of this.
+/// A world that refused to create an output, and the number of writes that have failed because of the refusal.
 #[derive(Drop)]
 pub struct Denied<W> {
     pub refused: Refused<W>,
     pub times: u64,
 }
 
-/// An output that is created only when its first byte is to be written. Until then it keeps the world that is to create it. If the world refuses, all
-/// later writes fail with the same error, and the world isn't asked again.
+/// An output that is created only when its first byte is to be written. Until then it keeps the world that is to create it. If the world refuses,
+/// this write and all later writes fail with the same error, and the world isn't asked again.
 #[derive(Drop)]
 pub struct Late<'n, W: World, B: Before> {
     name: Option<&'n str>,
@@ -56,7 +56,7 @@ pub struct Late<'n, W: World, B: Before> {
     ghost begun: { ForSome output (λ o. (W.Output.seen o).failures ≡ 0 → (W.Output.seen o).has_taken ≡ true) },
 }
 
-/// The state in which an output that is created late has ended.
+/// The state in which an output that is created late ends.
 #[derive(Drop)]
 pub enum Fate<W, O> {
     /// The output wasn't created, since nothing was written. The world is returned.
@@ -71,7 +71,7 @@ impl<'n, W: World, B: Before> Late<'n, W, B> {
     ghost use Rattle.world.specs.Outputs.{fresh_output, told_if};
     ghost use Rattle.world.specs.Lates.{IsFate};
 
-    /// An output that isn't created yet.
+    /// Makes an output that isn't created yet. Its world is asked only when the first byte is to be written.
     pub fn new(asked: Asked<'n, W>) -> Late<'n, W, B>
         requires named { option_map (λ n. n.now) asked.name ≡ B.name }
         requires seen { W.seen asked.world ≡ B.seen }

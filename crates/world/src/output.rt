@@ -5,14 +5,15 @@ ghost use Rattle.std.specs.Io.KnownBytes.{Keeps, WriteAppends};
 use std::io;
 use std::io::{ErrorKind, Write};
 
-/// A destination for bytes, which counts its failures.
+/// A destination for bytes that counts its failures.
 pub trait Output {
     ghost use Rattle.world.specs.Outputs.{CountsCall, CountsWrite, OutputView};
 
     // The bytes that it has taken (if it reports them), whether it has taken any, the number of its failures, and the error of the last one.
     ghost seen: { Self → OutputView };
 
-    /// Writes one or more bytes from the front of this slice, and returns their number. After an error none were written.
+    /// Writes one or more bytes from the front of this slice, and returns their number. The slice must not be empty. A call that fails writes no
+    /// bytes.
     fn write(&mut self, bytes: &[u8]) -> io::Result<usize>
         requires some { 0 < length bytes.now }
         requires countable { (seen self.old).failures < u64.MAX }
@@ -20,7 +21,7 @@ pub trait Output {
         ensures written { WriteAppends (seen self.old).bytes (seen self.new).bytes result bytes.now }
         ensures counted { CountsWrite (seen self.old) (seen self.new) result };
 
-    /// Passes on bytes that were written and are still held back.
+    /// Passes on the bytes that were written but are still held back.
     fn flush(&mut self) -> io::Result<()>
         requires countable { (seen self.old).failures < u64.MAX }
         ensures kept { Keeps (seen self.old).bytes (seen self.new).bytes }
@@ -30,7 +31,7 @@ pub trait Output {
     fn failures(&self) -> u64
         ensures { result ≡ (seen self.now).failures };
 
-    /// The error of the last failure; None if there was no failure.
+    /// The error of the last failure. None if there was no failure.
     fn cause(&self) -> Option<io::Error>
         ensures { result ≡ (seen self.now).cause };
 }
@@ -48,7 +49,7 @@ pub struct WriteOutput<T> {
 impl<T: Write> WriteOutput<T> {
     ghost use Rattle.world.specs.Outputs.{fresh_output};
 
-    /// An output that writes to this writer. It has taken no byte and has not failed yet.
+    /// An output that writes to this writer. The output has taken no byte and has not failed yet.
     pub fn new(writer: T) -> WriteOutput<T>
         ensures { ⟦<WriteOutput<T> as Output>⟧.seen result ≡ fresh_output (T.contents writer) }
     {

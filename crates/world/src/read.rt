@@ -11,20 +11,20 @@ use std::alloc::{AllocError, Global};
 /// The greatest number of bytes that are read. It is one more than an input may have, so that an input that is too long is noticed.
 pub const MOST_BYTES: usize = 1_073_741_825;
 
-/// The room that a source is offered first, in bytes. It is small, because most documents are small and touching memory takes time.
+/// The number of bytes for which a source is offered room first. It is small, because most documents are small and touching memory takes time.
 const FIRST_PIECE: usize = 16_384;
 
-/// The least room that a source is offered later, in bytes.
+/// The least number of bytes for which a source is offered room later.
 const LEAST_ROOM: usize = 65_536;
 
-/// The number of bytes that are cleared at a time before they are read into. It is small enough for these bytes to stay in the processor's cache.
+/// The number of bytes that are cleared at a time before a source fills them. It is small enough for these bytes to stay in the processor's cache.
 const PIECE: usize = 262_144;
 
-/// The length, in bytes, from which an input counts as large. Room for the longest possible input is then reserved at once, so that no byte has to be
+/// The number of bytes from which an input counts as large. Room for the longest possible input is then reserved at once, so that no byte has to be
 /// moved later.
 const LARGE: usize = 1_048_576;
 
-/// Why an input couldn't be read.
+/// The reason why an input couldn't be read.
 #[derive(Clone, Copy, Debug, PartialEq, Eq)]
 pub enum ReadFault {
     /// The source failed.
@@ -49,10 +49,11 @@ impl From<SourceFault> for ReadFault {
     }
 }
 
-/// All bytes of the source, or the first [`MOST_BYTES`] if there are more.
+/// All bytes of the source, or the first [`MOST_BYTES`] if there are more. The error is `Device` if the source fails, and `NoMemory` if memory is
+/// refused.
 ///
 /// The bytes are read directly into the vector, which grows piece by piece. Once it has a megabyte, address space for the longest possible input is
-/// reserved until the input ends; if that is refused, the vector grows as it fills. After an error the bytes read so far are lost.
+/// reserved until the input ends. If this space is refused, the vector goes on growing piece by piece. After an error the bytes read so far are lost.
 pub fn read_input<S: Source>(alloc: Global, source: &mut S) -> Result<Vec<u8>, ReadFault>
     requires countable { (S.seen source.old).failures < u64.MAX }
     ensures within { IfOk result (λ bytes. vec_len bytes ≤ most_bytes) }
@@ -129,7 +130,8 @@ fn fill_more<S: Source>(
     Ok(fill_behind(source, bytes.as_mut_slice(), filled)?)
 }
 
-/// Makes room after the first `filled` bytes if there is too little: for one more piece, or for all bytes that may still come if these are fewer.
+/// Makes room after the first `filled` bytes if there is too little: room for one more piece, or for all bytes that may still come if these are
+/// fewer.
 fn make_room(bytes: &mut Vec<u8>, filled: usize, most: usize) -> Result<(), AllocError>
     requires filled { filled ≤ vec_len bytes.old }
     requires more { filled < most }
@@ -152,7 +154,8 @@ fn make_room(bytes: &mut Vec<u8>, filled: usize, most: usize) -> Result<(), Allo
     Ok(())
 }
 
-/// The least room to offer, in bytes, once the vector has this length. The first piece is always filled to its end.
+/// The least number of bytes for which a source is offered room when the vector has this length. The first piece is filled to its end before the
+/// vector grows.
 fn least_room(len: usize) -> usize
     ensures some { 0 < result }
     ensures few { result ≤ 65_536 }
@@ -160,7 +163,7 @@ fn least_room(len: usize) -> usize
     if len <= FIRST_PIECE { 1 } else { LEAST_ROOM }
 }
 
-/// The length to which a vector of this length grows next.
+/// The length to which a vector of the length `len` grows next. It is at most `most`.
 fn next_len(len: usize, most: usize) -> usize
     requires more { len < most }
     requires enough { MOST_BYTES ≤ most }
@@ -176,7 +179,7 @@ fn next_len(len: usize, most: usize) -> usize
 }
 
 /// Reserves address space for all bytes that may still come. The system provides memory only for bytes that are filled. If the reservation is
-/// refused, the vector grows as it fills.
+/// refused, the vector goes on growing piece by piece.
 fn reserve_all(bytes: &mut Vec<u8>, most: usize)
     requires { vec_len bytes.old ≤ most }
     ensures same { bytes.new.items ≡ bytes.old.items }
@@ -185,7 +188,7 @@ fn reserve_all(bytes: &mut Vec<u8>, most: usize)
     let _ = bytes.reserve(most - bytes.len());
 }
 
-/// Frees the memory after the bytes, if the input is large.
+/// Frees the unused memory of the vector, if the input is large.
 fn give_back_room(bytes: &mut Vec<u8>)
     ensures same { bytes.new.items ≡ bytes.old.items }
     ensures len { vec_len bytes.new ≡ vec_len bytes.old }

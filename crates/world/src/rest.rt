@@ -1,10 +1,10 @@
-//! The world after a program has ended, or the output that it became.
+//! The world or the output that is left after a program has ended.
 
-/// The world after a program has ended. Creating an output uses the world up, so that either the world or the output is left.
+/// The world or the output that is left after a program has ended. Creating an output uses the world up, so only one of the two is left.
 #[derive(Drop)]
 pub enum Rest<W, O> {
-    /// The world itself. No output was created in it.
+    /// The world. No output was created in it.
     World(W),
-    /// The output that was created in it.
+    /// The output that was created in the world.
     Output(O),
 }

@@ -4,7 +4,7 @@ ghost use Rattle.std.specs.Prelude.{◌≡◌, ◌<◌, ◌≤◌, IfOk, is_some
 use std::io;
 use std::io::Read;
 
-/// The source failed, and gave no bytes in this call.
+/// The error of a source that failed. The source gave no bytes in this call.
 #[derive(Clone, Copy, Debug, PartialEq, Eq)]
 pub struct SourceFault;
 
@@ -15,8 +15,8 @@ pub trait Source {
     // The bytes that are still to come (if it reports them), and the number of its failures.
     ghost seen: { Self → SourceView };
 
-    /// Moves one or more of the next bytes to the front of `buffer`, and returns their number; 0 only at the end of the source. After an error no
-    /// byte was taken.
+    /// Moves some of the next bytes to the front of `buffer`, and returns their number, which is 0 only at the end of the source. A call that fails
+    /// takes no bytes. The buffer must not be empty.
     fn fill(&mut self, buffer: &mut [u8]) -> Result<usize, SourceFault>
         requires room { 0 < length buffer.old }
         requires countable { (seen self.old).failures < u64.MAX }
@@ -25,7 +25,7 @@ pub trait Source {
         ensures counted { Counts (seen self.old).failures (seen self.new).failures result };
 }
 
-/// A reader used as a source. Each error of the reader is a failure, even that of an interrupted read.
+/// A reader used as a source. Each error of the reader is a failure, even the error of an interrupted read.
 #[derive(Drop)]
 pub struct ReadSource<T> {
     reader: T,
@@ -35,7 +35,7 @@ pub struct ReadSource<T> {
 }
 
 impl<T: Read> ReadSource<T> {
-    /// A source of the bytes that the reader has still to give. It has not failed yet.
+    /// A source of the bytes that the reader has not yet given. The source has not failed yet.
     pub fn new(reader: T) -> ReadSource<T>
         ensures remaining { (⟦<ReadSource<T> as Source>⟧.seen result).bytes ≡ T.remaining reader }
         ensures fresh { (⟦<ReadSource<T> as Source>⟧.seen result).failures ≡ 0 }
@@ -56,7 +56,7 @@ impl<T: Read> ReadSource<T> {
 }
 
 impl<T: Read + Drop> ReadSource<T> {
-    /// The error of the last failure; None if there was no failure.
+    /// The error of the last failure. None if there was no failure.
     pub fn into_cause(self) -> Option<io::Error>
         ensures { result ≡ self.cause }
     {

@@ -3,7 +3,7 @@ ghost use Rattle.std.specs.Prelude.{◌≡◌};
 
 use std::io::Write;
 
-/// Writes this line and returns this status, even if the line can't be written, since there would be no way to report that.
+/// Writes this line, and returns this status. The status is the same if the line can't be written, since nothing could report that failure.
 pub fn tell<T: Write>(to: &mut T, line: &[u8], status: u8) -> u8
     ensures { result ≡ status }
 {

@@ -5,8 +5,8 @@ ghost use Rattle.world.specs.Input.{document_in, is_white};
 
 use crate::read::MOST_BYTES;
 
-/// How many bytes of white space stand before the document in an input, which begins with `%!`. Before anything else, and in an
-/// input that is too long, they aren't told apart.
+/// The number of bytes of white space before the document in an input. It is 0 if the white space isn't followed by `%!`, or if the input is too
+/// long.
 pub fn padding(input: &[u8]) -> usize
     ensures within { result ≤ length input.now }
     ensures document { drop result input.now ≡ document_in input.now }
@@ -19,7 +19,7 @@ pub fn padding(input: &[u8]) -> usize
     if behind.starts_with(b"%!") { count } else { 0 }
 }
 
-/// How many bytes of white space are at the front.
+/// The number of bytes of white space at the front of the text.
 fn white_len(text: &[u8]) -> usize
     ensures value { result ≡ prefix_len is_white text.now }
     ensures within { result ≤ length text.now }

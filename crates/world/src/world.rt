@@ -10,13 +10,13 @@ use crate::source::ReadSource;
 use std::io;
 use std::io::Read;
 
-/// The files and standard streams around a program, which opens inputs and creates an output there.
+/// The files and standard streams around a program. The program opens its inputs and creates its output through its world.
 ///
 /// A name is the name of a file; None is standard input or output. Creating an output uses the world up. So a program that still has its world has
-/// created no output, and no program creates two.
+/// created no output, and no program creates two outputs.
 ///
-/// A world counts its failures: each file that it refuses to open or create, and the failures of each input that it closes. So what a program reports
-/// about failures can be compared with the count.
+/// A world counts its failures: each file that it refuses to open or create, and the failures of each input that it closes. So the failures that a
+/// program reports can be compared with this count.
 pub trait World: Sized + Drop {
     type Input: Read + Drop;
 
@@ -49,7 +49,8 @@ pub trait World: Sized + Drop {
         ensures same { same self.new ≡ same self.old }
         ensures tells { tells self.new ≡ tells self.old };
 
-    /// Closes an input, and adds its failures to those of the world. Returns the error of the input's last failure; None if it hasn't failed.
+    /// Closes an input, and adds its failures to those of the world. Returns the error of the input's last failure, or None if the input hasn't
+    /// failed.
     fn close(&mut self, source: ReadSource<Self::Input>) -> Option<io::Error>
         requires countable { (seen self.old).failures + failures_of source ≤ u64.MAX }
         ensures cause { result ≡ cause_of source }
@@ -65,12 +66,12 @@ pub trait World: Sized + Drop {
     fn is_file(&self, name: &str) -> bool
         ensures { IfSome (regular self.now name.now) (λ is. result ≡ is) };
 
-    /// Whether `file` names the regular file that is the input, under whatever name. The input is the file named `input`, or standard input.
+    /// Whether `file` is a name of the regular file that is the input. The input is the file named `input`, or standard input if that is None.
     fn is_input(&self, input: Option<&str>, file: &str) -> bool
         ensures { IfSome (same self.now (option_map (λ n. n.now) input.entry) file.now) (λ is. result ≡ is) };
 
-    /// Creates the file of this name, or empties it if it exists; or takes standard output. Nothing has been written to the new output. A refusal is
-    /// counted as a failure of the world.
+    /// Creates the file of this name, or empties it if it exists. None takes standard output. Nothing has been written to the new output. A refusal
+    /// is counted as a failure of the world.
     fn create(self, name: Option<&str>) -> Result<Self::Output, Refused<Self>>
         requires countable { (seen self).failures < u64.MAX }
         ensures created { IfOk result (λ output. Self.Output.seen output ≡ fresh_output (told_if (tells self) (option_map (λ n. n.now) name.entry) [])) }
@@ -79,11 +80,11 @@ pub trait World: Sized + Drop {
             HasRefused (creating (option_map (λ n. n.now) name.entry)) (error_kind refused.cause) (seen self) (seen refused.world)) };
 }
 
-/// A world refused to create an output.
+/// The error of a world that refused to create an output.
 #[derive(Drop)]
 pub struct Refused<W> {
     /// The world, in which no output was created.
     pub world: W,
-    /// The error with which it refused.
+    /// The error with which the world refused.
     pub cause: io::Error,
 }
