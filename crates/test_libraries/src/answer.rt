@@ -4,8 +4,8 @@ use std::alloc::Global;
 use std::fmt::{Debug, Display};
 use std::io::Write;
 
-/// The form of an answer. `Whole` gives the whole answer, and a refusal by its name in the program. `Line` gives a refusal by its message. `Taken`
-/// gives `yes` in place of an answer that isn't a refusal.
+/// The form of an answer. `Whole` and `Line` give the whole answer: `Whole` gives a refusal by its name in the program, and `Line` by its message.
+/// `Taken` gives `yes` in place of an answer that isn't a refusal.
 #[derive(Clone, Copy, PartialEq, Eq)]
 pub enum Form {
     Whole,
@@ -87,13 +87,13 @@ impl Answer {
         self.note_appended(before, added.is_ok());
     }
 
-    /// Notes whether an addition to the answer succeeded. After one that failed the answer isn't whole.
+    /// Notes whether an addition to the answer succeeded. After a failed addition the answer isn't whole.
     pub fn note(&mut self, is_added: bool) {
         self.is_whole = self.is_whole && is_added;
     }
 
-    /// Notes whether a library could append to the answer, which had `before` bytes. If it couldn't, but the answer has changed, that isn't counted
-    /// as a lack of memory, so the changed answer shows the fault.
+    /// Notes whether a library's call could append to the answer, which had `before` bytes before the call. A call that fails must leave the answer's
+    /// length as it was. If it doesn't, this isn't counted as a lack of memory, so that the answer is given and shows the fault.
     pub fn note_appended(&mut self, before: usize, is_appended: bool) {
         let len = self.bytes.len();
         self.note(is_appended || len != before);

@@ -1,5 +1,5 @@
-//! The answer of a command. With the library of `checks/refuse.c`, each growth of memory is refused in turn. The answer must then stay the same or
-//! report a lack of memory.
+//! The answer of a command. With the library of `checks/refuse.c`, each growth of memory is refused in turn. The answer must then stay the same,
+//! report a lack of memory, or be missing.
 use crate::answer::Answer;
 use crate::words::{Document, without_form};
 use crate::{documents, programs, specifications};
@@ -12,7 +12,7 @@ use test_tools::{has_refused, refuse};
 const MOST_REFUSED: u32 = 1_000;
 
 /// The answer of a command, if there is one, from a run in which no growth is refused. A run in which a growth is refused must have no answer, report
-/// a lack of memory, or have the usual answer.
+/// a lack of memory, or have the usual answer. Otherwise the answer says that a refused growth isn't reported.
 pub fn answer_of<R: Threads + Wait + Sync>(
     rt: &R,
     alloc: Global,

@@ -33,7 +33,7 @@ pub fn documents_of(
     Ok(documents)
 }
 
-/// The words without `line` or `taken` at their start, which choose the form of the answer.
+/// Sets the form of the answer if the first word is `line` or `taken`, and returns the words after that word. Otherwise returns all words.
 pub fn without_form<'w>(out: &mut Answer, words: &'w [String]) -> &'w [String] {
     let form = match word(words, 0) {
         Some("line") => Form::Line,
@@ -51,7 +51,7 @@ pub fn word(words: &[String], at: usize) -> Option<&str> {
     Some(words.get(at)?.as_str())
 }
 
-/// The whole number in the word at place `at`.
+/// The whole number in word `at`, counted from 0.
 pub fn number(words: &[String], at: usize) -> Option<i128> {
     number_in(word(words, at)?)
 }
@@ -68,7 +68,7 @@ pub fn billionths(text: &str) -> Option<Number> {
     Number::new(i64::try_from(number_in(text)?).ok()?)
 }
 
-/// The number of pages, or another number below 2^32, in the word at place `at`.
+/// The whole number in word `at`, counted from 0, such as a number of pages. `None` unless it is from 0 to 2^32 - 1.
 pub fn count(words: &[String], at: usize) -> Option<u32> {
     count_in(word(words, at)?)
 }
@@ -77,7 +77,8 @@ pub fn count_in(text: &str) -> Option<u32> {
     u32::try_from(number_in(text)?).ok()
 }
 
-/// The paper that the word at place `at` gives: by its name, or by its sides as `WxH` in 10^-5 of a point, or in grains with a `g` at the end.
+/// The paper that word `at`, counted from 0, gives by its name or by its sides in the form `WxH`. Sides are in 10^-5 of a point, or in grains if a
+/// `g` follows them.
 pub fn paper(words: &[String], at: usize) -> Option<Paper> {
     let text = word(words, at)?;
     if let Some(paper) = paper_by_name(text) {
@@ -100,7 +101,7 @@ pub fn papers_of(alloc: Global, names: &[String]) -> Option<Vec<Paper>> {
     Some(papers)
 }
 
-/// The bytes of the document that the word at place `at` names.
+/// The bytes of the document that word `at`, counted from 0, names.
 pub fn text_of<'d>(documents: &'d [Document], words: &[String], at: usize) -> Option<&'d [u8]> {
     let name = word(words, at)?;
     for document in documents {
@@ -116,7 +117,8 @@ pub fn length(text: &str, unit: i128) -> Option<Grains> {
     Grains::new(number_in(text)?.checked_mul(unit)?)
 }
 
-/// The text that a word gives. It may be `repeat N TEXT BETWEEN FRONT BACK`, which stands for a repeated text; the last three parts may be left out.
+/// The text that a word gives. The word `repeat N TEXT BETWEEN FRONT BACK` gives `N` copies of `TEXT`, with `BETWEEN` between them, `FRONT` before
+/// the first and `BACK` after the last. `BETWEEN`, `FRONT` and `BACK` may be left out.
 pub fn long_text(alloc: Global, text: &str) -> Option<String> {
     if part(text, 0) != "repeat" {
         return String::from_str(alloc, text).ok();
@@ -127,12 +129,12 @@ pub fn long_text(alloc: Global, text: &str) -> Option<String> {
     repeated(alloc, [front, one, between, back], times as usize).ok()
 }
 
-/// The part of a text at place `at`, if the text is split at its spaces. Empty if there is no such part.
+/// Part `at`, counted from 0, of a text that is split at its spaces. It is empty if the text has no such part.
 fn part(text: &str, at: usize) -> &str {
     text.split(' ').nth(at).unwrap_or("")
 }
 
-/// A text repeated `times` times, with `between` between its copies, after the text `front` and before the text `back`.
+/// The text `front`, `times` copies of the text `one` with `between` between them, and the text `back`.
 fn repeated(alloc: Global, parts: [&str; 4], times: usize) -> Result<String, NoMemory> {
     let [front, one, between, back] = parts;
     let ones = vec![in alloc; one; times]?;
@@ -140,7 +142,7 @@ fn repeated(alloc: Global, parts: [&str; 4], times: usize) -> Result<String, NoM
     [front, text.as_str(), back].concat(alloc)
 }
 
-/// The specification that the word at place `at` gives. If it is refused, the refusal is printed.
+/// The specification that word `at`, counted from 0, gives. If the specification is refused, the refusal is added to the answer.
 pub fn specification(out: &mut Answer, words: &[String], at: usize) -> Option<Spec> {
     let word = word(words, at)?;
     let Some(text) = long_text(out.alloc, word) else {
@@ -164,7 +166,7 @@ pub fn item(alloc: Global, text: &str) -> Option<Item> {
     }
 }
 
-/// The row that words give: the numbers of pages, and `-` for a blank.
+/// The row that words give: page numbers, counted from 0, and `-` for a blank.
 pub fn row(alloc: Global, words: &[String]) -> Option<Vec<Option<u32>>> {
     let mut row = Vec::new(alloc);
     for word in words {

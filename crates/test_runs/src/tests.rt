@@ -1,4 +1,4 @@
-//! Tools that the trials share: options, large documents, a run with its report, and a table.
+//! Tools that the tests share: options, large documents, a run with its report, and a table.
 ghost use Rattle.std.specs.Prelude.{◌≡◌};
 ghost use Rattle.rules.specs.Sheets.{layout};
 ghost use Rattle.gather_table.specs.Shared.{opening_seat};

@@ -32,7 +32,7 @@ fn numbered_page(alloc: Global, page: u32) -> Result<String, AllocError> {
     format!(in alloc; "%%Page: {number} {number}\n({page}) pop\nshowpage\n")
 }
 
-/// A document that declares `pages` pages, with `text` between its preamble and its trailer. The text is its pages, or the sheets of an output.
+/// A document that declares `pages` pages. `text` lies between its preamble and its trailer: its pages, or the sheets of an output.
 pub(crate) fn document_with(alloc: Global, pages: u32, text: &str) -> Result<String, AllocError> {
     format!(in alloc; "%!PS-Adobe-3.0\n%%Pages: {pages}\n%%EndComments\n{text}%%Trailer\n%%EOF\n")
 }

@@ -7,7 +7,7 @@ ghost use Rattle.test_tools.specs.Files.{bytes_of};
 pub struct GivenFile<'a> {
     pub name: &'a str,
     pub bytes: &'a [u8],
-    /// Whether it is a regular file, not a device or a pipe.
+    /// Whether the file is a regular one, not a device or a pipe.
     pub is_regular: bool,
 }
 

@@ -13,7 +13,7 @@ use std::io;
 use std::io::ErrorKind;
 use world::{Failures, ReadSource, Refused, World, WriteOutput};
 
-/// A world of files in memory that can be read. Standard input is the file named `-`; it is empty if there is no such file.
+/// A world of files in memory that can be read. Standard input is the file named `-`, or is empty without such a file.
 #[derive(Drop)]
 pub struct Folder<'a> {
     alloc: Global,
@@ -24,7 +24,7 @@ pub struct Folder<'a> {
 }
 
 impl<'a> Folder<'a> {
-    /// A world of these files, whose output behaves as `takes` says. The world has received no request yet.
+    /// A world of these files, whose output behaves as `takes` says. The world has received no request.
     pub fn new(alloc: Global, files: &'a [GivenFile<'a>], takes: Takes) -> Folder<'a>
         ensures gives { ⟦<Folder<'a> as World>⟧.gives result ≡ (λ name. Some (read_by files.now name)) }
         ensures asked { (⟦<Folder<'a> as World>⟧.seen result).asked ≡ Some [] }
@@ -39,7 +39,7 @@ impl<'a> Folder<'a> {
         }
     }
 
-    /// The requests that the world has received, in order, if all of them are remembered.
+    /// The requests that the world has received, in order. None of them are kept if memory was refused for one of them.
     pub fn trace(&self) -> &Trace
         ensures { accesses_in result.now ≡ (⟦<Folder<'a> as World>⟧.seen self.now).asked }
     {

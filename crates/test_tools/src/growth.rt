@@ -2,31 +2,32 @@
 //! memory.
 use std::alloc::Global;
 
-/// A number of trials that is larger than the number of growths of any call here.
+/// A number that is larger than the number of growths of memory in any tested call.
 pub const MOST_GROWTHS: u32 = 5_000;
 
-/// A size of memory that no machine has, in bytes. A request for a larger size tells the library which growth to refuse. A request for this size asks
-/// whether a growth was refused: the library grants it if so. Without the library it is always refused.
+/// A size of memory that no machine has, in bytes. A request for more bytes tells the library which growth to refuse: the excess is the number of
+/// that growth. A request for exactly this size asks whether a growth was refused, and is granted if so. Without the library, both requests are
+/// always refused.
 const ASKED: usize = 1 << 62;
 
-/// Asks the library to refuse the growth with this number. The first growth after this call has number 1.
+/// Asks the library to refuse growth `number`, counted from 1 after this call.
 pub fn refuse(alloc: Global, number: u32) {
     drop(Vec::<u8>::with_capacity(alloc, ASKED + number as usize));
 }
 
-/// Whether a growth was refused. After this call the library refuses no growth.
+/// Whether a growth was refused since the last call of `refuse`. After this call the library refuses no growth.
 pub fn has_refused(alloc: Global) -> bool {
     Vec::<u8>::with_capacity(alloc, ASKED).is_ok()
 }
 
-/// A call in which a growth is refused.
+/// A call that can be made while a growth of memory is refused.
 pub trait Refused<R> {
-    /// Makes the call while the growth with this number is refused. Returns whether a growth was refused.
+    /// Makes the call while growth `number`, counted from 1, is refused. Returns whether a growth was refused.
     fn refuse(&self, rt: &R, alloc: Global, number: u32) -> bool;
 }
 
-/// Makes the call repeatedly, with its first growth refused, then its second, and so on, until no growth is refused. Returns whether that point was
-/// reached before `MOST_GROWTHS` calls.
+/// Makes the call again and again, with its first growth refused, then its second, and so on, until no growth is refused. Returns whether that
+/// happened within `MOST_GROWTHS - 1` calls.
 pub fn refuse_each<R, C: Refused<R>>(rt: &R, alloc: Global, call: &C) -> bool {
     for number in 1..MOST_GROWTHS {
         if !call.refuse(rt, alloc, number) {

@@ -10,17 +10,17 @@ use std::io::{ErrorKind, Write};
 /// The behaviour of an output.
 #[derive(Clone, Copy)]
 pub enum Takes {
-    /// It takes this number of bytes. A write that would go beyond that is cut there, and the next one fails.
+    /// The output takes this number of bytes in all. A write beyond that number is cut short, and the next write fails.
     Bytes(usize),
-    /// It takes all bytes, but at most this number in each call.
+    /// The output takes all bytes, but at most this number in each call.
     Pieces(usize),
-    /// It takes all bytes, but can't be flushed.
+    /// The output takes all bytes, but can't be flushed.
     NoFlush,
-    /// It can't be created.
+    /// The output can't be created.
     Nothing,
 }
 
-/// The number of bytes for which an output has memory from the start, so that short texts can be written without more memory.
+/// The number of bytes for which an output reserves memory when it is created. No growth of memory is needed to write up to this number.
 const ROOM: usize = 4_096;
 
 /// An output: the name under which it was created, and the bytes written to it.
@@ -32,7 +32,7 @@ pub struct Written {
 }
 
 impl Written {
-    /// An empty output with this name. The error is the cause if the output can't be created.
+    /// An empty output with this name. The error is `PermissionDenied` if `takes` is `Nothing`, or `OutOfMemory` if memory is refused.
     pub fn new(alloc: Global, name: Option<&str>, takes: Takes) -> io::Result<Written>
         ensures empty { IfOk result (λ output. output.bytes.items ≡ []) }
         ensures named { IfOk result (λ output.

@@ -1,5 +1,5 @@
-//! Tools for the tests of several crates: documents of small pages, their sheets, and specifications; a world of files in memory; and the calls by
-//! which a test has growths of memory refused in turn.
+//! Tools for the tests of several crates: documents of small pages, their sheets, specifications, a world of files in memory, and calls by which a
+//! test has each growth of memory refused in turn.
 #![tactic(auto)]
 
 mod documents;

@@ -2,7 +2,7 @@
 use super::documents::document_with;
 use std::alloc::{AllocError, Global};
 
-/// The text of a page of `document_of`, placed on A4 by this matrix.
+/// The text on a sheet of page `page` of `document_of`, counted from 0, placed on A4 by this matrix.
 fn placed(alloc: Global, matrix: &str, page: u32) -> Result<String, AllocError> {
     format!(in alloc;
         "userdict /ImposeSave save put\nuserdict /showpage {{}} put\n[{matrix}] concat\n\
@@ -11,12 +11,12 @@ fn placed(alloc: Global, matrix: &str, page: u32) -> Result<String, AllocError> 
     )
 }
 
-/// The text of the sheet with this number, counted from 1, around these placed pages.
+/// The text of sheet `number`, counted from 1, with these placed pages.
 fn sheet(alloc: Global, number: u32, pages: &str) -> Result<String, AllocError> {
     format!(in alloc; "%%Page: {number} {number}\n{pages}showpage\n")
 }
 
-/// The whole output of a run that leaves the page of `ONE_PAGE` where it is.
+/// The whole output of a run that puts the page of `ONE_PAGE` unmoved on a sheet.
 pub fn one_up_output(alloc: Global) -> Result<String, AllocError> {
     let page = placed(alloc, "1 0 0 1 0 0", 0)?;
     document_with(alloc, 1, &sheet(alloc, 1, &page)?)
@@ -37,7 +37,7 @@ pub fn two_up_output(alloc: Global, sheets: u32) -> Result<String, AllocError> {
     document_with(alloc, sheets, &two_up_sheets(alloc, sheets)?)
 }
 
-/// The text of this page and the next one, placed by the specification `TWO_UP`.
+/// The texts of page `page`, counted from 0, and of the page after it, placed by the specification `TWO_UP`.
 fn two_up(alloc: Global, page: u32) -> Result<String, AllocError> {
     let next = page.saturating_add(1);
     let mut pair = placed(alloc, "0 0.7 -0.7 0 595.27559 0", page)?;

@@ -12,7 +12,7 @@ pub struct Asked {
     pub name: Option<String>,
 }
 
-/// The requests that a world has received, in order. `None` if there was no memory for one of them.
+/// The requests that a world has received, in order. `None` if memory was refused for one of them.
 #[derive(Drop)]
 pub struct Trace {
     pub all: Option<Vec<Asked>>,
@@ -28,7 +28,8 @@ impl Trace {
         }
     }
 
-    /// Adds a request: to create an output if `creates`, otherwise to open an input. Without memory for it, all requests are forgotten.
+    /// Adds a request to the trace: to create an output if `creates` is true, otherwise to open an input. If memory is refused for a request, the
+    /// trace loses all requests and keeps no later one.
     pub fn add(&mut self, alloc: Global, creates: bool, name: Option<&str>)
         ensures { IfSome (accesses_in self.new) (λ all. (before : List Access) × (accesses_in self.old ≡ Some before)
             × (all ≡ before ++ record { creates = creates; name = option_map (λ n. n.now) name.entry } ∷ [])) }
@@ -40,7 +41,7 @@ impl Trace {
     }
 }
 
-/// The requests, with one more at the end.
+/// The requests `all`, followed by one more request: to create an output if `creates` is true, otherwise to open an input.
 fn with(
     alloc: Global,
     mut all: Vec<Asked>,

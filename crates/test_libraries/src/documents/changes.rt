@@ -1,9 +1,9 @@
-//! Documents that are cut off at each place, or changed in one byte at each place.
+//! Counts the pages of a document that is cut off before each of its bytes, or that is changed in each of its bytes.
 use crate::answer::Answer;
 use crate::documents::cuts::counted;
 use std::alloc::{AllocError, Global};
 
-/// Prints the number of pages in each prefix of a text.
+/// Prints the number of pages in each prefix of a text, or the reason why the prefix is refused.
 pub fn every_prefix(out: &mut Answer, text: &[u8]) {
     let mut ranges = Ranges::new(out.alloc);
     for len in 0..text.len() + 1 {
@@ -13,7 +13,7 @@ pub fn every_prefix(out: &mut Answer, text: &[u8]) {
     ranges.end(out);
 }
 
-/// Prints the number of pages of each text that results if one byte of a text is replaced with `byte`.
+/// Replaces each byte of a text with `byte` in turn. Prints the number of pages of each resulting text, or the reason why it is refused.
 pub fn every_change(out: &mut Answer, text: &[u8], byte: &str) {
     let mut ranges = Ranges::new(out.alloc);
     for place in 0..text.len() {
@@ -34,12 +34,13 @@ fn changed(alloc: Global, front: &[u8], byte: &str, behind: &[u8]) -> Result<Vec
     Ok(changed)
 }
 
-/// The answer for each place of a text, counted from 0. Neighbouring places with the same answer are printed on one line.
+/// The answer for each length of a prefix, or for each changed byte, counted from 0. Neighbouring numbers with the same answer are printed on one
+/// line.
 #[derive(Drop)]
 struct Ranges {
-    /// The first of the last places with the same answer.
+    /// The first number that the current line covers.
     first: usize,
-    /// The next place, which has no answer yet.
+    /// The next number, which has no answer yet.
     next: usize,
     answer: Vec<u8>,
 }
@@ -53,7 +54,7 @@ impl Ranges {
         }
     }
 
-    /// Counts the pages of the text, and records the count as the answer for the next place.
+    /// Counts the pages of the text, and records the count as the answer for the next number.
     fn count(&mut self, out: &mut Answer, text: &[u8]) {
         let mut answer = Answer::new(out.alloc);
         counted(&mut answer, text);
@@ -72,7 +73,7 @@ impl Ranges {
         self.next = self.next.saturating_add(1);
     }
 
-    /// Prints the line of the last places with the same answer.
+    /// Prints the current line: its first and its last number, and their answer.
     fn end(&self, out: &mut Answer) {
         if let Some(last) = self.next.checked_sub(1) {
             out.show(format_args!("{}..{last} ", self.first));

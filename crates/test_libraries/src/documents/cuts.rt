@@ -30,7 +30,7 @@ fn filtered(out: &mut Answer, part: &str, text: Result<Vec<u8>, AllocError>) {
     }
 }
 
-/// Prints a page with its body. If preparing the page outside the document gives another result, prints that too.
+/// Prints a page with its body. If the page has another body when it is prepared outside the document, prints that body too.
 fn page_lines(out: &mut Answer, page: &[u8], body: Result<Body<'_>, AllocError>) {
     let body = body_line(out.alloc, body);
     let mut alone = Answer::new(out.alloc);
@@ -55,8 +55,8 @@ fn body_line(alloc: Global, body: Result<Body<'_>, AllocError>) -> Answer {
     line
 }
 
-/// Prints the body of a page, or why the page has none. If the two functions that prepare a page (`prepare` and `Body::prepare`) differ, prints both
-/// results.
+/// Prints the body of a page, or the reason why the page has none. If the two functions that prepare a page (`prepare` and `Body::prepare`) differ,
+/// prints both results.
 pub fn bodies(out: &mut Answer, page: &[u8]) {
     let copied = copied_line(out.alloc, page);
     let held = held_line(out.alloc, page);

@@ -7,7 +7,8 @@ use guard::{RoomyText, guarded, put_guard, put_guard_before};
 use lengths::Paper;
 use std::alloc::{AllocError, Global};
 
-/// Prints the text with the guard inserted, for a paper if one is named. Also says which other functions that insert the guard give another text.
+/// Prints the text with the guard inserted, for a paper if the words name one. Prints a line for each further way of inserting the guard that gives a
+/// different text.
 pub fn guard(out: &mut Answer, text: &[u8], words: &[String]) {
     let sheet = paper(words, 2);
     match guarded(out.alloc, text, sheet.as_ref()) {
@@ -49,7 +50,7 @@ fn put_in_place(alloc: Global, text: &[u8], paper: Option<&Paper>) -> Result<Vec
     Ok(bytes)
 }
 
-/// A text after `room` other bytes, which can be overwritten.
+/// The text, after `room` further bytes that can be overwritten.
 fn behind_room(alloc: Global, room: usize, text: &[u8]) -> Result<Vec<u8>, AllocError>
     ensures { IfOk result (λ bytes. room ≤ vec_len bytes) }
 {

@@ -1,4 +1,4 @@
-//! Rows of pages that texts and choices name.
+//! Prints rows of pages that page ranges name or that choices give.
 ghost use Rattle.std.specs.Prelude.{◌≤◌};
 
 use crate::answer::Answer;
@@ -14,7 +14,7 @@ const TOO_MANY: u32 = 1_000_001;
 /// The largest number of entries of a row that is printed whole.
 const FEW: usize = 20;
 
-/// Prints the row that a text names.
+/// Prints the row that page ranges name.
 pub fn named(out: &mut Answer, words: &[String]) -> Option<()> {
     let (pages, text) = (count(words, 1)?, word(words, 2)?);
     told(out, read_row(out.alloc, pages, text.as_bytes()));
@@ -33,7 +33,7 @@ pub fn chosen(out: &mut Answer, words: &[String]) -> Option<()> {
     Some(())
 }
 
-/// Prints the row of pages that a choice gives, in signatures if any are named.
+/// Prints the row of pages that a choice gives. The row is put into signatures unless the word for signatures is `unsigned`.
 pub fn imposed(out: &mut Answer, words: &[String]) -> Option<()> {
     let (pages, signing) = (count(words, 1)?, word(words, 2)?);
     let choice = choice_of(words.get(3..)?);
@@ -117,7 +117,7 @@ pub fn entries(alloc: Global, text: &str) -> Option<Vec<Option<u32>>> {
     Some(row)
 }
 
-/// An entry of a row, and the number of times that it occurs.
+/// An entry of a row, and the number of times that the word repeats it.
 fn entry_of(word: &str) -> Option<(Option<u32>, u32)> {
     if word == "-" {
         return Some((None, 1));
@@ -127,7 +127,7 @@ fn entry_of(word: &str) -> Option<(Option<u32>, u32)> {
     Some((Some(page), times.parse::<u32>().ok()?))
 }
 
-/// Prints a row, or why there is none.
+/// Prints a row, or the reason why there is none.
 fn told<E: Display + Drop>(out: &mut Answer, answer: Result<Vec<Option<u32>>, E>) {
     match answer {
         Ok(row) => row_line(out, row.as_slice()),
@@ -135,7 +135,7 @@ fn told<E: Display + Drop>(out: &mut Answer, answer: Result<Vec<Option<u32>>, E>
     }
 }
 
-/// Prints a row in reading order. Of a long row, prints the first three and the last three entries, and the number of entries.
+/// Prints the entries of a row. Of a row with more than `FEW` entries, prints the first three and the last three entries, and the number of entries.
 fn row_line(out: &mut Answer, row: &[Option<u32>]) {
     if row.len() <= FEW {
         show_entries(out, row);

@@ -18,7 +18,8 @@ pub fn show_paper(out: &mut Answer, paper: &Paper) {
     out.points(paper.height());
 }
 
-/// Prints the paper of a document, if the default paper is a4, and the comment that names the paper.
+/// Prints the paper that a document's comments give, with a4 as the default paper, and the comment that gives it. Prints `none` if no comment gives a
+/// paper.
 pub fn told(out: &mut Answer, text: &[u8]) {
     match document_paper(text, &a4()) {
         Some((paper, comment)) => {
@@ -29,7 +30,7 @@ pub fn told(out: &mut Answer, text: &[u8]) {
     }
 }
 
-/// Prints the paper of each page, if the default paper is letter.
+/// Prints the paper of each page, with letter as the default paper and `asked` as the paper of the command line.
 pub fn home_papers(out: &mut Answer, text: &[u8], asked: Option<Paper>) -> Option<()> {
     let home = paper_by_name("letter")?;
     match papers_at(out.alloc, text, asked, &home) {
@@ -39,7 +40,7 @@ pub fn home_papers(out: &mut Answer, text: &[u8], asked: Option<Paper>) -> Optio
     Some(())
 }
 
-/// Prints the papers of the pages, with papers of nearly the same size replaced by one of them.
+/// Prints the papers of the pages. Papers of nearly the same size are replaced by the smallest paper that covers them.
 pub fn counted(out: &mut Answer, text: &[u8]) -> Option<()> {
     let home = paper_by_name("letter")?;
     match papers_at(out.alloc, text, None, &home) {
@@ -69,7 +70,7 @@ fn papers_at(
     }
 }
 
-/// Prints a line with the page's number and paper for each page.
+/// Prints a line for each page, with its number, counted from 1, and its paper.
 fn paper_lines(out: &mut Answer, papers: &[Paper]) {
     for (page, paper) in papers.iter().enumerate() {
         out.text("page ");
@@ -84,7 +85,8 @@ fn paper_line(out: &mut Answer, paper: &Paper) {
     out.text("\n");
 }
 
-/// Prints which pages of these papers a paper cuts: the first and the last of them, their number, and the smallest paper that covers their papers.
+/// Prints the first and the last page that a paper cuts, counted from 1, the number of such pages, and the smallest paper that covers them. The words
+/// give the paper, and then the papers of the pages.
 pub fn cutting(out: &mut Answer, words: &[String]) -> Option<()> {
     let sheet = paper(words, 1)?;
     let own = papers_of(out.alloc, words.get(2..)?)?;
@@ -103,7 +105,8 @@ fn cut_line(out: &mut Answer, cut: Option<Cut>) {
     }
 }
 
-/// Prints the paper of the first page, if no page has the named paper.
+/// Prints the paper of the first page if no page has the given paper or one of nearly its size, otherwise `none`. The words give that paper, and then
+/// the papers of the pages.
 pub fn instead_of(out: &mut Answer, words: &[String]) -> Option<()> {
     let sheet = paper(words, 1)?;
     let own = papers_of(out.alloc, words.get(2..)?)?;

@@ -13,7 +13,7 @@ use sheet_plan::{MadeSheets, PlacedSlot};
 use std::alloc::Global;
 use std::fmt::Display;
 
-/// The largest number of sheets that are all printed.
+/// The largest number of sheets that are printed without omissions.
 const FEW: u32 = 20;
 
 /// Prints the sheets of a row, with each entry on a sheet of its own.
@@ -35,7 +35,7 @@ fn pages_and_names(text: &str) -> Option<(u32, &str)> {
     Some((pages.parse::<u32>().ok()?, names))
 }
 
-/// Prints the sheets that a specification makes from a row, with sheets of A3 and pages of A4, or prints why there are none.
+/// Prints the sheets that a specification makes from a row, with sheets of A3 and pages of A4, or the reason why there are none.
 pub fn by_specification(out: &mut Answer, words: &[String]) -> Option<()> {
     let Some(spec) = specification(out, words, 1) else {
         return Some(());
@@ -51,7 +51,7 @@ pub fn by_specification(out: &mut Answer, words: &[String]) -> Option<()> {
     Some(())
 }
 
-/// The papers of `pages` pages. The named papers are taken in turn, from the first again after the last.
+/// The papers of `pages` pages. The named papers are taken in their order, beginning again with the first after the last.
 fn papers_in_turn(alloc: Global, pages: u32, names: &str) -> Option<Vec<Paper>> {
     let turns = names.split_whitespace().count().max(1);
     let mut papers = Vec::new(alloc);
@@ -73,7 +73,7 @@ fn row_of(alloc: Global, pages: u32, row: &str) -> Option<Vec<Option<u32>>> {
     }
 }
 
-/// Prints sheets, or why there are none.
+/// Prints sheets, or the reason why there are none.
 fn told<E: Display + Drop>(out: &mut Answer, made: Result<MadeSheets, E>) {
     match made {
         Ok(made) => sheet_lines(out, &made),
@@ -81,7 +81,7 @@ fn told<E: Display + Drop>(out: &mut Answer, made: Result<MadeSheets, E>) {
     }
 }
 
-/// Prints a line for each sheet. Of many sheets, prints the first two and the last two, and the number of sheets.
+/// Prints a line for each sheet. Of more than `FEW` sheets, prints the first two and the last two, and the number of sheets.
 fn sheet_lines(out: &mut Answer, made: &MadeSheets) {
     let Ok(sheets) = u32::try_from(made.len()) else {
         return out.text("too many\n");

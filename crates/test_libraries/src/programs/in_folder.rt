@@ -1,4 +1,4 @@
-//! Runs of pstops over files in memory, whose bytes contracts can state.
+//! Runs of pstops over files in memory. Contracts can state the bytes of these files.
 ghost use Rattle.std.specs.Prelude.{◌≡◌, ◌<◌, map, string_bytes};
 ghost use Rattle.test_libraries.specs.InMemory.{HasWritten};
 

@@ -7,7 +7,7 @@ use std::sync::Wait;
 use std::thread::Threads;
 use test_tools::{Folder, GivenFile, Takes};
 
-/// A document with one page, which names no paper.
+/// A document that has one page and names no paper.
 const PAGE: GivenFile<'static> = GivenFile {
     name: "in.ps",
     bytes: b"%!PS-Adobe-3.0\n%%EndComments\n%%Page: 1 1\n(0) pop\nshowpage\n%%EOF\n",

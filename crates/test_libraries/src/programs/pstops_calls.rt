@@ -41,7 +41,8 @@ fn pstops_fault_named(name: &str) -> Option<Fault> {
     }
 }
 
-/// Prints the number of bytes that are read from an input with this length, and whether they are the bytes of the input.
+/// Prints the number of bytes that are read from an input with this length, and whether they are the bytes of the input. If the input can't be read,
+/// prints the fault.
 pub fn long_input(out: &mut Answer, len: u32) {
     let Ok(long) = vec![in out.alloc; b'%'; len as usize] else {
         return out.note(false);
@@ -79,7 +80,8 @@ impl Read for Failing {
     }
 }
 
-/// Prints the bytes that are read from a reader that fails at the call with this number, and the number of its calls.
+/// Prints the bytes that are read from a `Failing` reader, or the fault, and the number of the reader's calls. With `is_interrupted`, the failing
+/// call reports an interruption.
 pub fn failing_input(out: &mut Answer, fails_at: u32, is_interrupted: bool) {
     let cause = if is_interrupted {
         ErrorKind::Interrupted
@@ -102,9 +104,9 @@ pub fn failing_input(out: &mut Answer, fails_at: u32, is_interrupted: bool) {
     out.labelled("calls", reader.calls);
 }
 
-/// Prints the outcome of running pstops with these words over a document with one page in the file `in.ps`: exit status, message, and the output, or
-/// the requests that the folder received if no output was created. The first word says how the output behaves: `all`, `unflushed`, `nothing`, or the
-/// number of bytes that it takes per call.
+/// Prints the outcome of running pstops with these words over a document with one page in the file `in.ps`: exit status, message, and output. If no
+/// output was created, prints the requests that the folder received. The first word says how the output behaves: `all`, `unflushed`, `nothing`, or
+/// the number of bytes that the output takes per call. The further words are those of pstops.
 pub fn ran<R: Threads + Wait + Sync>(rt: &R, out: &mut Answer, words: &[String]) -> Option<()> {
     let (takes, words) = words.split_first()?;
     let takes = match takes.as_str() {

@@ -2,7 +2,7 @@
 use crate::answer::Answer;
 use pstops_cli::{Request, read_command};
 
-/// Prints the request that the words make, or why they make none.
+/// Prints the request that the words make, or the reason why they make none.
 pub fn requested(out: &mut Answer, words: &[String]) {
     match read_command(out.alloc, words) {
         Ok(request) => show(out, &request),

@@ -44,7 +44,8 @@ pub fn two_columns() -> Option<Setting>
     }
 }
 
-/// Prints the pages of the sheets that are filled from a row, in the way that the first word names. `papers` are the papers of the pages.
+/// Prints the pages of the sheets that are filled from a row. The first word after the command's name says how: as a `grid`, as `cards`, as a `stack`
+/// or as `leaves`. `papers` are the papers of the pages.
 fn filled(out: &mut Answer, words: &[String], papers: &[Paper]) -> Option<()> {
     let setting = two_columns()?;
     let (alloc, way) = (out.alloc, word(words, 1)?);
@@ -61,7 +62,7 @@ fn filled(out: &mut Answer, words: &[String], papers: &[Paper]) -> Option<()> {
     Some(())
 }
 
-/// Prints the pages of each sheet, or why there are no sheets.
+/// Prints the pages of each sheet, or the reason why there are no sheets.
 fn tell(out: &mut Answer, made: Result<MadeSheets, ArrangementError>) {
     match made {
         Ok(made) => tell_sheets(out, &made),
@@ -76,7 +77,7 @@ fn tell_sheets(out: &mut Answer, made: &MadeSheets) {
     }
 }
 
-/// Prints the scale and the offset of a page of the named paper in the second cell, both in units of 10^-9.
+/// Prints the scale of a page of the named paper in the second cell, in 10^-9, and its offset, in 10^-9 of a point.
 fn fitted(out: &mut Answer, words: &[String]) -> Option<()> {
     match two_columns()?.item(&paper(words, 1)?, 1) {
         Ok(item) => {
@@ -110,8 +111,8 @@ fn two_tiles() -> Poster
     }
 }
 
-/// The poster of `two_tiles`. If numbers follow the page's paper, they are its number of columns, its edge and its overlap, the latter two in 10^-5
-/// of a point.
+/// The poster of `two_tiles`. If three numbers come after the page's paper, they replace its number of columns, its margin and its overlap. Margin
+/// and overlap are in 10^-5 of a point.
 fn told(words: &[String]) -> Option<Poster> {
     let mut poster = two_tiles();
     if word(words, 2).is_some() {

@@ -1,4 +1,5 @@
-//! The laws of layouts, tried by separate arithmetic on printed matrices, for all numbers of pages up to 64 and some larger ones on many papers.
+//! The laws of layouts, tried on many papers by separate arithmetic on printed matrices. With pages and sheets of one paper, all numbers of pages up
+//! to 64 are tried, and some larger ones.
 use crate::answer::Answer;
 use crate::specifications::placed::{
     Kept, Placed, are_apart, are_in_order, are_inside, are_like, columns_of, largest, pages_of,
@@ -9,7 +10,7 @@ use lengths::{Grains, paper_by_name};
 use pagespec::Spec;
 use std::alloc::Global;
 
-/// The papers, with their sides in points.
+/// The papers that are tried, with their sides in points.
 const PAPERS: [(&str, i64, i64); 8] = [
     ("a3", 842, 1191),
     ("a4", 595, 842),
@@ -21,10 +22,10 @@ const PAPERS: [(&str, i64, i64); 8] = [
     ("10x14", 720, 1008),
 ];
 
-/// Some of the numbers of pages from 65 to 1,024.
+/// The numbers of pages above 64 that are tried: a few from 65 to 1,024.
 const MANY: [u32; 5] = [65, 97, 256, 720, 1_024];
 
-/// The numbers of pages that are tried on sheets of other papers than the pages'.
+/// The numbers of pages that are tried for each pair of a page's paper and a sheet's paper.
 const SOME: [u32; 10] = [1, 2, 3, 4, 6, 8, 13, 16, 24, 64];
 
 const NOTHING: Kept = Kept { margin: 0, gap: 0 };
@@ -127,7 +128,7 @@ fn booklets_tried(out: &mut Answer, page: &Named, sheet: &Named) -> Option<u32> 
     Some(2)
 }
 
-/// The specification of `n` pages on a sheet.
+/// The specification of `n` pages on a sheet, with margins and gaps of `MILLIMETRES` unless `kept` has no margin.
 fn laid_out(alloc: Global, n: u32, papers: &Papers, kept: Kept) -> Option<Spec> {
     let mut arrangement = Arrangement::plain(Cells::AtLeast(n));
     if kept.margin != 0 {
@@ -153,7 +154,7 @@ fn papers_named(page: &str, sheet: &str) -> Option<Papers> {
     })
 }
 
-/// The fault of a layout of `n` pages on a sheet. Empty if it has none.
+/// The fault of a layout of `n` pages on a sheet. Empty if the layout has none.
 fn fault_of(alloc: Global, n: u32, page: &Named, sheet: &Named, kept: Kept) -> &'static str {
     let Some(papers) = papers_named(page.0, sheet.0) else {
         return "no paper";
@@ -208,7 +209,7 @@ fn fault_line(out: &mut Answer, page: &Named, sheet: &Named, fault: &str) {
     out.line(format_args!("{} on {}: {fault}", page.0, sheet.0));
 }
 
-/// The fault of the layout of a booklet. Empty if it has none.
+/// The fault of the layout of a booklet. Empty if the layout has none.
 fn booklet_fault(alloc: Global, page: &Named, sheet: &Named, long_edge: bool) -> &'static str {
     let Some(papers) = papers_named(page.0, sheet.0) else {
         return "no paper";

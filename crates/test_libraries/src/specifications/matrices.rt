@@ -35,7 +35,7 @@ fn coordinate(words: &[String], at: usize) -> Option<i32> {
     i32::try_from(number(words, at)?).ok()
 }
 
-/// The width of a border, in grains, if there is one.
+/// The width of a border, in grains, that word `at` gives. `None` without such a word.
 fn border(words: &[String], at: usize) -> Option<Grains> {
     Grains::new(number(words, at)?)
 }
@@ -62,7 +62,7 @@ fn applied(out: &mut Answer, item: &Item, paper: &Paper, point: (i32, i32)) {
     out.pair(x, y);
 }
 
-/// Prints a line, then the text before a page, which the library appends to it, and the text after the page.
+/// Prints a line, to which the library then appends the text before a page and the text after the page.
 fn page_texts(out: &mut Answer, item: &Item, paper: &Paper, border: Option<Grains>) {
     out.text("% page\n");
     let before = out.bytes.len();

@@ -57,7 +57,8 @@ fn unit(words: &[String]) -> Option<Unit> {
     }
 }
 
-/// Prints a number twice, each time appended to an `@`: in full (`print_scale`), and as a page specification writes it (`print_number`).
+/// Prints a number twice, each time after an `@`: with a zero before the dot (`print_scale`), and as page specifications write it, without that zero
+/// (`print_number`).
 fn printed(out: &mut Answer, number: Number) {
     out.text("@");
     let before = out.bytes.len();

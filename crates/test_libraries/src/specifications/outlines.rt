@@ -58,7 +58,7 @@ fn papers(words: &[String]) -> Option<Papers> {
     })
 }
 
-/// Prints a specification, or why there is none.
+/// Prints a specification, or the reason why there is none.
 fn tell<E: Debug + Display + Drop>(out: &mut Answer, made: Result<Spec, E>) -> Option<()> {
     match made {
         Ok(spec) => written(out, &spec),
@@ -83,7 +83,7 @@ fn arrangement(words: &[String]) -> Option<Arrangement> {
     Some(arrangement)
 }
 
-/// The cells that a text gives: a number for at least as many cells, or columns and rows, such as `2x3`.
+/// The cells that a text gives: the least number of cells, or columns and rows, such as `2x3`.
 fn cells(text: &str) -> Option<Cells> {
     match text.split_once('x') {
         None => Some(Cells::AtLeast(count_in(text)?)),
@@ -116,7 +116,7 @@ fn put_in_order(order: &mut Order, text: &str) -> Option<()> {
     Some(())
 }
 
-/// Sets margins, gaps or the trim to a value in 10^-5 of a point: one margin or all, the gap in one direction or in both.
+/// Sets the lengths that `name` stands for to this value, in 10^-5 of a point: one margin or all four, one gap or both, or the trim.
 fn keep(free: &mut Free, name: &str, value: &str) -> Option<()> {
     let length = length(value, 1_270_000)?;
     match name {

@@ -1,4 +1,4 @@
-//! The places of pages on a sheet, computed from their printed matrices.
+//! The areas of pages on a sheet, computed from their printed matrices.
 use lengths::Paper;
 use pagespec::Spec;
 use placement::{NoMemory, matrix_of, matrix_text};
@@ -94,7 +94,8 @@ fn sent(numbers: &[i64], x: i64, y: i64) -> Option<(i64, i64)> {
     }
 }
 
-/// A point of the sheet when the sheet is held for reading. `quarters` is the number of quarter turns to the left by which its pages are turned.
+/// The coordinates of a point of the sheet when the sheet is held for reading. `quarters` is the number of quarter turns to the left by which the
+/// sheet's pages are turned.
 fn as_held(quarters: u32, point: (i64, i64)) -> (i64, i64) {
     let (x, y) = point;
     match quarters {
@@ -120,8 +121,8 @@ fn turn_of(numbers: &[i64]) -> Option<(u32, i64)> {
     }
 }
 
-/// The pages of a sheet that a specification makes, as their printed matrices place them. `sides` are the sides of a page, in points. The list is
-/// empty if there is no such sheet.
+/// The pages of a sheet that a specification makes, as their printed matrices place them. Sheets are counted from 0. `sides` are the sides of a page,
+/// in points. The list is empty if there is no such sheet.
 pub fn pages_of(
     alloc: Global,
     spec: &Spec,
@@ -157,7 +158,8 @@ fn placed_by(numbers: &[i64], sides: (i64, i64)) -> Option<Placed> {
     })
 }
 
-/// Whether all pages are on a sheet with these sides, in points, and keep the margin to its edges, in 10^-9 of a point.
+/// Whether all pages are on a sheet with these sides, and at least `margin` away from its edges. The sides are in points, the margin is in 10^-9 of a
+/// point.
 pub fn are_inside(pages: &[Placed], sides: (i64, i64), margin: i64) -> bool {
     for page in pages {
         let area = page.on_sheet;
@@ -172,7 +174,7 @@ pub fn are_inside(pages: &[Placed], sides: (i64, i64), margin: i64) -> bool {
     true
 }
 
-/// Whether any two pages are at least the gap apart, in 10^-9 of a point.
+/// Whether all pages are at least `gap` apart from each other, in 10^-9 of a point.
 pub fn are_apart(pages: &[Placed], gap: i64) -> bool {
     for (k, page) in pages.iter().enumerate() {
         for (l, other) in pages.iter().enumerate() {
@@ -184,8 +186,7 @@ pub fn are_apart(pages: &[Placed], gap: i64) -> bool {
     true
 }
 
-/// The number of pages in the first row. They are the pages whose upper edges are as high as that of the first page, when the sheet is held for
-/// reading.
+/// The number of pages in the first row: those whose upper edges are as high as that of the first page, with the sheet held for reading.
 pub fn columns_of(pages: &[Placed]) -> usize {
     let mut columns = 0usize;
     for page in pages {
@@ -198,7 +199,7 @@ pub fn columns_of(pages: &[Placed]) -> usize {
     columns
 }
 
-/// Whether the pages fill rows of `columns` pages, from the top row down and each row from the left, when the sheet is held for reading.
+/// Whether the pages fill rows of `columns` pages, from the top row down and each row from the left, with the sheet held for reading.
 pub fn are_in_order(pages: &[Placed], columns: usize) -> bool {
     if columns == 0 {
         return false;
@@ -253,7 +254,8 @@ pub fn largest(n: i64, page: (i64, i64), sheet: (i64, i64), kept: Kept) -> i64 {
     best
 }
 
-/// The largest scale, in 10^-9, at which `parts` sides of pages fit one side of a sheet with this margin and gap. Both sides are in points.
+/// The largest scale, in 10^-9, at which `parts` pages fit along one side of a sheet with this margin and gap. `whole` is that side of the sheet, and
+/// `side` is the side of a page, both in points.
 fn room(whole: i64, parts: i64, side: i64, kept: Kept) -> i64 {
     let margins = kept.margin.saturating_mul(2);
     let gaps = kept.gap.saturating_mul(parts.saturating_sub(1));

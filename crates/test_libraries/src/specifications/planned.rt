@@ -6,7 +6,7 @@ use crate::words::{count, specification, word};
 use pagespec::{Item, Spec};
 use sheet_plan::{Plan, PlanError, are_sides};
 
-/// The number of entries that are shown of a long list, before the last entry.
+/// The number of entries that are shown at the start of a long list. The last entry is shown as well.
 const SHOWN: u32 = 12;
 
 pub fn run(out: &mut Answer, words: &[String]) -> Option<()> {
@@ -23,7 +23,7 @@ pub fn run(out: &mut Answer, words: &[String]) -> Option<()> {
     Some(())
 }
 
-/// Prints the plan of a specification for this number of pages, in signatures with this number of sides if it is given.
+/// Prints the plan of a specification for this number of pages, in signatures of `sides` sides if that number is given.
 fn planned(out: &mut Answer, spec: &Spec, pages: u32, sides: Option<u32>) -> Option<()> {
     let plan = match sides {
         None => Plan::new(out.alloc, spec, pages),
@@ -60,7 +60,7 @@ pub fn page_lists(out: &mut Answer, plan: &Plan<'_>) {
     sheet_lists(out, plan, What::Pages);
 }
 
-/// What a list shows of each sheet.
+/// The part of each sheet that a list shows.
 #[derive(Clone, Copy)]
 enum What {
     Slots,
@@ -69,7 +69,8 @@ enum What {
     Missing,
 }
 
-/// Begins an entry of a list with `count` entries. Returns whether the entry is shown: the first ones and the last one are.
+/// Begins the entry at place `at`, counted from 0, of a list with `count` entries. Returns whether the entry is shown: the first `SHOWN` entries and
+/// the last one are.
 fn begin(out: &mut Answer, at: u32, count: u32, between: &str) -> bool {
     let is_last = count.saturating_sub(1) <= at;
     if SHOWN < at && !is_last {
@@ -85,7 +86,7 @@ fn begin(out: &mut Answer, at: u32, count: u32, between: &str) -> bool {
     true
 }
 
-/// Ends a list with this number of entries.
+/// Ends a list of `count` entries.
 fn end(out: &mut Answer, count: u32) {
     out.text(if count == 0 { "none\n" } else { "\n" });
 }

@@ -19,7 +19,7 @@ pub fn run(out: &mut Answer, words: &[String]) -> Option<()> {
     }
 }
 
-/// Prints the list of the sheets of a booklet that is made from a row.
+/// Prints the list of sheets that are filled from a row, with two pages on each. Every two sheets are the front and the back of a leaf.
 fn booklet_plan(out: &mut Answer, words: &[String]) -> Option<()> {
     let (setting, most) = (two_columns()?, count(words, 1)?);
     let row = row(out.alloc, words.get(2..)?)?;
@@ -29,7 +29,7 @@ fn booklet_plan(out: &mut Answer, words: &[String]) -> Option<()> {
     Some(())
 }
 
-/// Prints the list of the sheets that are filled from a row. The second page has a paper of its own.
+/// Prints the list of sheets that are filled from a row and printed on one side. The second page has a paper of its own.
 fn grid_plan(out: &mut Answer, words: &[String]) -> Option<()> {
     let (setting, most) = (two_columns()?, count(words, 1)?);
     let papers = [a4(), paper(words, 2)?, a4()];
@@ -47,7 +47,7 @@ fn reading(sides: Sides, setting: &Setting) -> Reading {
     Reading { sides, places }
 }
 
-/// Prints the list of sheets, with at most `most` of them.
+/// Prints the list of sheets, with at most `most` lines for sheets or leaves, or the reason why there are none.
 fn tell(
     out: &mut Answer,
     made: Result<MadeSheets, ArrangementError>,
@@ -67,7 +67,7 @@ fn add(out: &mut Answer, text: Result<Vec<u8>, AllocError>) {
     }
 }
 
-/// Prints the drawing of a sheet of this paper that has a page and a blank, and a fold across its middle.
+/// Prints the drawing of a sheet of this paper that has a page, a blank and the line of `fold`.
 fn folded_sheet(out: &mut Answer, paper: &Paper) -> Option<()> {
     let (alloc, fold) = (out.alloc, fold()?);
     match one_sheet(alloc, 2, paper) {

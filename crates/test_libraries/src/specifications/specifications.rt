@@ -70,7 +70,7 @@ fn syntax(out: &mut Answer, text: &str) {
     }
 }
 
-/// The length of the longest prefix of a text that begins some specification. It is found by trying each ending that a prefix may need.
+/// The length, in bytes, of the longest prefix of a text that begins some specification. It is found by trying each ending that a prefix may need.
 fn longest_prefix(alloc: Global, text: &str) -> Result<usize, NoMemory> {
     let mut longest = 0;
     for k in 0..text.len() + 1 {
@@ -95,7 +95,7 @@ fn goes_on(alloc: Global, prefix: &str) -> Result<bool, NoMemory> {
     Ok(false)
 }
 
-/// Whether the prefix with this ending has a syntax error.
+/// Whether the prefix followed by this ending has a syntax error.
 fn is_stuck(alloc: Global, prefix: &str, end: &str) -> Result<bool, NoMemory> {
     let whole = [prefix, end].concat(alloc)?;
     match read_spec(alloc, whole.as_str()) {

@@ -1,5 +1,5 @@
-//! Tests of the public functions of tables, shelves, queues and runs. They are called as another crate calls them: each function is imported from the
-//! crate that offers it. The cases of `test_libraries` do the same for the crates below, and those of `pstops` for the command.
+//! Tests of the public functions of tables, shelves, queues and runs. Each function is imported from the crate that offers it, as any other crate
+//! imports it. The cases of `test_libraries` test lower crates in the same way, and the cases of `pstops` test the command.
 pub(crate) mod gatherer;
 mod gatherers;
 mod runs;

@@ -1,9 +1,9 @@
-//! The assertions of tests. A failed one names the line of the test that calls it.
+//! The assertions of tests. An assertion that fails names the line of the test that calls it.
 ghost use Rattle.std.specs.Prelude.{◌≡◌, Ok};
 
 use std::process::Abort;
 
-/// The value of a call that must succeed. With enough memory all calls here succeed, apart from those that test a failure.
+/// The value of a call that must succeed. With enough memory all calls in these tests succeed, apart from those that test a failure.
 pub(super) fn done<R: Abort, T: Drop, E: Drop>(rt: &R, answer: Result<T, E>) -> T
     ensures { answer ≡ Ok result }
 {

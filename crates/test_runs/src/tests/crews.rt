@@ -160,8 +160,8 @@ impl<'a, R> Collector<Collected> for Fates<'a, R> {
     }
 }
 
-/// Runs three workers of each kind with these fates. Asserts that all workers begin, that no wait runs out, that the collector collects once, before
-/// the imposers are told to stop, and that they are told once. Returns the shares that come back, if any do.
+/// Runs three workers of each kind with these fates. Asserts that all workers begin, and that no wait runs out. Asserts that the collector collects
+/// once, before the imposers are told to stop, and that the imposers are told to stop once. Returns the shares that come back, if any do.
 fn gather<R: Threads + Wait + Abort + Sync>(
     rt: &R,
     alloc: Global,

@@ -21,7 +21,7 @@ use std::sync::atomic::Ordering::SeqCst;
 use std::thread::{Threads, for_each_mut};
 use test_tools::document_of;
 
-/// The numbers of sheets, of slots on a sheet, and of slots with the same page.
+/// The number of sheets, the number of slots on each sheet, and the number of slots that have the same page.
 #[derive(Clone, Copy)]
 struct Sizes {
     sheets: u32,
@@ -48,8 +48,8 @@ impl Sizes {
     }
 }
 
-/// Each kind of deed is counted in a range of numbers that begins at its constant: pages stored, slots marked, groups filled, sheets completed,
-/// sheets imposed, faults. Slots and groups are numbered over all sheets.
+/// The first counter of each kind of deed, in this order: pages stored, slots marked, groups filled, sheets completed, sheets imposed, faults. Slots
+/// and groups are numbered over all sheets.
 const STORED: usize = 0;
 
 const MARKED: usize = 1_000;
@@ -139,7 +139,7 @@ impl Done {
         self.add_delivery(page, &delivered);
     }
 
-    /// Delivers all pages. Callers with an even number begin with the first page, the rest with the last one.
+    /// Delivers all pages. Callers with an even number begin with the first page, and callers with an odd number with the last one.
     fn deliver_all<R: Wait>(
         &self,
         rt: &R,
@@ -175,8 +175,8 @@ impl Done {
         gatherer.take(rt).is_none()
     }
 
-    /// Whether each page is stored once, each slot marked once, each group filled once, each sheet completed and imposed once, all groups are closed,
-    /// and there is no fault.
+    /// Whether each page was stored once, each slot marked once, each group filled once, and each sheet completed and imposed once. All groups must
+    /// be closed, and no fault may be counted.
     fn is_each_once(&self) -> bool {
         let sizes = self.sizes;
         let mut all = 0usize;
@@ -196,7 +196,7 @@ impl Done {
     }
 }
 
-/// `count` further gatherers of the same job.
+/// A list of `count` further gatherers of this gatherer's job.
 fn others_of<'s, 'j, 't, 'd, R: Abort>(
     rt: &R,
     alloc: Global,
@@ -287,8 +287,8 @@ const SIXTY_FIVE_PAGES: &str = "\
     +36+37+38+39+40+41+42+43+44+45+46+47+48+49+50+51+52+53+54+55+56+57+58+59+60+61+62+63+64\
 ";
 
-/// Makes the test with these numbers of callers and threads for several jobs: one page; two pages on a sheet; two and ten such sheets, whose slots
-/// share one word of the table; two sheets of 65 pages; and one page 65 times on a sheet.
+/// Makes the test of `look` with these numbers of callers and threads for several jobs: one page; two pages on a sheet; two and ten such sheets,
+/// whose slots share one word of the table; two sheets of 65 pages; and one page 65 times on a sheet.
 fn deliver_each<R: Threads + Wait + Sync + Abort>(
     rt: &R,
     alloc: Global,

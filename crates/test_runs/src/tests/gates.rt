@@ -1,5 +1,5 @@
-//! Gates at which as many threads wait for each other as a run was asked to start. A run with fewer threads never passes them, and one that makes the
-//! sheets on its caller's thread never reaches them.
+//! Gates at which threads wait for each other. Threads pass such a gate only if the run starts all threads that it was asked for. A run that makes
+//! the sheets on its caller's thread never reaches the gate.
 ghost use Rattle.std.specs.Prelude.{None};
 
 use super::{Trial, report_of, run_into, wait_for};
@@ -35,7 +35,8 @@ impl Steps {
     }
 }
 
-/// A gate at which each of these steps waits until `height` of them have entered. A bit for each page or sheet shows whether its step has entered.
+/// A gate at which each of the chosen steps waits until `height` of them have entered. A bit that is set in `bits` shows that the step of its page or
+/// sheet has entered.
 #[derive(Drop)]
 struct Barrier {
     steps: Steps,
@@ -65,8 +66,8 @@ impl Gate for Barrier {
     fn after(&self, _step: Step) {}
 }
 
-/// Runs `pages` pages, each on a sheet, with these numbers of preparers and imposers, which have to meet at these steps. Asserts that a step of each
-/// page or sheet is entered once, that no wait runs out, and that no sheet is made at the end.
+/// Runs `pages` pages, each on a sheet, with these numbers of preparers and imposers. `height` of these steps must have entered the gate before it
+/// opens. Asserts that a step of each page or sheet enters once, that no wait runs out, and that no sheet is made at the end.
 fn assert_met<R: Threads + Wait + Sync + Abort>(
     rt: &R,
     alloc: Global,
@@ -115,7 +116,7 @@ fn as_many_threads_run_as_were_asked_for(rt: HostRuntime) {
     }
 }
 
-/// The number of sheets made at the end of a run on one page.
+/// The number of sheets made at the end of a run on one page, with `count` workers of each kind.
 fn swept_of_one<R: Threads + Wait + Sync + Abort>(rt: &R, alloc: Global, count: u32) -> u32 {
     let trial = Trial {
         document: ONE_PAGE,
@@ -132,16 +133,15 @@ fn short_runs_leave_no_sheet_to_the_end(rt: HostRuntime) {
     }
 }
 
-/// Whether the first look waits before or after it is made.
+/// The time at which the first look waits for the sheet: before it searches, or afterwards.
 #[derive(Clone, Copy, PartialEq, Eq)]
 enum Side {
     Before,
     After,
 }
 
-/// A gate for a run with one sheet. The step that brings the sheet to the queue or the channel is held back until the first look there waits, before
-/// or after it is made. The look waits until the sheet has come. A look that waits before it is made therefore finds the sheet, and one that waits
-/// afterwards has found nothing.
+/// A gate for a run with one sheet. The step that brings the sheet to the queue or the channel waits until the first look there waits. The look waits
+/// until the sheet has come. A look that waits before it searches finds the sheet; one that waits afterwards has found nothing.
 #[derive(Drop)]
 struct Late {
     look: Look,
@@ -151,7 +151,7 @@ struct Late {
     ended: AtomicUsize,
     /// The number of looks that have waited.
     waited: AtomicUsize,
-    /// The number of steps that bring a sheet and have ended. `came` is the number of sheets that have come.
+    /// The number of steps that brought a sheet and have ended. `came` is the number of sheets that have come.
     worked: AtomicUsize,
     came: AtomicUsize,
     /// The number of looks that had begun when the sheet was found.
@@ -235,7 +235,7 @@ impl Gate for Late {
     }
 }
 
-/// A sink that takes all bytes. Its second call writes the only sheet.
+/// A sink that takes all bytes. The second call writes the only sheet.
 #[derive(Drop)]
 struct OneSheet<'w> {
     late: &'w Late,

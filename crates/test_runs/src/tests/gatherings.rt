@@ -1,4 +1,4 @@
-//! Tests of gatherings, also into sinks that fail. They check the output, the report, and that the seat and the pass come back whole.
+//! Tests of gatherings, some of them into sinks that fail. They check the output, the report, and that the seat and the pass come back whole.
 ghost use Rattle.std.specs.Prelude.{◌≤◌, length};
 ghost use Rattle.imposer.specs.Gathering.{IsFreshPass};
 
@@ -17,8 +17,8 @@ use std::sync::Wait;
 use std::thread::Threads;
 use test_tools::{MOST_GROWTHS, TWO_UP, document_of, refuse, two_up_output};
 
-/// How a job is gathered: the numbers of workers, the number of bytes for which the sink has room, the number of puts that the queue guarantees, if
-/// it guarantees any, and the number of the growth that is refused.
+/// How a job is gathered: the numbers of workers, and the number of bytes for which the sink has room. `puts` is the least number of puts that the
+/// queue guarantees, if it guarantees any. `refused` says which growth is refused, counted from 1.
 #[derive(Clone, Copy)]
 pub(super) struct Way {
     pub(super) workers: Workers,
@@ -27,8 +27,8 @@ pub(super) struct Way {
     pub(super) refused: u32,
 }
 
-/// The outcome of a gathering: its answer, whether a page was left without a receipt, the shares of the seat and of the pass if they came back, and
-/// the sink with the output.
+/// The end of a gathering: its outcome, whether a page was left without a receipt, the shares of the seat and of the pass if they came back, and the
+/// sink with the output.
 #[derive(Drop)]
 pub(super) struct Gathering {
     pub(super) outcome: Result<Report, RunError>,
@@ -37,7 +37,7 @@ pub(super) struct Gathering {
     pub(super) sink: MemorySink,
 }
 
-/// A queue for the sheets of a job. If `puts` is given, the queue guarantees at least as many puts.
+/// A queue for the sheets of a job. If `puts` is given, the queue guarantees at least that number of puts.
 fn queue_for<R: Abort>(rt: &R, alloc: Global, job: &Job<'_, '_>, puts: Option<u32>) -> (Ready, Pass)
     ensures pass { IsFreshPass result.0 result.1 }
     ensures room { length job.now.plan.sheets ≤ result.0.capacity }
@@ -89,7 +89,7 @@ fn gather_at<R: Threads + Wait + Sync + Abort, G: Gate + Sync>(
     }
 }
 
-/// The shares of a seat and of a pass, if they are there.
+/// The shares of the seat and of the pass, if these came back.
 fn shares_of(tokens: Option<(Seat, Pass)>) -> Option<(u64, u64)> {
     match tokens {
         Some((seat, pass)) => Some((seat.share(), pass.share())),
@@ -97,7 +97,7 @@ fn shares_of(tokens: Option<(Seat, Pass)>) -> Option<(u64, u64)> {
     }
 }
 
-/// Gathers the pages of a document, two on a sheet.
+/// Gathers the pages of a document, two on a sheet, in this way and with this gate.
 pub(super) fn gather_pairs<R: Threads + Wait + Sync + Abort, G: Gate + Sync>(
     rt: &R,
     alloc: Global,
@@ -112,7 +112,7 @@ pub(super) fn gather_pairs<R: Threads + Wait + Sync + Abort, G: Gate + Sync>(
     gather_at(rt, alloc, &job, way, gate)
 }
 
-/// The expected outcome for `pages` pages, two on a sheet, if the bytes `written` of the output are written and the bytes `rest` aren't.
+/// The expected outcome for `pages` pages, two on a sheet. The bytes `written` of the output are written, and the bytes `rest` aren't.
 fn outcome_of(pages: u32, written: &[u8], rest: &[u8]) -> Result<Report, RunError> {
     let bytes = written.len() as u64;
     if !rest.is_empty() {

@@ -23,7 +23,7 @@ const fn bodies(long: &str) -> [&str; 4] {
     ]
 }
 
-/// A document of these four pages.
+/// A document of the four pages of `bodies`.
 fn document_of_pages(alloc: Global, long: &str) -> Result<String, AllocError> {
     format!(in alloc;
         "%!PS-Adobe-3.0\n%%Pages: 4\n%%EndComments\n\
@@ -32,7 +32,7 @@ fn document_of_pages(alloc: Global, long: &str) -> Result<String, AllocError> {
     )
 }
 
-/// The text of a sheet, put together from its parts. A page's body that is long is borrowed, not copied.
+/// The text of a sheet, put together from its parts. A long body of a page is borrowed, not copied.
 fn put_together<'r, R: Abort>(
     rt: &R,
     alloc: Global,
@@ -113,7 +113,7 @@ fn put_sheets<'r, R: Abort>(
     early.put(finished);
 }
 
-/// A buffer into which these sheets, of the four, have come as one group.
+/// A buffer that has received these of the four sheets as one group.
 fn early_with<'r, R: Abort>(
     rt: &R,
     alloc: Global,
@@ -155,7 +155,7 @@ impl Write for Calls {
     }
 }
 
-/// Notes which sheets are given back, with `END` after each group, and counts the bytes of their texts.
+/// The numbers of the sheets that were given back, with `END` after each group, and the number of bytes in their texts.
 #[derive(Drop)]
 struct GivenBack {
     sheets: Vec<u32>,
@@ -177,7 +177,7 @@ impl<'r> Spent<'r> for GivenBack {
     }
 }
 
-/// The lengths of the calls that write the sheets, if all of them come together.
+/// The lengths in bytes of the calls that write the four sheets, if these come as one group.
 fn calls_of_all<R: Abort>(
     rt: &R,
     alloc: Global,
@@ -199,8 +199,8 @@ fn calls_of_all<R: Abort>(
     calls.lengths
 }
 
-/// Writes four sheets as two groups, 0 and 2, then 1 and 3. Returns the next sheet and the number of notes after each group. A group is given back
-/// only once its last sheet has been written.
+/// Writes four sheets that come as two groups, 0 and 2, then 1 and 3. Returns, after each group, the next sheet to write and the length of
+/// `given_back.sheets`. A group is given back only once its last sheet has been written.
 fn write_two_groups<R: Abort>(
     rt: &R,
     alloc: Global,
@@ -223,7 +223,7 @@ fn write_two_groups<R: Abort>(
     [first, (progress.next, given_back.sheets.len())]
 }
 
-/// Writes the two groups. Asserts that they are given back one after the other, with all bytes that were written.
+/// Calls `write_two_groups`. Asserts that the two groups are given back one after the other, with all bytes that were written.
 fn two_groups<R: Abort>(
     rt: &R,
     alloc: Global,
@@ -245,8 +245,8 @@ fn two_groups<R: Abort>(
     sink
 }
 
-/// Lets the sheets `came`, of the four, come as one group. Asserts that the rest of the sheets are made and counted, and that all sheets and the
-/// trailer are written.
+/// Puts the sheets `came` into the buffer as one group, and writes all four sheets. Asserts that the missing sheets are made and counted, and that
+/// all sheets and the trailer are written.
 fn assert_rest<R: Abort>(
     rt: &R,
     alloc: Global,

@@ -1,5 +1,5 @@
-//! Tests of threads that publish pages and mark their slots at the same time. The replies for a sheet depend on the threads that bring its pages, and
-//! on no other sheet.
+//! Tests of threads that publish pages and mark their slots at the same time. The replies to marks on a sheet depend only on the threads that bring
+//! pages of that sheet.
 ghost use Rattle.std.specs.Prelude.{◌≡◌};
 ghost use Rattle.rules.specs.Sheets.{layout};
 ghost use Rattle.gather_table.specs.Shared.{IsSeatOf};
@@ -19,7 +19,7 @@ use std::thread::{Threads, for_each_mut};
 /// The number of times that the threads are started.
 const ROUNDS: u32 = 1_000;
 
-/// Two slots, each with its sheet and its place there.
+/// Two slots, each named by its sheet and its number on that sheet, both counted from 0.
 type Slots = [(u32, u16); 2];
 
 /// The replies to marks of two slots.
@@ -57,7 +57,7 @@ impl<'s, 't, 'p> Bringer<'s, 't, 'p> {
         mark_checked(self.table, self.plan, &mut self.seat, sheet, slot)
     }
 
-    /// Publishes the two pages and marks the slots, once both threads have begun.
+    /// Waits until both threads have begun. Then publishes the pages of this thread's slots, and marks the slots.
     fn bring(&mut self, begun: &AtomicUsize, run_out: &AtomicUsize) {
         begun.fetch_add(1, SeqCst);
         wait_for(begun, 2, run_out);
@@ -68,7 +68,7 @@ impl<'s, 't, 'p> Bringer<'s, 't, 'p> {
     }
 }
 
-/// Lets two threads bring the pages of these slots at the same time, and returns the replies to their marks.
+/// Lets two threads bring pages at the same time, each to its two slots, and returns the replies that each thread gets.
 fn bring_beside<R: Threads + Sync + Abort>(
     rt: &R,
     alloc: Global,
@@ -103,7 +103,8 @@ fn bring_beside<R: Threads + Sync + Abort>(
     [bringers[0].replies, bringers[1].replies]
 }
 
-/// Lets two threads bring the pages of two pairs of slots many times, and asserts that the threads get these replies, in either order.
+/// Lets two threads bring pages at the same time, each to its two slots, `ROUNDS` times. Asserts that the threads get these replies each time, in
+/// either order.
 fn assert_answered<R: Threads + Sync + Abort>(
     rt: &R,
     alloc: Global,

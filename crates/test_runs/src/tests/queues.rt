@@ -25,7 +25,7 @@ fn assert_put<R: Wait + Abort>(
     assert_that(rt, ready.put(rt, pass, sheet) == answer);
 }
 
-/// Asserts that a take gives this sheet, or none.
+/// Asserts that a take gives `sheet`, which is `None` for an empty queue.
 fn assert_taken<R: Wait + Abort>(rt: &R, ready: &Ready, pass: &mut Pass, sheet: Option<u32>)
     requires { IsPassOf ready.now pass.old }
     ensures { IsPassOf ready.now pass.new }

@@ -1,5 +1,5 @@
-//! A test of a pass with room for half of the puts. The queue hands the first sheet back to a preparer, so the sheet's turn never comes. The other
-//! sheets must be imposed without waiting for it.
+//! A test of a pass with room for half of the puts. The queue hands the first sheet back to a preparer, so that sheet's turn never comes. The other
+//! sheets must be imposed without waiting for the first one.
 use super::gatherings::{Gathering, Way, gather_pairs};
 use super::wait_for;
 use super::windows::six_pages;
@@ -16,8 +16,8 @@ use test_tools::MOST_GROWTHS;
 /// The number of sheets, of two pages each.
 const SHEETS: u32 = 3;
 
-/// A gate for two preparers, one with the even pages, the other with the odd ones. The first sheet is completed by its odd page, each other sheet by
-/// its even page.
+/// A gate for two preparers. One has the even pages, counted from 0, and the other has the odd ones. The first sheet is completed by its odd page,
+/// each other sheet by its even page.
 #[derive(Drop)]
 struct FirstSheetByTheSecond {
     /// The number of even pages that were delivered.

@@ -2,7 +2,7 @@
 use super::checks::{assert_that, done};
 use imposer::SheetSet;
 
-/// For each pair of an end and a number, takes the smallest number below the end from the set. Returns whether these are the expected numbers.
+/// For each pair, takes the smallest number below the pair's end from the set. Returns whether each taken number is the one in its pair.
 fn are_taken(set: &mut SheetSet, wanted: &[(u32, Option<u32>)]) -> bool {
     for (end, number) in wanted {
         if set.take_first_before(*end) != *number {

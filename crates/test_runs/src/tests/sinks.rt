@@ -11,10 +11,10 @@ use std::sync::Wait;
 use std::thread::Threads;
 use test_tools::{ONE_PAGE, TWO_PAGES, TWO_UP, one_up_output, two_up_output};
 
-/// The numbers of preparers and of imposers.
+/// The numbers of preparers and imposers with which the tests run.
 const COUNTS: [(u32, u32); 2] = [(1, 1), (2, 3)];
 
-/// The largest number of bytes that a sink or a writer here takes in one call.
+/// The largest number of bytes that a sink or writer takes in one call, in the tests of failing calls.
 const PER_CALL: usize = 7;
 
 /// A run of two pages on a sheet, with these numbers of workers.
@@ -97,7 +97,7 @@ fn the_first_bytes_are_written_before_a_failure(rt: HostRuntime) {
     }
 }
 
-/// A number of calls of seven bytes that is more than enough for the output.
+/// A number of calls of seven bytes that is larger than the whole output needs.
 const MOST_CALLS: u64 = 200;
 
 // The output has 503 bytes, so at least 72 calls of seven bytes are needed.
@@ -140,7 +140,8 @@ impl Write for Torn {
     }
 }
 
-/// Runs two pages on a sheet into a writer that fails at this call for this cause. Returns the number of the writer's calls, if the run failed.
+/// Runs two pages on a sheet into a writer that fails at this call for this cause. Returns the number of the writer's calls, or `None` if the run
+/// reports no failed write.
 fn calls_of_torn<R: Threads + Wait + Sync>(
     rt: &R,
     alloc: Global,

@@ -1,11 +1,11 @@
-//! Counters of numbers, shared by any number of threads.
+//! Counts how often threads add each number. Any number of threads may share the counters.
 use crate::tests::checks::done;
 use std::alloc::Global;
 use std::process::Abort;
 use std::sync::atomic::AtomicUsize;
 use std::sync::atomic::Ordering::SeqCst;
 
-/// For each number below an end, the number of times that it was added, and the number of all additions.
+/// The number of additions of each number below an end, and the number of all additions.
 #[derive(Drop)]
 pub(super) struct Tally {
     counts: Vec<AtomicUsize>,

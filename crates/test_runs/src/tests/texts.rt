@@ -6,11 +6,12 @@ use std::alloc::Global;
 use std::process::Abort;
 use test_tools::ONE_PAGE;
 
-/// The number of bytes that the sheet's text is likely to need: 64, the length of the document with its page, and 256 around the page.
+/// The number of bytes that the sheet's text is likely to need: 64, plus the length of the document with its page, plus 256 for the text around the
+/// page.
 const LIKELY_ROOM: usize = 64 + ONE_PAGE.len() + 256;
 
-/// Asserts that the sheet's text asks for at most `LIKELY_ROOM` bytes. A text that is begun in memory of `before` bytes must keep that memory, or
-/// have the memory that it is likely to need.
+/// Asserts that the sheet's text asks for at most `LIKELY_ROOM` bytes. A text that is begun in memory of at least `before` bytes must not give up any
+/// of it. If that memory grows, it may have at most twice `LIKELY_ROOM` bytes.
 #[derive(Drop)]
 struct KeepsRoom {
     before: usize,

@@ -1,5 +1,5 @@
-//! Tests with pages so large that only a few sheets lie in the window of those that may be imposed. The rest of the sheets wait until their turn is
-//! near, unless the next sheet to be written may never come.
+//! Tests with pages so large that only a few sheets lie in the window of sheets that may be imposed. Other sheets wait until their turn is near, but
+//! no sheet waits after a failed write.
 ghost use Rattle.std.specs.Prelude.{◌≡◌, None};
 
 use super::{Trial, large_pages, run_into, wait_for};
@@ -15,7 +15,8 @@ use std::thread::Threads;
 /// The number of pages of the documents here.
 const PAGES: usize = 6;
 
-/// The length of a page in bytes: two pages are longer than the texts of a window.
+/// The least length, in bytes, of the text of a sheet with pages. Two such texts exceed the 786,432 bytes for which a window is made, so the window
+/// has only its least number of sheets.
 const PAGE_LEN: usize = 400_000;
 
 /// The pages in their order, each on a sheet of its own.
@@ -106,8 +107,8 @@ impl<'w> Sink for LimitedSink<'w> {
     }
 }
 
-/// A gate that delivers the page of the first sheet last: after all other pages are delivered, and after as many sheets are imposed as lie in the
-/// window behind the first one. It counts sheets that are imposed too early, a window or more ahead of those that are written.
+/// A gate that delivers the page of the first sheet last: after all other pages, and after the imposing of each other sheet in the window has begun.
+/// It counts the sheets that are imposed too early, a window or more ahead of the written sheets.
 #[derive(Drop)]
 struct FirstSheetLast<'w> {
     words: &'w Words,
@@ -142,8 +143,8 @@ impl<'w> Gate for FirstSheetLast<'w> {
     }
 }
 
-/// Runs a trial in which `first_page`, the page of the first sheet, is delivered last. Asserts that workers impose all of the `sheets` sheets, and
-/// none too early.
+/// Runs a trial in which `first_page`, the page of the first sheet, is delivered last. Asserts that workers impose all of the `sheets` sheets, and no
+/// sheet too early.
 fn assert_in_turn<R: Threads + Wait + Sync + Abort>(
     rt: &R,
     alloc: Global,
@@ -234,14 +235,14 @@ fn no_turn_is_waited_for_after_a_failed_write(rt: HostRuntime) {
     }
 }
 
-/// The place at which an imposer waits until the sink has failed.
+/// The time at which an imposer waits until the sink has failed: before or after it imposes a sheet.
 #[derive(Clone, Copy)]
 enum Waits {
     BeforeSheet,
     AfterSheet,
 }
 
-/// A gate that lets only the first sheet reach the collector before the sink has failed. Until then, imposers of other sheets wait here.
+/// A gate that lets only the first sheet reach the collector before the sink has failed. Until then, imposers of other sheets wait at this gate.
 #[derive(Drop)]
 struct FailureFirst<'w> {
     words: &'w Words,

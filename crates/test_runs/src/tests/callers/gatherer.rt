@@ -12,7 +12,7 @@ use run_steps::{Answers, Delivery, is_complete};
 use std::alloc::{AllocError, Global};
 use std::sync::Wait;
 
-/// A gatherer of a job's pages. The table is one of the job's plan.
+/// A gatherer of a job's pages. Its table is for the job's plan.
 #[derive(Drop)]
 pub(crate) struct Gatherer<'s, 'j, 't, 'd> {
     pub(crate) job: &'s Job<'j, 'd>,
@@ -86,7 +86,7 @@ impl<'s, 'j, 't, 'd> Gatherer<'s, 'j, 't, 'd> {
         delivery.deliver(rt, &mut self.seat, &mut self.pass, prepared, answers)
     }
 
-    /// Prepares a page of the document. `None` if that is refused, or if there is no such page.
+    /// Prepares a page of the document. `None` if the page can't be prepared, or doesn't exist.
     pub(crate) fn prepare(&self, alloc: Global, page: u32) -> Option<Prepared<'d>> {
         let document = self.job.document();
         if page >= document.pages() {
@@ -95,7 +95,7 @@ impl<'s, 'j, 't, 'd> Gatherer<'s, 'j, 't, 'd> {
         Prepared::new(alloc, page, document.page(page)).ok()
     }
 
-    /// Prepares a page of the document and delivers it. `None` if either is refused, or if there is no such page.
+    /// Prepares a page of the document and delivers it. `None` if the page can't be prepared or delivered, or doesn't exist.
     pub(crate) fn deliver_page<R: Wait>(
         &mut self,
         rt: &R,
@@ -140,7 +140,7 @@ impl<'s, 'j, 't, 'd> Gatherer<'s, 'j, 't, 'd> {
         self.ready.put(rt, &mut self.pass, sheet)
     }
 
-    /// Takes the oldest sheet of the queue.
+    /// Takes the oldest sheet of the queue. `None` if the queue is empty.
     pub(crate) fn take<R: Wait>(&mut self, rt: &R) -> Option<u32> {
         self.ready.take(rt, &mut self.pass)
     }
@@ -191,7 +191,8 @@ pub(crate) enum Outcome {
     NotComplete,
 }
 
-/// The outcome for a sheet of this job that was imposed: whether its text is the one that `sheet_text` makes.
+/// The outcome for a sheet that was imposed: `Imposed` if its number is `sheet` and its text is the one that `sheet_text` makes, else `OtherText`.
+/// The only error is refused memory.
 fn outcome_of_text(
     alloc: Global,
     job: &Job<'_, '_>,

@@ -16,7 +16,7 @@ use std::process::Abort;
 use std::sync::Wait;
 use test_tools::{Refused, document_of, has_refused, refuse_each};
 
-/// Appends the answer to a delivery.
+/// Appends the answer to a delivery that succeeded.
 fn show_delivered(delivered: &Delivered<'_>, answer: &mut Vec<u8>) -> Result<(), AllocError> {
     let published = delivered.published;
     let replies = delivered.replies.as_slice();
@@ -28,7 +28,7 @@ fn show_delivered(delivered: &Delivered<'_>, answer: &mut Vec<u8>) -> Result<(),
     )
 }
 
-/// Appends the outcome of a delivery.
+/// Appends the answer to a delivery, or the reason why it failed.
 fn show_delivery(
     delivery: Result<Delivered<'_>, DeliverError<'_>>,
     answer: &mut Vec<u8>,
@@ -45,7 +45,8 @@ fn show_unshelved(prepared: &Prepared<'_>, answer: &mut Vec<u8>) -> Result<(), A
     say(format_args!("NoMemory {}", prepared.page()), answer)
 }
 
-/// Delivers a page. If `is_again` is true, the page is delivered twice, the second time in the memory of the first delivery's answers.
+/// Delivers a page and appends the outcome. If `is_again` is true, the page is delivered once before, and the memory of the answers to that delivery
+/// is used again.
 fn deliver<R: Wait>(
     rt: &R,
     alloc: Global,
@@ -63,7 +64,7 @@ fn deliver<R: Wait>(
     show_delivery(gatherer.deliver(rt, alloc, prepared, answers), answer)
 }
 
-/// The known number, bytes and body of a page.
+/// The number, the bytes and the body that a page must have.
 #[derive(Clone, Copy)]
 struct Known<'d> {
     page: u32,
@@ -71,12 +72,13 @@ struct Known<'d> {
     body: &'d [u8],
 }
 
-/// Whether a page is the known one.
+/// Whether a page has this number, these bytes and this body.
 fn is_known(found: &Prepared<'_>, known: Known<'_>) -> bool {
     found.page() == known.page && found.raw() == known.raw && found.body() == known.body
 }
 
-/// The index of a page on the shelf. `None` unless the page is read by its receipt, and is found at its index with another receipt that reads it.
+/// The index of a page on the shelf. `None` unless the shelf reads the known page both with the page's receipt and with the receipt that it finds at
+/// this index.
 fn index_on<'d>(shelf: &Shelf<'d>, receipt: &Receipt<'d>, known: Known<'_>) -> Option<u32>
     requires { IsOn shelf.now receipt.now }
 {
@@ -266,7 +268,7 @@ const BLANK: &str = "\
     impose 0 = Imposed\n\
 ";
 
-/// A shelf with another page at the index of the sheet's own page.
+/// A shelf with another page at the index that the table has for the sheet's own page.
 const ANOTHER_PAGE: &str = "\
     0 2 1\n\
     shown 0 = None\n\
@@ -280,7 +282,7 @@ const ANOTHER_PAGE: &str = "\
     impose 0 = NotShown\n\
 ";
 
-/// A shelf with the sheet's own page at the index that the table has for it.
+/// A shelf with the sheet's own page at the index that the table has for this page.
 const OWN_PAGE: &str = "\
     0 2 1\n\
     put 0 = Some(0)\n\
@@ -291,8 +293,8 @@ const OWN_PAGE: &str = "\
     shown 4294967295 = None\n\
 ";
 
-/// A shelf asks for more room with its 29th page. If that is refused, it asks again with the page that needs the room; if it is refused again, this
-/// page is returned. The shelf still shows the earlier pages.
+/// With its 29th page, a shelf asks for more room. If the room is refused, the shelf asks again with the page that needs it. If the room is refused
+/// once more, that page is returned, and the shelf still shows the earlier pages.
 const FILLED: &str = "\
     0 33 1\n\
     put 0 = Some(0)\n\

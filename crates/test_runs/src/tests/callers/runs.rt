@@ -14,8 +14,8 @@ use std::sync::Wait;
 use std::thread::Threads;
 use test_tools::{TWO_UP, document_of, one_up_output, two_up_output};
 
-/// The input that a word gives. A number gives a document with as many pages, a dash gives the empty text, and another word is itself the input,
-/// which isn't a document.
+/// The input that a word gives. A number gives a document with this number of pages, and a dash gives the empty text. Any other word is used as the
+/// input, which isn't a document.
 fn input_of(alloc: Global, word: &str) -> Result<String, NoMemory> {
     match word.parse::<u32>() {
         Ok(pages) => document_of(alloc, pages),
@@ -24,8 +24,8 @@ fn input_of(alloc: Global, word: &str) -> Result<String, NoMemory> {
     }
 }
 
-/// Asserts that the output is the expected one, if the run leaves one page unmoved or puts two pages on each sheet. Other outputs are compared
-/// elsewhere.
+/// Asserts that the output is the expected one, if the run leaves one page unmoved or puts two pages on each sheet. Other outputs aren't compared
+/// here.
 fn assert_wanted<R: Abort>(rt: &R, alloc: Global, items: &str, report: &Report, written: &[u8]) {
     if items == TWO_UP {
         let wanted = done(rt, two_up_output(alloc, report.sheets));

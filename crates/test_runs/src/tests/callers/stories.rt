@@ -18,8 +18,8 @@ pub(crate) trait Called<R> {
     ) -> Result<(), AllocError>;
 }
 
-/// The number of bytes that are reserved for an answer. No answer here is longer. They are reserved before a call, so that only growths of the call
-/// itself are refused.
+/// The number of bytes that are reserved for an answer. No answer here is longer. The bytes are reserved before a call, so that only growths in the
+/// call are refused.
 const ROOM: usize = 4_000;
 
 /// Makes the calls of a story, one for each line, and refuses the growth with this number in each call. Asserts that each answer is that of its line.
@@ -43,8 +43,8 @@ pub(crate) fn tell<R: Abort, C: Called<R>>(
     is_refused
 }
 
-/// Makes a call while the growth with this number is refused, and returns whether one was refused. If so, asserts that the call reports a lack of
-/// memory, and makes it again with memory; the refused call must have left everything unchanged.
+/// Makes a call while the growth with this number is refused, and returns whether a growth was refused. If so, asserts that the call reports a lack
+/// of memory, and makes the call again with memory. The refused call must have left everything unchanged.
 fn call_again<R: Abort, C: Called<R>>(
     rt: &R,
     alloc: Global,
@@ -87,7 +87,7 @@ pub(crate) fn call_of(words: &str) -> (&str, u32, u32) {
     (name, first, number(words.next()))
 }
 
-/// The number in a word; 0 if it isn't a number.
+/// The number in a word, or 0 if the word isn't a number.
 pub(crate) fn number(word: Option<&str>) -> u32 {
     word.unwrap_or("").parse::<u32>().unwrap_or(0)
 }

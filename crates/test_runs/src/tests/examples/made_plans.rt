@@ -87,7 +87,7 @@ fn two_sheets<R: Abort>(rt: &R, alloc: Global) -> MadeSheets {
     sheets
 }
 
-/// The dress of sheets that report their papers and all end with the same added line.
+/// The additions to an output whose sheets report their papers: a line in the header, and the same line at the end of each sheet.
 fn lines<R: Abort>(rt: &R, alloc: Global) -> SheetExtras {
     let mut header = Lines::new(alloc);
     done(rt, header.push(b"%%DocumentMedia: x"));
@@ -114,7 +114,7 @@ fn run_job<R: Threads + Wait + Sync + Abort>(rt: &R, alloc: Global, job: &Job<'_
     assert_that(rt, (report.pages, report.sheets, report.born) == (2, 2, 0));
 }
 
-/// Runs the job that puts the two pages on these sheets with this dress, and asserts the output.
+/// Runs the job that puts the two pages on these sheets with the additions `dress`, and asserts the output.
 fn run_dressed<R: Threads + Wait + Sync + Abort>(
     rt: &R,
     alloc: Global,

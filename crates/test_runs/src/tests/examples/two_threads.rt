@@ -1,4 +1,4 @@
-//! Gates at which threads wait for each other. A run on one thread would never pass them.
+//! A gate that a run on one thread would never pass, and a gate that counts its calls.
 use crate::tests::checks::{assert_that, done};
 use crate::tests::windows::{LimitedSink, Words};
 use crate::tests::{Trial, report_of, run_into};
@@ -17,7 +17,7 @@ struct Written<'w> {
     words: &'w Words,
 }
 
-/// The number of bytes of the preamble and the first of two sheets.
+/// The length of the preamble and of the first of two sheets together, in bytes.
 const FIRST_SHEET_END: usize = 257;
 
 impl<'w> Gate for Written<'w> {
@@ -97,7 +97,7 @@ impl Gate for Counted {
     }
 }
 
-/// The numbers of calls before and after.
+/// The number of calls before steps or looks, and the number of calls after them.
 fn counts_of(words: &[AtomicUsize; 2]) -> (usize, usize) {
     (words[0].load(SeqCst), words[1].load(SeqCst))
 }

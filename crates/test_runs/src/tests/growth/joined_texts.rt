@@ -9,7 +9,7 @@ use std::process::Abort;
 use test_tools::{Refused, has_refused, refuse, refuse_each};
 
 /// The objects of a story: texts of finished sheets, and sheets that have come. Each text is made in the same memory as the one before, and then
-/// added to the finished ones. The slices `long` and `longer` are borrowed, not copied.
+/// added to the finished texts. The slices `long` and `longer` are borrowed, not copied.
 #[derive(Drop)]
 struct InTexts<'r> {
     long: &'r [u8],
@@ -46,8 +46,8 @@ impl<'r> InTexts<'r> {
         (self.texts.len(), text.capacity(), text.pieces().len())
     }
 
-    /// Makes a text of these parts and adds it as a sheet, and appends the number of finished sheets. The text must be empty afterwards, and keep its
-    /// memory. If memory is refused, the number and the text must be unchanged.
+    /// Makes a text of these parts, adds it as a sheet, and appends the number of finished sheets. The text must be empty afterwards, and keep its
+    /// memory. If memory is refused, that number and the text must be unchanged.
     fn finish(&mut self, sheet: u32, parts: &str, answer: &mut Vec<u8>) -> Result<(), AllocError> {
         self.write(parts)?;
         let before = self.sizes();
@@ -62,7 +62,7 @@ impl<'r> InTexts<'r> {
         }
     }
 
-    /// Adds a sheet in the memory of sheets that were cleared. Appends whether it was added, and whether that asked for memory.
+    /// Adds a sheet in the memory of sheets that were cleared. Appends whether the sheet was added, and whether the addition asked for memory.
     fn add_anew(
         &mut self,
         alloc: Global,
@@ -137,7 +137,7 @@ impl<'r> InTexts<'r> {
         }
     }
 
-    /// Appends which of the first eight sheets are in the buffer.
+    /// Appends the numbers of those of the first eight sheets that are in the buffer.
     fn found(&self, answer: &mut Vec<u8>) -> Result<(), AllocError> {
         for sheet in 0..8u8 {
             if self.early.joined(u32::from(sheet), 1).is_some() {
@@ -251,8 +251,8 @@ const NEIGHBOURS: &str = "\
     joined 0 9 = 1 text\n\
 ";
 
-/// A sheet that comes lies in its place in the buffer. Another sheet with the same place is dropped, and taking that sheet leaves the first one
-/// there.
+/// A sheet that comes is put in its place in the buffer. A later sheet with the same place is dropped, and a call that takes it leaves the first
+/// sheet in the buffer.
 const ONE_PLACE: &str = "\
     places = (2, 2)\n\
     finish 1 a = 1\n\
@@ -268,8 +268,8 @@ const ONE_PLACE: &str = "\
     found = \n\
 ";
 
-/// The sheets of a group lie at the place of the last one, and are all dropped if that place is taken. A sheet whose own place belongs to another
-/// sheet counts as one that never came.
+/// The sheets of a group lie at the place of the group's last sheet, and are all dropped if that place is taken. A sheet whose own place belongs to
+/// another sheet counts as one that never came.
 const TOGETHER: &str = "\
     finish 1 = 1\n\
     finish 3 = 2\n\

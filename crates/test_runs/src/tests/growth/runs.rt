@@ -1,4 +1,4 @@
-//! Tests of whole runs and gatherings, into a sink whose memory is reserved before.
+//! Tests of whole runs and gatherings, into a sink whose memory is reserved before each run.
 use crate::tests::checks::{assert_that, done};
 use crate::tests::gatherings::{Way, gather_pairs};
 use crate::tests::growth::unrefused_after;
@@ -14,7 +14,8 @@ use test_tools::{BOOKLET, MOST_GROWTHS, TWO_UP, document_of, has_refused, refuse
 /// The number of bytes for which a sink has memory. No run here writes more.
 const ROOM: usize = 2_000_000;
 
-/// A gate that delays the delivery of the first page by this many yields. With a delay, sheets of other pages come earlier and wait for their turn.
+/// A gate that delays the delivery of the first page by this number of yields. With a delay, sheets of other pages come earlier and wait for their
+/// turn.
 #[derive(Clone, Copy)]
 struct Late {
     yields: u32,
@@ -36,7 +37,7 @@ const ON_TIME: Late = Late { yields: 0 };
 
 const LATE: Late = Late { yields: 1_000 };
 
-/// The end of a run: the number of bytes that it reports as written, `None` if it finished; and whether a growth was refused.
+/// The end of a run: the number of bytes that it reports as written, or `None` if it finished, and whether a growth was refused.
 #[derive(Clone, Copy)]
 struct Ended {
     written: Option<u64>,
@@ -71,14 +72,14 @@ fn run_refused<R: Threads + Wait + Abort + Sync>(
     (sink, ended)
 }
 
-/// Whether a sink has the whole output if the run finished, and otherwise as many of its first bytes as the run reported.
+/// Whether a sink has the whole output if the run finished, and otherwise exactly as many of the output's first bytes as the run reported.
 fn is_written(output: &[u8], sink: &MemorySink, written: Option<u64>) -> bool {
     let wanted = written.unwrap_or(output.len() as u64);
     sink.bytes().len() as u64 == wanted && output.starts_with(sink.bytes())
 }
 
-/// Whether a run may end in this way. It may fail only if a growth was refused. If a growth was refused, it may finish only if it `holds` sheets
-/// until their turn, because the growth may have been for the number of a held sheet.
+/// Whether a run may end in this way. It may fail only if a growth was refused. If a growth was refused, the run may finish only if it `holds` sheets
+/// until their turn: the growth may have been for the number of a held sheet.
 fn is_right(holds: bool, ended: Ended) -> bool {
     match ended.written {
         Some(_) => ended.is_refused,
@@ -101,8 +102,8 @@ fn refuse_one<R: Threads + Wait + Abort + Sync>(
     ended.is_refused
 }
 
-/// Refuses each growth of the run in turn. The order in which threads grow memory varies, so the end is reached only when no growth was refused for
-/// four successive numbers.
+/// Refuses each growth of the run in turn. The order in which threads grow memory varies. The test therefore ends only after four successive numbers
+/// for which no growth was refused.
 fn refuse_each<R: Threads + Wait + Abort + Sync>(
     rt: &R,
     alloc: Global,

@@ -37,7 +37,7 @@ fn make_all<R: Abort>(rt: &R, alloc: Global, number: u32, plan: &Plan<'_>) -> bo
         || are_places_refused
 }
 
-/// The objects for this specification and this number of pages. The pages fill this number of sheets.
+/// A specification and a number of pages for which the objects are made, and the number of sheets that the pages fill.
 #[derive(Clone, Copy)]
 struct Made<'t> {
     items: &'t str,
