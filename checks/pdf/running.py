@@ -3,10 +3,10 @@
 from __future__ import annotations
 
 import concurrent.futures
+import itertools
 import os
 import subprocess
 import tempfile
-from collections.abc import Callable, Iterable
 from pathlib import Path
 
 from . import checks, recipes
@@ -38,19 +38,10 @@ def tried(case: Case, programs: Programs) -> list[str]:
         tidied(folder)
 
 
-def results(
-    cases: Iterable[Case], programs: Programs, is_enough: Callable[[Result], bool] = lambda _: False
-) -> list[Result]:
-    """The faults of each case, in order of completion, up to the first result that is enough."""
-    found: list[Result] = []
-    with concurrent.futures.ThreadPoolExecutor(os.cpu_count()) as pool:
-        waiting = {pool.submit(tried, case, programs): case for case in cases}
-        for done in concurrent.futures.as_completed(waiting):
-            found.append((waiting[done], done.result()))
-            if is_enough(found[-1]):
-                pool.shutdown(cancel_futures=True)
-                break
-    return found
+def results(cases: list[Case], programs: Programs) -> list[Result]:
+    """The faults of each case. Cases run in processes, because pikepdf may abort where several threads use it."""
+    with concurrent.futures.ProcessPoolExecutor(os.cpu_count()) as pool:
+        return list(zip(cases, pool.map(tried, cases, itertools.repeat(programs))))
 
 
 def run_all(programs: Programs, only: str) -> int:
@@ -58,7 +49,7 @@ def run_all(programs: Programs, only: str) -> int:
     cases = all_cases(only)
     able = [case for case in cases if can_be_run(case)]
     found = results(able, programs)
-    for case, faults in sorted(found, key=lambda result: (result[0].file, result[0].line)):
+    for case, faults in found:
         if faults:
             print(f"{case.file}:{case.line}: {case.name}: $ {case.command}")
             print("".join(f"  {fault}\n" for fault in faults), end="")

@@ -3,13 +3,14 @@
 from __future__ import annotations
 
 import concurrent.futures
+import itertools
 import os
 import shutil
 import tempfile
 from pathlib import Path
 
 from .cases import ROOT, Case, Programs
-from .running import all_cases, results
+from .running import all_cases, tried
 
 EDITS = ROOT / "mutants/impose_pdf"
 TABLE = EDITS / "seen.tsv"
@@ -47,9 +48,9 @@ def seen_by(edit: Path, programs: Programs) -> str:
         if fault := planted(edit, copy):
             return f"it can't be planted: {fault}"
         wrong = Programs(copy / programs.impose_pdf.name, programs.impose)
-        found = results(cases_for(edit), wrong, is_enough=lambda result: bool(result[1]))
-        seen = [f"{case.file}: {case.name}: {faults[0]}" for case, faults in found if faults]
-        return seen[0][:160].replace(str(copy), "").replace("\t", " ") if seen else "nothing"
+        found = ((case, tried(case, wrong)) for case in cases_for(edit))
+        seen = next((f"{case.file}: {case.name}: {faults[0]}" for case, faults in found if faults), "nothing")
+        return seen[:160].replace(str(copy), "").replace("\t", " ")
 
 
 def try_wrong(programs: Programs, names: list[str]) -> int:
@@ -57,8 +58,8 @@ def try_wrong(programs: Programs, names: list[str]) -> int:
     edits = [path for path in sorted(EDITS.glob("*.edit")) if not names or path.stem in names]
     table = dict(line.split("\t") for line in TABLE.read_text().splitlines()[1:]) if TABLE.is_file() else {}
     faults = 0
-    with concurrent.futures.ThreadPoolExecutor(os.cpu_count()) as pool:
-        found = dict(zip(edits, pool.map(lambda edit: seen_by(edit, programs), edits)))
+    with concurrent.futures.ProcessPoolExecutor(os.cpu_count()) as pool:
+        found = dict(zip(edits, pool.map(seen_by, edits, itertools.repeat(programs))))
     for edit in edits:
         table[edit.stem] = found[edit]
         is_fault = table[edit.stem].startswith(("nothing", "it can't"))
