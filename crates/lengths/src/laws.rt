@@ -13,8 +13,8 @@ pub fn printed_number_is_read()
     ensures { IsReadAgain number_text }
 {}
 
-/// A text is accepted as a length exactly if it is a number, positive or negative, alone or followed by `pt`, `cm`, `mm` or `in`. The integer part of
-/// the number is at most 99,999.
+/// A text is accepted as a length exactly if it is a number with an integer part of at most 99,999, alone or followed by `pt`, `cm`, `mm` or `in`.
+/// The number may be negative.
 pub fn lengths_are_numbers_and_units()
     ensures { LengthsAreNumbers }
 {}

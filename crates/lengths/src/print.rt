@@ -115,8 +115,8 @@ fn unless_dot_follows<'a>(whole: u64, digits: &'a [u8], decimals: &[u8]) -> &'a 
     }
 }
 
-/// The decimals of a fraction, without zeros at the end. `one_and_part` has a 1 before the fraction's digits, because leading zeros of a number
-/// aren't printed.
+/// The decimals of a fraction, without zeros at the end. `one_and_part` has a 1 before the fraction's digits, so that it also has the zeros at the
+/// start of the fraction.
 fn decimals_behind_one(one_and_part: &[u8]) -> &[u8]
     ensures value { result.now ≡ without_last_zeros (drop 1 one_and_part.now) }
     ensures no_longer { length result.now ≤ length one_and_part.now }

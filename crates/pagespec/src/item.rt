@@ -16,7 +16,7 @@ impl Measure {
     };
 }
 
-/// How far a page is turned to the left, in quarters of a full turn: none, one, two or three.
+/// The angle by which a page is turned to the left: none, one, two or three quarters of a full turn.
 #[derive(Clone, Copy, Debug, PartialEq, Eq)]
 pub enum Turn {
     None,

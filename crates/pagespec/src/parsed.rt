@@ -1,4 +1,4 @@
-//! Items as they are parsed. The values kept of an item are enough to find its faults, or to make the item if it has none.
+//! Items as they are parsed. A parsed item keeps enough to find its faults or, if it has none, to make the item.
 ghost use Rattle.std.specs.Prelude.{◌≡◌, ◌∷◌, ◌++◌, [], List, Some, length, MatchResult, not, int_le, pos};
 ghost use Rattle.rules.specs.Specification.{IsItem, Modifier as WrittenModifier};
 ghost use Rattle.pagespec.specs.Places.{StuckIn, StuckAfter, AreSomeModifiers};
@@ -15,7 +15,7 @@ use lengths::{Number, read_digits};
 pub(crate) struct Modifiers {
     /// The number of quarter turns to the left, modulo 4.
     pub quarters: u8,
-    /// The scale that is written first. `offset` has the offset that is written first.
+    /// The scale that is written first, if any. Likewise, `offset` is the offset that is written first.
     pub scale: Option<Number>,
     pub offset: Option<(Measure, Measure)>,
     /// Whether the integer part of a number is over 99,999. If so, only this field and `quarters` are reliable.

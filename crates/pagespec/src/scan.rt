@@ -13,14 +13,14 @@ ghost use Rattle.pagespec.specs.Views.{MeasureRead, ModifierRead, IsMeasureOf, S
 use crate::item::Measure;
 use lengths::{Number, NumberError, Unit, read_number};
 
-/// A place in a text where reading can't go on: no grammatical text has the next byte there, or the text ends there.
+/// A place in a text where reading stops: no grammatical text begins with the bytes up to and including the next one, or the text ends there.
 #[derive(Clone, Copy)]
 pub(crate) struct ParseStop {
     /// The number of bytes from this place to the end of the text.
     pub left: usize,
 }
 
-/// The rest of a text, after a part at the start of the text was read.
+/// The rest of a text whose first part has been read.
 #[derive(Clone, Copy)]
 pub(crate) struct Rest<'t> {
     pub text: &'t [u8],
@@ -141,8 +141,8 @@ fn read_measure(bytes: &[u8]) -> Result<(Option<Measure>, Rest<'_>), ParseStop>
     }
 }
 
-/// The unit at the start of a text, or points if there is none. If the text begins with the first letter of a two-letter unit, reading fails only
-/// after this letter.
+/// The unit at the start of a text, or points if there is none. If the text begins with the first letter of a two-letter unit, but not with the whole
+/// unit, the rest begins before this letter, and further reading fails after it.
 fn read_unit(bytes: &[u8]) -> (Unit, Rest<'_>)
     ensures unit { (unit_at bytes.now).0 ≡ length_unit result.0 }
     ensures rest { (unit_at bytes.now).1 ≡ result.1.text.now }

@@ -3,7 +3,7 @@
 /// Why a text names no paper.
 #[derive(Clone, Copy, Debug, PartialEq, Eq)]
 pub enum PaperError {
-    /// The text is neither a known name nor a width and a height with an `x` between them.
+    /// The text is neither a known name nor a width and a height with `x`, `X`, `*` or `×` between them.
     Unknown,
     /// No unit follows the height.
     NoUnit,

@@ -50,8 +50,8 @@ const PAPERS: [(&str, u32, u32); 34] = [
 /// The number of grains in a point.
 const GRAINS_OF_POINT: i128 = 127_000_000_000;
 
-/// The paper that has this name in the table. Capitals, blanks, minuses and underscores make no difference, and `din`, `iso` or `us` may come first.
-/// `landscape` or `quer` at the end exchanges width and height. Any other name gives None.
+/// The paper with this name, which must be one of `name_list`. Capitals, blanks, minuses and underscores make no difference, and `din`, `iso` or `us`
+/// may come first. `landscape` or `quer` at the end exchanges width and height. None for any other name.
 pub fn paper_by_name(name: &[u8]) -> Option<Paper>
     ensures { result ≡ paper_named name.now }
 {
@@ -61,7 +61,7 @@ pub fn paper_by_name(name: &[u8]) -> Option<Paper>
     }
 }
 
-/// The names in the table, separated by commas.
+/// The names of all known papers, separated by commas.
 #[tactic(auto, unfolding(crate::specs::Names::papers))]
 pub fn name_list() -> &'static str
     ensures { result.now ≡ listed papers }
@@ -70,7 +70,7 @@ pub fn name_list() -> &'static str
     letter, legal, tabloid, ledger, statement, executive, folio, quarto, 10x14"
 }
 
-/// The paper that has this name in the table. A name that ends with `landscape` or `quer` isn't found.
+/// The paper that `paper_by_name` finds for this name, except that a name that ends with `landscape` or `quer` isn't found.
 #[tactic(auto, unfolding(crate::specs::Names::papers))]
 pub(crate) fn upright_paper(name: &[u8]) -> Option<Paper>
     ensures { result ≡ meaning.upright_named name.now }
@@ -128,7 +128,8 @@ fn behind_maker(name: &[u8]) -> &[u8]
     }
 }
 
-/// The text after `word`, or None if the text doesn't begin with `word`. `word` has no capitals, and capitals in the text make no difference.
+/// The text after `word`, or None if the text doesn't begin with `word`, which has no capitals. Capitals, blanks, minuses and underscores in the text
+/// make no difference.
 fn after_word<'t>(text: &'t [u8], word: &[u8]) -> Option<&'t [u8]>
     ensures { option_map (λ rest. letters rest.now) result ≡ meaning.after_word word.now (letters text.now) }
 {
@@ -199,7 +200,8 @@ fn turned_paper(paper: Option<Paper>) -> Option<Paper>
     Some(paper?.turned())
 }
 
-/// The paper that is `width` points wide and `height` points high.
+/// The paper that is `width` points wide and `height` points high. The caller has to show that both numbers are above 0 and below 7,200,000, so the
+/// result isn't None.
 fn paper_of_points(width: u32, height: u32) -> Option<Paper>
     requires width { (0 < width) × (width < 7_200_000) }
     requires height { (0 < height) × (height < 7_200_000) }

@@ -17,8 +17,8 @@ struct Side {
     unit: Option<Unit>,
 }
 
-/// The paper that a text means. It is the paper with this name (see `paper_by_name`), or the one with the width and height at the end of the text,
-/// which have an `x` between them. `landscape` or `quer` after that exchanges width and height.
+/// The paper that a text means. The text is a name that `paper_by_name` knows, or ends with a width and a height with an `x` between them. A final
+/// `landscape` or `quer` exchanges width and height.
 ///
 /// A side is a number with `pt`, `cm`, `mm`, `in`, `inch` or `"` after it. The integer part of the number is at most 99,999. If only the height has a
 /// unit, the width has this unit too, as in `210x297mm`. `X`, `*` and `×` may replace the `x`. A name and an underscore before the size are passed
@@ -67,7 +67,7 @@ fn last_part(text: &[u8]) -> &[u8]
     part
 }
 
-/// The paper with the width and the height that a text has, with `x`, `X`, `*` or `×` between them.
+/// The paper whose width and height a text gives, with `x`, `X`, `*` or `×` between them.
 fn size_of(text: &[u8]) -> Result<Paper, PaperError>
     ensures { result ≡ meaning.size_of text.now }
 {
@@ -75,7 +75,7 @@ fn size_of(text: &[u8]) -> Result<Paper, PaperError>
     size_of_both(side_of(width), side_behind(rest))
 }
 
-/// The index of the first `x`, `X`, `*` or first byte of a `×`, or the length of the text if it has none of these.
+/// The index of the first `x`, `X`, `*` or byte 0xC3, with which a `×` begins in UTF-8. It is the length of the text if the text has none of these.
 fn x_at(text: &[u8]) -> usize
     ensures value { result ≡ meaning.x_at text.now }
     ensures within { result ≤ length text.now }
@@ -164,7 +164,8 @@ fn is_inch(name: &[u8]) -> bool
     is_named(name, b"in") || (is_named(name, b"inch") || is_named(name, b"\""))
 }
 
-/// The paper of two sides, or `Unknown` if one of them couldn't be read. A width without a unit has the unit of the height.
+/// The paper of two sides. A width without a unit has the unit of the height. Fails with `Unknown` if a side is None, with `NoUnit` if the height has
+/// no unit, and with `NoSuchSize` if a paper can't have these sides.
 fn size_of_both(width: Option<Side>, height: Option<Side>) -> Result<Paper, PaperError>
     ensures { result ≡ meaning.size_of_both
         (option_map (λ s. (s.number, option_map length_unit s.unit)) width)
@@ -187,7 +188,8 @@ fn size_of_sides(width: Side, height: Side) -> Result<Paper, PaperError>
     }
 }
 
-/// The paper that is `width` units `u` wide and `height` units `v` high. Neither unit depends on a paper.
+/// The paper that is `width` units `u` wide and `height` units `v` high. Neither unit depends on a paper. Fails with `NoSuchSize` if a paper can't
+/// have these sides.
 fn in_units(width: Number, u: Unit, height: Number, v: Unit) -> Result<Paper, PaperError>
     ensures { result ≡ meaning.in_units width (length_unit u) height (length_unit v) }
 {

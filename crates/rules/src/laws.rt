@@ -13,20 +13,20 @@ ghost use Rattle.rules.specs.Rows.{PartsOfRow, PartsByNumber, SheetsOfAll, Signa
 ghost use Rattle.rules.specs.Ranges.{RangesAreRead, RangesOfAll};
 ghost use Rattle.rules.specs.Leaves.{ReadInOrder, RowIsRead, SheetsAreFaces};
 
-/// A number's printed text is the only text that has the printed form and the number's value. This holds for up to 63 decimals and for absolute
-/// values below 10^64.
+/// Of all texts in the form of printed numbers, only one has the value of a given number: its printed text. This holds for up to 63 decimals and for
+/// absolute values below 10^64.
 pub fn printed_is_printed()
     ensures { PrintedIsPrinted }
 {}
 
-/// The canonical text of a number in a specification is the only text that has the canonical form and the number's value. This holds for absolute
-/// values below 10^64.
+/// Of all texts in the canonical form of numbers in a specification, only one has the value of a given number: its canonical text. This holds for
+/// absolute values below 10^64.
 pub fn number_is_printed()
     ensures { NumberIsPrinted }
 {}
 
-/// The canonical text of a number in a specification is the text of the same scale, but without an integer part of 0 before a dot. This holds for
-/// absolute values below 10^64.
+/// The canonical text of a number in a specification is the text that a matrix has for this number, but without an integer part of 0 before a dot.
+/// This holds for absolute values below 10^64.
 pub fn number_without_zero()
     ensures { NumberWithoutZero }
 {}
@@ -101,7 +101,7 @@ pub fn made_is_output()
     ensures { MadeIsOutput }
 {}
 
-/// Sheets that already carry the lines of their dress have the same output as sheets to which the dress is added.
+/// Sheets that already carry the lines of their dress (the lines besides their pages) have the same output as sheets to which the dress is added.
 pub fn dressed_is_made()
     ensures { DressedIsMade }
 {}
@@ -126,8 +126,8 @@ pub fn sheets_of_all()
     ensures { SheetsOfAll }
 {}
 
-/// If a row isn't empty and the size of its signatures is chosen automatically, no signature has more than eight leaves. Then n signatures have fewer
-/// than 4n blanks in all.
+/// Suppose that a row isn't empty, and that the size of its signatures is chosen automatically. Then no signature has more than eight leaves, and n
+/// signatures have fewer than 4n blanks in all.
 pub fn auto_signatures()
     ensures { AutoSignatures }
 {}
@@ -137,7 +137,8 @@ pub fn ranges_are_read()
     ensures { RangesAreRead }
 {}
 
-/// `1-` names all pages in order, `last-1` names all pages backwards, and `_k` names the k-th page from the end.
+/// In a document with at least one page, `1-` names all pages in order, and `last-1` names all pages backwards. `_k` names the k-th page from the
+/// end, if the document has at least k pages.
 pub fn ranges_of_all()
     ensures { RangesOfAll }
 {}
@@ -152,7 +153,8 @@ pub fn read_in_order()
     ensures { ReadInOrder }
 {}
 
-/// If a row is put into signatures and printed on leaves, which are then folded, its entries are read in their order.
+/// If a row is put into signatures and printed on leaves, which are then folded, its entries are read in their order. The blanks that fill up the
+/// last signature come after them.
 pub fn row_is_read()
     ensures { RowIsRead }
 {}

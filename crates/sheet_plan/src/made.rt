@@ -40,7 +40,8 @@ pub struct PlacedSlot<'m> {
     pub paper: &'m Paper,
 }
 
-/// How a page is placed on a sheet. Sheets often have the same placings, so a placing isn't stored in each slot that uses it.
+/// The way in which a page is placed on a sheet: its item and its paper. Sheets often have the same placings, so a placing isn't stored in each slot
+/// that uses it.
 #[derive(Clone, Copy, PartialEq, Eq)]
 pub struct Placing {
     pub item: Item,
@@ -254,7 +255,7 @@ fn count_in_u32(count: usize) -> Result<u32, AllocError>
     }
 }
 
-/// Adds slots, with each placing that isn't found among those already kept.
+/// Adds slots. The placing of each slot is added too, unless it is found among the placings already kept.
 fn keep_slots(
     placings: &mut Vec<Placing>,
     slots: &mut Vec<KeptSlot>,
@@ -270,7 +271,7 @@ fn keep_slots(
     Ok(())
 }
 
-/// Adds a slot, with its placing if that isn't found among those already kept.
+/// Adds a slot. Its placing is added too, unless it is found among the placings already kept.
 #[tactic(auto, using(crate::proofs::Stored::grown_placings))]
 fn keep_slot(
     placings: &mut Vec<Placing>,
@@ -312,7 +313,7 @@ fn number_behind(slots: &[KeptSlot]) -> u32 {
     }
 }
 
-/// The index of a placing, which is added if it is neither at index `near` nor among the first 64.
+/// Returns the index of a placing. Adds the placing if it is neither at index `near` nor among the first 64.
 fn keep_placing(
     placings: &mut Vec<Placing>,
     near: u32,

@@ -31,13 +31,14 @@ use std::fmt;
 use std::marker::Model;
 
 /// A plan says which page is in which slot of which sheet, and by which item the page is placed. It also lists the slots that each page is in. Pages,
-/// sheets and slots are counted from 0.
+/// sheets, slots and the entries of a row are counted from 0.
 ///
-/// With n pages, modulo m and G groups there are `M = m * ceil(n / m)` places and `G * M / m` sheets. Sheet `b * G + g` is group g in block b. An
-/// item with page number p names place `b * m + p`. With a minus it names place `M - (b + 1) * m + p`. A place at or above n is blank.
+/// A specification with modulo m and G groups takes n pages as a row of `M = m * ceil(n / m)` entries, which are blank from entry n on. It makes
+/// `G * M / m` sheets: sheet `b * G + g` is group g in block b. On this sheet, an item with page number p names entry `b * m + p`. If the item has a
+/// minus, it names entry `M - (b + 1) * m + p`.
 ///
 /// In signatures of s sides the pages are first put into psbook's order. The row then has `s * ceil(n / s)` entries, and those for page n and above
-/// are blank. This row replaces the n pages: M is computed from its length, and a place is one of its entries.
+/// are blank. M is computed from this length in place of n, and any further entries are blank.
 #[derive(Drop)]
 pub struct Plan<'s> {
     source: PlanSource<'s>,
@@ -172,7 +173,7 @@ impl<'s> Plan<'s> {
         self.source.page_of(sheet, slot)
     }
 
-    /// The item by which the page in a slot is placed.
+    /// The item of a slot, by which the slot's page is placed. A blank slot has an item as well.
     pub fn item_of(&self, sheet: u32, slot: u16) -> &'s Item
         requires sheet { sheet < length self.now.sheets }
         requires slot { slot < length (pages_on self.now sheet) }

@@ -4,7 +4,8 @@ ghost use Rattle.rules.specs.Signatures.{AreSides, AreSidesIfGiven, entry_in, ro
 
 const MOST_SIDES: u32 = 1_000_000;
 
-/// Whether a signature may have this number of sides: a positive multiple of four, because each leaf has four sides, and at most 1,000,000.
+/// Whether a signature may have this number of sides. The number must be a positive multiple of four, because each leaf has four sides, and at most
+/// 1,000,000.
 pub fn are_sides(sides: u32) -> bool
     ensures { IsTrue result ↔ AreSides sides }
 {
@@ -62,7 +63,7 @@ fn page_of_entry(sides: u32, entry: u32) -> u32
     entry - position + page_in_signature(sides, position)
 }
 
-/// The page at a position of a signature in psbook's order. Both are counted from 0 in the signature.
+/// The page at a position of a signature in psbook's order. The page and the position are counted from 0 in the signature.
 pub fn page_in_signature(sides: u32, position: u32) -> u32
     requires sides { AreSides sides }
     requires position { position < sides }

@@ -46,7 +46,7 @@ pub(crate) fn item_at<'s>(groups: &'s [Vec<Item>], sheet: u32, slot: u16) -> &'s
     &group[slot as usize]
 }
 
-/// The place in the row that an item names in a block.
+/// The index of the row's entry that an item names in a block. Entries and blocks are counted from 0.
 pub(crate) fn item_place(modulo: u32, blocks: u32, block: u32, item: &Item) -> u32
     requires fits { modulo * blocks < 2 ^ 32 }
     requires block { block < blocks }
