@@ -28,9 +28,9 @@ pub const MOST_ON_SHEET: u64 = 1_024;
 
 /// The specification that arranges pages on each sheet as requested, with each page in the middle of its cell. A sheet has a page for each cell, or
 /// the requested number of pages in a grid with at least that number of cells. Pages keep the margins and gaps, and are as large as possible unless a
-/// scale is requested. A single page on a sheet of its own paper is left as it is if nothing else is requested. Fails with `CellsOutOfRange`,
-/// `SideTooLong`, `LengthOutOfRange`, `NothingLeftOfPage`, `NoRoom`, `ScaleOutOfRange` or `ScaleTooLarge` if pages can't be arranged in this way.
-/// Without enough memory the error is `NoMemory`.
+/// scale is requested. A single page on a sheet of its own paper is left as it is if no margin, trim or scale is requested. Fails with
+/// `CellsOutOfRange`, `SideTooLong`, `LengthOutOfRange`, `NothingLeftOfPage`, `NoRoom`, `ScaleOutOfRange` or `ScaleTooLarge` if pages can't be
+/// arranged in this way. Without enough memory the error is `NoMemory`.
 pub fn arrange(
     alloc: Global,
     papers: &Papers,
@@ -267,7 +267,7 @@ pub(crate) fn leaves_page_visible(page: &Paper, room: &Room) -> bool
     trimmed < extent(page.width()) && trimmed < extent(page.height())
 }
 
-/// Whether the request is for one page on a sheet of its own paper, and for nothing else.
+/// Whether the request is for one page on a sheet of its own paper, without margins, trim or a scale.
 pub(crate) fn is_identity(papers: &Papers, room: &Room, arrangement: &Arrangement) -> bool
     requires { room.now ≡ room_of papers.now.sheet arrangement.now.free }
     ensures { result ≡ is_page_itself papers.now.page papers.now.sheet arrangement.now }

@@ -56,8 +56,8 @@ fn best_of(page: &Paper, room: &Room, turned: bool, n: u32) -> Grid
     best
 }
 
-/// The better of two grids. This is `one`, unless `other` takes larger pages, or equally large pages in fewer cells. Pages are compared at the sizes
-/// that exact parts of the sheet allow.
+/// The better of two grids. This is `one`, unless `other` takes larger pages, or equally large pages in fewer cells. Pages are compared as if the
+/// sheet were divided exactly, without rounding.
 fn better(page: &Paper, room: &Room, one: Grid, other: Grid) -> Grid
     requires { IsTrue (is_shown page.now room.now) }
     ensures { result ≡ better_of page.now room.now one other }

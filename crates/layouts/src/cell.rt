@@ -37,7 +37,7 @@ impl Model for Cell {
 }
 
 impl Room {
-    /// The cell in this row and column, with the sheet held so that its pages are upright. Rows are counted from 0 at the top, and columns from 0 at
+    /// The cell in this row and column. With the sheet held so that its pages are upright, rows are counted from 0 at the top, and columns from 0 at
     /// the left.
     pub fn cell(&self, grid: Grid, row: u32, column: u32) -> Cell
         requires in_rows { row < grid.rows }
@@ -83,8 +83,8 @@ impl Grid {
     }
 }
 
-/// The middle of the gap before part `k` of a side, in grains from the start of the side. For `k` = `parts` it is the middle of the gap that a
-/// further part would have before it.
+/// The middle of the gap before part `k` of a side, in grains from the start of the side, or 0 if this would lie before the start. Parts are counted
+/// from 0. If `k` is `parts`, the gap is the one that a further part would have before it.
 pub fn gap_at(along: &Along, length: Grains, parts: u32, k: u32) -> Grains
     requires side { IsTrue (is_side length) }
     requires some { 0 < parts }

@@ -259,7 +259,7 @@ fn whole_parts(length: Grains) -> i64
     (extent(length) / HUNDRED_THOUSANDTH) as i64
 }
 
-/// Whether offsets below 100,000 points can reach the corners of pages that have this scale, in 10^-9, and this trim.
+/// Whether offsets below 100,000 points can place pages of this scale, in 10^-9, anywhere on the sheet. The trim of the pages makes offsets longer.
 pub(crate) fn within_reach(room: &Room, scale: u128) -> bool
     requires { scale ≤ greatest_scale }
     ensures { result ≡ are_near room.now scale }

@@ -6,12 +6,12 @@ ghost use Rattle.layouts.specs.Laws.{GridIsInside, GridIsApart, GridIsInOrder, G
 ghost use Rattle.layouts.specs.Laws.{BestHasCells, BestIsBest, BestIsLarge};
 ghost use Rattle.layouts.specs.Laws.{BackIsInside, BackIsHalfTurn, PrintedAsItIs, LeafKeepsFold, RightToLeftIsMirror};
 
-/// Each point of a page with whole coordinates (in points) is on the sheet where the page's item puts it.
+/// A point of a page, if its coordinates are whole numbers of points, lies on the sheet where the page's item puts it.
 pub fn stands_where_put()
     ensures { StandsWherePut }
 {}
 
-/// Each page in a cell lies within the margins of the sheet.
+/// Each page in a cell, without its trim, lies within the margins of the sheet.
 pub fn pages_are_inside()
     ensures { GridIsInside }
 {}
@@ -21,12 +21,12 @@ pub fn pages_are_in_order()
     ensures { GridIsInOrder }
 {}
 
-/// Two pages in cells are at least the gap apart, even if they have different papers and scales.
+/// Two pages in cells, without their trim, are at least the gap apart, even if they have different papers and scales.
 pub fn pages_are_apart()
     ensures { GridIsApart }
 {}
 
-/// Each page lies in its cell. If pages are trimmed, the part of a page that counts may reach past the cell by at most 10^-5 of a point.
+/// Each page lies in its cell. If pages are trimmed, the part of a page inside its trim may reach past the cell by at most 10^-5 of a point.
 pub fn pages_are_in_cells()
     ensures { GridIsInCell }
 {}
@@ -58,7 +58,7 @@ pub fn best_is_large()
     ensures { BestIsLarge }
 {}
 
-/// If opposite margins are equal, each page on a sheet that is rotated by 180 degrees lies within the margins.
+/// If opposite margins are equal, each page on a sheet that is rotated by 180 degrees, without its trim, lies within the margins.
 pub fn back_is_inside()
     ensures { BackIsInside }
 {}
@@ -69,7 +69,7 @@ pub fn back_is_half_turn()
     ensures { BackIsHalfTurn }
 {}
 
-/// No page crosses the fold of a leaf with equal opposite margins, because pages keep half of the gap away from the fold.
+/// On a leaf with equal opposite margins, the pages, without their trim, don't cross the fold, because they keep half of the gap away from it.
 pub fn leaf_keeps_fold()
     ensures { LeafKeepsFold }
 {}
@@ -79,13 +79,13 @@ pub fn right_to_left_is_mirror()
     ensures { RightToLeftIsMirror }
 {}
 
-/// A page that isn't refused keeps the margins and lies in the middle of its cell, to within 10^-5 of a point. If no scale is requested, a scale that
-/// is larger by 10^-6 would be too large, unless a side of the page without its trim is under 11 points.
+/// A page that isn't refused lies, without its trim, within the margins and in the middle of its cell, to within 10^-5 of a point. If no scale is
+/// requested, a scale that is larger by 10^-6 would be too large, unless a side of the page without its trim is under 11 points.
 pub fn fitted_stands()
     ensures { FittedStands }
 {}
 
-/// Two pages in different cells, each fitted by the sides of its own paper, are at least the gap apart.
+/// Two pages in different cells, each fitted by the sides of its own paper, are at least the gap apart if their trim isn't counted.
 pub fn fitted_is_apart()
     ensures { FittedIsApart }
 {}

@@ -85,7 +85,8 @@ pub(crate) fn pitches(room: &Room, grid: Grid) -> (u64, u64)
     }
 }
 
-/// The width and the height of a cell, in 10^-5 of a point. Each is 0 if the gap leaves nothing for it.
+/// The width and the height of a cell, in 10^-5 of a point, with the sheet held so that its pages are upright. Each is 0 if the gap leaves nothing
+/// for it.
 pub fn cell_size(room: &Room, grid: Grid) -> (u64, u64)
     ensures width { result.0 ≡ wide room.now grid }
     ensures height { result.1 ≡ high room.now grid }

@@ -130,7 +130,8 @@ impl Setting {
     }
 
     /// The item that places a page of this paper in a cell. Cells are counted from 0. A single page on a sheet of its own paper is left as it is if
-    /// nothing else is requested and pages are upright. Any other page is refused with the error of `scale` if it can't have a scale.
+    /// there are no margins and no trim, no scale is requested, and pages are upright. Any other page is refused with the error of `scale` if it
+    /// can't have a scale.
     pub fn item(&self, page_paper: &Paper, cell: u32) -> Result<Item, ArrangementError>
         requires { cell < size self.now.grid }
         ensures page { IsPaper page_paper.now }

@@ -19,8 +19,8 @@ pub enum Part {
     Even,
 }
 
-/// A choice of pages. It has the pages of the named ranges, or all pages if no ranges are named. Only `part` of these entries is kept. The order of
-/// the kept entries is reversed if `backwards` is true.
+/// A choice of pages. It has the entries of the named ranges, or all pages if no ranges are named. Of these entries, only those that `part` names are
+/// kept. The order of the kept entries is reversed if `backwards` is true.
 #[derive(Clone, Copy)]
 pub struct Choice<'t> {
     pub ranges: Option<&'t [u8]>,

@@ -91,7 +91,7 @@ fn one_page(page: Option<u32>) -> Option<ResolvedRange>
     }
 }
 
-/// The range from one page to another. None if either page is missing.
+/// The range from the page with the number `first` to the page with the number `last`. None if either number is None.
 fn from_to(first: Option<u32>, last: Option<u32>) -> Option<ResolvedRange>
     ensures { result ≡ option_and_then (λ n. option_map (range_found n) last) first }
 {

@@ -11,8 +11,8 @@ use std::alloc::{AllocError, Global};
 
 /// The row that a text names, in a document with this number of pages.
 ///
-/// The text has ranges, separated by commas: `3`, `4-7`, `9-5`, `5-` for the pages up to the last, `_2` for the last page but one, `last`, and
-/// `blank` or `_` for a blank page. Fails with the first fault, in the order of `RowError`. A row takes memory for its entries only.
+/// The text has ranges, separated by commas: `3`, `4-7`, `9-5`, `5-` for page 5 up to the last page, `last` for the last page, `_2` for the last page
+/// but one, and `blank` or `_` for a blank page. Fails with the first fault, in the order of `RowError`. A row takes memory for its entries only.
 pub fn read_row(alloc: Global, pages: u32, text: &[u8]) -> Result<Vec<Option<u32>>, RowError>
     ensures row { IfOk result (λ row. row_of_text pages text.now ≡ Ok row.items) }
     ensures room { IfOk result (λ row. vec_capacity row ≡ vec_len row) }

@@ -20,7 +20,7 @@ pub(crate) fn read_place(pages: u32, text: &[u8]) -> Option<u32>
     }
 }
 
-/// The number of the page that a text means, as in `read_place`. An empty text means the last page.
+/// The number that `read_place` gives for a text, or the number of the last page if the text is empty.
 pub(crate) fn read_last_place(pages: u32, text: &[u8]) -> Option<u32>
     ensures { result ≡ option_map (number_found pages) (last_place_at text.now) }
 {
@@ -31,7 +31,8 @@ pub(crate) fn read_last_place(pages: u32, text: &[u8]) -> Option<u32>
     }
 }
 
-/// The number of the page that digits name, counting from the start of the document. None if the text isn't digits.
+/// The number of the page that digits name, counting from the start of the document. It is 0 if the document doesn't have the page, and None if
+/// `digits` is empty or has a byte that isn't a digit.
 fn from_start(pages: u32, digits: &[u8]) -> Option<u32>
     ensures { result ≡ option_map (number_found pages) (by_digits FromStart digits.now) }
 {
@@ -41,8 +42,8 @@ fn from_start(pages: u32, digits: &[u8]) -> Option<u32>
     }
 }
 
-/// The number of the page that digits name, counting from the end of the document. The result is counted from the start. None if the text isn't
-/// digits.
+/// The number, counted from the start, of the page that digits name, counting from the end of the document. It is 0 if the document doesn't have the
+/// page, and None if `digits` is empty or has a byte that isn't a digit.
 fn from_end(pages: u32, digits: &[u8]) -> Option<u32>
     ensures { result ≡ option_map (number_found pages) (by_digits FromEnd digits.now) }
 {
@@ -52,7 +53,7 @@ fn from_end(pages: u32, digits: &[u8]) -> Option<u32>
     }
 }
 
-/// The number of the page that is number `number` from the start, or 0 if the document doesn't have this page.
+/// `number` if the document has a page with this number, and 0 otherwise.
 fn start_number(pages: u32, number: usize) -> u32
     ensures { result ≡ number_found pages (FromStart number) }
 {
@@ -63,7 +64,8 @@ fn start_number(pages: u32, number: usize) -> u32
     }
 }
 
-/// The number, counted from the start, of the page that is number `number` from the end. It is 0 if the document doesn't have this page.
+/// The number, counted from the start, of the page that has the number `number`, counted from the end. It is 0 if the document doesn't have this
+/// page.
 fn end_number(pages: u32, number: usize) -> u32
     ensures { result ≡ number_found pages (FromEnd number) }
 {

@@ -15,8 +15,8 @@ use std::alloc::{AllocError, Global};
 
 const MOST_LEAVES: usize = 8;
 
-/// How a booklet is sewn: in one signature that has all pages, in signatures of this number of sides, or in as few signatures as possible with at
-/// most eight leaves each.
+/// The way in which a booklet is sewn: in one signature that has all pages, in signatures of this number of sides, or in as few signatures as
+/// possible with at most eight leaves each.
 #[derive(Clone, Copy, Debug, PartialEq, Eq)]
 pub enum Signing {
     InOne,

@@ -21,7 +21,8 @@ pub(crate) struct Tally {
     pub entries: u64,
 }
 
-/// The number of entries in the row that a text names. Fails with the first fault of the text, in the order of `RowError`.
+/// The number of entries in the row that a text names, in a document with this number of pages. Fails with the first fault of the text, in the order
+/// of `RowError`.
 pub(crate) fn entry_count(pages: u32, text: &[u8]) -> Result<usize, RowError>
     ensures row { IfOk result (λ n. row_of_text pages text.now ≡ Ok (row_found pages text.now)) }
     ensures count { IfOk result (λ n. n ≡ length (row_found pages text.now)) }
