@@ -145,7 +145,8 @@ fn read_cell(turned: Turned, grid: Grid, row: u32, column: u32) -> (u32, u32)
     }
 }
 
-/// The index of the place in this row and column, counted from 0.
+/// The index, counted from 0, of the place in this row and column. The row and the column are those of the sheet as it is held so that its pages are
+/// upright.
 fn place_at(order: &Order, grid: Grid, row: u32, column: u32) -> u64
     requires row { row < grid.rows }
     requires column { column < grid.columns }

@@ -131,7 +131,7 @@ fn slot_for(on: &SpecOnRow<'_>, block: u32, item: &Item) -> MadeSlot
     }
 }
 
-/// The index of the row's entry that an item names in a block, counted from 0.
+/// The index, counted from 0, of the row's entry that an item names in a block.
 fn place_in_row(on: &SpecOnRow<'_>, block: u32, item: &Item) -> usize
     requires few { blocks_of on.now.spec.now.modulo (length on.now.row.now) ≤ most_sheets }
     requires block { block < blocks_of on.now.spec.now.modulo (length on.now.row.now) }

@@ -67,8 +67,8 @@ pub fn creeping_booklet_sheets(
     }
 }
 
-/// The reason why the leaves can't be made: the fault of the first page in the row that can't be placed in its half, or a lack of memory if all pages
-/// can be placed.
+/// The reason why the leaves can't be made: the fault of the first page in the row that can't be placed in its half or would cross the fold, or a
+/// lack of memory if there is no such page.
 fn first_refusal(
     setting: &Setting,
     papers: &[Paper],
@@ -121,7 +121,7 @@ fn sides_of_leaves(
     Ok(made)
 }
 
-/// Whether side `s` is rotated by 180 degrees. Fronts and backs are counted from 0.
+/// Whether side `s` is rotated by 180 degrees. Sides are counted from 0, with each front followed by its back.
 fn is_half_turned(turned_backs: bool, s: u32) -> bool
     ensures { result ≡ is_turned_on turned_backs s }
 {
@@ -183,7 +183,8 @@ fn creeping_slot(
     Ok(MadeSlot::Placed { page, item, paper })
 }
 
-/// The item that places a page of this paper in a half of a side, moved towards the fold by `creep`, in 10^-5 of a point.
+/// The item that places a page of this paper in a half of a side, moved towards the fold by `creep`, in 10^-5 of a point. Fails if the page can't be
+/// placed in its half, and with `CreepOverFold` if it would cross the fold.
 pub(crate) fn creeping_item(
     setting: &Setting,
     paper: &Paper,
@@ -203,7 +204,7 @@ pub(crate) fn creeping_item(
     Ok(moved_up(item, by))
 }
 
-/// The item that places a page of this paper in a half of a leaf that doesn't creep.
+/// The item that places a page of this paper in a half of a leaf that doesn't creep. Fails if the page can't be placed there.
 fn half_item(
     setting: &Setting,
     paper: &Paper,
@@ -225,7 +226,8 @@ fn half_item(
     }
 }
 
-/// Checks that a page of this paper doesn't cross the fold if its leaf creeps by this distance, in 10^-5 of a point.
+/// Checks that a page of this paper doesn't cross the fold if its leaf creeps by this distance, in 10^-5 of a point. Fails with `CreepOverFold` if it
+/// does, and with the error of `Setting::scale` if the page has no scale.
 fn check_fold(setting: &Setting, paper: &Paper, creep: u64) -> Result<(), ArrangementError>
     requires halves { AreHalves setting.now }
     ensures possible { OnOk result

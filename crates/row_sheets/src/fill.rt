@@ -61,8 +61,8 @@ pub fn grid_sheets(
     fill_cells(alloc, setting, papers, row, CellKind::Grid, cells)
 }
 
-/// The sheets of cards: each entry of the row is in all cells of one sheet. Fails with the error of the first page that can't be placed, or else with
-/// `NoMemory`.
+/// The sheets of cards: each entry of the row is in all cells of one sheet. A page whose paper isn't in `papers` has the paper of the sheet. Fails
+/// with the error of the first page that can't be placed, or else with `NoMemory`.
 pub fn card_sheets(
     alloc: Global,
     setting: &Setting,
@@ -80,8 +80,9 @@ pub fn card_sheets(
     fill_cells(alloc, setting, papers, row, CellKind::Cards, cells)
 }
 
-/// The sheets of a stack. If the sheets are cut between the cells and the piles are laid on one another, the pages are in the order of the row. Fails
-/// with the error of the first page that can't be placed, or else with `NoMemory`.
+/// The sheets of a stack. If the sheets are cut between the cells and the piles are laid on one another, the pages are in the order of the row. A
+/// page whose paper isn't in `papers` has the paper of the sheet. Fails with the error of the first page that can't be placed, or else with
+/// `NoMemory`.
 pub fn stack_sheets(
     alloc: Global,
     setting: &Setting,
@@ -99,8 +100,9 @@ pub fn stack_sheets(
     fill_cells(alloc, setting, papers, row, CellKind::Stack, cells)
 }
 
-/// The sheets of a stack of leaves that are printed on both sides, with each front followed by its back. Each entry is on the back of the entry
-/// before it, or on the front of the next leaf. Fails with the error of the first page that can't be placed, or else with `NoMemory`.
+/// The sheets of a stack of leaves that are printed on both sides, with each front followed by its back. If the leaves are cut between the cells and
+/// the piles are laid on one another, the pages on fronts and backs are in the order of the row. A page whose paper isn't in `papers` has the paper
+/// of the sheet. Fails with the error of the first page that can't be placed, or else with `NoMemory`.
 pub fn leaf_sheets(
     alloc: Global,
     setting: &Setting,
@@ -119,7 +121,8 @@ pub fn leaf_sheets(
 }
 
 /// The sheets of zines. Each sheet has eight entries on one side, is folded three times and is cut once. Pages in the first row of cells are rotated
-/// by 180 degrees. Fails with the error of the first page that can't be placed, or else with `NoMemory`.
+/// by 180 degrees. A page whose paper isn't in `papers` has the paper of the sheet. Fails with the error of the first page that can't be placed, or
+/// else with `NoMemory`.
 pub fn zine_sheets(
     alloc: Global,
     setting: &Setting,
@@ -303,7 +306,8 @@ pub(crate) fn same_item(before: Option<PlacedSlot<'_>>, paper: &Paper) -> Option
     }
 }
 
-/// The slot for an entry of a row, in a cell of a sheet of this kind.
+/// The slot for an entry of a row, in a cell of a sheet of this kind. `before` is the page in this cell of the previous sheet, if there is one. Fails
+/// if the page can't be placed.
 fn slot_by(
     setting: &Setting,
     papers: &[Paper],

@@ -54,7 +54,8 @@ pub fn zine_lies_in_cells()
     ensures { ZineLiesInCells }
 {}
 
-/// If opposite margins are equal, the cells of a leaf lie back to back: each cell covers the cell behind it, to 10^-5 of a point for each column.
+/// If opposite margins are equal and cells have a width and a height, the cells of a leaf lie back to back: each cell covers the cell behind it, to
+/// 10^-5 of a point for each column.
 pub fn cells_lie_behind()
     ensures { CellsLieBehind }
 {}
@@ -64,28 +65,28 @@ pub fn behind_is_mirror()
     ensures { BehindIsMirror }
 {}
 
-/// Each placed page lies within the margins of its sheet, whatever the paper of the page.
+/// Each placed page, without its trim, lies within the margins of its sheet, whatever the paper of the page.
 pub fn filled_is_inside()
     ensures { FilledIsInside }
 {}
 
-/// Two placed pages of a sheet are at least the gap apart, whatever their papers.
+/// Two placed pages of a sheet, without their trim, are at least the gap apart, whatever their papers.
 pub fn filled_is_apart()
     ensures { FilledIsApart }
 {}
 
-/// Each page that is placed on a sheet lies within the sheet's margins, even if the sheet is rotated by 180 degrees. Opposite margins of a rotated
-/// sheet have to be equal.
+/// Each page that is placed on a sheet of two cells or more, without its trim, lies within the sheet's margins. If the sheet is rotated by 180
+/// degrees, its opposite margins have to be equal.
 pub fn sides_are_inside()
     ensures { SidesAreInside }
 {}
 
-/// Two pages that are placed on a sheet are at least the gap apart, even if the sheet is rotated by 180 degrees.
+/// Two pages that are placed on a sheet, without their trim, are at least the gap apart, even if the sheet is rotated by 180 degrees.
 pub fn sides_are_apart()
     ensures { SidesAreApart }
 {}
 
-/// Nothing on the sides of a booklet's leaves crosses the fold, which is the same line for pages of every paper.
+/// On the sides of a booklet's leaves, the pages, without their trim, don't cross the fold, which is the same line for pages of every paper.
 pub fn booklet_keeps_fold()
     ensures { BookletKeepsFold }
 {}
@@ -106,7 +107,7 @@ pub fn creep_grows()
     ensures { CreepGrows }
 {}
 
-/// If there is room for the creep, no page of a leaf crosses the leaf's fold.
+/// If opposite margins are equal and there is room for the creep, the pages of a leaf, without their trim, don't cross the leaf's fold.
 pub fn creep_keeps_sides()
     ensures { CreepKeepsSides }
 {}
@@ -116,12 +117,12 @@ pub fn no_creep_is_plain()
     ensures { NoCreepIsPlain }
 {}
 
-/// Each page of a booklet lies in its half of a leaf. Apart from the creep, it lies in the middle of that half.
+/// Each page of a booklet, without its trim, lies in its half of a leaf. Apart from the creep, it lies in the middle of that half.
 pub fn booklet_lies_in_halves()
     ensures { BookletLiesInHalves }
 {}
 
-/// The two pages on a side of a leaf are apart by at least the gap less twice the creep of the leaf.
+/// The two pages on a side of a leaf, without their trim, are apart by at least the gap less twice the creep of the leaf.
 pub fn booklet_keeps_gap()
     ensures { BookletKeepsGap }
 {}

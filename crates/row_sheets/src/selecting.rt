@@ -8,7 +8,7 @@ use pagespec::{Item, Measure, Turn};
 use sheet_plan::{MadeSheets, MadeSlot};
 use std::alloc::{AllocError, Global};
 
-/// The sheets on which each page of a row is left as it is, on its own paper. A page whose paper isn't in `papers`, or a blank, has a sheet of the
+/// The sheets on which each page of a row is left as it is, on its own paper. Blanks, and pages whose papers aren't in `papers`, have sheets of the
 /// paper `blank`. Fails only if memory is refused.
 pub fn select(
     alloc: Global,
