@@ -37,7 +37,7 @@ pub enum PosterError {
     /// A side of the sheets' paper, or of the whole poster, is 100,000 points long or longer.
     #[error("a side of a poster or of its sheets is 100,000 points or more")]
     SideTooLong,
-    /// The part of a sheet between its margins is no longer, or no wider, than the overlap.
+    /// The part of a sheet between its margins has a side that isn't longer than the overlap.
     #[error("the margins leave no more of a sheet than the overlap")]
     NothingButOverlap,
     /// The scale of the page would be 0, or above 99,999.
@@ -72,7 +72,7 @@ pub fn check_poster(poster: &Poster, page_paper: &Paper) -> Result<(), PosterErr
 }
 
 /// The sheets of a poster of one page, row by row from the top, each row from the left. The page is as large as the sheets allow, and lies in the
-/// middle of all sheets together.
+/// middle of all sheets together. Fails with the error of `check_poster`, or with `NoMemory`.
 pub fn poster_sheets(
     alloc: Global,
     poster: &Poster,
