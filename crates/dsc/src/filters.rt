@@ -24,7 +24,7 @@ use std::alloc::{AllocError, Global};
 
 /// The lines that a filter drops. `PageSetup` drops the comments about a page (`%%Page`..) and those around its setup,
 /// but not the setup. `DocumentSetup` drops the comments about pages, boxes, media and orientation, which no longer
-/// hold in the output. `SetupAndPapers` drops these and the comment that names the document's papers
+/// hold in the output. `SetupAndPapers` also drops the comment that names the document's papers
 /// (`%%DocumentPaperSizes`).
 #[derive(Clone, Copy)]
 pub(crate) enum Drops {
@@ -98,7 +98,8 @@ pub(crate) struct Kept<'d> {
 }
 
 impl<'d> Kept<'d> {
-    /// Returns all kept bytes in one list. Fails only if memory is refused.
+    /// Returns the copied bytes, `held` and `run` in one list. These are all kept bytes once the filter has passed the
+    /// whole text. Fails only if memory is refused.
     pub fn into_copy(self) -> Result<Vec<u8>, AllocError>
         ensures { IfOk result (λ v. v.items ≡ (self.entry.copied.items ++ self.entry.held.now) ++ self.entry.run.now) }
     {
@@ -114,9 +115,9 @@ impl<'d> Kept<'d> {
         Ok(copied)
     }
 
-    /// Passes a unit of `len` bytes. A kept unit extends the second run. A dropped unit ends the second run, and the
-    /// next run begins after the unit. If the ended run isn't empty, it replaces `held`, whose bytes are copied first.
-    /// So a text that is kept in one run is never copied.
+    /// Passes a unit of `len` bytes. A kept unit extends the kept part of `run`. A dropped unit ends this part, and
+    /// `run` then begins after the unit. If the ended part isn't empty, it replaces `held`, whose bytes are copied
+    /// first. So a text that is kept in one run is never copied.
     fn go_on(&mut self, len: usize, dropped: bool) -> Result<(), AllocError>
         requires { self.old.run_len + len ≤ length self.old.run.now }
         ensures kept { OnOk result (

@@ -16,7 +16,8 @@ pub(crate) fn is_line_end(byte: u8) -> bool
     byte == b'\r' || byte == b'\n'
 }
 
-/// The length of the line end at the start of the bytes. It is 2 for CR LF, and 0 if there are no bytes.
+/// The length of the line end with which these bytes begin: 2 for CR LF, and 1 for CR or LF alone. It is 0 if there are
+/// no bytes.
 fn end_at(text: &[u8]) -> usize
     ensures { result ≡ end_len text.now }
 {

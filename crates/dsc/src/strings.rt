@@ -1,4 +1,4 @@
-//! Reads PostScript strings, which names in comments may be (PostScript Language Reference, 3.2.2).
+//! Reads PostScript strings (PostScript Language Reference, 3.2.2). A name in a comment may be such a string.
 ghost use Rattle.std.specs.Prelude.{◌≡◌, ◌≤◌, ◌<◌, ◌+◌, false, length, fold, IfOk, IfSome};
 ghost use Rattle.std.specs.List.{prefix_len};
 ghost use Rattle.dsc.specs.Strings as meaning;
@@ -6,7 +6,8 @@ ghost use Rattle.dsc.specs.Strings as meaning;
 use std::alloc::{AllocError, Global};
 
 /// The length of the PostScript string at the start of the text, with its parentheses. Parentheses within it are in
-/// pairs, or have a backslash before them. None if the text begins with no parenthesis, or if it isn't closed.
+/// pairs, or have a backslash before them. None if the text doesn't begin with an opening parenthesis, or if this
+/// parenthesis isn't closed.
 pub fn string_len(text: &[u8]) -> Option<usize>
     ensures value { result ≡ meaning.string_len text.now }
     ensures within { IfSome result (λ n. n ≤ length text.now) }
@@ -18,7 +19,8 @@ pub fn string_len(text: &[u8]) -> Option<usize>
     }
 }
 
-/// The length of the text up to the parenthesis that closes the last open one, and with it.
+/// The length of the text up to and including the first byte after which no parenthesis is open. None if there is no
+/// such byte.
 fn closed_len(text: &[u8]) -> Option<usize>
     ensures value { result ≡ meaning.rest_len 0 false text.now }
     ensures within { IfSome result (λ n. n ≤ length text.now) }
@@ -39,7 +41,8 @@ fn closed_len(text: &[u8]) -> Option<usize>
     None
 }
 
-/// How many parentheses are open after this byte. A byte after a backslash opens and closes none.
+/// The number of parentheses that are open after this byte; `opened` is the number before it. `is_escaped` says whether
+/// a backslash precedes the byte, which then opens and closes none.
 fn open_after(opened: usize, is_escaped: bool, byte: u8) -> usize
     requires few { opened < usize.MAX }
     ensures value { result ≡ meaning.open_after opened is_escaped byte }
@@ -52,7 +55,8 @@ fn open_after(opened: usize, is_escaped: bool, byte: u8) -> usize
     }
 }
 
-/// The characters that the text of a string stands for. Fails only if memory is refused.
+/// The characters for which a string stands. `text` is the text between its parentheses. Fails only if memory is
+/// refused.
 pub fn string_characters(alloc: Global, text: &[u8]) -> Result<Vec<u8>, AllocError>
     ensures { IfOk result (λ found. found.items ≡ meaning.characters text.now) }
 {
@@ -67,8 +71,8 @@ pub fn string_characters(alloc: Global, text: &[u8]) -> Result<Vec<u8>, AllocErr
     Ok(characters)
 }
 
-/// The character at the start of a text with this first byte and this rest, and how many bytes of the rest belong to
-/// it.
+/// The character at the start of a text with this first byte and this rest, and the number of bytes of the rest that
+/// belong to the character.
 fn character_at(first: u8, rest: &[u8]) -> (u8, usize)
     ensures character { result.0 ≡ meaning.character first rest.now }
     ensures len { result.1 ≡ meaning.character_len first rest.now }
@@ -81,8 +85,8 @@ fn character_at(first: u8, rest: &[u8]) -> (u8, usize)
     }
 }
 
-/// The character that the text after a backslash gives, and how many bytes give it. A backslash at the end of the text
-/// stands for itself.
+/// The character that the text after a backslash gives, and the number of bytes that give it. A backslash at the end of
+/// the text stands for itself.
 fn escaped(text: &[u8]) -> (u8, usize)
     ensures character { result.0 ≡ meaning.escaped text.now }
     ensures len { result.1 ≡ meaning.escaped_len text.now }
@@ -117,7 +121,7 @@ fn octal_digits(text: &[u8]) -> usize
         .count()
 }
 
-/// The character with this code in octal digits. Of a code above 255 the low eight bits count.
+/// The character with this code in octal digits. Only the low eight bits of a code above 255 count.
 fn code_of(digits: &[u8]) -> u8
     ensures { result ≡ fold meaning.code_with 0 digits.now }
 {

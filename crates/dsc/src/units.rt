@@ -56,8 +56,9 @@ fn third_is_lines(behind: &[u8]) -> bool
     }
 }
 
-/// The number of bytes of the data in a block. `behind` is the text after the colon of its first line, and `rest` is
-/// the text after that line.
+/// The number of bytes of the data in a block. `behind` is the text after the colon of the block's first line, and
+/// `rest` is the text after that line. `may_count_lines` says whether the data may be counted in lines. Fails with the
+/// fault of the block, if it has one.
 fn data_len(behind: &[u8], may_count_lines: bool, rest: &[u8]) -> Result<usize, UnitError>
     ensures length { ReadsAs (λ n. n) block_fault result (data_in may_count_lines rest.now (fields_in behind.now)) }
     ensures within { IfOk result (λ n. n ≤ length rest.now) }

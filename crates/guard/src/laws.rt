@@ -2,7 +2,8 @@
 //! body.
 ghost use Rattle.guard.specs.Laws.{GuardIsShort, GuardStays, LinesStay};
 
-/// Lines that are inserted after the header comments of a document change only its preamble. Unless the document
+/// Suppose that lines are inserted after the header comments of a document. The first of them must not be empty, none
+/// may begin a page or a block of data, and together they must leave no embedded document open. Unless the document
 /// becomes too long, it is still accepted, with the same pages and the same trailer. Its units are those that it had
 /// before, and the inserted lines.
 pub fn lines_stay()

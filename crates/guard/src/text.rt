@@ -8,12 +8,13 @@ use dsc::{end_line, header_len};
 use lengths::{Paper, print_points};
 use std::alloc::{AllocError, Global};
 
-/// The first lines of the guard. The line that sets the page size comes after them.
+/// The first lines of the guard. The line that sets the page size, if there is one, comes after them.
 const FIRST_LINES: &[u8] = b"\
     %%BeginResource: procset ImposeGuard 1.0 0\n\
     userdict /ImposeGuard known not {userdict begin\n";
 
-/// The lines of the guard after the page size. docs/GUARD.md says what each line does.
+/// The lines of the guard after `FIRST_LINES` and the line that sets the page size. docs/GUARD.md says what each line
+/// does.
 const OTHER_LINES: &[u8] = b"\
     /ImposeShow /showpage load def\n\
     /PStoPSenablepage true def\n\
@@ -55,10 +56,9 @@ const OTHER_LINES: &[u8] = b"\
 /// The number of bytes that are reserved for the guard. The guard is shorter, for any paper of the sheet.
 const ROOM: usize = 2_560;
 
-/// A copy of the text with the guard inserted after its header comments. These are the first line and the comments
-/// directly after it, up to and including `%%EndComments`. If `sheet_paper` is a paper, the guard first sets the
-/// device's page size to it, provided that the interpreter has `setpagedevice`. The text needn't be a document. Fails
-/// only if memory is refused.
+/// A copy of the text with the guard inserted after its header comments (see `header_len`). If `sheet_paper` is a
+/// paper, the guard first sets the device's page size to it, provided that the interpreter has `setpagedevice`. The
+/// text needn't be a document. Fails only if memory is refused.
 pub fn guarded(
     alloc: Global,
     text: &[u8],

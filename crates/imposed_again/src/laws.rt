@@ -52,15 +52,15 @@ pub fn makes_sheets()
 {}
 
 /// The output for an accepted document, an admissible specification and an accepted plan is itself an accepted
-/// document, unless it is too long. If the last page of the first document leaves no embedded document open, the pages
-/// of the output are the sheets.
+/// document, unless it is too long. If the last page of the imposed document leaves no embedded document open, the
+/// pages of the output are the sheets.
 pub fn imposed_again()
     ensures { ImposedAgain }
 {}
 
 /// If an accepted document is written on made sheets, the output is itself an accepted document, unless it is too long.
 /// The output must have at least one sheet, and at most as many as a document may have pages. The lines added to the
-/// sheets (the dress) must begin no part of a document and no data. If the last page of the first document leaves no
+/// sheets (the dress) must begin no part of a document and no data. If the last page of the imposed document leaves no
 /// embedded document open, the pages of the output are the sheets.
 pub fn made_is_document()
     ensures { MadeIsDocument }
