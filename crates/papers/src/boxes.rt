@@ -14,7 +14,7 @@ const NEARNESS: i128 = 15 * 127_000_000_000;
 /// The number of grains in a point. A paper that a comment or a setup gives has no side shorter than a point.
 const ONE_POINT: i128 = 127_000_000_000;
 
-/// The number of grains in 100,000 points. Each number in a box is below this.
+/// The number of grains in 100,000 points. A paper that has a box in its middle has shorter sides.
 const TOO_LONG: i128 = 100_000 * ONE_POINT;
 
 /// The edges of a bounding box, in grains from the point 0 0 of the page.
@@ -26,10 +26,10 @@ pub struct Edges {
     pub top: Grains,
 }
 
-/// The paper that a bounding box gives (docs/RULES.md, 12.2). A box that begins at 0 0 gives its right and top edges as
-/// width and height. Any other box must have a left and a bottom edge of at least 0, and must reach more than 15 points
-/// past the right or the top side of `paper`. `paper` is the paper that counts without a box. Such a box is in the
-/// middle of the paper that it gives. None if the box gives no paper.
+/// The paper that a bounding box gives (docs/RULES.md, 12.2). If the box begins at 0 0, its right edge is the paper's
+/// width, and its top edge the height. Any other box must begin neither left of 0 nor below 0, and must reach more than
+/// 15 points past the right or the top side of `paper`, which is the paper that counts without a box. Such a box is in
+/// the middle of the paper that it gives. None if the box gives no paper.
 pub fn paper_of_box(paper: &Paper, value: &[u8]) -> Option<Paper>
     ensures { result ≡ meaning.paper_of_box paper.now (fields_in value.now) }
 {
@@ -56,15 +56,16 @@ pub(crate) fn box_paper(value: &[u8]) -> Option<Paper>
     }
 }
 
-/// The paper of a box that reaches past `paper` by more than 15 points, and begins neither left of 0 nor below 0.
+/// The paper that has a box in its middle. None if the box doesn't reach past `paper` by more than 15 points, if it
+/// begins left of 0 or below 0, or if there is no such paper.
 fn wider_paper(paper: &Paper, value: &[u8]) -> Option<Paper>
     ensures { result ≡ meaning.wider_paper paper.now (fields_in value.now) }
 {
     paper_beyond(paper, &edges_of(value)?)
 }
 
-/// The paper of a box with these edges, if it reaches past `paper` by more than 15 points. None if it begins left of 0
-/// or below 0.
+/// The paper that has a box with these edges in its middle. None if the box doesn't reach past `paper` by more than 15
+/// points, if it begins left of 0 or below 0, or if there is no such paper.
 fn paper_beyond(paper: &Paper, edges: &Edges) -> Option<Paper>
     ensures { result ≡ meaning.paper_beyond paper.now edges.now }
 {
@@ -92,8 +93,9 @@ fn is_past(side: Grains, edge: Grains) -> bool
     side.get() + NEARNESS < edge.get()
 }
 
-/// The paper that has a box in its middle: as wide a strip to the right of the box as to its left, and as high a strip
-/// above as below. None if a side of this paper is shorter than a point, or has 100,000 points or more.
+/// The paper that has a box in its middle: the strips to the left and to the right of the box are equally wide, and the
+/// strips above and below it are equally high. None if a side of this paper is shorter than a point, or has 100,000
+/// points or more.
 fn paper_round(edges: &Edges) -> Option<Paper>
     ensures { result ≡ meaning.paper_round edges.now }
 {

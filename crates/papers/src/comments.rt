@@ -29,7 +29,8 @@ pub fn first_comment<'t>(
     None
 }
 
-/// The value of a comment: the text after its colon. None if the line with this content isn't a comment with this key.
+/// The value of a comment: the text after its colon. None if the line with this content isn't a comment with the key
+/// `key`. `with_colon` is the key followed by a colon.
 pub(crate) fn value_after<'t>(content: &'t [u8], key: &[u8], with_colon: &[u8]) -> Option<&'t [u8]>
     requires { with_colon.now ≡ key.now ++ colon ∷ [] }
     ensures { MatchOption result (is_comment key.now content.now ≡ false) (λ value.

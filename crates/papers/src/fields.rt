@@ -18,8 +18,9 @@ pub(crate) fn name_in(field: &[u8]) -> &[u8]
     }
 }
 
-/// The name at the start of a value, after blanks (spaces and tabs), as it is written, and the text after the name. A
-/// name in parentheses is a PostScript string, which may contain blanks. None if the value has only blanks.
+/// The name at the start of a value, as it is written, and the text after the name. Blanks (spaces and tabs) before the
+/// name are passed over. A name in parentheses is a PostScript string, which may contain blanks. None if the value has
+/// only blanks.
 pub(crate) fn name_and_rest(value: &[u8]) -> Option<(&[u8], &[u8])>
     ensures { option_map (λ p. (p.0.now, p.1.now)) result ≡ meaning.name_and_rest value.now }
 {
@@ -30,8 +31,8 @@ pub(crate) fn name_and_rest(value: &[u8]) -> Option<(&[u8], &[u8])>
     Some(text.split_at(name_len(text)))
 }
 
-/// The name that is written so. A name in parentheses is a PostScript string, which stands for its characters. Fails
-/// only if memory is refused.
+/// The name for which the bytes `written` stand. A name in parentheses is a PostScript string, which stands for its
+/// characters. Fails only if memory is refused.
 pub(crate) fn name_meant(alloc: Global, written: &[u8]) -> Result<Vec<u8>, AllocError>
     ensures { IfOk result (λ name. name.items ≡ meaning.name_meant written.now) }
 {

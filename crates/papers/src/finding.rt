@@ -45,7 +45,7 @@ fn pages_of_one_paper(alloc: Global, pages: u32, paper: Paper) -> Result<Vec<Pap
     Ok(papers)
 }
 
-/// The paper of each page if no paper is asked for, as in `page_papers`.
+/// The papers that `page_papers` returns if no paper is asked for.
 fn declared_papers(
     alloc: Global,
     document: &Document<'_>,

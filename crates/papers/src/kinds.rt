@@ -9,7 +9,7 @@ use crate::smallest_cover;
 use lengths::Paper;
 use std::alloc::{AllocError, Global};
 
-/// The most kinds of papers. Each page is compared with all kinds, so a higher limit would cost time.
+/// The most kinds that papers form. Each page is compared with all kinds, so a higher limit would cost time.
 const MOST_KINDS: usize = 64;
 
 /// A kind of paper: papers that count as equal to the largest of them.

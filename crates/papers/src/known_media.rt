@@ -93,7 +93,7 @@ impl KnownMedia {
         self.take_continued(alloc, others)
     }
 
-    /// Stores the papers of the media in the `%%+` lines at the start of the text, as `take` does for one value.
+    /// Passes the value of each `%%+` line at the start of the text to `take`.
     fn take_continued(&mut self, alloc: Global, text: &[u8]) -> Result<(), AllocError>
         ensures { OnOk result ((at : List ℕ) → found_at self.new at
             ≡ option_map (λ found. with_media at found (flat_map medium_in (continued (contents text.now)))) (found_at self.old at)) }
@@ -142,8 +142,8 @@ impl KnownMedia {
         }
     }
 
-    /// The paper of the header's first medium with the name that is written so. None if no page names it, if the
-    /// header lacks it, or if its sides can't be those of a paper. Fails only if memory is refused.
+    /// The paper of the header's first medium with the name for which `written` stands. None if no page names this
+    /// medium, if the header lacks it, or if its sides can't be those of a paper. Fails only if memory is refused.
     pub(crate) fn paper_of(
         &self,
         alloc: Global,
@@ -155,7 +155,7 @@ impl KnownMedia {
         Ok(self.paper_named(name.as_slice()))
     }
 
-    /// The paper of the header's first medium with this name, as in `paper_of`.
+    /// The paper that `paper_of` finds for a medium with this name.
     fn paper_named(&self, name: &[u8]) -> Option<Paper>
         ensures { result ≡ known_paper self.now name.now }
     {

@@ -9,8 +9,9 @@ pub fn telling_is_tame()
     ensures { TellingIsTame }
 {}
 
-/// Suppose that the page size is that of any sheet's paper when a sheet begins. If the sheet has first lines, the last
-/// of them sets the page size of the sheet's own paper. If it has none, the two papers have the same printed size.
+/// Suppose that, when a sheet begins, the page size is that of some sheet's paper. If the sheet reports its paper, the
+/// last of the lines that do so sets the page size of the sheet's own paper. If it doesn't, both papers have the same
+/// printed size.
 pub fn size_is_set()
     ensures { SizeIsSet }
 {}

@@ -82,7 +82,8 @@ fn named_or_boxed(header: &[u8], text: &[u8], usual: &Paper) -> Option<(Paper, C
     }
 }
 
-/// The paper of a box that begins at 0 0. None if there is no box, or it begins elsewhere.
+/// The paper of a box that begins at 0 0. None if there is no box, if it begins elsewhere, or if its sides can't be
+/// those of a paper.
 fn corner_paper(value: Option<&[u8]>) -> Option<Paper>
     ensures { result ≡ option_and_then meaning.box_paper (option_map (λ v. fields_in v.now) value.entry) }
 {

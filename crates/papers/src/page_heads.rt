@@ -66,8 +66,8 @@ pub(crate) fn medium_name(text: &[u8]) -> Option<&[u8]>
     Some(name)
 }
 
-/// The name at the start of a comment's value, after blanks, as it is written between its parentheses, if it has them.
-/// None if the value has only blanks.
+/// The name at the start of a comment's value, after any blanks. A name in parentheses is returned without them, but
+/// otherwise as it is written. None if the value has only blanks.
 pub fn first_name(value: &[u8]) -> Option<&[u8]>
     ensures { option_map (λ name. name.now) result ≡ name_told value.now }
 {

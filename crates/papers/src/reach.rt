@@ -13,8 +13,8 @@ use crate::page_heads::{behind_first_line, value_in_head};
 use dsc::{Document, header_len};
 use lengths::{Grains, Paper};
 
-/// The box of a page: its own `%%PageBoundingBox:`, or else the document's box `other`. The document's box isn't used
-/// if the page names a medium.
+/// The edges of a page's own `%%PageBoundingBox:`, or else of the document's box `other`. The document's box isn't used
+/// if the page names a medium. None if there is no such box, or if one of its edges isn't a number.
 fn page_box(page: &[u8], other: Option<&[u8]>) -> Option<Edges>
     ensures { result ≡ meaning.page_box (option_map (λ v. fields_in v.now) other.entry) page.now }
 {
@@ -56,7 +56,7 @@ pub struct PlacedPages<'p, 'd> {
     pub papers: &'p [Paper],
     /// For each page, its own paper.
     pub own: &'p [Paper],
-    /// Whether pages that their papers cut are left out, since `cut_by` reports them.
+    /// Whether to leave out each page that is cut by the paper for which it is placed. `cut_by` reports such pages.
     pub cut_apart: bool,
 }
 
@@ -85,7 +85,7 @@ pub fn reach_beyond(pages: &PlacedPages<'_, '_>) -> Option<Reach>
     reach_with(pages, box_of(header, text))
 }
 
-/// The pages that reach beyond their papers, as in `reach_beyond`. `other` is the document's box.
+/// The pages that `reach_beyond` returns, if `other` is the document's box.
 fn reach_with(pages: &PlacedPages<'_, '_>, other: Option<&[u8]>) -> Option<Reach>
     ensures { result ≡ meaning.reach_of (meaning.placing pages.now.taken.now pages.now.own.now
         (meaning.boxes_or (option_map (λ v. fields_in v.now) other.entry) pages.now.document.now) pages.now.cut_apart)
@@ -99,7 +99,7 @@ fn reach_with(pages: &PlacedPages<'_, '_>, other: Option<&[u8]>) -> Option<Reach
     reach
 }
 
-/// The pages found so far, and page `page` as well if its edges are beyond its paper.
+/// The pages found so far, together with page `page` if its edges lie outside its paper.
 fn with_if_beyond(
     reach: Option<Reach>,
     page: usize,
@@ -117,7 +117,7 @@ fn with_if_beyond(
     }
 }
 
-/// The pages found so far, and page `page`.
+/// The pages found so far, together with page `page`.
 fn with_reaching_page(reach: Option<Reach>, page: usize, paper: &Paper, edges: Edges) -> Reach
     requires few { IfSome reach (λ r. r.pages < usize.MAX) }
     ensures { result ≡ meaning.with_reaching_page reach (page, paper.now, edges) }
@@ -159,7 +159,7 @@ fn extent_at(
     }
 }
 
-/// Whether this page, counted from 0, is taken.
+/// Whether this page is taken. Pages are counted from 0, and a page after the end of `taken` isn't taken.
 fn is_taken(taken: &[bool], page: usize) -> bool
     ensures { result ≡ get_or taken.now page false }
 {
@@ -169,7 +169,7 @@ fn is_taken(taken: &[bool], page: usize) -> bool
     }
 }
 
-/// The own paper of this page, counted from 0, or `other` if there is no such page.
+/// This page's own paper, or `other` if there is no such page. Pages are counted from 0.
 fn own_at(own: &[Paper], page: usize, other: &Paper) -> Paper
     ensures { result ≡ get_or own.now page other.now }
 {
@@ -179,7 +179,8 @@ fn own_at(own: &[Paper], page: usize, other: &Paper) -> Paper
     }
 }
 
-/// The box of this page, counted from 0. None if the page has no box, or if there is no such page.
+/// The edges of the box of this page. Pages are counted from 0. None if the page has no box, or if there is no such
+/// page.
 fn box_at(document: &Document<'_>, other: Option<&[u8]>, page: usize) -> Option<Edges>
     ensures { result
         ≡ get_or (meaning.boxes_or (option_map (λ v. fields_in v.now) other.entry) document.now) page None }
@@ -206,7 +207,7 @@ fn paper_edges(paper: &Paper) -> Option<Edges>
 /// The number of grains in one point. A page may reach one point beyond its paper, because sizes are rounded.
 const ROUNDING: i128 = 127_000_000_000;
 
-/// Whether an edge lies outside a paper by more than one point.
+/// Whether one of these edges lies outside a paper by more than one point.
 fn is_beyond(paper: &Paper, edges: &Edges) -> bool
     ensures { result ≡ meaning.is_beyond paper.now edges.now }
 {
