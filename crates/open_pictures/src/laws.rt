@@ -23,8 +23,8 @@ ghost use Rattle.open_pictures.specs.Unguarded.{DressedSheetsShowThePages, OpenD
 ghost use Rattle.open_pictures.specs.Barcode.{BarcodeIsShown};
 ghost use Rattle.open_pictures.specs.Groff.{GroffIsShown};
 
-/// Suppose that further operators are placeless. If the machine goes from one state to another by itself, it also goes
-/// from the placed first state to the placed second state.
+/// Suppose that further operators are placeless. If a page by itself takes the machine from one state to another, the
+/// placed page takes it from the placed form of the first state to the placed form of the second.
 pub fn open_placing_commutes()
     ensures { OpenPlacingCommutes }
 {}
@@ -46,8 +46,8 @@ pub fn open_own_picture()
     ensures { OpenOwnPicture }
 {}
 
-/// With further operators that are blind, a machine that runs an output prints, sheet by sheet, the pictures that the
-/// document's own pages print, each in its place.
+/// With further operators that are blind, a machine that runs an output of a document prints, sheet by sheet, the
+/// pictures that the document's own pages print, each in its place.
 pub fn open_sheets_show_the_pages()
     ensures { OpenSheetsShowThePages }
 {}
@@ -80,22 +80,22 @@ pub fn open_made_sheets_show_the_pages()
     ensures { OpenMadeSheetsShowThePages }
 {}
 
-/// Operators that are placeless may be used by the preamble as well as by pages. A preamble may also have operators
-/// that look at their place.
+/// Operators that are placeless may be used by the preamble as well as by pages.
 pub fn placeless_runs_preambles()
     ensures { PlacelessRunsPreambles }
 {}
 
 /// Suppose that further operators are blind, and that the pages of a document are independent. Then a machine that runs
-/// an output prints, sheet by sheet, the pictures that the document itself prints, each in its place.
+/// an output of this document prints, sheet by sheet, the pictures that the document itself prints, each in its place.
 pub fn open_sheets_show_the_document()
     ensures { OpenSheetsShowTheDocument }
 {}
 
 // Laws of guarded documents.
 
-/// Suppose that further operators are placeless in guarded documents, and that a page goes from one state to another by
-/// itself. Then the machine with the guard's procedures goes from the placed first state to the placed second state.
+/// Suppose that further operators are placeless in guarded documents, and that a page by itself takes the machine from
+/// one state to another. Then the placed page, with the guard's procedures, takes the machine from the placed form of
+/// the first state to the placed form of the second.
 pub fn open_shelter_commutes()
     ensures { OpenShelterCommutes }
 {}

@@ -28,8 +28,8 @@ ghost use Rattle.pictures.specs.Lines.{AskingShows, AsksUserdict, ClipIsThePages
 ghost use Rattle.pictures.specs.Lines.{DeviceIsHanded, DeviceIsLeft, GraphicsAreThePages, GuardedTwice, LoadedShowpage};
 ghost use Rattle.pictures.specs.Lines.{MatrixIsThePages, OuterIsKept, PageIsLeft, SaveSaves, ShowpageStaysAName};
 
-/// If the machine goes from one state to another by itself, it also goes from the placed first state to the placed
-/// second state.
+/// If a page by itself takes the machine from one state to another, the placed page takes it from the placed form of
+/// the first state to the placed form of the second.
 pub fn placing_commutes()
     ensures { PlacingCommutes }
 {}
@@ -56,7 +56,8 @@ pub fn opening_is_cut()
     ensures { OpeningIsCut }
 {}
 
-/// A machine that runs an output prints the sheets in order, each with the pictures of its pages in their places.
+/// A machine that runs an output of a document prints the sheets in order, each with the pictures of its pages in their
+/// places.
 pub fn output_is_printed()
     ensures { OutputIsPrinted }
 {}
@@ -78,20 +79,20 @@ pub fn own_picture()
     ensures { OwnPicture }
 {}
 
-/// A machine that runs an output prints, sheet by sheet, the pictures that the document's own pages print, each in its
-/// place.
+/// A machine that runs an output of a document prints, sheet by sheet, the pictures that the document's own pages
+/// print, each in its place.
 pub fn sheets_show_the_pages()
     ensures { SheetsShowThePages }
 {}
 
-/// If the pages of a document are independent, the document prints, page after page, what each page prints directly
-/// after the preamble.
+/// If the pages of a document are independent, the document prints, page after page, the picture that each page prints
+/// directly after the preamble.
 pub fn pages_are_printed()
     ensures { PagesArePrinted }
 {}
 
-/// If the pages of a document are independent, a machine that runs an output prints, sheet by sheet, the pictures that
-/// the document itself prints, each in its place.
+/// If the pages of a document are independent, a machine that runs an output of this document prints, sheet by sheet,
+/// the pictures that the document itself prints, each in its place.
 pub fn sheets_show_the_document()
     ensures { SheetsShowTheDocument }
 {}
@@ -107,14 +108,15 @@ pub fn kept_runs_alike()
     ensures { KeptRunsAlike }
 {}
 
-/// Suppose that the preamble of a document and its first line end between tokens, and that each dropped line begins
-/// between tokens. Then the preamble of an output has the same tokens as the document's preamble.
+/// Suppose that the preamble of a document and the document's first line end between tokens, and that each dropped line
+/// begins between tokens. Then the preamble of an output of this document has the same tokens as the document's
+/// preamble.
 pub fn preamble_runs_alike()
     ensures { PreambleRunsAlike }
 {}
 
-/// A machine that runs an output of made sheets prints, sheet by sheet, the pictures that the document's own pages
-/// print, each in its place. The lines added to the sheets must be comments.
+/// If a document is written on made sheets, a machine that runs the output prints, sheet by sheet, the pictures that
+/// the document's own pages print, each in its place. The lines added to the sheets must be comments.
 pub fn made_sheets_show_the_pages()
     ensures { MadeSheetsShowThePages }
 {}
@@ -152,7 +154,8 @@ pub fn papers_are_left()
     ensures { PapersAreLeft }
 {}
 
-/// With the guard, a page that names a paper paints the same picture as without the name, by itself and in its place.
+/// With the guard, a page that names a paper paints the same picture as without the name, both by itself and in its
+/// place.
 pub fn paper_is_nothing()
     ensures { PaperIsNothing }
 {}
@@ -207,7 +210,8 @@ pub fn asks_userdict()
     ensures { AsksUserdict }
 {}
 
-/// The procedure by which the guard replaces a dictionary's own `showpage` does what the `showpage` of userdict does.
+/// The procedure by which the guard replaces a dictionary's own `showpage` has the same effect as the `showpage` of
+/// userdict.
 pub fn asking_shows()
     ensures { AskingShows }
 {}
@@ -218,8 +222,8 @@ pub fn page_begins()
     ensures { PageBegins }
 {}
 
-/// Suppose that a page goes from one state to another by itself. Then the machine with the guard's procedures goes from
-/// the placed first state to the placed second state.
+/// Suppose that a page by itself takes the machine from one state to another. Then the placed page, with the guard's
+/// procedures, takes the machine from the placed form of the first state to the placed form of the second.
 pub fn shelter_commutes()
     ensures { ShelterCommutes }
 {}
