@@ -94,7 +94,7 @@ fn fit(next: Lane, count: u8) -> Lane
     next
 }
 
-/// The number of bits that a sheet with this many slots needs in the lanes. A wide sheet needs none.
+/// The number of bits that a sheet with this number of slots has in the lanes. A wide sheet (over 64 slots) has none.
 fn lane_width(slots: u16) -> u8
     ensures { result ≡ (if nat_lt 64 slots then 0 else slots) }
 {
@@ -104,8 +104,8 @@ fn lane_width(slots: u16) -> u8
     slots as u8
 }
 
-/// The number of words that a sheet with this many slots has for itself. A wide sheet has a closing word and one word
-/// for each group. A sheet that isn't wide has none.
+/// The number of words that a sheet with this number of slots has for itself. A wide sheet (over 64 slots) has a
+/// closing word and one word for each group. A sheet that isn't wide has none.
 fn own_words(slots: u16) -> u32
     requires { slots ≤ most_slots }
     ensures { result ≡ (if nat_lt 64 slots then 1 + (slots + 63) / 64 else 0) }

@@ -59,7 +59,7 @@ impl Join<SeatKnowledge> for JoinSeats {
     ghost spent = { spent_seat };
 }
 
-/// The step after a join, in which the joined seat learns what the rule says about seats.
+/// The step after a join. In it, the joined seat learns the facts about seats that the rule states.
 pub(crate) struct Learns;
 
 impl Play<(), SeatKnowledge> for Learns {

@@ -21,7 +21,7 @@ pub(crate) fn blank_bits(plan: &Plan, sheet: u32, group: u8) -> u64
     full_bits(group_size(plan.slots(sheet), group)) - plan.missing_at_start(sheet, group)
 }
 
-/// The number of groups of a sheet with this many slots.
+/// The number of groups of a sheet with this number of slots.
 pub(crate) fn group_count(slots: u16) -> u8
     requires { slots ≤ most_slots }
     ensures { result ≡ (slots + 63) / 64 }
@@ -29,7 +29,7 @@ pub(crate) fn group_count(slots: u16) -> u8
     ((slots + 63) / 64) as u8
 }
 
-/// The number of slots in a group of a sheet with this many slots.
+/// The number of slots in this group of a sheet with `slots` slots. Groups are counted from 0.
 pub(crate) fn group_size(slots: u16, group: u8) -> u16
     requires { 64 * group ≤ slots }
     ensures { result ≡ (if nat_lt (64 * group + 64) slots then 64 else slots - 64 * group) }

@@ -29,8 +29,8 @@ pub fn whole_pass_loses_none()
     ensures { WholePassLosesNone }
 {}
 
-/// Each move of a pass becomes one of its own moves. A joined pass has the own moves of both passes, and a split takes
-/// none away.
+/// Each move of a pass becomes one of its own moves. A joined pass has both passes' own moves, and a split takes none
+/// away.
 pub fn own_moves_are_kept()
     ensures { OwnMovesAreKept }
 {}

@@ -71,7 +71,7 @@ impl<'d> Prepared<'d> {
         }
     }
 
-    /// Prepares a page of a document, counted from 0. Fails only if memory is refused.
+    /// Prepares page `page` of a document. Pages are counted from 0. Fails only if memory is refused.
     pub fn of_page(
         alloc: Global,
         document: &Document<'d>,

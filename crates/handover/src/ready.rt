@@ -179,8 +179,8 @@ impl Ready {
         }
     }
 
-    /// Joins two passes into one. The joined pass has seen all that either pass had seen, and has the own moves, the
-    /// shares and the room of both.
+    /// Joins two passes into one. The joined pass has seen all that either pass had seen, and has both passes' own
+    /// moves, shares and room.
     pub fn join(&self, one: Pass, two: Pass) -> Pass
         requires one { IsPassOf self.now one }
         requires two { IsPassOf self.now two }

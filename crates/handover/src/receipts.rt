@@ -8,8 +8,8 @@ use std::alloc::Global;
 use std::fmt;
 use std::marker::Model;
 
-/// The token of an entry of a shelf. Contracts see the entry's page and index, and whether the page was put as one of
-/// the shelf's document.
+/// The token of an entry of a shelf. Contracts see the entry's page and index, and whether the page was put as a page
+/// of the shelf's document.
 #[derive(Drop)]
 pub struct Receipt<'d> {
     pub(crate) token: Pushed<Entry<'d>, Global, OwnFlagIsTrue>,

@@ -13,7 +13,7 @@ use std::marker::Model;
 use std::sync::Wait;
 
 /// Prepared pages, which many threads share without a lock. A shelf only grows, and a page keeps its index. A shelf may
-/// belong to a document. It then records, for each page, whether the page was put as one of this document.
+/// belong to a document. It then records, for each page, whether the page was put as a page of this document.
 #[derive(Drop)]
 pub struct Shelf<'d> {
     list: boxcar::Vec<Entry<'d>, Global, OwnFlagIsTrue>,
@@ -27,7 +27,7 @@ impl<'d> Model for Shelf<'d> {
     ghost view = { λ s. s.list };
 }
 
-/// The content of a shelf at an index: a page, its receipt, and whether the page was put as one of the shelf's
+/// The content of a shelf at an index: a page, its receipt, and whether the page was put as a page of the shelf's
 /// document.
 #[derive(Drop)]
 pub struct Shelved<'a, 'd> {

@@ -67,8 +67,8 @@ impl<N: Picks> Split<PassKnowledge> for HistoryCut<N> {
     ghost right = { gets_of N.number (puts_in N.room) };
 }
 
-/// The join of two passes, and the step after the join, in which the joined pass learns what the rule says about
-/// passes.
+/// The join of two passes, and the step after the join. In this step, the joined pass learns the facts about passes
+/// that the rule states.
 pub(crate) struct JoinPasses;
 
 impl Join<PassKnowledge> for JoinPasses {
