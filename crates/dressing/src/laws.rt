@@ -5,8 +5,8 @@ ghost use Rattle.dressing.specs.AtFoot.{NumbersAreAtFoot};
 ghost use Rattle.dressing.specs.Numbered.{NoMarksAreTelling};
 ghost use Rattle.dressing.specs.Quiet.{DrawnAreFound, DrawnIsQuiet};
 
-/// If a sheet is cut along all lines that run in one direction, its pieces are equally wide. The margin before the first cell must have room for half
-/// a gap.
+/// If a sheet is cut along all lines that run in one direction, the pieces between neighbouring lines are equally wide. The margin before the first
+/// cell must have room for half a gap.
 pub fn pieces_are_like()
     ensures { PiecesAreLike }
 {}
@@ -21,7 +21,7 @@ pub fn fold_marks_are_on_fold()
     ensures { FoldMarksAreOnFold }
 {}
 
-/// No mark crosses a cell.
+/// If cells have a width and a height, no mark crosses a cell.
 pub fn marks_are_outside()
     ensures { MarksAreOutside }
 {}

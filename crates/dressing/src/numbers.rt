@@ -1,11 +1,11 @@
 //! The options of page numbers.
 use lengths::Grains;
 
-/// How pages are numbered.
+/// The way in which pages are numbered.
 #[derive(Clone, Copy, Debug, PartialEq, Eq)]
 pub struct Numbering {
     /// The size of the font, in grains.
     pub size: Grains,
-    /// The number to print on the row's first page. The following pages count on from it.
+    /// The number of a page in the first place of the row. Each later place counts one more, blanks included.
     pub first: u32,
 }

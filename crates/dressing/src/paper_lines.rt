@@ -156,7 +156,7 @@ fn push_continued(alloc: Global, lines: &mut Lines, paper: &Paper) -> Result<(),
 }
 
 /// Appends the end of a medium's line, after the medium's name: the sides in points, the weight 0, an empty colour and an empty type. An empty colour
-/// or type means that it is unknown.
+/// or type is an unknown one.
 fn append_medium_sides(line: &mut Vec<u8>, paper: &Paper) -> Result<(), AllocError>
     ensures { OnOk result (line.new.items ≡ line.old.items ++ medium_text [] paper.now) }
 {

@@ -10,8 +10,9 @@ use std::alloc::{AllocError, Global};
 /// The distance between neighbouring lines, in 10^-5 of a point: 24 points.
 const LINE_STEP: u64 = 2_400_000;
 
-/// The lines for notes on a sheet. They are in the last cell of each row of cells, as one reads the sheet; pages are in the cells before it. Lines
-/// cross the cell from side to side, 24 points apart; the first is 24 points below the cell's top, and none is on its lower side.
+/// The lines for notes on a sheet. With the sheet held so that its pages are upright, they are in the last cell of each row of cells; pages are in
+/// the cells before it. Lines cross the cell from side to side, 24 points apart; the first is 24 points below the cell's top, and none is on its
+/// lower side.
 pub fn note_lines(alloc: Global, room: &Room, grid: Grid) -> Result<Vec<Stroke>, AllocError>
     ensures { IfOk result (λ lines. lines.items ≡ lines_of room.now grid) }
 {
@@ -51,7 +52,8 @@ fn note_line(room: &Room, grid: Grid, row: u32, k: u32) -> Stroke
     line_below(grid.turned, &cell, u64::from(k) * LINE_STEP)
 }
 
-/// A line across a cell, at this depth below the top of the cell as one reads the sheet, in 10^-5 of a point.
+/// A line across a cell, at this depth below the cell's top, in 10^-5 of a point. The top is that of the sheet as it is held so that its pages are
+/// upright.
 fn line_below(turned: bool, cell: &Cell, depth: u64) -> Stroke
     requires { depth ≤ 11 * 10 ^ 15 }
     ensures { result ≡ below_of turned cell.now depth }

@@ -194,8 +194,8 @@ fn push_level(room: &Room, parts: u32, k: u32, strokes: &mut Vec<Stroke>) -> Res
     Ok(())
 }
 
-/// The distance, in grains, from an edge of the sheet to the inner ends of its marks. It is the width `edge` of the margin, which is given in 10^-5
-/// of a point, or 18 points without a margin.
+/// The distance, in grains, from an edge of the sheet to the inner ends of its marks. It is the width of the margin, which is `edge` times 10^-5 of a
+/// point, or 18 points if there is no margin.
 fn far_end(edge: u64) -> Grains
     requires { edge ≤ 10_000_000_000 }
     ensures value { result ≡ pos (far_of edge) }
