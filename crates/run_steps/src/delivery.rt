@@ -57,7 +57,7 @@ impl Debug for DeliverError<'_> {
 /// wait for other threads that are using the shelf or the queue.
 ///
 /// The table must be one of this plan. All memory is reserved before the first call on the table or the queue, so that a refusal of memory leaves
-/// both unchanged.
+/// both unchanged. Fails with `NoMemory` if memory is refused, and with `ShelfFull` if the page's index on the shelf has more than 32 bits.
 pub fn deliver<'d, R: Wait>(
     rt: &R,
     alloc: Global,

@@ -78,7 +78,7 @@ pub struct Imposition<'s, 'r, 't, 'd> {
     pub job: &'s Job<'r, 'd>,
     pub table: &'s GatherTable<'t>,
     pub shelf: &'r Shelf<'d>,
-    /// Whether the shelf is known to belong to the job's document. If it is, a page that was put there as one of this document needn't be compared
+    /// Whether the shelf is known to belong to the job's document. If it is, a page that was put there as a page of this document needn't be compared
     /// with the document.
     pub is_of_document: bool,
     ghost of_document: { IsTrue is_of_document → IsShelfOf shelf.now job.now.units },

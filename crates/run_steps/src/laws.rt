@@ -8,8 +8,8 @@ pub fn deliveries_weigh()
     ensures { DeliveriesWeigh }
 {}
 
-/// If each page goes to a preparer by the page's number modulo the count of preparers, the shares of all preparers are together the work of all
-/// pages.
+/// Suppose that page p goes to the preparer with the number p modulo the number of preparers. Then the shares of all preparers are together the work
+/// of all pages.
 pub fn shares_are_all()
     ensures { SharesAreAll }
 {}

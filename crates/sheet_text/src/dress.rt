@@ -18,7 +18,7 @@ pub struct SheetExtras {
     pub header: Lines,
     /// Whether each sheet has, after its `%%Page:` line, lines that report its paper and set the device's page size.
     pub tells_papers: bool,
-    /// The lines that every sheet has at its end, before its `showpage` and its page numbers.
+    /// The lines that every sheet has at its end, before its page numbers and its `showpage`.
     pub finish: Lines,
     /// The page numbers, which are drawn after the lines of `finish`. None if pages aren't numbered.
     pub numbers: Option<Numbers>,

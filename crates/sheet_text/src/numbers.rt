@@ -22,7 +22,7 @@ const ABOVE_FOOT: i128 = 2_286_000_000_000;
 pub struct Numbers {
     /// The size of the font, in grains.
     pub size: Grains,
-    /// The number to draw on the first page of the row. The number grows by 1 from page to page.
+    /// The number of a page in the first place of the row. Each later place counts one more, blanks included.
     pub first: u32,
     /// The sheets to number. A slot names its page by the page's place in the row, counted from 0, and not by the page's number in the document.
     pub places: MadeSheets,

@@ -17,8 +17,8 @@ pub struct Texts<'r> {
     parts: Vec<TextPart<'r>>,
 }
 
-/// The text of one sheet: the bytes from `start` to before `end` of the common vector, with the borrowed slices between them. The indexes at which
-/// the slices lie are counted from `start`.
+/// The text of one sheet: the bytes of the common vector from `start` up to, but not including, `end`, with the borrowed slices between them. The
+/// indexes at which the slices lie are counted from `start`.
 #[derive(Drop)]
 struct TextPart<'r> {
     sheet: u32,
@@ -93,8 +93,8 @@ impl<'r> Texts<'r> {
         self.parts[nth].sheet
     }
 
-    /// The text for a single write: that of this sheet, and then those of up to `most - 1` sheets that follow it in number and in memory. Returns the
-    /// number of sheets, and the bytes of their text. None if this sheet isn't at the index `nth` of the list.
+    /// The text for a single write: the text of this sheet, and then the texts of the sheets that follow it in number and in memory. Returns the
+    /// number of these sheets, which is at most `most`, and the bytes of their texts. None if this sheet isn't at the index `nth` of the list.
     pub fn joined(&self, sheet: u32, nth: usize, most: u32) -> Option<(u32, Pieces<'_, 'r>)>
         requires most { 0 < most }
         ensures count { IfSome result (λ j. (0 < j.0) × (j.0 ≤ most)) }
@@ -113,8 +113,8 @@ impl<'r> Texts<'r> {
     }
 }
 
-/// The text of this sheet, which is at the index `nth`, and then the texts of up to `most - 1` sheets that follow it in number and in memory. Returns
-/// the number of sheets, and the bytes of their text. A text with borrowed slices is returned alone.
+/// The text of this sheet, which is at the index `nth`, and then the texts of the sheets that follow it in number and in memory. Returns the number
+/// of these sheets, which is at most `most`, and the bytes of their texts. A text with borrowed slices is returned alone.
 fn neighbours<'p, 'r>(
     own: &'p [u8],
     parts: &'p [TextPart<'r>],

@@ -21,9 +21,9 @@ pub struct Place {
     pub nth: usize,
 }
 
-/// Finished sheets that wait until all sheets before them are written. The place of a sheet is its number modulo the number of places. So the sheets
-/// of one window, which has at most one sheet per place, have different places. Sheets arrive in groups. A group is stored at the place of its last
-/// sheet (the sheet with the greatest number), since the whole group has been written once that sheet has.
+/// Finished sheets that wait until all sheets before them are written. The place of a sheet is its number modulo the number of places. So sheets with
+/// successive numbers have different places, if there are at most as many sheets as places. Sheets arrive in groups. A group is stored at the place
+/// of its last sheet (the sheet with the greatest number), since the whole group has been written once that sheet has.
 #[derive(Drop)]
 pub struct ReorderBuffer<'r> {
     /// For each place, the position that was last recorded for a sheet with this place. At first it is index 0 of group 0.
@@ -115,8 +115,8 @@ impl<'r> ReorderBuffer<'r> {
         sheet as usize % self.groups.len().max(1)
     }
 
-    /// The text for a single write: that of this sheet, and then those of up to `most - 1` sheets that follow it in number and in memory. Returns the
-    /// number of sheets, and the bytes of their text. None if this sheet hasn't come.
+    /// The text for a single write: the text of this sheet, and then the texts of the sheets that follow it in number and in memory. Returns the
+    /// number of these sheets, which is at most `most`, and the bytes of their texts. None if this sheet hasn't come.
     pub fn joined(&self, sheet: u32, most: u32) -> Option<(u32, Pieces<'_, 'r>)>
         requires most { 0 < most }
         ensures count { IfSome result (λ j. (0 < j.0) × (j.0 ≤ most)) }

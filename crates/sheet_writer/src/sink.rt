@@ -88,7 +88,7 @@ pub struct WriteSink<T: io::Write> {
 }
 
 impl<T: io::Write> WriteSink<T> {
-    /// A sink for this writer. The sink has not failed yet.
+    /// A sink for this writer. It hasn't refused a call yet.
     pub fn new(writer: T) -> Self
         ensures told { (⟦<WriteSink<T> as Sink>⟧.seen result).bytes ≡ T.contents writer }
         ensures fresh { (⟦<WriteSink<T> as Sink>⟧.seen result).failures ≡ 0 }
