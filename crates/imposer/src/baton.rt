@@ -5,7 +5,8 @@ use std::sync::atomic::AtomicU64;
 use std::sync::atomic::Ordering::SeqCst;
 use std::time::Duration;
 
-/// The approximate number of bytes of pages that a worker handles in one stint.
+/// The approximate number of bytes of the pages that a preparer handles in one stint. An imposer's stint has as many batches of sheets as a
+/// preparer's has pages.
 const BYTES_OF_A_STINT: usize = 524_288;
 
 /// The cost of a page apart from the cost of its bytes. It is an estimate, expressed as a number of bytes.
@@ -18,10 +19,10 @@ const LONGEST_STINT: usize = 512;
 /// each other's way.
 const FEWEST_IN_TURN: u32 = 32;
 
-/// The number of times that a worker sleeps while it waits for its turn. After that it goes on without the turn.
+/// The greatest number of naps that a worker takes while it waits for the turn. After them it goes on without the turn.
 const MOST_NAPS: u32 = 20;
 
-/// The time for which a worker sleeps, in microseconds.
+/// The length of a nap, in microseconds.
 const MICROSECONDS_OF_A_NAP: u64 = 500;
 
 /// The turns that the workers of one kind take. If pages are small, workers that run at the same time mostly compete for the same words of the table
@@ -66,8 +67,8 @@ impl Baton {
         }
     }
 
-    /// Counts one more page, or batch of sheets, of this worker. At the end of its stint the worker gives up its turn, and waits for the next turn if
-    /// workers take turns.
+    /// Counts one more page, or batch of sheets, of this worker. If the worker's stint is over, the worker first gives up its turn. It then waits for
+    /// its next turn, if a stint has at least `FEWEST_IN_TURN` pages.
     pub(crate) fn pass_if_due<R: Wait>(&self, rt: &R, stint: &mut Shift) {
         if stint.left > 0 {
             stint.left -= 1;

@@ -123,8 +123,8 @@ pub fn gather<'j, 'd, R: Threads + Wait + Sync, G: Gate + Sync, S: Sink>(
     gather_objects(rt, floor, Tokens { seat, pass }, workers, sink)
 }
 
-/// Gathers on these objects like `gather`. If the shelf belongs to the job's document, pages are put there as this document's own, and imposers don't
-/// compare their bytes with the document's.
+/// Gathers on these objects as `gather` does. If the shelf belongs to the job's document, pages are put there as this document's own, and imposers
+/// don't compare the bytes of these pages with the document's.
 pub(crate) fn gather_objects<'d, R: Threads + Wait + Sync, G: Gate + Sync, S: Sink>(
     rt: &R,
     floor: RunObjects<'_, '_, '_, 'd, G>,
@@ -159,7 +159,7 @@ pub(crate) fn gather_objects<'d, R: Threads + Wait + Sync, G: Gate + Sync, S: Si
     gather_with_rule::<Brand, R, G, S>(rt, &shared, tokens, workers, sink)
 }
 
-/// Gathers like `gather`. `T` is the text that the channel's rule gives for each sheet.
+/// Gathers as `gather` does. `T` gives the text of each sheet, for the rule of the channel.
 fn gather_with_rule<
     'r,
     'd,
@@ -222,7 +222,7 @@ fn gather_with_rule<
 }
 
 /// Runs the workers and the collector, and then writes the remaining output. The sheets without pages must have been put on the queue before the
-/// call. The collector's state is taken apart at the end, so that it is known how the sink has changed.
+/// call. The collector's state is taken apart at the end, so that the proof sees how the sink has changed.
 fn gather_on_threads<
     'r,
     'd,

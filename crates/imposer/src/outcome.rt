@@ -5,7 +5,7 @@ use sheet_plan::PlanError;
 use std::alloc::AllocError;
 use thiserror::Error;
 
-/// The numbers of a run that has finished.
+/// The numbers of pages, sheets and bytes of a run that has finished.
 #[derive(Clone, Copy, Debug, PartialEq, Eq)]
 pub struct Report {
     /// The number of pages of the document.
@@ -14,7 +14,7 @@ pub struct Report {
     pub sheets: u32,
     /// The number of sheets that have no page.
     pub born: u32,
-    /// The number of sheets that never came from an imposer. They were made only at the end of the run.
+    /// The number of sheets that the collector made at the end of the run, because no imposer had sent them.
     pub swept: u32,
     /// The number of bytes in the output.
     pub bytes: u64,

@@ -29,7 +29,7 @@ use std::sync::Wait;
 use std::thread::Threads;
 
 /// Imposes and writes the sheets of a job, whose document has been read and whose sheets have been planned. The sheets are those of a specification,
-/// or made sheets with added lines.
+/// or those made from a row, with the lines that were added to them.
 ///
 /// The only errors are `NoMemory` and `Write`. After an error the sink has taken the first `written` bytes of the output. The sink isn't flushed. At
 /// the end the listener gets the table, the queue and the result. Unless memory or a thread was refused, the result has the tokens that show all
@@ -110,8 +110,8 @@ fn gather_plan<'j, 'd, R: Threads + Wait + Sync, G: Gate + Sync, S: Sink>(
     })
 }
 
-/// A table of this plan and a queue with room for all puts of a run with this number of preparers, with an unused seat and an unused pass. The only
-/// error is refused memory.
+/// A table of this plan, with an unused seat, and a queue, with an unused pass. The queue and its pass have room for all puts of a run with this
+/// number of preparers. The only error is refused memory.
 fn table_and_queue<'j>(
     alloc: Global,
     plan: &Plan<'j>,

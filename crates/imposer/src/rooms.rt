@@ -25,8 +25,8 @@ impl<'s, 'r, 't, 'd, G: Gate> Shared<'s, 'r, 't, 'd, G> {
     }
 }
 
-/// The greatest number of puts that preparer `number` of `count` makes. It completes at most as many sheets as its pages have places, and at most all
-/// sheets of the plan.
+/// The greatest number of puts that preparer `number` of `count` makes: one for each slot with one of this preparer's pages, but at most one for each
+/// sheet of the plan.
 pub(crate) fn most_puts(plan: &Plan<'_>, number: u32, count: u32) -> u32
     requires number { number < count }
     ensures { result ≡ most_puts (layout plan.now) count number }

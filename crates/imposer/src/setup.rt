@@ -29,8 +29,9 @@ pub(crate) struct Setup<'r, T: SheetTexts> {
 }
 
 impl<'r, T: SheetTexts> Setup<'r, T> {
-    /// Makes the desk and the channel of a job. The reorder buffer, the channel and the queue of written texts each have room for all sheets of a
-    /// window of this size. So imposers needn't wait for room. The only error is refused memory.
+    /// Makes the desk and the channel of a job. `window` is the number of sheets in a window. The reorder buffer, the channel and the queue of
+    /// written texts each have room for this number of sheets, or for all sheets of a shorter job. So imposers needn't wait for room. The only error
+    /// is refused memory.
     pub(crate) fn new(alloc: Global, job: &Job<'_, '_>, window: u32) -> Result<Self, AllocError>
         ensures desk { IfOk result (λ s. IsDeskOf job.now s.desk) }
         ensures receiving { IfOk result (λ s. IsSeatAt (receives_on s.channel.receiver) s.desk.receiving) }

@@ -20,8 +20,8 @@ pub(crate) struct RunObjects<'s, 'r, 't, 'd, G> {
     pub(crate) job: &'s Job<'r, 'd>,
     pub(crate) table: &'s GatherTable<'t>,
     pub(crate) shelf: &'r Shelf<'d>,
-    /// Whether the shelf belongs to the job's document. If it does, pages are put there as this document's own, and imposers don't compare their
-    /// bytes with the document's.
+    /// Whether the shelf belongs to the job's document. If it does, pages are put there as this document's own, and imposers don't compare the bytes
+    /// of these pages with the document's.
     pub(crate) is_of_document: bool,
     pub(crate) ready: &'s Ready,
     ghost of_document: { IsTrue is_of_document → IsShelfOf shelf.now job.now.units },
@@ -51,7 +51,7 @@ pub(crate) struct Shared<'s, 'r, 't, 'd, G> {
 pub(crate) struct RunInput<'s, 'r, 't, 'd, T: SheetTexts, G> {
     pub(crate) shared: &'s Shared<'s, 'r, 't, 'd, G>,
     pub(crate) channel: &'s Channel<'r, T>,
-    /// The same job, with the text that the channel's rule gives for each sheet.
+    /// The job of `shared`, with the text that the channel's rule gives for each sheet.
     pub(crate) ruled: &'s RuledJob<'s, 'r, 'd, T>,
     ghost same_job: { ruled.now.job.now ≡ shared.now.floor.job.now },
 }

@@ -7,8 +7,8 @@ use dsc::DscError;
 use pagespec::SpecError;
 use sheet_plan::PlanError;
 
-/// The exit status of a program whose run ended with this error. It is 1 if the specification, the document or the plan is refused, 2 if the options
-/// are, and 3 if memory was refused or a write failed.
+/// The exit status of a program whose run ended with this error. It is 1 if the specification, the document or the plan is refused, and 2 if the
+/// options are. It is 3 if memory or a thread was refused, or if a write failed.
 pub fn run_status(error: &RunError) -> u8
     ensures { result ≡ run_status error.now }
 {

@@ -117,7 +117,7 @@ pub trait Collector<S> {
         ensures collected { collected self.now state.old state.new };
 }
 
-/// The promise of a preparer's thread: the thread returns an `H` with which the preparer's work was done.
+/// The promise of a preparer's thread: if the thread returns an `H`, the preparer's work was done with it.
 #[derive(Drop)]
 pub(crate) struct Prepares<'a, W> {
     pub(crate) shared: &'a W,
@@ -129,7 +129,7 @@ impl<'a, H, W: Work<H>> Promise<Result<H, AllocError>> for Prepares<'a, W> {
     ghost kept_by = { λ p r. IfOk r (λ h. W.is_back p.shared.now h × W.has_prepared p.shared.now p.count p.number h) };
 }
 
-/// The promise of an imposer's thread: the thread returns an `H` with which the imposer's work was done.
+/// The promise of an imposer's thread: if the thread returns an `H`, the imposer's work was done with it.
 #[derive(Drop)]
 pub(crate) struct Imposes<'a, W> {
     pub(crate) shared: &'a W,

@@ -60,8 +60,8 @@ pub(crate) struct Window {
 }
 
 impl Window {
-    /// A window with about 768 KiB of text, for a job whose slots have this number of bytes of text together. It has at least two sheets, and at
-    /// least one for each imposer.
+    /// A window for a job whose slots have `bytes` bytes of text together. The window has at least two sheets, at least one for each imposer, and at
+    /// most 4,096. Within these limits, its sheets have about 768 KiB of text.
     ///
     /// A step is never longer than the window. So once all sheets of the window are written, the window has moved, and imposers that wait for it go
     /// on.

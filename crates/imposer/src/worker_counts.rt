@@ -2,7 +2,7 @@
 ghost use Rattle.std.specs.Prelude.{◌↔◌, IsTrue};
 ghost use Rattle.imposer.specs.Workers.{AreWorkers};
 
-/// The number of threads that prepare pages, and the number of threads that impose sheets. Each is from 1 to 16.
+/// The number of threads that prepare pages, and the number of threads that impose sheets. A run needs from 1 to 16 of each.
 #[derive(Clone, Copy, Debug, PartialEq, Eq)]
 pub struct Workers {
     pub preparers: u32,

@@ -1,4 +1,4 @@
-//! First sheets that are begun.
+//! First sheets of which some cells have been used already.
 ghost use Rattle.std.specs.Prelude.{◌≡◌, ◌<◌, ◌≤◌, ◌++◌, IfOk, IfSome, None, drop, flat_map, length, option_map, replicate};
 ghost use Rattle.rules.specs.Choice.{most_entries};
 ghost use Rattle.rows.specs.Sewing.{MayBeSewn, signing_of};
@@ -19,8 +19,8 @@ pub enum Begun {
     Cards { cells: u64, used: u32 },
 }
 
-/// The row as it is laid: in signatures if there are any, otherwise from where it begins. A row of cards with more entries than a plan has slots is
-/// refused like a lack of memory.
+/// The row as it is laid. If `signing` is given, the row is put into signatures. Otherwise it gets the blanks at its start, and the copies for cards,
+/// that `begun` asks for. Fails with `AllocError` if memory is refused, or if there would be more than 4,000,000 copies.
 pub(crate) fn laid_row(
     alloc: Global,
     row: Vec<Option<u32>>,
@@ -38,7 +38,8 @@ pub(crate) fn laid_row(
     }
 }
 
-/// The row from where it begins.
+/// The row with the blanks at its start, and the copies for cards, that `begun` asks for. Fails with `AllocError` if memory is refused, or if there
+/// would be more than 4,000,000 copies.
 fn begun_row(
     alloc: Global,
     row: Vec<Option<u32>>,
@@ -70,7 +71,7 @@ fn after_blanks(
     Ok(found)
 }
 
-/// These entries without the first `used`.
+/// These entries without the first `used`. There are none left if `used` is greater than their number.
 fn without_first(used: u32, entries: &[Option<u32>]) -> &[Option<u32>]
     ensures { result.now ≡ drop used entries.now }
 {
@@ -82,7 +83,7 @@ fn without_first(used: u32, entries: &[Option<u32>]) -> &[Option<u32>]
     }
 }
 
-/// Each entry of the row this number of times. Refused if there would be more than a plan has slots.
+/// Each entry of the row `cells` times. Fails with `AllocError` if memory is refused, or if there would be more than 4,000,000 entries.
 fn copies_of(alloc: Global, cells: u64, row: &[Option<u32>]) -> Result<Vec<Option<u32>>, AllocError>
     ensures { IfOk result (λ copies. copies.items ≡ flat_map (replicate cells) row.now) }
 {

@@ -11,9 +11,9 @@ use dsc::{
 use memchr::memmem::FinderRev;
 use papers::first_comment;
 
-/// The number of pages that a document declares in its comments (DSC 3.0, 5.1). It is given by the first `%%Pages:` of the header. If the value there
-/// is `(atend)`, the number is given by the first `%%Pages:` that follows the last `%%Trailer` line and isn't in an embedded document. None if there
-/// is no such comment, or if its value isn't a number.
+/// The number of pages that a document declares in its comments (DSC 3.0, 5.1), or `usize::MAX` if the number is greater. It is given by the first
+/// `%%Pages:` of the header. If the value there is `(atend)`, the number is given by the first `%%Pages:` that follows the last `%%Trailer` line and
+/// isn't in an embedded document. None if there is no such comment, or if its value isn't a number.
 pub fn declared_page_count(text: &[u8]) -> Option<usize>
     ensures { result ≡ meaning.declared_page_count text.now }
 {

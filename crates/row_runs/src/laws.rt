@@ -8,9 +8,9 @@ ghost use Rattle.row_runs.specs.Turning.{TurnedStands, TurnsAddUp};
 ghost use Rattle.row_runs.specs.NumbersLie.{NumbersInCells, NumbersInHalves};
 ghost use Rattle.row_runs.specs.Written.{NothingIsMoved, TurnedStaysInCell, UprightIsUnturned, WrittenAreRead, WrittenInCells, WrittenInPlaces, WrittenIsBound, WrittenKeepRoom, WrittenStand};
 
-/// On sheets as they are laid, pages are fitted into their cells, in reading order. The pages of a stack are in the order of the row once its sheets
-/// are cut and piled. So are the pages of a zine once it is folded and cut. The fold marks of a booklet are on its fold. Each point of a poster's
-/// page is on one of its sheets.
+/// On sheets as they are laid, pages are fitted into their cells, in reading order. Stacks and leaves are in the order of the row once their sheets
+/// are cut and piled, and zines once their sheets are folded and cut. The fold marks of a booklet are on its fold. Each point of a page is on at
+/// least one sheet of the page's poster.
 pub fn asked_stand_in_places()
     ensures { AskedStandInPlaces }
 {}
@@ -25,19 +25,21 @@ pub fn last_page_is_last()
     ensures { LastPageIsLast }
 {}
 
-/// On a begun sheet the cells that are used already stay empty. The cells after them have the row, or what cards have there on a whole sheet
-/// (`used`), which is what the grid of a row with copies has (`cards`).
+/// On a begun sheet, the cells that were used before stay empty. The cells after them have the entries of the row; if these are cards, the cells have
+/// the entries that they would have on a whole sheet (`used`). Whole sheets of cards are those of a grid whose row has a copy of each entry for each
+/// cell (`cards`).
 pub fn begun_leaves_used()
     ensures used { BegunLeavesUsed }
     ensures cards { CardsAreGrid }
 {}
 
-/// Two quarter turns of a page are a half turn, three are a quarter turn to the right, and four leave the page as it was.
+/// Two quarter turns of a page to the left are a half turn, three are a quarter turn to the right, and four leave the page as it was.
 pub fn turns_add_up()
     ensures { TurnsAddUp }
 {}
 
-/// Each point of a turned page lies within 10^-5 of a point of the place that it would have on a page with the turned paper.
+/// Suppose that the offset of a page is in points. Then each point of the page, once turned, lies where a page of the turned paper would have it, to
+/// within 10^-5 pt.
 pub fn turned_stands()
     ensures { TurnedStands }
 {}
@@ -60,10 +62,10 @@ pub fn turned_stays_in_cell()
     ensures { TurnedStaysInCell }
 {}
 
-/// The places of pages on the sheets that are written. If no page is turned, pages are where they are laid, and on backs between the margins of the
-/// back (`stand`). If no margins are exchanged either, pages are in the places of the laying (`places`). Whether turned or not, each page lies in its
-/// cell (`cells`), and pages that aren't trimmed lie between the margins and apart from each other (`room`). Cells, stacks and zines (`read`) and
-/// booklets (`bound`) are read in the order of the row.
+/// The places of pages on the sheets that are written. If no page is turned, pages lie between the margins of their side, and apart from each other
+/// or off a booklet's fold (`stand`). If no margins are exchanged either, these sheets have the places that `asked_stand_in_places` states
+/// (`places`). Whether turned or not, each page lies in its cell (`cells`), and pages that aren't trimmed lie between the margins and apart from each
+/// other (`room`). Cells, stacks and zines (`read`) and booklets (`bound`) are read in the order of the row.
 pub fn written_keeps_place()
     ensures stand { WrittenStand }
     ensures places { WrittenInPlaces }

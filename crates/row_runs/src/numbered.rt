@@ -61,7 +61,8 @@ pub(crate) fn numbers_on(
     }))
 }
 
-/// The sheets of this request, in which each slot names its page by the page's place in the row.
+/// The sheets of this request, in which each slot names its page by the page's place in the row, counted from 0. Any refusal is returned as
+/// `AllocError`.
 fn places_of(
     alloc: Global,
     pages: u32,
@@ -150,7 +151,7 @@ fn sheet_paper<'p>(laying: &'p Laying<'_>) -> &'p Paper
     }
 }
 
-/// The distance from the middle of a page down to the foot of its cell, in grains. None if each page is its own cell.
+/// The distance from the middle of a page down to the foot of its cell, in grains. None if the laying has no cells.
 fn below_middle(laying: &Laying<'_>) -> Option<Grains>
     ensures { result ≡ below_of laying.now }
 {

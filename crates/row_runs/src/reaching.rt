@@ -16,8 +16,9 @@ use sheet_plan::{MadeError, MadeSheets, PlacedSlot};
 /// The greatest number of sheets in a plan.
 const MOST_SHEETS: usize = 1_000_000;
 
-/// Checks that these sheets can be shifted and turned. The error is `TooManySheets` if there are more than 1,000,000 sheets, and `OutOfReach` if a
-/// page would get an offset of 100,000 points or more. If `swap` is given, its left and right margins are exchanged on backs.
+/// Checks that these sheets can be shifted and turned. The error is `TooManySheets` if there are more than 1,000,000 sheets. It is `OutOfReach` if a
+/// page that is shifted or turned would get an offset of 100,000 points or more. If `swap` is given, its left and right margins are exchanged on
+/// backs.
 pub(crate) fn check_reach(
     turn: Turn,
     swap: &Option<Room>,

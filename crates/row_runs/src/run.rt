@@ -36,7 +36,7 @@ pub struct RowJob<'j, 'd> {
     pub border: Option<Grains>,
     /// The distance of the border from the edges of its page, in grains.
     pub inset: Grains,
-    /// The marks that are drawn at the end of each sheet.
+    /// The marks, the lines for notes and the page numbers that are drawn on each sheet, after its pages.
     pub marks: Marks,
 }
 

@@ -83,14 +83,15 @@ pub enum Scheme {
     Cards { cells: u32 },
     /// The row runs through the same cell of all sheets, and then through the next cell. Each sheet has `cells` cells.
     Stack { cells: u32 },
-    /// The row runs through the cells as in a stack, but through both sides of leaves and through all cells of the grid.
+    /// As in a stack, the row runs through one cell of all leaves before it runs through the next cell. It takes both sides of each leaf, and all
+    /// cells of the grid.
     Leaves,
     /// Each side of a leaf has two entries of a row in signatures. Backs are rotated by 180 degrees for printers that flip a sheet on its long edge
     /// (`turned_backs`). In each signature, pages are moved towards the fold: on the innermost leaf by `creep`, in 10^-5 of a point, and on the
     /// outermost leaf not at all. From leaf to leaf the distance grows in equal steps.
     Booklet { turned_backs: bool, creep: u64 },
-    /// Each sheet has eight entries on one side, and is folded and cut into a booklet. It has two rows of four cells; pages of the first row are
-    /// rotated by 180 degrees.
+    /// A sheet is folded and cut into a booklet. It has eight entries on one side, in two rows of four cells. Pages of the upper row are rotated by
+    /// 180 degrees.
     Zine,
 }
 
