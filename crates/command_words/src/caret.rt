@@ -37,8 +37,8 @@ pub fn caret_below(alloc: Global, text: &str, place: usize) -> Result<String, Al
     format!(in alloc; "{above}{below}")
 }
 
-/// The place of a fault in the range that begins at byte `start` of this text. The bytes of the range before this place are its longest prefix that
-/// some range also begins with.
+/// The place of a fault in the range that begins at byte `start` of this text. The place is the end of the longest prefix of the range with which a
+/// valid range begins.
 pub fn range_place(text: &str, start: usize) -> usize {
     let Some((_, range)) = text.split_at_checked(start) else {
         return start;

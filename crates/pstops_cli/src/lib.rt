@@ -1,4 +1,4 @@
-//! The `pstops` command: reads its words as a request, and writes a line and an exit status for each outcome.
+//! The `pstops` command as a library: reads its words as a request, runs the request, and returns an exit status and a line for standard error.
 #![tactic(auto)]
 
 mod command;

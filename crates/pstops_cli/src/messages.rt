@@ -29,8 +29,8 @@ pub enum Fault {
 
 /// The exit status for a fault, and the line for standard error. The line begins with the program's name and ends with a line feed.
 ///
-/// The status is 1 if the specification, the document or the plan is refused, and 2 for a wrong command line or wrong options. It is 3 if memory was
-/// refused, or if reading or writing failed. The only error of this call is refused memory.
+/// The status is 1 if the specification, the document or the plan is refused, and 2 for a wrong command line or wrong options. It is 3 if memory or a
+/// thread was refused, or if reading the input or writing the output failed. The only error of this call is refused memory.
 pub fn fault_line(alloc: Global, fault: &Fault) -> Result<(u8, Vec<u8>), AllocError>
     ensures status { IfOk result (λ answer. answer.0 ≡ status_of_fault fault.now) }
     ensures line { IfOk result (λ answer. answer.1.items ≡ program_line (text_of_fault fault.now)) }

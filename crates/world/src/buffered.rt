@@ -118,9 +118,9 @@ impl<T: Output> Buffered<T> {
         }
     }
 
-    /// Takes bytes for which the buffer has too little room. The content of the buffer is written to the output first. If the bytes are fewer than
-    /// the capacity of the buffer, all of them are then put into the buffer. Otherwise they are passed directly to the output, which may take only
-    /// the first of them.
+    /// Takes bytes for which the buffer has too little room, and returns the number of bytes taken. First the content of the buffer is written to the
+    /// output. If the bytes are fewer than the capacity of the buffer, all of them are then put into the buffer. Otherwise they are passed directly
+    /// to the output, which may take only the first of them.
     fn accept_many(&mut self, bytes: &[u8]) -> Result<usize, SinkFault>
         requires some { 0 < length bytes.now }
         requires countable { (T.seen self.old.output).failures < u64.MAX }

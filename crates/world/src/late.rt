@@ -56,7 +56,7 @@ pub struct Late<'n, W: World, B: Before> {
     ghost begun: { ForSome output (λ o. (W.Output.seen o).failures ≡ 0 → (W.Output.seen o).has_taken ≡ true) },
 }
 
-/// The state in which an output that is created late ends.
+/// The state in which a [`Late`] output has ended.
 #[derive(Drop)]
 pub enum Fate<W, O> {
     /// The output wasn't created, since nothing was written. The world is returned.

@@ -66,7 +66,7 @@ pub trait World: Sized + Drop {
     fn is_file(&self, name: &str) -> bool
         ensures { IfSome (regular self.now name.now) (λ is. result ≡ is) };
 
-    /// Whether `file` is a name of the regular file that is the input. The input is the file named `input`, or standard input if that is None.
+    /// Whether `file` is a name of the regular file that is the input. The input is the file named `input`, or standard input if `input` is None.
     fn is_input(&self, input: Option<&str>, file: &str) -> bool
         ensures { IfSome (same self.now (option_map (λ n. n.now) input.entry) file.now) (λ is. result ≡ is) };
 
