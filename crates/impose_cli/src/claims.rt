@@ -12,8 +12,9 @@ use lengths::Paper;
 use papers::{Comment, document_paper, first_comment, first_name, is_at_end};
 use row_runs::declared_page_count;
 
-/// The facts for messages that a document states in its comments: the number of its pages, and the name of its paper if no paper of this name is
-/// known. The name is left out if the command line names a paper for the pages. No memory is allocated.
+/// Facts that a document states in its comments, for the messages about the document. They are the number of its pages, its paper's name if no paper
+/// of this name is known, and its creator. The name is left out if the command line names a paper for the pages. The creator is given only if its
+/// pages depend on the text before them. No memory is allocated.
 pub(crate) fn claims_of(request: &ImposeRequest, input: &[u8]) -> Claims
     ensures { meaning.IsToldBy request.now input.now result }
 {

@@ -37,7 +37,7 @@ pub(crate) fn front_of<W: World>(name: &str, front: &mut [u8], world: &mut W) ->
 const FRONT_BYTES: usize = 4_096;
 
 /// Whether the sheets would replace another program's document: OUTFILE exists, isn't the input, and begins as a document without a mark of impose
-/// does. `--replace` allows that. A file that can't be read isn't found to be such a document.
+/// does. False with `--replace`, and for a file that can't be read.
 pub(crate) fn finds_foreign<W: World>(request: &ImposeRequest, world: &mut W) -> bool
     requires countable { (W.seen world.old).failures < u64.MAX }
     ensures found { meaning.FindsForeign request.now (W.gives world.old) (W.regular world.old) (W.same world.old) (W.seen world.old) (W.seen world.new) result }
@@ -56,7 +56,7 @@ pub(crate) fn finds_foreign<W: World>(request: &ImposeRequest, world: &mut W) ->
     is_foreign(&front[..count])
 }
 
-/// Whether a file that begins so holds a PDF or a PostScript document without a mark of impose in these bytes.
+/// Whether a file with these first bytes is a PDF or a PostScript document, and the bytes have no mark of impose.
 fn is_foreign(front: &[u8]) -> bool
     ensures { result ≡ meaning.is_foreign front.now }
 {
@@ -64,7 +64,7 @@ fn is_foreign(front: &[u8]) -> bool
     (front.starts_with(b"%PDF-") || document.starts_with(b"%!")) && !is_marked(front)
 }
 
-/// Whether the first words of the guard, or those before a page on a sheet, are among these bytes.
+/// Whether these bytes have a mark of impose: the first words of the guard, or those before a page on a sheet.
 fn is_marked(front: &[u8]) -> bool
     ensures { result ≡ meaning.is_marked front.now }
 {

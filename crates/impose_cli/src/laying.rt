@@ -151,7 +151,7 @@ pub(crate) fn laying_for(
     }
 }
 
-/// Checks that the margins leave room for pages of some paper on sheets of `sheet_paper`. If `sheet_paper` is `None`, or the layout has no
+/// Checks that the margins leave some of a sheet of `sheet_paper`, whatever the size of the pages. If `sheet_paper` is `None`, or the layout has no
 /// cells, there is nothing to check.
 pub(crate) fn check_sheets(
     layout: &Layout,
@@ -238,7 +238,7 @@ fn cells_for(layout: &Layout, spacing: &Spacing) -> Arrangement
     }
 }
 
-/// The scheme by which the layout puts a row of pages into these cells, after the number of cells of the first sheet that are used already.
+/// The scheme by which the layout puts a row of pages into these cells, if `skipped` cells of the first sheet are used already.
 fn scheme_for(layout: &Layout, skipped: u32, cells: Cells) -> Scheme
     requires { cells_per_sheet cells ≤ most_on_sheet }
     ensures { result ≡ scheme_in layout.now skipped (cells_per_sheet cells) }

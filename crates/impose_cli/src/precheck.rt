@@ -38,7 +38,7 @@ fn option_fault(request: &ImposeRequest) -> Option<ImposeFault>
     }
 }
 
-/// Whether two files have the same name.
+/// Whether two files have the same name. False if one of them has no name.
 fn is_one_file(one: Option<&str>, other: Option<&str>) -> bool
     ensures { result ≡ meaning.is_one_file (option_map (λ n. n.now) one.entry) (option_map (λ n. n.now) other.entry) }
 {

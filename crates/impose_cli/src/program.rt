@@ -30,7 +30,7 @@ use std::sync::Wait;
 use std::thread::Threads;
 use world::{Output, ReadFault, ReadSource, Rest, World, padding, read_input_behind, write_all};
 
-/// How the program ended.
+/// The end of the program, as its caller sees it.
 #[derive(Drop)]
 pub struct Ended<W: World> {
     /// The request that the command line makes, if it makes one.
@@ -106,7 +106,7 @@ fn at_home(request: ImposeRequest, home: Paper) -> ImposeRequest
 /// The file that names the user's default paper.
 const HOME_FILE: &str = "/etc/papersize";
 
-/// The largest number of bytes of that file that are read.
+/// The largest number of bytes of /etc/papersize that are read.
 const HOME_BYTES: usize = 4_096;
 
 /// The user's default paper, from the value of `PAPERSIZE` and the start of /etc/papersize. A file that can't be read, or isn't a regular file,
@@ -153,7 +153,7 @@ fn carry_out<R: Threads + Wait + Sync, W: World>(
     }
 }
 
-/// Whether the picture of the sheets would be written to the file that is read, under whatever name.
+/// Whether the drawing of the sheets would be written to the input file, even under another name.
 fn is_drawn_over<W: World>(request: &ImposeRequest, world: &W) -> bool
     ensures { IsDrawnOver (W.same world.now) request.now.product (option_map string_bytes request.now.infile) result }
 {
@@ -193,7 +193,8 @@ fn make<R: Threads + Wait + Sync, W: World>(
     }
 }
 
-/// The document in all bytes of the file of this name, or of standard input, with room before it.
+/// Reads the file of this name, or standard input if there is no name. Returns its document, with room for the guard before it. The error is `Read`
+/// if the input can't be opened or read, or reports that memory was refused.
 fn roomy_input<W: World>(
     alloc: Global,
     name: Option<&str>,
@@ -216,7 +217,8 @@ fn roomy_input<W: World>(
 /// The number of bytes before the document that are kept free for the guard. They are enough for sheets of any paper.
 const ROOM: u32 = 2_560;
 
-/// The document in all bytes of an input of this world, which is then closed.
+/// Reads an input of this world, and closes it. Returns its document, with room for the guard before it. The error is `Read` if the input can't be
+/// read, or reports that memory was refused.
 fn read_from<W: World>(
     alloc: Global,
     input: W::Input,
@@ -239,7 +241,7 @@ fn read_from<W: World>(
     }
 }
 
-/// The document in an input that has room before it.
+/// The document in an input before which `ROOM` bytes are free. White space before the document is left out.
 fn roomy_document(bytes: Vec<u8>) -> RoomyText
     requires { 2_560 ≤ vec_len bytes }
     ensures { result.items ≡ document_in (drop 2_560 bytes.items) }

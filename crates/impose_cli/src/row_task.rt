@@ -232,9 +232,9 @@ fn papers_in(
     })
 }
 
-/// The paper for which sheets and cells are made, and where it is taken from. It is the paper of `paper_of_pages` if a page of the row has nearly the
-/// size of that paper, or if the row has no page. Otherwise it is the paper of the row's first page. A specification always takes the paper of
-/// `paper_of_pages`.
+/// The paper for which sheets and cells are made, and where it is taken from. It is the paper that `paper_of_pages` finds, if a page of the row has
+/// nearly this size, or if the row has no page. Otherwise it is the paper of the row's first page. A specification always takes the paper that
+/// `paper_of_pages` finds.
 fn paper_of_row(request: &ImposeRequest, input: &[u8], taken: &[Paper]) -> (Paper, PaperOrigin)
     ensures { result ≡ paper_for request.now.layout (page_paper_found request.now.page_paper request.now.default_paper input.now) taken.now }
 {

@@ -103,8 +103,8 @@ fn check_spec(alloc: Global, specs: &str) -> Result<(), ImposeFault>
     }
 }
 
-/// Whether a specification can express the request apart from its layout: its pages, blanks before the first and the last one, their turn, marks, scale,
-/// and places on backs.
+/// Whether a specification can express the request, apart from its layout. The request must not choose or turn pages, skip cells, keep the last page
+/// at the back, or draw marks or numbers. Nor may it ask for one scale or exchange margins on backs.
 fn is_said(request: &ImposeRequest) -> bool
     ensures { result ≡ says request.now }
 {
@@ -123,8 +123,8 @@ fn is_said(request: &ImposeRequest) -> bool
 ///
 /// A fault of the document.
 ///
-/// `NoSpecification` for chosen or turned pages, blanks before the last page, marks, page numbers, one scale for all pages, or an inner margin of
-/// `nup`.
+/// `NoSpecification` for chosen or turned pages, skipped cells, a last page that is kept at the back, marks, page numbers, one scale for all pages,
+/// or an inner margin of `nup`.
 ///
 /// `SeveralPapers` for `nup` and `booklet`, if the pages don't all have the same paper.
 ///

@@ -33,7 +33,7 @@ pub enum ImposeFault {
         place: usize,
         pages: u32,
     },
-    /// A page would be moved by 100,000 points or more, because it is on the back of a leaf or turned.
+    /// A page or its number would be placed 100,000 points or more away from the sheet's corner, because it is shifted on a back or turned.
     OutOfReach,
     /// The sheets made from the row can't be planned.
     Sheets(MadeError),

@@ -27,7 +27,7 @@ pub enum Creator {
     Xcircuit,
 }
 
-/// The facts for messages that a document states in its comments.
+/// Facts that a document states in its comments, for the messages about the document.
 #[derive(Drop)]
 pub struct Claims {
     /// The number of pages that the document declares, if it declares one.

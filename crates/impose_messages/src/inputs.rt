@@ -6,9 +6,9 @@ use crate::fault::{Compression, ImposeFault};
 use dsc::DscError;
 use imposer::RunError;
 
-/// The fault for an input that can't be read as a document. Each of these inputs has a fault of its own: an empty one, a PDF, a compressed file, a
-/// printer's job, a UTF-16 text, and an EPS file in DOS format. So do an EPS file without pages, and an input that is longer than a document may be.
-/// If only the guard makes a document too long, the run reports the fault.
+/// The fault for an input that can't be read as a document. An empty input, a PDF, a compressed file, a printer's job and a UTF-16 text have faults
+/// of their own. So have an EPS file in DOS format, an EPS file without pages, and an input that is longer than a document may be. Any other `error`
+/// is reported as an error of the run, and so is a document that only its guard makes too long.
 pub fn refused_document(error: DscError, input: &[u8]) -> ImposeFault
     ensures { result ≡ document_fault error input.now }
 {

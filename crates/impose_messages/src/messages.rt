@@ -87,7 +87,7 @@ fn read_text(
 const RANGES_ARE_ONE_WORD: &str =
     "; ranges are one word, as in: impose select 1,3,5-8 in.ps out.ps";
 
-/// Whether the second of two ranges is read as INFILE.
+/// Whether INFILE is most likely the second of two page ranges after `select`.
 fn has_second_range(context: &Context<'_>) -> bool {
     match context.infile {
         Some(name) => context.is_selection && is_range(name),

@@ -126,7 +126,8 @@ fn push_creator_line(said: &mut ReportText, creator: Option<Creator>, pages: u32
     said.push(b"\n");
 }
 
-/// Whether one of this number of pages by this program depends on the text before it. A single page has no earlier page.
+/// Whether pages by this program depend on the text before them, in a document of this number of pages. A single page by Xcircuit has no earlier page
+/// to depend on.
 fn has_dependent_pages(creator: Creator, pages: u32) -> bool
     ensures { result ≡ depends_on creator pages }
 {

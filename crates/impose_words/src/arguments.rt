@@ -55,8 +55,8 @@ pub(crate) enum Argument {
     HiddenFlag(&'static str),
 }
 
-/// A group of arguments of one or more subcommands. Each group is a constant of its own, because one constant with all texts takes the prover ten
-/// times as long.
+/// A group of arguments of one or more subcommands. Each group has its arguments in a constant of its own, because a single constant with all texts
+/// would take the prover ten times as long.
 #[derive(Clone, Copy)]
 enum Group {
     Count,

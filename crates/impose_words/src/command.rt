@@ -45,7 +45,8 @@ use std::alloc::Global;
 ///
 /// The sizes: an unknown paper after `--paper`, then after `--sheet`; a border that isn't a length, or is negative; an unknown turn.
 ///
-/// The layout: a missing argument; cells that a sheet can't have; a signature that leaves can't have.
+/// The layout: a missing argument; cells that a sheet can't have; a signature that leaves can't have; a value of `--skip` that isn't a number below
+/// the number of a sheet's cells.
 ///
 /// The spacing: margins or gaps in none of the forms of these options; a trim, creep or overlap that isn't a length.
 ///
@@ -54,7 +55,7 @@ use std::alloc::Global;
 /// The marks: marks that the layout doesn't have; no size after `--numbers`; no number after `--numbers-from`, or this option without `--numbers`.
 ///
 /// The pages and files: both `--odd` and `--even`; an OUTFILE other than `-` that begins with a minus sign; two of `--print-spec`, `--plan` and
-/// `--preview`; a drawing whose file isn't an SVG by its name.
+/// `--preview`; a file after `--preview`, other than `-`, whose name doesn't end in `.svg`.
 #[tactic(auto, using(crate::proofs::Commands::impose_is_simple))]
 pub fn read_command(alloc: Global, words: &[String]) -> Result<ImposeRequest, RequestFault>
     // The command takes the command line, and the request is made from the values in it.
@@ -73,7 +74,7 @@ pub fn read_command(alloc: Global, words: &[String]) -> Result<ImposeRequest, Re
     }
 }
 
-/// The values that clap finds in the command line.
+/// The values that clap finds in the command line. The error is `NoMemory` if memory is refused, otherwise `Words`.
 fn parse_words<'a>(alloc: Global, words: &'a [String]) -> Result<ArgMatches<'a>, RequestFault>
     ensures taken { IfOk result (λ _. fault_of impose (map string_bytes words.entry.now) ≡ []) }
     ensures found { IfOk result (λ m. subcommand_rows_of m ≡ subcommand_of impose (map string_bytes words.entry.now)) }
@@ -351,7 +352,8 @@ fn spec_of(alloc: Global, found: &ArgMatches<'_>) -> Result<Layout, RequestFault
     }
 }
 
-/// Whether the layout `spec` places a row of pages: if options choose the row, or if the sheets are to be listed or drawn.
+/// Whether `spec` places a row of pages and not simply all pages of the document. It does so if options choose the row, or if the sheets are to be
+/// listed or drawn.
 fn asks_for_row(found: &ArgMatches<'_>) -> bool
     ensures { result ≡ row_asked (rows_of (found_of found.now)) }
 {
@@ -384,7 +386,8 @@ fn skipped_of(layout: &Layout, found: &ArgMatches<'_>) -> Result<u32, OptionId>
     }
 }
 
-/// The number of cells that are used already, of a sheet with this number of them. `None` if the option's value isn't a number below that.
+/// The number of cells that are used already on a sheet of `cells` cells; 0 without `--skip`. `None` if the option's value isn't a number below
+/// `cells`.
 fn skip_among(found: &ArgMatches<'_>, cells: u64) -> Option<u32>
     ensures { result ≡ skip_found_among cells (rows_of (found_of found.now)) }
 {

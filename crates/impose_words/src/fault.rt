@@ -2,8 +2,8 @@
 use clap::Error as WordsError;
 use std::alloc::AllocError;
 
-/// A command whose first argument names cells. The argument of `notes` names the cells of pages, each of which has a cell for notes beside it. The
-/// argument of `poster` names sheets.
+/// A subcommand whose first argument names the cells of a sheet. The argument of `notes` counts only the cells of pages, each of which has a cell for
+/// notes beside it. The argument of `poster` names sheets, not cells.
 #[derive(Clone, Copy, Debug, PartialEq, Eq)]
 pub enum CellCommand {
     NUp,

@@ -24,9 +24,8 @@ pub enum IdleOption {
 }
 
 impl ImposeRequest {
-    /// The first option or file without effect, or with another effect than it names: an output file beside `--plan` or `--preview`; a paper for
-    /// sheets that keep their own; a margin at an edge that is missing or has another margin; cut marks that don't fit an inner margin; cut marks
-    /// without a margin for them.
+    /// The first option of the request that has no effect, or not the effect that its name promises. The variants of `IdleOption` are tried in this
+    /// order: `Outfile`, `Sheet`, `Inner`, `Left`, `InnerMarks`, `CutMarks`. `None` if none of them applies.
     pub fn idle_option(&self) -> Option<IdleOption>
         ensures { result ≡ meaning.idle_option self.now }
     {

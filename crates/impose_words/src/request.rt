@@ -363,8 +363,8 @@ impl ImposeRequest {
         }
     }
 
-    /// The name of the file that the sheets would replace, unless `--replace` allows it. `None` also for a request that writes no sheets, or writes them
-    /// to standard output.
+    /// The name of the output file, if the program has to check the file before it replaces it. `None` if `--replace` is given, if the request writes
+    /// no sheets, or if it writes them to standard output.
     pub fn file_to_spare(&self) -> Option<&str>
         ensures { option_map (λ n. n.now) result ≡ file_to_spare self.now }
     {

@@ -146,7 +146,8 @@ fn distance(alloc: Global, word: &str, name: &str) -> Result<Option<usize>, Allo
 /// differs.
 const MOST_COMPARED: usize = 30;
 
-/// The tip on a mistake of this kind in the command line, if one is known that is better than clap's.
+/// The tip on a mistake of this kind, if one is known that is better than clap's. `word` is the word that clap refuses, and `words` is the command
+/// line.
 fn tip(kind: ErrorKind, word: &str, words: &[String]) -> Option<&'static str> {
     let [_, command, behind @ ..] = words else {
         return None;
@@ -198,7 +199,7 @@ fn is_command_and_number(word: &str) -> bool {
     })
 }
 
-/// The tip on an unknown option, if one is known.
+/// The tip on an unknown option, if one is known. `word` is the option as clap names it, and `behind` has the words after the command.
 fn tip_on_option(command: &str, behind: &[String], word: &str) -> Option<&'static str> {
     let (before, whole) = in_place(behind, word);
     let value = whole.strip_prefix("-").unwrap_or("");
@@ -289,7 +290,7 @@ fn tip_on_file(command: &str, behind: &[String]) -> &'static str {
     }
 }
 
-/// Whether a word is a paper that doesn't follow an option for papers.
+/// Whether a word after the command names a paper, but doesn't follow an option that takes a paper.
 fn has_stray_paper(behind: &[String]) -> bool {
     let mut last = "";
     for word in behind {

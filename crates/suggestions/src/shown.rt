@@ -75,7 +75,7 @@ fn push_all_escaped(out: &mut String, texts: &[&str]) -> Result<(), AllocError>
     Ok(())
 }
 
-/// Appends a line as messages show it.
+/// Appends a line, with hidden characters as escapes, and a line end.
 pub(crate) fn push_line(out: &mut String, line: &str) -> Result<(), AllocError>
     ensures line { OnOk result (string_bytes out.new ≡ string_bytes out.old ++ meaning.shown_line line.now) }
     ensures kept { OnOk result (meaning.IsLines (string_bytes out.old) → meaning.IsLines (string_bytes out.new)) }

@@ -355,7 +355,7 @@ fn unknown_paper_text(alloc: Global, option: OptionId, text: &str) -> Result<Str
     )
 }
 
-/// What to name in place of a text that isn't the name of a paper.
+/// The phrase that says which papers or sizes to name in place of a text that isn't the name of a paper.
 fn paper_advice(alloc: Global, text: &str) -> Result<String, AllocError> {
     if begins_with_digit(text) {
         return String::from_str(alloc, "a size such as 210x297mm, or a paper such as a4");
@@ -371,7 +371,7 @@ fn paper_advice(alloc: Global, text: &str) -> Result<String, AllocError> {
     joined_texts(alloc, &[names.as_str(), others])
 }
 
-/// Whether a size would be valid with a unit.
+/// Whether the text would be a size if a unit followed it.
 fn may_have_unit(alloc: Global, text: &str) -> Result<bool, AllocError> {
     let with_unit = joined_texts(alloc, &[text, "mm"])?;
     Ok(read_paper(with_unit.as_str().as_bytes()).is_ok())
@@ -476,7 +476,8 @@ fn command_named(command: CellCommand) -> (&'static str, &'static str, &'static 
     )
 }
 
-/// The words by which the message calls a refused argument of this command, and the message's advice on what to give.
+/// The words by which the message calls a refused argument of this command, and the message's advice on what to give. `is_grid` says whether the
+/// argument looks like columns and rows.
 fn bad_cells(command: CellCommand, is_grid: bool) -> (&'static str, &'static str) {
     match command {
         CellCommand::Notes => ("bad number of pages", "one from 1 to 512, as 3"),

@@ -23,7 +23,7 @@ pub fn looks_like_file(word: &str) -> bool
     has_file_ending(word) || word.as_bytes().contains(&b'/')
 }
 
-/// Whether a word ends as the names of documents do.
+/// Whether a word ends with `.ps`, `.eps`, `.pdf` or `.gz`, as the names of documents do.
 pub(crate) fn has_file_ending(word: &str) -> bool
     ensures { result ≡ meaning.has_file_ending word.now }
 {
