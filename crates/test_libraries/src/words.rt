@@ -134,7 +134,7 @@ fn part(text: &str, at: usize) -> &str {
     text.split(' ').nth(at).unwrap_or("")
 }
 
-/// The text `front`, `times` copies of the text `one` with `between` between them, and the text `back`.
+/// The first of the parts, then `times` copies of the second with the third between them, and then the fourth.
 fn repeated(alloc: Global, parts: [&str; 4], times: usize) -> Result<String, NoMemory> {
     let [front, one, between, back] = parts;
     let ones = vec![in alloc; one; times]?;

@@ -66,14 +66,15 @@ fn up_to_64(alloc: Global) -> Option<Vec<u32>> {
 /// A paper by its name, and its sides in points.
 type Named = (&'static str, i64, i64);
 
-/// Layouts to try: `Pages` with these numbers of pages on a sheet, or booklets.
+/// Layouts to try: sheets with each of these numbers of pages, and with this margin and gap, or booklets.
 #[derive(Clone, Copy)]
 enum Trial<'n> {
     Pages(&'n [u32], Kept),
     Booklets,
 }
 
-/// Prints the number of layouts without a fault, or the first layout with one.
+/// Tries layouts for each pair of a page's paper and a sheet's paper, or only for pairs of equal papers if `on_own_paper` is set. Prints the number
+/// of layouts, or the first layout with a fault.
 fn tried(out: &mut Answer, trial: &Trial<'_>, on_own_paper: bool) {
     let mut count = 0u32;
     for page in &PAPERS {

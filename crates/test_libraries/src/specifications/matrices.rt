@@ -62,7 +62,7 @@ fn applied(out: &mut Answer, item: &Item, paper: &Paper, point: (i32, i32)) {
     out.pair(x, y);
 }
 
-/// Prints a line, to which the library then appends the text before a page and the text after the page.
+/// Prints a heading line. Then has the library append the text before a page and the text after the page.
 fn page_texts(out: &mut Answer, item: &Item, paper: &Paper, border: Option<Grains>) {
     out.text("% page\n");
     let before = out.bytes.len();

@@ -122,7 +122,7 @@ fn turn_of(numbers: &[i64]) -> Option<(u32, i64)> {
 }
 
 /// The pages of a sheet that a specification makes, as their printed matrices place them. Sheets are counted from 0. `sides` are the sides of a page,
-/// in points. The list is empty if there is no such sheet.
+/// in points. The list is empty if there is no such sheet. It lacks each page whose matrix does more than turn, scale and move it.
 pub fn pages_of(
     alloc: Global,
     spec: &Spec,

@@ -3,7 +3,7 @@ ghost use Rattle.std.specs.Prelude.{◌≡◌, Ok};
 
 use std::process::Abort;
 
-/// The value of a call that must succeed. With enough memory all calls in these tests succeed, apart from those that test a failure.
+/// The value of a call that must succeed. Panics if the call has failed.
 pub(super) fn done<R: Abort, T: Drop, E: Drop>(rt: &R, answer: Result<T, E>) -> T
     ensures { answer ≡ Ok result }
 {

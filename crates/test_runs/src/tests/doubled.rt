@@ -48,8 +48,8 @@ impl Sizes {
     }
 }
 
-/// The first counter of each kind of deed, in this order: pages stored, slots marked, groups filled, sheets completed, sheets imposed, faults. Slots
-/// and groups are numbered over all sheets.
+/// The index of the first counter for pages that are stored. The constants after this one are those for slots marked, groups filled, sheets
+/// completed, sheets imposed, and faults. Slots and groups are numbered through all sheets.
 const STORED: usize = 0;
 
 const MARKED: usize = 1_000;

@@ -66,8 +66,8 @@ impl Gate for Barrier {
     fn after(&self, _step: Step) {}
 }
 
-/// Runs `pages` pages, each on a sheet, with these numbers of preparers and imposers. `height` of these steps must have entered the gate before it
-/// opens. Asserts that a step of each page or sheet enters once, that no wait runs out, and that no sheet is made at the end.
+/// Runs `pages` pages, each on a sheet, with these numbers of preparers and imposers. The gate opens once `height` of the chosen steps have entered.
+/// Asserts that a step of each page or sheet enters once, that no wait runs out, and that no sheet is made at the end.
 fn assert_met<R: Threads + Wait + Sync + Abort>(
     rt: &R,
     alloc: Global,

@@ -246,7 +246,7 @@ fn two_groups<R: Abort>(
 }
 
 /// Puts the sheets `came` into the buffer as one group, and writes all four sheets. Asserts that the missing sheets are made and counted, and that
-/// all sheets and the trailer are written.
+/// the output is `sheets`, the texts of all four, followed by the trailer.
 fn assert_rest<R: Abort>(
     rt: &R,
     alloc: Global,

@@ -10,8 +10,8 @@ use test_tools::ONE_PAGE;
 /// page.
 const LIKELY_ROOM: usize = 64 + ONE_PAGE.len() + 256;
 
-/// Asserts that the sheet's text asks for at most `LIKELY_ROOM` bytes. A text that is begun in memory of at least `before` bytes must not give up any
-/// of it. If that memory grows, it may have at most twice `LIKELY_ROOM` bytes.
+/// A test of a job with one sheet. The sheet's text may ask for at most `LIKELY_ROOM` bytes. A text that is begun in memory of at least `before`
+/// bytes must not give up any of it. If this memory grows, it may have at most twice `LIKELY_ROOM` bytes.
 #[derive(Drop)]
 struct KeepsRoom {
     before: usize,

@@ -12,7 +12,7 @@ use run_steps::{Answers, Delivery, is_complete};
 use std::alloc::{AllocError, Global};
 use std::sync::Wait;
 
-/// A gatherer of a job's pages. Its table is for the job's plan.
+/// A caller that gathers the pages of a job: it makes its calls on a table of the job's plan, a shelf and a queue.
 #[derive(Drop)]
 pub(crate) struct Gatherer<'s, 'j, 't, 'd> {
     pub(crate) job: &'s Job<'j, 'd>,

@@ -193,7 +193,7 @@ impl<'s, 'j, 't, 'd, R: Wait> Called<R> for Gatherer<'s, 'j, 't, 'd> {
     }
 }
 
-/// A story of a gatherer with room for `room` sheets in the queue. In each call of the story, the growth with this number is refused.
+/// A story of a gatherer with room for `room` sheets in the queue. In each call of the story, growth `number`, counted from 1, is refused.
 #[derive(Drop)]
 struct Gathering<'s> {
     room: u32,
