@@ -189,7 +189,7 @@ fn kept_free(layout: &Layout, spacing: &Spacing) -> Option<Free>
 }
 
 /// Whether the margins are equal where the layout needs equal ones: opposite margins in a zine and in a stack that is printed on both sides, and all
-/// four margins in a poster.
+/// four margins in a poster. The margins of a booklet are checked only when its leaves are laid out.
 fn is_even_enough(layout: &Layout, free: &Free) -> bool
     ensures { result ≡ are_even_enough layout.now free.now }
 {

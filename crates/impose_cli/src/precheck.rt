@@ -48,7 +48,7 @@ fn is_one_file(one: Option<&str>, other: Option<&str>) -> bool
     }
 }
 
-/// Checks the form of the page ranges. They are read for a document without pages: a text with a wrong form is refused there, as for every document.
+/// Checks the form of the page ranges. They are read as if the document had no pages, because a wrong form is refused for every document alike.
 fn check_ranges(alloc: Global, choice: &PageChoice) -> Result<(), ImposeFault>
     ensures ranges { OnOk result (AreGoodRanges choice.now) }
     ensures refused { IfErr result (RefusesRanges choice.now) }

@@ -18,7 +18,7 @@ pub enum PaperOrigin {
     FirstPage,
 }
 
-/// A program whose pages depend on the text before them, so that they aren't drawn on sheets.
+/// A program whose pages depend on the text before them, so that sheets may print nothing of these pages.
 #[derive(Clone, Copy)]
 pub enum Creator {
     /// hp2xx: its pages undo the document's setup.

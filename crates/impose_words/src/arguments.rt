@@ -204,7 +204,7 @@ const DUPLEX: [Argument; 1] = [Argument::Flag(
     "Arrange the pages for sheets that are printed on both sides",
 )];
 
-/// The options of `nup` about cells, after the number of cells. The sheets of `nup` have an edge at which they are bound.
+/// The options of `nup` that concern cells, apart from the number of cells. The sheets of `nup` have an edge at which they are bound.
 const BOUND_CELLS: [Argument; 11] = [
     ORDER,
     TURNED,
@@ -219,7 +219,7 @@ const BOUND_CELLS: [Argument; 11] = [
     RTL,
 ];
 
-/// The options of `cards` and `stack` about cells, after the number of cells.
+/// The options of `cards` and `stack` that concern cells, apart from the number of cells.
 const CELLS: [Argument; 11] = [
     ORDER,
     TURNED,

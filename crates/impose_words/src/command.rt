@@ -371,8 +371,8 @@ fn names_row(found: &ArgMatches<'_>) -> bool
         || is_set(found, "reverse")
 }
 
-/// The number of cells of the first sheet that are used already; 0 without `--skip`. The error is that option, if its value isn't a number below the
-/// number of a sheet's cells.
+/// The number of cells of the first sheet that are used already; 0 without `--skip`, and for layouts that don't take it. The error is the option
+/// `--skip`, if its value isn't a number below the number of a sheet's cells.
 fn skipped_of(layout: &Layout, found: &ArgMatches<'_>) -> Result<u32, OptionId>
     ensures read { IfOk result (λ skipped. skip_found layout.now (rows_of (found_of found.now)) ≡ Some skipped) }
     ensures refused { IfErr result (λ option. wrong_skip layout.now (rows_of (found_of found.now)) ≡ Some (NoValue option)) }

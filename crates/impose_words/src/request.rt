@@ -48,8 +48,8 @@ pub enum Layout {
     Selection,
     /// All pages in order, placed by a page specification of pstops.
     Spec(String),
-    /// A row of pages, placed by a page specification that applies to the row as to a document. If `signing` names signatures, the row is first put
-    /// in their order.
+    /// A row of pages, placed by a page specification as if the row were a document. If `signing` names signatures, the row is first put in their
+    /// order.
     SpecRow {
         specs: String,
         signing: Option<Signing>,

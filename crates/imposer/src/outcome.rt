@@ -14,7 +14,7 @@ pub struct Report {
     pub sheets: u32,
     /// The number of sheets that have no page.
     pub born: u32,
-    /// The number of sheets that the collector made at the end of the run, because no imposer had sent them.
+    /// The number of sheets that were made at the end of the run, because no text of an imposer was kept for them.
     pub swept: u32,
     /// The number of bytes in the output.
     pub bytes: u64,

@@ -45,7 +45,8 @@ pub trait Work<H> {
         ensures back { IfOk result (is_back self.now) }
         ensures prepared { IfOk result (has_prepared self.now count number) };
 
-    /// Splits off an `H` for preparer `number` of `count`: one of the caller's shares, and the room that the preparer needs.
+    /// Splits off an `H` for preparer `number` of `count`: one of the caller's shares, and the room that the preparer needs for its puts on the
+    /// queue.
     fn split_preparer(&self, held: &mut H, number: u32, count: u32) -> H
         requires held { is_held self.now held.old }
         requires share { 1 < share self.now held.old }

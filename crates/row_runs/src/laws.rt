@@ -9,8 +9,8 @@ ghost use Rattle.row_runs.specs.NumbersLie.{NumbersInCells, NumbersInHalves};
 ghost use Rattle.row_runs.specs.Written.{NothingIsMoved, TurnedStaysInCell, UprightIsUnturned, WrittenAreRead, WrittenInCells, WrittenInPlaces, WrittenIsBound, WrittenKeepRoom, WrittenStand};
 
 /// On sheets as they are laid, pages are fitted into their cells, in reading order. Stacks and leaves are in the order of the row once their sheets
-/// are cut and piled, and zines once their sheets are folded and cut. The fold marks of a booklet are on its fold. Each point of a page is on at
-/// least one sheet of the page's poster.
+/// are cut and piled, and zines once their sheets are folded and cut. The fold marks of a booklet are on its fold. Each point of a page that is made
+/// into a poster is on at least one of the page's sheets.
 pub fn asked_stand_in_places()
     ensures { AskedStandInPlaces }
 {}

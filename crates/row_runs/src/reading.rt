@@ -111,7 +111,7 @@ fn sides_held(turned: bool, paper: &Paper) -> (u64, u64)
     }
 }
 
-/// The places of pages on a sheet: its cells, or the tiles of a poster.
+/// The places of pages on a sheet: its cells, the tiles of a poster, or the items of a specification's longest group.
 fn places_of(laying: &Laying<'_>) -> Places
     ensures { result ≡ places_read laying.now }
 {

@@ -34,7 +34,7 @@ pub struct RowJob<'j, 'd> {
     pub swapped: bool,
     /// The width of a border around each page, in grains and above 0. None if pages have no border.
     pub border: Option<Grains>,
-    /// The distance of the border from the edges of its page, in grains.
+    /// The distance, in grains, at which the border lies inside the edges of its page.
     pub inset: Grains,
     /// The marks, the lines for notes and the page numbers that are drawn on each sheet, after its pages.
     pub marks: Marks,

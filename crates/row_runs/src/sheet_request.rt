@@ -31,7 +31,7 @@ use std::alloc::Global;
 /// The ways in which a row is laid on sheets.
 #[derive(Clone, Copy)]
 pub enum Laying<'l> {
-    /// Each page is left as it is, on a sheet of its own paper. Each blank is on a sheet of the paper `blank`.
+    /// Each page is left as it is, on a sheet of its own paper. Each blank is an empty sheet of the paper `blank`.
     AsTheyAre {
         blank: Paper,
     },

@@ -228,7 +228,7 @@ fn scaled_length(scale: Number, side: Grains) -> i64
     ((length + 1_269_999_999_999_999) / 1_270_000_000_000_000) as i64
 }
 
-/// The measure increased by `by` times 10^-5 of its unit. None if the result would be 100,000 units or more.
+/// The measure increased by `by` times 10^-5 of its unit. None if the size of the result would be 100,000 units or more.
 pub(crate) fn shifted(by: i64, measure: Measure) -> Option<Measure>
     requires { nat_abs by ≤ 10 ^ 17 }
     ensures value { IfSome result (λ moved. measure_of moved ≡ meaning.shifted by (measure_of measure)) }

@@ -13,7 +13,8 @@ use impose_words::{
 use papers::{PaperError, read_paper};
 use std::alloc::{AllocError, Global};
 
-/// The message about a text that the option or argument doesn't take as its value. It shows this text as `shown_word` does, and no hidden characters.
+/// The message about a text that the option or argument doesn't take as its value. The message shows this text as `shown_word` does, and has no
+/// hidden characters.
 pub fn value_text(alloc: Global, option: OptionId, text: &str) -> Result<String, AllocError>
     ensures { IfOk result (λ said. IsMessageOn text.now (string_bytes said)) }
 {
@@ -47,7 +48,7 @@ pub fn value_text(alloc: Global, option: OptionId, text: &str) -> Result<String,
     }
 }
 
-/// The message about a file after an option whose value is missing.
+/// The message that an option lacks its value, because the name of a file comes after the option.
 fn no_value_text(alloc: Global, option: OptionId, text: &str) -> Result<String, AllocError>
     ensures { IfOk result (λ said. IsMessageOn text.now (string_bytes said)) }
 {
@@ -76,7 +77,7 @@ fn with_points(alloc: Global, text: &str) -> Result<String, AllocError> {
     Ok(pointed)
 }
 
-/// Whether a text is a size, a length or a number that the option takes.
+/// Whether a text is a size, a length or a scale that the option takes. False for options that take other values.
 fn is_value(option: OptionId, text: &str) -> bool {
     match option {
         OptionId::Paper | OptionId::Sheet => size_named(text).is_some(),

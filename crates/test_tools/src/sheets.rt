@@ -2,7 +2,7 @@
 use super::documents::document_with;
 use std::alloc::{AllocError, Global};
 
-/// The text on a sheet of page `page` of `document_of`, counted from 0, placed on A4 by this matrix.
+/// The text of a page of `document_of` on a sheet. `page` is counted from 0, and `matrix` places the page, whose paper is A4.
 fn placed(alloc: Global, matrix: &str, page: u32) -> Result<String, AllocError> {
     format!(in alloc;
         "userdict /ImposeSave save put\nuserdict /showpage {{}} put\n[{matrix}] concat\n\

@@ -117,12 +117,12 @@ pub fn instead_of(out: &mut Answer, words: &[String]) -> Option<()> {
     Some(())
 }
 
-/// Prints the value of the bounding box in the trailer.
+/// Prints the value of the bounding box in the trailer, or `none` if the trailer has no bounding box.
 pub fn trailing_box(out: &mut Answer, text: &[u8]) {
     value(out, trailer_box(text));
 }
 
-/// Prints the value of a line, if the line is a `%%Title:` comment.
+/// Prints the value of a line that is a `%%Title:` comment, or `none` for another line.
 pub fn value_of_title(out: &mut Answer, words: &[String]) -> Option<()> {
     let line = word(words, 1)?.as_bytes();
     value(out, comment_value(line, b"%%Title", b"%%Title:"));

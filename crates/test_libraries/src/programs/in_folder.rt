@@ -9,8 +9,8 @@ use std::sync::Wait;
 use std::thread::Threads;
 use test_tools::{Folder, GivenFile, Takes};
 
-/// Runs pstops. Its status is 0 only if one file was written, with the name that the words give, and with exactly the bytes that are defined for the
-/// input file.
+/// Runs pstops over these files. The status is 0 only if one output was written: under the name that the words give, and with exactly the bytes that
+/// the contract defines for the words and the input.
 pub fn pstops_in_folder<'a, R: Threads + Wait + Sync>(
     rt: &R,
     alloc: Global,

@@ -1,4 +1,4 @@
-//! The assertions of tests. An assertion that fails names the line of the test that calls it.
+//! The assertions that the tests share.
 ghost use Rattle.std.specs.Prelude.{◌≡◌, Ok};
 
 use std::process::Abort;

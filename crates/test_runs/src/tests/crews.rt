@@ -1,5 +1,5 @@
-//! Tests in which some workers find no memory. The workers that wait for the collector must be told to stop, all threads must end, and nothing must
-//! be returned.
+//! Tests in which some workers find no memory. The workers that wait for the collector must be told to stop, all threads must end, and no shares may
+//! come back.
 ghost use Rattle.std.specs.Prelude.{◌≡◌, ⊤};
 
 use super::checks::assert_that;

@@ -252,7 +252,7 @@ impl Repeats {
         assert_that(rt, noted.is_each_once());
     }
 
-    /// Makes the test of `look` with a job, and with a queue that has room for each sheet once.
+    /// Runs the test of `look` on a job, with a queue that has room for each sheet once.
     fn look_at_job<R: Threads + Wait + Sync + Abort>(
         &self,
         rt: &R,
@@ -266,7 +266,7 @@ impl Repeats {
         self.look(rt, alloc, &mut gatherer);
     }
 
-    /// Makes the test of `look` with a document, whose pages are placed by a specification.
+    /// Runs the test of `look` on a document, whose pages are placed by a specification.
     fn look_at_document<R: Threads + Wait + Sync + Abort>(
         &self,
         rt: &R,
@@ -287,8 +287,9 @@ const SIXTY_FIVE_PAGES: &str = "\
     +36+37+38+39+40+41+42+43+44+45+46+47+48+49+50+51+52+53+54+55+56+57+58+59+60+61+62+63+64\
 ";
 
-/// Makes the test of `look` with these numbers of callers and threads for several jobs: one page; two pages on a sheet; two and ten such sheets,
-/// whose slots share one word of the table; two sheets of 65 pages; and one page 65 times on a sheet.
+/// Runs the test of `look` with these numbers of callers and threads on several jobs. Four of them have one page on a sheet, and two pages on each of
+/// one, two and ten sheets; the slots of the ten sheets share one word of the table. The others have two sheets of 65 pages, and one page 65 times on
+/// a sheet.
 fn deliver_each<R: Threads + Wait + Sync + Abort>(
     rt: &R,
     alloc: Global,

@@ -97,7 +97,7 @@ fn the_first_bytes_are_written_before_a_failure(rt: HostRuntime) {
     }
 }
 
-/// A number of calls of seven bytes that is larger than the whole output needs.
+/// More calls of seven bytes than the whole output needs.
 const MOST_CALLS: u64 = 200;
 
 // The output has 503 bytes, so at least 72 calls of seven bytes are needed.

@@ -81,8 +81,8 @@ fn run_input<R: Threads + Wait + Sync + Abort>(
     (done(rt, told), sink.bytes().len() as u64)
 }
 
-/// Makes the run for which a line gives the input, the options and the specification. Asserts that its outcome is the one in the line: the report,
-/// and the number of bytes written.
+/// Runs the input of a line with the options and the specification of the line. Asserts that the outcome is the one in the line: the report or the
+/// error, and the number of bytes written.
 fn assert_run<R: Threads + Wait + Sync + Abort>(rt: &R, alloc: Global, line: &str) {
     let (words, answer) = parts_of(line);
     let (wanted, count) = answer.split_once(", ").unwrap_or((answer, ""));

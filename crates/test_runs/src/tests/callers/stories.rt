@@ -6,7 +6,7 @@ use std::io::Write;
 use std::process::Abort;
 use test_tools::{has_refused, refuse};
 
-/// The object that the lines of a story call.
+/// An object on which the lines of a story make their calls.
 pub(crate) trait Called<R> {
     /// Makes the call that these words name, and appends its answer.
     fn call(
