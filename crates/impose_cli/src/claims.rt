@@ -101,8 +101,8 @@ fn creator_named(name: &[u8]) -> Option<Creator>
     }
 }
 
-/// The value of the first header comment with this key: the text after its colon. None if there is no such comment. The caller also passes the key
-/// followed by a colon.
+/// The value of the first header comment with this key: the text after its colon. None if there is no such comment. `with_colon` is the key followed
+/// by a colon.
 fn header_value<'t>(input: &'t [u8], key: &[u8], with_colon: &[u8]) -> Option<&'t [u8]>
     requires { with_colon.now ≡ key.now ++ colon ∷ [] }
     ensures { option_map (λ value. value.now) result ≡ comment_value key.now (header input.now) }

@@ -81,7 +81,7 @@ pub enum Scheme {
     Grid { cells: u32 },
     /// Each sheet has one entry, in all its `cells` cells.
     Cards { cells: u32 },
-    /// The row runs through the same cell of all sheets, and then through the next cell. Each sheet has `cells` cells.
+    /// The row runs through one cell of all sheets before it runs through the next cell. Each sheet has `cells` cells.
     Stack { cells: u32 },
     /// As in a stack, the row runs through one cell of all leaves before it runs through the next cell. It takes both sides of each leaf, and all
     /// cells of the grid.
@@ -113,6 +113,7 @@ pub struct SheetRequest<'t> {
 
 impl SheetRequest<'_> {
     /// The row to lay: the chosen pages and blanks, with the blanks that fill up the last signature before the last page if `last_at_back` is set.
+    /// Fails if the choice gives no row, or if memory is refused.
     pub(crate) fn row(&self, alloc: Global, pages: u32) -> Result<Vec<Option<u32>>, RowError>
         requires pages { pages ≤ most_entries }
         requires sewn { IfSome self.now.signing MayBeSewn }
@@ -210,7 +211,8 @@ fn poster_error(error: PosterError) -> SheetError
     }
 }
 
-/// Lays a row on sheets. If the row is in signatures, `leaves` is the number of leaves in each.
+/// Lays a row on sheets. If the row is in signatures, `leaves` is the number of leaves in each. A page that fits no cell, or can't be made into a
+/// poster, is refused first. After that, the sheets of cards, a poster or a specification are refused if they would exceed a limit of a plan.
 pub(crate) fn lay_row(
     alloc: Global,
     laying: &Laying<'_>,

@@ -51,7 +51,7 @@ pub fn word(words: &[String], at: usize) -> Option<&str> {
     Some(words.get(at)?.as_str())
 }
 
-/// The whole number in word `at`, counted from 0.
+/// The whole number in word `at`, counted from 0. `None` if there is no such word, or if it isn't a whole number.
 pub fn number(words: &[String], at: usize) -> Option<i128> {
     number_in(word(words, at)?)
 }
@@ -63,7 +63,7 @@ pub fn number_in(text: &str) -> Option<i128> {
     }
 }
 
-/// The number that a text gives in units of 10^-9.
+/// The number that a text gives in units of 10^-9. `None` if the text isn't a whole number, or if the number is out of range.
 pub fn billionths(text: &str) -> Option<Number> {
     Number::new(i64::try_from(number_in(text)?).ok()?)
 }
@@ -78,7 +78,7 @@ pub fn count_in(text: &str) -> Option<u32> {
 }
 
 /// The paper that word `at`, counted from 0, gives by its name or by its sides in the form `WxH`. Sides are in 10^-5 of a point, or in grains if a
-/// `g` follows them.
+/// `g` follows them. `None` if the word gives no paper.
 pub fn paper(words: &[String], at: usize) -> Option<Paper> {
     let text = word(words, at)?;
     if let Some(paper) = paper_by_name(text) {
@@ -101,7 +101,7 @@ pub fn papers_of(alloc: Global, names: &[String]) -> Option<Vec<Paper>> {
     Some(papers)
 }
 
-/// The bytes of the document that word `at`, counted from 0, names.
+/// The bytes of the document that word `at`, counted from 0, names. `None` if no document has this name.
 pub fn text_of<'d>(documents: &'d [Document], words: &[String], at: usize) -> Option<&'d [u8]> {
     let name = word(words, at)?;
     for document in documents {
@@ -112,7 +112,7 @@ pub fn text_of<'d>(documents: &'d [Document], words: &[String], at: usize) -> Op
     None
 }
 
-/// The length that a text gives as a number of units. `unit` is the number of grains in a unit.
+/// The length that a text gives as a number of units. `unit` is the number of grains in a unit. `None` if the text gives no length.
 pub fn length(text: &str, unit: i128) -> Option<Grains> {
     Grains::new(number_in(text)?.checked_mul(unit)?)
 }
@@ -142,7 +142,8 @@ fn repeated(alloc: Global, parts: [&str; 4], times: usize) -> Result<String, NoM
     [front, text.as_str(), back].concat(alloc)
 }
 
-/// The specification that word `at`, counted from 0, gives. If the specification is refused, the refusal is added to the answer.
+/// The specification that word `at`, counted from 0, gives. `None` if there is no such word, or if the specification is refused. A refusal is added
+/// to the answer.
 pub fn specification(out: &mut Answer, words: &[String], at: usize) -> Option<Spec> {
     let word = word(words, at)?;
     let Some(text) = long_text(out.alloc, word) else {
@@ -158,7 +159,7 @@ pub fn specification(out: &mut Answer, words: &[String], at: usize) -> Option<Sp
     }
 }
 
-/// The first item of the specification that a text gives.
+/// The first item of the specification that a text gives. `None` if the text is refused.
 pub fn item(alloc: Global, text: &str) -> Option<Item> {
     match read_spec(alloc, text) {
         Ok(spec) => spec.groups().first()?.first().copied(),
@@ -166,7 +167,7 @@ pub fn item(alloc: Global, text: &str) -> Option<Item> {
     }
 }
 
-/// The row that words give: page numbers, counted from 0, and `-` for a blank.
+/// The row that words give: page numbers, counted from 0, and `-` for a blank. `None` if a word is neither.
 pub fn row(alloc: Global, words: &[String]) -> Option<Vec<Option<u32>>> {
     let mut row = Vec::new(alloc);
     for word in words {

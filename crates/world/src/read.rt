@@ -198,7 +198,8 @@ fn give_back_room(bytes: &mut Vec<u8>)
     }
 }
 
-/// Reads into the buffer once, after its first `filled` bytes. Returns the number of bytes read, which is 0 at the end of the source.
+/// Reads into the buffer once, after its first `filled` bytes. Returns the number of bytes read, which is 0 at the end of the source. The only error
+/// is a failure of the source.
 pub(crate) fn fill_behind<S: Source>(
     source: &mut S,
     buffer: &mut [u8],

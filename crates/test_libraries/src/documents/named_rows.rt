@@ -105,7 +105,7 @@ pub fn sewn(out: &mut Answer, words: &[String]) -> Option<()> {
     Some(())
 }
 
-/// The entries of a row: pages by their numbers from 1, `-` for a blank, and `1*9` for page 1 nine times.
+/// The entries of a row: pages by their numbers from 1, `-` for a blank, and `1*9` for page 1 nine times. `None` for another text.
 pub fn entries(alloc: Global, text: &str) -> Option<Vec<Option<u32>>> {
     let mut row = Vec::new(alloc);
     for word in text.split_whitespace() {

@@ -9,7 +9,7 @@ use sheet_plan::{MadeError, PlanError};
 use std::io;
 use std::io::ErrorKind;
 
-/// The fault with this name. The name may have a number after it, as in `Spec.Syntax(12)`.
+/// The fault with this name, or `None` if no fault has the name. A number may follow the name, as in `Spec.Syntax(12)`.
 pub fn fault_named(name: &str) -> Option<ImposeFault> {
     let (name, number) = match name.split_once('(') {
         None => (name, 0),

@@ -288,8 +288,8 @@ const SIXTY_FIVE_PAGES: &str = "\
 ";
 
 /// Runs the test of `look` with these numbers of callers and threads on several jobs. Four of them have one page on a sheet, and two pages on each of
-/// one, two and ten sheets; the slots of the ten sheets share one word of the table. The others have two sheets of 65 pages, and one page 65 times on
-/// a sheet.
+/// one, two and ten sheets. The slots of these sheets share one word of the table. The others have two sheets of 65 pages, and one page 65 times on a
+/// sheet.
 fn deliver_each<R: Threads + Wait + Sync + Abort>(
     rt: &R,
     alloc: Global,

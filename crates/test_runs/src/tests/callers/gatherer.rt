@@ -114,7 +114,7 @@ impl<'s, 'j, 't, 'd> Gatherer<'s, 'j, 't, 'd> {
         Some(self.table.look(&mut self.seat, sheet))
     }
 
-    /// The index of a page. `None` if the page hasn't come, or if the job has no such page.
+    /// The index at which a page was published. `None` if the page hasn't been published, or if the job has no such page.
     pub(crate) fn page_at(&mut self, page: u32) -> Option<u32> {
         if page >= self.job.plan().pages() {
             return None;
