@@ -106,7 +106,8 @@ fn place_behind(text: &[u8], count: u32, of_items: bool) -> usize {
     start
 }
 
-/// The place, in a specification, of the first number with an integer part above 99,999. Without leading zeros, such a part has six digits or more.
+/// The place, in a specification, of the first number with an integer part above 99,999. The specification must have one. Without leading zeros, such
+/// a part has six digits or more.
 pub fn large_place(text: &str) -> usize {
     let mut start = 0usize;
     let mut digits = 0u32;

@@ -1,5 +1,5 @@
-//! Calls that the commands of both programs share. Some read the width of a border, or values that clap finds among the words of a command line. The
-//! other calls show the place of a fault, or write words for a shell.
+//! Functions that the commands of both programs share. They read the width of a border and the values that clap finds among words, show the place of
+//! a fault, and write words for a shell.
 #![tactic(auto)]
 
 mod borders;

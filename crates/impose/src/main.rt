@@ -1,4 +1,4 @@
-//! The `impose` program: reads a document and writes its pages on sheets, as the command line asks.
+//! The `impose` program: reads a document and puts its pages on sheets, as the command line asks.
 #![tactic(auto)]
 
 ghost use Rattle.std.specs.Prelude.{◌≡◌, []};

@@ -7,8 +7,8 @@ use impose_words::ImposeRequest;
 use memchr::memmem::find;
 use world::{ReadSource, World, padding, read_front};
 
-/// Reads the first bytes of the regular file of this name into `front`, and returns their number. It is 0 for another kind of file, and for a file that
-/// can't be read. No memory is allocated.
+/// Reads the first bytes of the regular file of this name into `front`, and returns their number. It is 0 for another kind of file, and for a file
+/// that can't be read. No memory is allocated.
 pub(crate) fn front_of<W: World>(name: &str, front: &mut [u8], world: &mut W) -> usize
     requires countable { (W.seen world.old).failures < u64.MAX }
     ensures within { result ≤ length front.new }

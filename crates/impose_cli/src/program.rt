@@ -123,8 +123,8 @@ fn home_of<W: World>(paper_size: &[u8], world: &mut W) -> Paper
     default_paper(paper_size, &front[..count])
 }
 
-/// Checks the request, reads the input, and writes the output that the request asks for. `is_foreign` says whether another program's document is in the
-/// output file.
+/// Checks the request, reads the input, and writes the output that the request asks for. `is_foreign` says whether another program's document is in
+/// the output file.
 fn carry_out<R: Threads + Wait + Sync, W: World>(
     rt: &R,
     alloc: Global,

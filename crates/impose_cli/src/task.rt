@@ -123,8 +123,8 @@ fn is_said(request: &ImposeRequest) -> bool
 ///
 /// A fault of the document.
 ///
-/// `NoSpecification` for chosen or turned pages, skipped cells, a last page that is kept at the back, marks, page numbers, one scale for all pages,
-/// or an inner margin of `nup`.
+/// `NoSpecification` for chosen or turned pages, skipped cells, a last page at the back, marks, page numbers, one scale for all pages, or an inner
+/// margin of `nup`.
 ///
 /// `SeveralPapers` for `nup` and `booklet`, if the pages don't all have the same paper.
 ///

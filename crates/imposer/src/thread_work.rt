@@ -6,8 +6,9 @@ use std::alloc::AllocError;
 use std::sync::Wait;
 use std::thread::Promise;
 
-/// The work of preparers, on an object that all threads share (`Self`). A worker holds an `H`, and returns it when its work ends. An `H` has shares.
-/// The caller begins with several shares, gives one to each worker, and has all of them back once all workers are joined.
+/// The work of preparers, on an object that all threads share (`Self`). An `H` holds the tokens with which a worker makes its calls. The worker
+/// returns its `H` when its work ends. An `H` has shares. The caller begins with several shares, gives one to each worker, and has all of them back
+/// once all workers are joined.
 ///
 /// The code that starts and joins threads sees no lifetime in `H` or `Self`. With a lifetime, the promise of a thread couldn't be proved.
 pub trait Work<H> {

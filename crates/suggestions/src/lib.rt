@@ -1,4 +1,4 @@
-//! Says what to type in place of words and values that the command doesn't take.
+//! Messages and tips about words and values that the command doesn't take.
 #![tactic(auto)]
 
 mod clap_text;

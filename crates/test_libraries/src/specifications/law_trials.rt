@@ -66,7 +66,7 @@ fn up_to_64(alloc: Global) -> Option<Vec<u32>> {
 /// A paper by its name, and its sides in points.
 type Named = (&'static str, i64, i64);
 
-/// Layouts to try: sheets with each of these numbers of pages, and with this margin and gap, or booklets.
+/// Layouts to try: either booklets, or sheets with each of these numbers of pages and with this margin and gap.
 #[derive(Clone, Copy)]
 enum Trial<'n> {
     Pages(&'n [u32], Kept),

@@ -254,8 +254,8 @@ impl<'w> Sink for OneSheet<'w> {
     }
 }
 
-/// Runs one page on one sheet. Returns the number of sheets made at the end, the number of looks that had begun when the page's sheet was found, and
-/// the number of waits that ran out.
+/// Runs one page on one sheet. Returns the number of sheets made at the end, the number of looks begun before the page's sheet was found, and the
+/// number of waits that ran out.
 fn run_late<R: Threads + Wait + Sync + Abort>(
     rt: &R,
     alloc: Global,

@@ -13,7 +13,7 @@ pub(super) trait Task<R, A> {
     fn go(&self, rt: &R, alloc: Global, job: &Job<'_, '_>) -> A;
 }
 
-/// Does the task with the job of placing this document's pages by this specification, on A4.
+/// Runs the task on the job that places the pages of this document by this specification. The paper is A4.
 pub(super) fn with_job<A, R: Abort, T: Task<R, A>>(
     rt: &R,
     alloc: Global,
