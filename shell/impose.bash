@@ -11,8 +11,8 @@ _impose_options_of() {
     local looks="--turn $shown"
     local row="--pages $parts"
     local numbers='--numbers --numbers-from'
-    local laid="--margin --gap --trim --marks --rtl --same-scale $numbers $row $looks"
-    local cells="--order --turned --scale $laid"
+    local laid="--margin --gap --trim --marks --rtl --scale --same-scale $numbers $row $looks"
+    local cells="--order --turned $laid"
     case "$1" in
         '') echo '--help --version -h -V' ;;
         nup) echo "--skip $cells $spec $all" ;;

@@ -24,9 +24,9 @@ much_kept = record nothing_kept {
 }
 
 -- the margin at the fold is on both sides of it: between halves that are one above another as the sheet lies there are 6 points, and
--- twice 8 more
-bound : binding_in (record much_kept { inner = Some (pos 1_016_000_000_000) }) true
-    ≡ record { free = record much_kept.free { up = pos 2_794_000_000_000 }; right_to_left = true; long_edge = true }
+-- twice 8 more; the scale is the one that is asked for
+bound : binding_in (record much_kept { inner = Some (pos 1_016_000_000_000); scale = Some (pos 500_000_000) }) true
+    ≡ record { free = record much_kept.free { up = pos 2_794_000_000_000 }; right_to_left = true; long_edge = true; scale = Some (pos 500_000_000) }
 bound = refl
 
 no_length_at_fold : map (fold_gap (negsuc 0)) (pos 0 ∷ pos 1 ∷ []) ≡ negsuc 0 ∷ negsuc 0 ∷ []

@@ -118,7 +118,7 @@ poster_app = subcommand_app (codes "poster") poster_rules laid_rules
 abbrev pub booklet_rules : List Rule
 booklet_rules =
     option_rule (codes "signature") ∷ option_rule (codes "creep") ∷ flag_rule (codes "long-edge")
-    ∷ flag_rule (codes "cover") ∷ flag_rule (codes "same-scale") ∷ option_rule (codes "margin") ∷ option_rule (codes "gap") ∷ option_rule (codes "trim")
+    ∷ flag_rule (codes "cover") ∷ option_rule (codes "scale") ∷ flag_rule (codes "same-scale") ∷ option_rule (codes "margin") ∷ option_rule (codes "gap") ∷ option_rule (codes "trim")
     ∷ option_rule (codes "marks") ∷ numbers_rule ∷ first_rule ∷ flag_rule (codes "rtl") ∷ []
 
 abbrev pub booklet_app : App

@@ -89,4 +89,4 @@ at_fold (Some inner) f = record f { up = fold_gap f.up inner }
 -- the halves of a sheet
 abbrev pub binding_in : Spacing → (long_edge : Bool) → Binding
 binding_in s long_edge =
-    record { free = at_fold s.inner s.free; right_to_left = s.order.right_to_left; long_edge = long_edge }
+    record { free = at_fold s.inner s.free; right_to_left = s.order.right_to_left; long_edge = long_edge; scale = s.scale }

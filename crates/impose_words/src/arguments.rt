@@ -234,7 +234,7 @@ const CELLS: [Argument; 11] = [
     RTL,
 ];
 
-const BOOKLET: [Argument; 12] = [
+const BOOKLET: [Argument; 13] = [
     Argument::Valued(
         "signature",
         "SIDES",
@@ -253,6 +253,7 @@ const BOOKLET: [Argument; 12] = [
         "cover",
         "Keep the last page at the back, with the blanks before it",
     ),
+    SCALE,
     SAME_SCALE,
     BOUND_MARGIN,
     Argument::Valued(

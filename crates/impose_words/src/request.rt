@@ -204,14 +204,17 @@ impl Spacing {
         }
     }
 
-    /// The binding of a booklet whose leaves have these margins and gaps. With `long_edge`, backs are turned for printers that flip on the long edge.
+    /// The binding of a booklet with this scale, whose leaves have these margins and gaps. With `long_edge`, backs are turned for printers that flip on
+    /// the long edge.
     pub fn binding(&self, long_edge: bool) -> Binding
         ensures { result ≡ binding_in self.now long_edge }
     {
+        let scale = self.scale;
         Binding {
             free: at_fold(self.inner, self.free),
             right_to_left: self.order.right_to_left,
             long_edge,
+            scale,
         }
     }
 }

@@ -156,13 +156,22 @@ unfolding digits a4
 five_in_a_row = refl
 
 -- leaves that are bound at the right, and leaves with 20 pt at the fold
-at_the_right : canonical (bound a4 a4 (record { free = nothing_free; right_to_left = true; long_edge = false })) ≡ codes "2:0L@.706650831(595,421.27137)+1L@.706650831(595,.27137)"
+at_the_right : canonical (bound a4 a4 (record (plain_binding false) { right_to_left = true })) ≡ codes "2:0L@.706650831(595,421.27137)+1L@.706650831(595,.27137)"
 unfolding digits a4
 at_the_right = refl
 
-gap_at_the_fold : canonical (bound a4 a4 (record { free = record nothing_free { up = pos 2_540_000_000_000 }; right_to_left = false; long_edge = false })) ≡ codes "2:0L@.690756302(588.30841,0)+1L@.690756302(588.30841,431)"
+gap_at_the_fold : canonical (bound a4 a4 (record (plain_binding false) { free = record nothing_free { up = pos 2_540_000_000_000 } })) ≡ codes "2:0L@.690756302(588.30841,0)+1L@.690756302(588.30841,431)"
 unfolding digits a4
 gap_at_the_fold = refl
+
+-- leaves whose pages have the scale that is asked for, each in the middle of its half, and one that is too large by 10^-9
+half_as_large : canonical (bound a4 a4 (record (plain_binding true) { scale = Some (pos 500_000_000) })) ≡ codes "4:0L@.5(508,61.75)+1L@.5(508,482.75),2R@.5(87,780.25)+3R@.5(87,359.25)"
+unfolding digits a4
+half_as_large = refl
+
+too_large_by_little : why_not_bound a4 a4 (record (plain_binding false) { scale = Some (pos 706_650_832) }) ≡ Some why.ScaleTooLarge
+unfolding a4
+too_large_by_little = refl
 
 -- 10, 20, 30 and 40 pt at the left, the right, the foot and the head, and 6 and 8 pt between cells side by side and one above
 -- another; on a sheet that is held turned too
@@ -191,7 +200,7 @@ unfolding digits each_edge
 turned_edges_text = refl
 
 -- a leaf has even margins
-uneven_leaf : why_not_bound a4 a4 (record { free = record nothing_free { left = pos 1_270_000 }; right_to_left = false; long_edge = false }) ≡ Some why.UnevenMargins
+uneven_leaf : why_not_bound a4 a4 (record (plain_binding false) { free = record nothing_free { left = pos 1_270_000 } }) ≡ Some why.UnevenMargins
 unfolding a4
 uneven_leaf = refl
 

@@ -387,7 +387,7 @@ handed_on (Err g) e P h p = subst P (sym h) p
 
 -- the halves of a sheet, by their parts
 pub halves_made : (sheet : Paper) (b : Binding) (room : Room) (g : Grid) (o : Order) → room ≡ room_of sheet b.free → g ≡ beside true → o ≡ leaf_order b.right_to_left
-    → record { room = room; grid = g; order = o; scale = None } ≡ binding_setting_of sheet b
+    → record { room = room; grid = g; order = o; scale = b.scale } ≡ binding_setting_of sheet b
 halves_made sheet b room g o e f h = cc (e, f, h)
 
 -- what nothing refuses for leaves, nothing refuses in their halves
@@ -400,7 +400,8 @@ leaves_fit : (page sheet : Paper) (b : Binding) → why_not_bound page sheet b �
 leaves_fit page sheet b h =
     let room = room_of sheet b.free in
     let largest = scale_in page room (beside true) in
-    let fifth = error_unless (folds_short page room) why.FoldOnLongEdge (why_no_scale room largest largest) in
+    let last = why_no_scale room (scale_for b.scale largest) largest in
+    let fifth = error_unless (folds_short page room) why.FoldOnLongEdge last in
     let fourth = error_unless (is_even room) why.UnevenMargins fifth in
     let third = error_unless (is_shown page room) why.NothingLeftOfPage fourth in
     let second = error_unless (are_lengths b.free) why.LengthOutOfRange third in
@@ -408,7 +409,7 @@ leaves_fit page sheet b h =
     let two = passed (are_lengths b.free) why.LengthOutOfRange third one.1 in
     let three = passed (is_shown page room) why.NothingLeftOfPage fourth two.1 in
     let four = passed (is_even room) why.UnevenMargins fifth three.1 in
-    let five = passed (folds_short page room) why.FoldOnLongEdge (why_no_scale room largest largest) four.1 in
+    let five = passed (folds_short page room) why.FoldOnLongEdge last four.1 in
     record {
       even = four.0;
       folds = five.0;
@@ -419,11 +420,12 @@ leaves_fit page sheet b h =
 pub leaves_scaled : (page sheet : Paper) (b : Binding) → why_not_bound page sheet b ≡ None
     → (let room = room_of sheet b.free in
     let largest = scale_in page room (beside true) in
-    why_no_scale room largest largest ≡ None)
+    why_no_scale room (scale_for b.scale largest) largest ≡ None)
 leaves_scaled page sheet b h =
     let room = room_of sheet b.free in
     let scaled = (leaves_fit page sheet b h).scaled in
-    let last = why_no_scale room (scale_in page room (beside true)) (scale_in page room (beside true)) in
+    let largest = scale_in page room (beside true) in
+    let last = why_no_scale room (scale_for b.scale largest) largest in
     let one = passed (is_paper_reached page && is_paper_reached sheet) why.SideTooLong _ scaled in
     (passed (is_shown page room) why.NothingLeftOfPage last one.1).1
 
@@ -434,7 +436,7 @@ leaves_even page sheet b h = even_room (room_of sheet b.free) (leaves_fit page s
 pub halves_fit : (page sheet : Paper) (b : Binding) → why_not_bound page sheet b ≡ None → why_no_scale_on (binding_setting_of sheet b) page ≡ None
 halves_fit page sheet b h = (leaves_fit page sheet b h).scaled
 
-sides_fitted : (page : Paper) (sheet : Paper) (b : Binding) (e : Bool) → leaf_sides page (room_of sheet b.free) (leaf_order b.right_to_left) e ≡ halves (binding_setting_of sheet b) page e
+sides_fitted : (page : Paper) (sheet : Paper) (b : Binding) (e : Bool) → leaf_sides page (room_of sheet b.free) (leaf_order b.right_to_left) (scale_on (binding_setting_of sheet b) page) e ≡ halves (binding_setting_of sheet b) page e
 sides_fitted page sheet b false = refl
 sides_fitted page sheet b true = refl
 
@@ -446,7 +448,7 @@ pub bound_stands : (page sheet : Paper) (b : Binding) → IsPaper page → IsPap
 bound_stands page sheet b is on h =
     let fit = leaves_fit page sheet b h in
     let fits = has_scale (binding_setting_of sheet b) page fit.scaled in (
-      leaves_writable most_slots page (room_of sheet b.free) (leaf_order b.right_to_left) b.long_edge (omega arith) fits,
+      leaves_writable most_slots page (room_of sheet b.free) (leaf_order b.right_to_left) (scale_on (binding_setting_of sheet b) page) b.long_edge (omega arith) fits,
       leaves_laid_out page sheet b is on (leaves_even page sheet b h) fit.folds fits.place,
     )
 

@@ -340,13 +340,11 @@ backs_laid_out page room b s is on even place =
       exact = all_made (IsExact page) f 0 2 (λ k less. (printed_as_it_is page room (beside true) o s 2 k).1);
     }
 
-pub sides_laid_out : (page : Paper) (room : Room) (b long_edge : Bool) → IsPaper page → IsPaper room.paper → IsEven room → HasPlace page room (beside true) (scale_in page room (beside true))
-    → AreSidesIn page room (leaf_order b) long_edge (scale_in page room (beside true)) (leaf_sides page room (leaf_order b) long_edge)
-sides_laid_out page room b false is on even place =
-    let s = scale_in page room (beside true) in
+pub sides_laid_out : (page : Paper) (room : Room) (s : ℕ) (b long_edge : Bool) → IsPaper page → IsPaper room.paper → IsEven room → HasPlace page room (beside true) s
+    → AreSidesIn page room (leaf_order b) long_edge s (leaf_sides page room (leaf_order b) s long_edge)
+sides_laid_out page room s b false is on even place =
     (map (item_in_cell page room (beside true) (leaf_order b) s) (range_with_len 0 2), refl, refl, refl, grid_laid_out page room (beside true) (leaf_order b) s 2 is on place (omega arith))
-sides_laid_out page room b true is on even place =
-    let s = scale_in page room (beside true) in
+sides_laid_out page room s b true is on even place =
     let o = leaf_order b in (
       map (item_in_cell page room (beside true) o s) (range_with_len 0 2),
       map (back_in page room (beside true) o s 2) (range_with_len 0 2),
@@ -369,12 +367,12 @@ folded page room true s is on even place =
 same_head : (front front' : List Item) (more more' : List (List Item)) → front ∷ more ≡ front' ∷ more' → front ≡ front'
 same_head front front' more more' e = cc
 
-pub sides_folded : (page : Paper) (room : Room) (b long_edge : Bool) → IsPaper page → IsPaper room.paper → IsEven room → HasPlace page room (beside true) (scale_in page room (beside true))
-    → (front : List Item) (more : List (List Item)) → (leaf_sides page room (leaf_order b) long_edge).groups ≡ front ∷ more → AreFolded page room b front
-sides_folded page room b false is on even place front more e =
-    subst (AreFolded page room b) (same_head _ front _ more e) (folded page room b (scale_in page room (beside true)) is on even place)
-sides_folded page room b true is on even place front more e =
-    subst (AreFolded page room b) (same_head _ front _ more e) (folded page room b (scale_in page room (beside true)) is on even place)
+pub sides_folded : (page : Paper) (room : Room) (s : ℕ) (b long_edge : Bool) → IsPaper page → IsPaper room.paper → IsEven room → HasPlace page room (beside true) s
+    → (front : List Item) (more : List (List Item)) → (leaf_sides page room (leaf_order b) s long_edge).groups ≡ front ∷ more → AreFolded page room b front
+sides_folded page room s b false is on even place front more e =
+    subst (AreFolded page room b) (same_head _ front _ more e) (folded page room b s is on even place)
+sides_folded page room s b true is on even place front more e =
+    subst (AreFolded page room b) (same_head _ front _ more e) (folded page room b s is on even place)
 
 beside_most : (page : Paper) (room : Room) (b : Bool) → IsTrue (nat_le (scale_in page room (beside false)) (scale_in page room (beside true)))
     → scale_in page room (beside b) ≤ scale_in page room (beside true)

@@ -145,7 +145,7 @@ not_arranged page sheet a is narrow h =
 not_bound : (page sheet : Paper) (b : Binding) → IsNarrow (room_of sheet b.free) → why_not_bound page sheet b ≡ None → ⊥
 not_bound page sheet b narrow h =
     let room = room_of sheet b.free in
-    refused room (scale_in page room (beside true)) (scale_in page room (beside true)) (no_scale page room 1 2 true narrow) (leaves_scaled page sheet b h)
+    refused room (scale_for b.scale (scale_in page room (beside true))) (scale_in page room (beside true)) (no_scale page room 1 2 true narrow) (leaves_scaled page sheet b h)
 
 pub nothing_is_left : NothingIsLeftOfSheet
 nothing_is_left page sheet f is h = record {

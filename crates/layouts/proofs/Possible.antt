@@ -1,5 +1,5 @@
 -- Where nothing refuses, and what follows from that.
-use Rattle.std.proofs.Common.{arith, rules, ◌≡◌, ℕ, suc, zero, ◌+◌, ◌*◌, ◌≤◌, Bool, true, false, Option, Some, None, refl, sym, ap, subst, ◌∙◌}
+use Rattle.std.proofs.Common.{arith, rules, ◌≡◌, ℕ, suc, zero, ◌+◌, ◌*◌, ◌<◌, ◌≤◌, Bool, true, false, Option, Some, None, refl, sym, ap, subst, ◌∙◌}
 use Rattle.std.specs.Prelude.{ℤ, nat_abs, IsTrue, ◌&&◌, ◌==◌, nat_le, nat_lt, if◌then◌else◌, is_none}
 use Rattle.std.proofs.lemmas.Bool.{cond-false, cond-true, le-leb, leb-true, ltb-true}
 use Rattle.lengths.proofs.Numbers.{same_byte}
@@ -189,25 +189,25 @@ leaves_refused page sheet b e h = sheet_stops page sheet b.free _ e h
 pub leaves_reasons : (page sheet : Paper) (b : Binding) → why_no_sheet page sheet b.free None ≡ None
     → (let room = room_of sheet b.free in
     let largest = scale_in page room (beside true) in
-    why_not_bound page sheet b ≡ error_unless (is_even room) why.UnevenMargins (error_unless (folds_short page room) why.FoldOnLongEdge (why_no_scale room largest largest)))
+    why_not_bound page sheet b ≡ error_unless (is_even room) why.UnevenMargins (error_unless (folds_short page room) why.FoldOnLongEdge (why_no_scale room (scale_for b.scale largest) largest)))
 leaves_reasons page sheet b h = sheet_on page sheet b.free _ h
 
 pub leaves_possible : (page sheet : Paper) (b : Binding) → why_no_sheet page sheet b.free None ≡ None → is_even (room_of sheet b.free) ≡ true → folds_short page (room_of sheet b.free) ≡ true
     → (let room = room_of sheet b.free in
     let largest = scale_in page room (beside true) in
-    why_not_bound page sheet b ≡ why_no_scale room largest largest)
+    why_not_bound page sheet b ≡ why_no_scale room (scale_for b.scale largest) largest)
 leaves_possible page sheet b h even folds =
     leaves_reasons page sheet b h ∙ (cond-true (is_even (room_of sheet b.free)) _ _ even ∙ cond-true (folds_short page (room_of sheet b.free)) _ _ folds)
 
 -- what is found of a scale is found of leaves
 pub leaf_reason : (page sheet : Paper) (b : Binding) (room : Room) (largest : ℕ) (found : Option ArrangementError) → why_no_sheet page sheet b.free None ≡ None
-    → room ≡ room_of sheet b.free → is_even room ≡ true → folds_short page room ≡ true → largest ≡ scale_in page room (beside true) → why_no_scale room largest largest ≡ found
+    → room ≡ room_of sheet b.free → is_even room ≡ true → folds_short page room ≡ true → largest ≡ scale_in page room (beside true) → why_no_scale room (scale_for b.scale largest) largest ≡ found
     → why_not_bound page sheet b ≡ found
 leaf_reason page sheet b room largest found good e even folds g h =
     let r = room_of sheet b.free in
     let all : largest ≡ scale_in page r (beside true) = g ∙ ap (λ x. scale_in page x (beside true)) e in
     leaves_possible page sheet b good (ap is_even (sym e) ∙ even) (ap (folds_short page) (sym e) ∙ folds)
-    ∙ (ap (λ l. why_no_scale r l l) (sym all) ∙ (ap (λ x. why_no_scale x largest largest) (sym e) ∙ h))
+    ∙ (ap (λ l. why_no_scale r (scale_for b.scale l) l) (sym all) ∙ (ap (λ x. why_no_scale x (scale_for b.scale largest) largest) (sym e) ∙ h))
 
 -- and so are margins that aren't even
 pub uneven : (page sheet : Paper) (b : Binding) (room : Room) → why_no_sheet page sheet b.free None ≡ None → room ≡ room_of sheet b.free → is_even room ≡ false → why_not_bound page sheet b ≡ Some why.UnevenMargins
@@ -226,17 +226,20 @@ even_room room h =
     record { across = same_byte room.left room.right both.0; up = same_byte room.bottom room.top both.1 }
 
 pub leaves_laid_out : (page sheet : Paper) (b : Binding) → IsPaper page → IsPaper sheet → IsEven (room_of sheet b.free) → IsTrue (folds_short page (room_of sheet b.free))
-    → (let room = room_of sheet b.free in HasPlace page room (beside true) (scale_in page room (beside true)))
+    → (let room = room_of sheet b.free in HasPlace page room (beside true) (scale_for b.scale (scale_in page room (beside true))))
     → IsBound page sheet b (bound page sheet b)
 leaves_laid_out page sheet b is on even folds has =
     let room = room_of sheet b.free in
+    let largest = scale_in page room (beside true) in
+    let s = scale_for b.scale largest in
     let (high, most) = both_true (nat_le (nat_abs sheet.width) (nat_abs sheet.height)) (nat_le (scale_in page room (beside false)) (scale_in page room (beside true))) folds in
     record {
       fold = leb-true (nat_abs sheet.width) (nat_abs sheet.height) high;
-      scale = scale_in page room (beside true);
-      sides = sides_laid_out page room b.right_to_left b.long_edge is on even has;
-      folded = λ front more e. sides_folded page room b.right_to_left b.long_edge is on even has front more e;
-      large = λ g t sides rows columns allows. beside_large page room g t most sides rows columns allows;
+      scale = s;
+      scale_is = λ asked e. ap (λ a. scale_for a largest) e;
+      sides = sides_laid_out page room s b.right_to_left b.long_edge is on even has;
+      folded = λ front more e. sides_folded page room s b.right_to_left b.long_edge is on even has front more e;
+      large = λ g t free sides rows columns allows. subst (λ a. t < scale_for a largest + 1_000) (sym free) (beside_large page room g t most sides rows columns allows);
     }
 
 -- ---- the fold

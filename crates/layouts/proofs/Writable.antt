@@ -17,7 +17,7 @@ use Rattle.pagespec.proofs.NumberLengths.{positive_few}
 use Rattle.pagespec.proofs.Short.{scale_short, offset_short, measure_few, turn_few}
 use Rattle.layouts.specs.Placed.{Room}
 use Rattle.layouts.specs.declared.arrangement.Order.{Order}
-use Rattle.layouts.specs.Cells.{Grid, size, item_in_cell, back_in, in_grid, to_right, to_top, turn_in, half_turned, whole_parts, in_points, scale_in, row_of, column_of}
+use Rattle.layouts.specs.Cells.{Grid, size, item_in_cell, back_in, in_grid, to_right, to_top, turn_in, half_turned, whole_parts, in_points, row_of, column_of}
 use Rattle.layouts.specs.Grids.{page_alone, leaf_sides, beside}
 use Rattle.layouts.specs.Refusals.{within_reach, is_scale_in_range}
 use Rattle.layouts.specs.Laws.{HasPlace}
@@ -165,10 +165,10 @@ itself_writable slots some =
     alone_fits : (k : ℕ) → k < 1 → IsFit 1 (page_alone k)
     alone_fits k less = placed_fits 1 _ k 1_000_000_000 (pos 0) (pos 0) (omega arith) less (omega arith) (omega arith) (omega arith) (omega arith)
 
-pub leaves_writable : (slots : ℕ) (page : Paper) (room : Room) (o : Order) (long_edge : Bool) → 2 ≤ slots → IsMade page room (beside true) (scale_in page room (beside true))
-    → IsWritable slots (leaf_sides page room o long_edge)
-leaves_writable slots page room o false few made = grid_writable slots page room (beside true) o (scale_in page room (beside true)) 2 (omega arith) few (omega arith) (omega arith) made
-leaves_writable slots page room o true few made = two_sides_writable slots page room (beside true) o (scale_in page room (beside true)) few (omega arith) made
+pub leaves_writable : (slots : ℕ) (page : Paper) (room : Room) (o : Order) (s : ℕ) (long_edge : Bool) → 2 ≤ slots → IsMade page room (beside true) s
+    → IsWritable slots (leaf_sides page room o s long_edge)
+leaves_writable slots page room o s false few made = grid_writable slots page room (beside true) o s 2 (omega arith) few (omega arith) (omega arith) made
+leaves_writable slots page room o s true few made = two_sides_writable slots page room (beside true) o s few (omega arith) made
 
 -- one more of a range
 pub pushed : {X Y : Type 0} (h : X → Y) (f : ℕ → Y) (xs ys : List X) (x : X) (k : ℕ) → map h xs ≡ map f (range_with_len 0 k) → h x ≡ f k → ys ≡ xs ++ x ∷ [] → map h ys ≡ map f (range_with_len 0 (k + 1))

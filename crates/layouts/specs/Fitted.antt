@@ -50,7 +50,7 @@ binding_setting_of sheet b = record {
   room = room_of sheet b.free;
   grid = beside true;
   order = leaf_order b.right_to_left;
-  scale = None;
+  scale = b.scale;
 }
 
 -- the first reason why pages of this paper can't have their scale in these cells (RULES, 16, step 12)

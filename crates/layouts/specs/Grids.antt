@@ -156,20 +156,21 @@ beside turned = record { rows = 1; columns = 2; turned = turned }
 abbrev pub leaf_order : (right_to_left : Bool) → Order
 leaf_order right_to_left = record { run = Rows; right_to_left = right_to_left; turned = sideways.Upright }
 
--- the sides of leaves in this room; for printers that flip a sheet about its longer edge each second side is turned by
+-- the sides of leaves in this room, with pages of this scale; for printers that flip a sheet about its longer edge each second side is turned by
 -- half
-abbrev pub leaf_sides : (page : Paper) → Room → Order → (long_edge : Bool) → Spec
-leaf_sides page room o false = in_grid page room (beside true) o (scale_in page room (beside true)) 2
-leaf_sides page room o true = record {
+abbrev pub leaf_sides : (page : Paper) → Room → Order → (scale : ℕ) → (long_edge : Bool) → Spec
+leaf_sides page room o s false = in_grid page room (beside true) o s 2
+leaf_sides page room o s true = record {
   modulo = 4;
-  groups = map (item_in_cell page room (beside true) o (scale_in page room (beside true))) (range_with_len 0 2)
-      ∷ map (back_in page room (beside true) o (scale_in page room (beside true)) 2) (range_with_len 0 2) ∷ [];
+  groups = map (item_in_cell page room (beside true) o s) (range_with_len 0 2)
+      ∷ map (back_in page room (beside true) o s 2) (range_with_len 0 2) ∷ [];
 }
 
 -- the sides of a booklet's leaves, which fold parallel to the shorter edge
 abbrev pub bound : (page sheet : Paper) → Binding → Spec
-bound page sheet b = leaf_sides page (room_of sheet b.free) (leaf_order b.right_to_left) b.long_edge
+bound page sheet b = let room = room_of sheet b.free in
+    leaf_sides page room (leaf_order b.right_to_left) (scale_for b.scale (scale_in page room (beside true))) b.long_edge
 
 -- nothing is asked for but how the printer flips a sheet
 abbrev pub plain_binding : (long_edge : Bool) → Binding
-plain_binding long_edge = record { free = nothing_free; right_to_left = false; long_edge = long_edge }
+plain_binding long_edge = record { free = nothing_free; right_to_left = false; long_edge = long_edge; scale = None }

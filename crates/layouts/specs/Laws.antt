@@ -1,6 +1,6 @@
 -- What holds of the pages in a grid.
 use Rattle.std.specs.Prelude.{◌≡◌, ◌≢◌, ℕ, ◌+◌, ◌-◌, ◌*◌, ◌/◌, ◌%◌, ◌<◌, ◌≤◌, ◌⊎◌, nat_abs, ℤ, pos, ◌+ℤ◌, ◌*ℤ◌, ◌-ℤ◌, ◌≤ℤ◌}
-use Rattle.std.specs.Prelude.{Bool, true, false, if◌then◌else◌, List, [], ◌∷◌, map, ⊤, IsTrue, Option}
+use Rattle.std.specs.Prelude.{Bool, true, false, if◌then◌else◌, List, [], ◌∷◌, map, ⊤, IsTrue, Option, None, Some}
 use Rattle.std.specs.List.{AllByRecursion, AllZip, range_with_len}
 use Rattle.rules.specs.Papers.{Paper, is_paper}
 use Rattle.rules.specs.Specification.{Item, Spec, Turn, Upright, Left, Right}
@@ -18,7 +18,7 @@ use Rattle.layouts.specs.Placed.{IsEven, Room, stands, fine, IsOfPage, IsInside,
 use Rattle.layouts.specs.Cells.{Along, Grid, size, held_width, held_height, held_across, held_down, left_free, step_across, step_down, wide, high, kept_length, trimmed_side}
 use Rattle.layouts.specs.Cells.{exact_scale, scale_in, item_in_cell, back_in, run_in, read_columns, read_rows, row_of, column_of}
 use Rattle.layouts.specs.Cells.{whole_parts}
-use Rattle.layouts.specs.Grids.{best_grid, formed, cells_per_sheet, room_of, scale_for}
+use Rattle.layouts.specs.Grids.{above_zero, best_grid, formed, cells_per_sheet, room_of, scale_for}
 use Rattle.layouts.specs.Grids.{leaf_order, beside}
 
 abbrev pub IsPaper : Paper → Type 0
@@ -316,13 +316,14 @@ RightToLeftIsMirror = (page : Paper) (room : Room) (s k : ℕ) → k < 2
     → item_in_cell page room (beside true) (leaf_order true) s k
     ≡ record (item_in_cell page room (beside true) (leaf_order false) s (1 - k)) { page = k }
 
--- two pages side by side on each side of a leaf, as large as any two side by side; the fold is parallel to the shorter
--- edge, as they are turned to the left on a sheet that is no wider than high
+-- two pages side by side on each side of a leaf, of the scale that is asked for, or as large as any two side by side. The fold is parallel to the shorter edge, as they are turned to the left on a sheet that is
+-- no wider than high
 pub record IsBound (page sheet : Paper) (b : Binding) (spec : Spec) : Type 0 where
   pub fold : nat_abs sheet.width ≤ nat_abs sheet.height
   pub scale : ℕ
+  pub scale_is : (asked : ℤ) → b.scale ≡ Some asked → scale ≡ above_zero asked
   pub sides : AreSidesIn page (room_of sheet b.free) (leaf_order b.right_to_left) b.long_edge scale spec
   pub folded : (front : List Item) (more : List (List Item)) → spec.groups ≡ front ∷ more
       → AreFolded page (room_of sheet b.free) b.right_to_left front
-  pub large : (g : Grid) (t : ℕ) → IsNotTiny page (room_of sheet b.free) → g.rows ≡ 1 → g.columns ≡ 2
+  pub large : (g : Grid) (t : ℕ) → b.scale ≡ None → IsNotTiny page (room_of sheet b.free) → g.rows ≡ 1 → g.columns ≡ 2
       → Allows page (room_of sheet b.free) g t → t < scale + 1_000

@@ -102,7 +102,7 @@ why_not_bound page sheet b =
     let largest = scale_in page room (beside true) in
     why_no_sheet page sheet b.free
     (error_unless (is_even room) why.UnevenMargins
-    (error_unless (folds_short page room) why.FoldOnLongEdge (why_no_scale room largest largest)))
+    (error_unless (folds_short page room) why.FoldOnLongEdge (why_no_scale room (scale_for b.scale largest) largest)))
 
 -- margins leave something of a sheet, whatever the pages are; what is no length is another fault (RULES, 16, step 5)
 abbrev pub leaves_room : (sheet : Paper) → Free → Bool

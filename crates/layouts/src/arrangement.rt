@@ -88,7 +88,7 @@ pub struct Arrangement {
     pub scale: Option<Number>,
 }
 
-/// The form of a booklet's leaves. Opposite margins have to be equal.
+/// The form of a booklet's leaves. Opposite margins have to be equal. Each page is in the middle of its half.
 #[derive(Clone, Copy, Debug, PartialEq, Eq)]
 pub struct Binding {
     pub free: Free,
@@ -96,6 +96,8 @@ pub struct Binding {
     pub right_to_left: bool,
     /// Whether the backs are rotated by 180 degrees, for printers that flip a sheet on its long edge.
     pub long_edge: bool,
+    /// The scale of the pages. If it is None, pages are as large as possible.
+    pub scale: Option<Number>,
 }
 
 impl Free {
@@ -138,6 +140,7 @@ impl Binding {
             free: Free::none(),
             right_to_left: false,
             long_edge,
+            scale: None,
         }
     }
 }

@@ -55,9 +55,10 @@ pub fn arrange(
 }
 
 /// The specification of a booklet, for a row of pages in signature order. Each side of a sheet has two pages side by side, and the fold is parallel
-/// to the sheet's shorter edge. Half of the gap is kept free on each side of the fold. For printers that flip a sheet on its long edge, the backs are
-/// rotated by 180 degrees. Fails with `SideTooLong`, `LengthOutOfRange`, `NothingLeftOfPage`, `UnevenMargins`, `FoldOnLongEdge`, `NoRoom` or
-/// `ScaleOutOfRange` if pages don't fit on the leaves. Without enough memory the error is `NoMemory`.
+/// to the sheet's shorter edge. Half of the gap is kept free on each side of the fold. Pages are as large as possible unless a scale is requested. For
+/// printers that flip a sheet on its long edge, the backs are rotated by 180 degrees. Fails with `SideTooLong`, `LengthOutOfRange`,
+/// `NothingLeftOfPage`, `UnevenMargins`, `FoldOnLongEdge`, `NoRoom`, `ScaleOutOfRange` or `ScaleTooLarge` if pages don't fit on the leaves. Without
+/// enough memory the error is `NoMemory`.
 pub fn bind(alloc: Global, papers: &Papers, binding: &Binding) -> Result<Spec, ArrangementError>
     ensures page { IsPaper papers.now.page }
     ensures sheet { IsPaper papers.now.sheet }

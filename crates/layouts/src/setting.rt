@@ -96,12 +96,12 @@ impl Setting {
         }
         let grid = Grid::beside(true);
         let largest = scale_in(&papers.page, &room, grid);
-        scale_found(&room, None, largest)?;
+        scale_found(&room, binding.scale, largest)?;
         Ok(Setting {
             room,
             grid,
             order: leaf_order(binding.right_to_left),
-            scale: None,
+            scale: binding.scale,
         })
     }
 

@@ -108,7 +108,7 @@ pub(crate) const SIGNS: [Tip; 14] = [
 ];
 
 /// Tips on options that `booklet` doesn't have, or has under another name than other programs.
-pub(crate) const FOR_BOOKLETS: [Tip; 5] = [
+pub(crate) const FOR_BOOKLETS: [Tip; 4] = [
     (
         &["--nup", "-N", "--up"],
         "a booklet always has two pages on each side of a leaf: leave this option out",
@@ -124,10 +124,6 @@ pub(crate) const FOR_BOOKLETS: [Tip; 5] = [
     (
         &["-s", "-n", "--sheets", "--leaves"],
         "leaves are folded some at a time by a number of sides, as in: impose booklet --signature 16 in.ps out.ps",
-    ),
-    (
-        &["--scale"],
-        "pages of a booklet are as large as they fit: name larger sheets, as in: impose booklet --sheet a3 in.ps out.ps",
     ),
 ];
 
@@ -191,7 +187,7 @@ pub(crate) const OF_COMMANDS: [Tip; 17] = [
     ),
     (
         &["--scale"],
-        "nup, cards and stack have a scale, as in: impose nup 2 --scale 0.7 in.ps out.ps",
+        "nup, booklet, cards and stack have a scale, as in: impose nup 2 --scale 0.7 in.ps out.ps",
     ),
     (
         &["--skip"],
