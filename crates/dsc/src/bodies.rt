@@ -12,8 +12,8 @@ use crate::filters::{Drops, Kept, end_line, filter, wants_end};
 use std::alloc::{AllocError, Global};
 use std::marker::Model;
 
-/// The prepared body of a page: the bytes that `prepare` returns. If they are one run of the page, the body borrows
-/// them from the page and copies nothing. A body takes 24 bytes, and a copy takes memory of its own.
+/// The prepared body of a page: the bytes that the free function `prepare` returns. If they are one run of the page,
+/// the body borrows them from the page and copies nothing. A body takes 24 bytes, and a copy takes memory of its own.
 #[derive(Drop)]
 pub struct Body<'d> {
     bytes: Bytes<'d>,

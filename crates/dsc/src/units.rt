@@ -85,7 +85,7 @@ fn data_len(behind: &[u8], may_count_lines: bool, rest: &[u8]) -> Result<usize, 
     }
 }
 
-/// The first unit of a text that isn't empty. Refuses a data block that is faulty.
+/// The first unit of a non-empty text. If this unit is a faulty data block, it is refused.
 pub(crate) fn first_unit(text: &[u8]) -> Result<LineOrBlock<'_>, UnitError>
     requires { 0 < length text.now }
     ensures unit { ReadsAs unit_of block_fault result (first_unit text.now) }

@@ -97,8 +97,7 @@ impl<'d> Walk<'d> {
     }
 }
 
-/// The first unit of a text that isn't empty. Successive lines that don't begin with two percent signs count as one
-/// unit.
+/// The first unit of a non-empty text. Successive lines that don't begin with two percent signs count as one unit.
 fn first_piece<'d>(percent_signs: &Finder<'_>, text: &'d [u8]) -> Result<LineOrBlock<'d>, UnitError>
     requires needle { percent_signs.now ≡ codes "%%" }
     requires some { 0 < length text.now }

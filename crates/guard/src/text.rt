@@ -13,8 +13,8 @@ const FIRST_LINES: &[u8] = b"\
     %%BeginResource: procset ImposeGuard 1.0 0\n\
     userdict /ImposeGuard known not {userdict begin\n";
 
-/// The lines of the guard after `FIRST_LINES` and the line that sets the page size. docs/GUARD.md says what each line
-/// does.
+/// The lines of the guard that follow `FIRST_LINES` or, if the guard sets the page size, the line that sets it.
+/// docs/GUARD.md says what each line does.
 const OTHER_LINES: &[u8] = b"\
     /ImposeShow /showpage load def\n\
     /PStoPSenablepage true def\n\
@@ -53,7 +53,7 @@ const OTHER_LINES: &[u8] = b"\
     end} bind if\n\
     %%EndResource\n";
 
-/// The number of bytes that are reserved for the guard. The guard is shorter, for any paper of the sheet.
+/// The number of bytes that are reserved for the guard. With any paper of the sheet, the guard has fewer bytes.
 const ROOM: usize = 2_560;
 
 /// A copy of the text with the guard inserted after its header comments (see `header_len`). If `sheet_paper` is a
@@ -139,7 +139,7 @@ fn guarded_header(
     Ok(front)
 }
 
-/// Replaces the bytes from `begin` on by those of `front`. The number of bytes stays the same.
+/// Copies `front` over the bytes that begin at the index `begin`. All other bytes stay.
 fn overwrite(bytes: &mut Vec<u8>, begin: usize, front: &[u8])
     requires { begin + length front.now ≤ vec_len bytes.old }
     ensures put { bytes.new.items ≡ take begin bytes.old.items

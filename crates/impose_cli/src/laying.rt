@@ -261,7 +261,7 @@ fn scheme_for(layout: &Layout, skipped: u32, cells: Cells) -> Scheme
     }
 }
 
-/// Where the layout's row begins on the first sheet, of which this number of cells is used already.
+/// The start of the layout's row on the first sheet, of which this number of cells is used already.
 pub(crate) fn begun_for(layout: &Layout, skipped: u32) -> Begun
     ensures { result ≡ begun_in layout.now skipped }
 {

@@ -273,7 +273,7 @@ fn print_input<W: World>(
     create_with_text(None, lines.as_slice(), Done::Printed, world)
 }
 
-/// Writes the list or drawing of the sheets to the output of this name.
+/// Writes the list or drawing of the sheets to the file of this name, or to standard output if there is no name.
 fn show_input<W: World>(
     alloc: Global,
     request: &ImposeRequest,
@@ -293,7 +293,7 @@ fn show_input<W: World>(
     }
 }
 
-/// Creates the output of this name, and writes a text to it.
+/// Creates the output, which is the file of this name, or standard output if there is no name, and writes a text to it.
 fn create_with_text<W: World>(
     name: Option<&str>,
     text: &[u8],

@@ -99,7 +99,7 @@ fn run_row<R: Threads + Wait + Sync, W: World>(
     }
 }
 
-/// Imposes the row of a job, and writes the sheets to the output of this name.
+/// Imposes the row of a job, and writes the sheets to the file of this name, or to standard output if there is no name.
 pub(crate) fn impose_job<R: Threads + Wait + Sync, W: World>(
     rt: &R,
     alloc: Global,
@@ -249,8 +249,8 @@ fn reported(outcome: Result<Report, ImposeFault>, about: About) -> Result<Done, 
 /// The size of the output's buffer, in bytes. Smaller sheets are gathered in the buffer and written together.
 const WRITTEN_AT_ONCE: usize = 16_384;
 
-/// Writes the sheets of a job to the output of this name, which is created when the first byte is to be written. The job has been checked, so it
-/// isn't refused here: only memory, the output's creation or a write can fail.
+/// Writes the sheets of a job to the file of this name, or to standard output if there is no name. The output is created when the first byte is to be
+/// written. The job has been checked, so it isn't refused here: only memory, the output's creation or a write can fail.
 fn write_job<R: Threads + Wait + Sync, W: World>(
     rt: &R,
     alloc: Global,

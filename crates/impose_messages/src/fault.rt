@@ -28,7 +28,7 @@ pub enum ImposeFault {
     Poster(PosterError),
     /// The choice of pages gives no row.
     Row(RowError),
-    /// The document has only `pages` pages, and so lacks pages of the range at byte `place` of the page ranges.
+    /// The document has only `pages` pages, and so lacks pages of the range that begins at byte `place`, counted from 0, of the page ranges.
     NoSuchPage {
         place: usize,
         pages: u32,

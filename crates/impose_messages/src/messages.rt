@@ -251,7 +251,8 @@ fn product_option(option: ProductOption) -> &'static str {
     }
 }
 
-/// The message, followed by the text and by a caret below byte `place` of the text.
+/// The message, followed by the part of the text around byte `place`, counted from 0, and by a caret below this byte. If the place is past the end of
+/// the text, the result is only the message.
 fn shown(alloc: Global, message: &str, text: &str, place: usize) -> Result<String, AllocError> {
     let caret = caret_below(alloc, text, place)?;
     joined_texts(alloc, &[message, caret.as_str()])
@@ -278,8 +279,8 @@ fn row_text(alloc: Global, error: &RowError, context: &Context<'_>) -> Result<St
 const NO_ENTRIES: &str =
     "page ranges: no page is left by --odd or --even; pages are counted from 1";
 
-/// The message about page ranges with a syntax error at byte `place`. If the text after `select` looks like a file, the message says that page ranges
-/// come before the file.
+/// The message about page ranges with a syntax error at byte `place`, counted from 0. If the text after `select` looks like a file, the message says
+/// that page ranges come before the file.
 fn no_range_text(alloc: Global, context: &Context<'_>, place: usize) -> Result<String, AllocError> {
     let ranges = context.ranges;
     if context.is_selection && looks_like_file(ranges) {

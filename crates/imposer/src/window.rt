@@ -53,7 +53,7 @@ pub(crate) struct Window {
     lifted: AtomicBool,
     /// The number of sheets in the window.
     pub(crate) len: u32,
-    /// The number of sheets that must be written before `come_to` moves the window.
+    /// The number of sheets that must be written after a move of the window before `come_to` moves the window again.
     step: u32,
     /// The greatest number of sheets that an imposer sends in one message.
     pub(crate) batch: u32,

@@ -1,4 +1,4 @@
-//! The form of a sheet: its cells, margins, gaps, order and scale.
+//! The arrangement of pages on a sheet: cells, margins, gaps, order and scale.
 ghost use Rattle.std.specs.Prelude.{◌≡◌};
 ghost use Rattle.layouts.specs.Grids.{cells_per_sheet, nothing_free, plain as plain_of, plain_binding};
 
@@ -78,7 +78,7 @@ pub struct Free {
     pub trim: Grains,
 }
 
-/// The form of a sheet.
+/// The arrangement of pages on a sheet: the cells, the lengths that are kept free, the order of the pages, and their scale.
 #[derive(Clone, Copy, Debug, PartialEq, Eq)]
 pub struct Arrangement {
     pub cells: Cells,
@@ -88,7 +88,8 @@ pub struct Arrangement {
     pub scale: Option<Number>,
 }
 
-/// The form of a booklet's leaves. Opposite margins have to be equal. Each page is in the middle of its half.
+/// The binding of a booklet: the margins, gap and trim of its leaves, the edge at which it is bound, and the way in which its backs are printed.
+/// Opposite margins have to be equal.
 #[derive(Clone, Copy, Debug, PartialEq, Eq)]
 pub struct Binding {
     pub free: Free,

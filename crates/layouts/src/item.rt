@@ -52,8 +52,8 @@ pub fn distance(from: i64, to: i64) -> Measure
     points_e5(to - from)
 }
 
-/// Half of the length that a scaled side of a page leaves free in its cell, in 10^-5 of a point. `cell` is in 10^-5 of a point, `side` in grains, and
-/// `scale` in 10^-9.
+/// Half of the length that a scaled side of a page leaves free in its cell, rounded down, or 0 if the scaled side is longer than the cell. The result
+/// and `cell` are in 10^-5 of a point, `side` is in grains, and `scale` is in 10^-9.
 pub fn slack(cell: u64, side: u64, scale: u64) -> u128
     ensures value { result ≡ slack_of cell side scale }
     ensures most { result ≤ cell }
@@ -241,7 +241,7 @@ fn moved_by(turned: bool, x: u64, y: u64, back: u64) -> (i64, i64)
     (if turned { x + back } else { x - back }, y - back)
 }
 
-/// The length that the trim along a side of a page has on the sheet, in 10^-5 of a point.
+/// The length that the trim along a side of a page has on the sheet, in 10^-5 of a point, rounded down. `scale` is in 10^-9.
 fn trimmed(room: &Room, scale: u64) -> u64
     requires { IsTrue (are_near room.now scale) }
     ensures value { result ≡ trimmed_of room.now scale }

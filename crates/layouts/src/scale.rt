@@ -37,7 +37,7 @@ pub(crate) fn kept_length(trim: u64, length: u64) -> u64
     if trim == 0 { length } else { length + 1 }
 }
 
-/// The part of a side that the margins leave free, in grains.
+/// The length that the margins leave free of a side, or 0 if they leave nothing. Both lengths are in grains.
 pub(crate) fn left_free(along: &Along, side: u64) -> u64
     requires { side ≤ longest_side }
     ensures value { result ≡ left_free_of along.now side }
@@ -49,8 +49,8 @@ pub(crate) fn left_free(along: &Along, side: u64) -> u64
     )
 }
 
-/// The distance from the start of one cell to the start of the next, in 10^-5 of a point, if a side is divided into this number of cells. `side` is
-/// in grains.
+/// The distance from the start of one cell to the start of the next, in 10^-5 of a point, rounded down, if a side is divided into this number of
+/// cells. `side` is in grains.
 pub(crate) fn pitch(along: &Along, side: u64, parts: u32) -> u64
     requires some { 0 < parts }
     requires in_range { side ≤ longest_side }
@@ -100,7 +100,7 @@ pub fn cell_size(room: &Room, grid: Grid) -> (u64, u64)
     )
 }
 
-/// A side of a page without the trim at both of its ends, in grains.
+/// The length of a side of a page without the trim at both of its ends, or 0 if the trim leaves nothing. The result is in grains.
 pub(crate) fn trimmed_side(room: &Room, length: Grains) -> u64
     requires { IsTrue (is_side length) }
     ensures value { result ≡ counted_of room.now length }

@@ -19,8 +19,8 @@ use std::alloc::{AllocError, Global};
 
 /// The paper of each page of a document, in the order of the pages (docs/RULES.md, 12.3). If `asked` is a paper, all
 /// pages have it. Otherwise a page has the paper that its own comments give, or else the one that the document's
-/// comments give. A page without either has the paper that the document's setup asks for, or else `home`. Fails only if
-/// memory is refused.
+/// comments give. A page without either has the paper that the document's setup (the lines before the first page) asks
+/// for, or else `home`. Fails only if memory is refused.
 pub fn page_papers(
     alloc: Global,
     document: &Document<'_>,

@@ -42,7 +42,7 @@ pub enum Comment {
 /// 3. `%%BoundingBox:`, as `paper_of_box` reads it. If its value is `(atend)`, the first `%%BoundingBox:` of the
 /// trailer counts. A text with a faulty data block has no trailer;
 ///
-/// 4. the paper that the setup asks for, with `/PageSize`.
+/// 4. the paper that the setup (the lines before the first page) asks for, with `/PageSize`.
 ///
 /// A box that doesn't begin at 0 0 must reach beyond the paper of the setup, or beyond `usual` if the setup asks for
 /// no paper. None if none of the four gives a paper.

@@ -1,4 +1,4 @@
-//! Finds the paper that a document's setup asks for, with `/PageSize`.
+//! Finds the paper that a document's setup asks for, with `/PageSize`. All lines before the first page count as setup.
 ghost use Rattle.std.specs.Prelude.{◌≡◌, ◌≤◌, codes, length, option_map};
 ghost use Rattle.rules.specs.Units.{is_comment};
 ghost use Rattle.dsc.specs.Fields.{fields_in};
@@ -9,7 +9,8 @@ use crate::fields::{leading_blanks, points_of};
 use dsc::{comment_value, first_content, line_end_after, next_field};
 use lengths::Paper;
 
-/// The paper of a document whose comments name none: the paper that its setup asks for, or `home` if it asks for none.
+/// The paper of a document whose comments name none: the paper that a line before the first page asks for, or `home` if
+/// no line does.
 pub(crate) fn usual_in(text: &[u8], home: &Paper) -> Paper
     ensures { result ≡ meaning.usual_in home.now text.now }
 {

@@ -27,7 +27,8 @@ pub struct Reading {
     pub places: Places,
 }
 
-/// Appends the text of a sheet (counted from 0): the page in each of its places, with separators between them.
+/// Appends the text of a sheet (counted from 0). For a sheet with cells, this is the page in each cell, with separators between the cells. For a
+/// tile, it is the page, and the tile's column and row on the poster.
 pub(crate) fn append_places(
     sheets: &MadeSheets,
     places: &Places,

@@ -66,7 +66,8 @@ fn append_way_line(number: usize, way: &Way, out: &mut Vec<u8>) -> Result<(), Al
     Ok(())
 }
 
-/// Appends the text in the line of the way with this number.
+/// Appends the line of the way with this number, counted from 0, without the line end. From number 16 on, the line says only that there are other
+/// ways.
 fn append_way_text(number: usize, way: &Way, out: &mut Vec<u8>) -> Result<(), AllocError>
     ensures { OnOk result (out.new.items ≡ out.old.items ++ way_told number way.now) }
 {

@@ -133,7 +133,7 @@ fn options_of(matches: &ArgMatches<'_>) -> Result<Options, CommandFault>
     )
 }
 
-/// The numbers of threads that the values of `-j` and `-k` give.
+/// The numbers of threads: of preparers from `-j`, and of imposers from `-k`. Each number is 2 without its option.
 fn workers_of(matches: &ArgMatches<'_>) -> Workers
     ensures { result ≡ workers_found (rows_of (found_of matches.now)) }
 {

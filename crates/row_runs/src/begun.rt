@@ -10,7 +10,7 @@ use std::alloc::{AllocError, Global};
 /// The greatest number of slots on all sheets of a plan together.
 const MOST_PLACES: u128 = 4_000_000;
 
-/// Where a row begins on the first sheet, whose first cells may be used already. Used cells stay empty.
+/// The start of a row on the first sheet, whose first cells may be used already. Used cells stay empty.
 #[derive(Clone, Copy)]
 pub enum Begun {
     /// The row begins after this number of blanks.

@@ -128,7 +128,7 @@ fn is_half_turned(turned_backs: bool, s: u32) -> bool
     turned_backs && s % 2 == 1
 }
 
-/// The distance by which the pages on side `s` are moved, in 10^-5 of a point.
+/// The distance by which the pages on side `s`, counted from 0, are moved, in 10^-5 of a point, rounded down.
 pub(crate) fn creep_on(creep: Creep, s: u64) -> u64
     ensures { result ≡ creep_on_side creep.innermost creep.leaves s }
 {

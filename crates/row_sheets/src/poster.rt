@@ -160,7 +160,8 @@ fn laid_on(poster: &Poster, page_paper: &Paper) -> Result<PosterFit, PosterError
     })
 }
 
-/// The length that the margins leave of a side, in 10^-5 of a point. `side` is in grains, and the margin `edge` in 10^-5 of a point.
+/// The length that two margins of `edge` leave of a side, or 0 if they leave nothing. `side` is in grains; the other lengths are in 10^-5 of a point,
+/// to which the side is rounded down.
 fn tile(side: u64, edge: u64) -> u64
     ensures { result ≡ tile_of side edge }
 {

@@ -1,4 +1,4 @@
-//! Posters of all pages in a row.
+//! Posters of all pages of a row.
 ghost use Rattle.std.specs.Prelude.{◌≡◌, ◌++◌, ◌*◌, ◌≤◌, IfErr, IfOk, OnOk};
 ghost use Rattle.row_sheets.specs.Posters.{most_tiles, blank_tiles, entry_tiles, row_tiles};
 ghost use Rattle.row_sheets.specs.Posters.{AllMayBePosters, EntryMayBePoster, IsNoPosterFor};
@@ -10,8 +10,9 @@ use lengths::Paper;
 use sheet_plan::{MadeSheets, MadeSlot};
 use std::alloc::Global;
 
-/// The sheets of posters of the pages in a row, one poster after the other. A blank entry gives as many blank sheets as a poster has. A page whose
-/// paper isn't in `papers` has the paper of the sheets. Fails with the error of the first page that can't be a poster, or else with `NoMemory`.
+/// The sheets of the posters for a row: one poster for each entry, in the order of the row. A blank entry gives as many blank sheets as a poster has.
+/// A page whose paper isn't in `papers` has the paper of the sheets. Fails with the error of the first page that can't be a poster, or else with
+/// `NoMemory`.
 pub fn poster_row_sheets(
     alloc: Global,
     poster: &Poster,

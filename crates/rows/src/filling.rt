@@ -64,7 +64,7 @@ fn append_pages(row: &mut Vec<Option<u32>>, first: u32, last: u32)
     }
 }
 
-/// Appends the pages from the number `first` up to the number `last`.
+/// Appends the pages from the number `first` up to the number `last`, both counted from 1.
 fn append_up(row: &mut Vec<Option<u32>>, first: u32, last: u32)
     requires first { 0 < first }
     requires last { first ≤ last }
@@ -77,7 +77,7 @@ fn append_up(row: &mut Vec<Option<u32>>, first: u32, last: u32)
     }
 }
 
-/// Appends the pages from the number `first` down to the number `last`.
+/// Appends the pages from the number `first` down to the number `last`, both counted from 1.
 fn append_down(row: &mut Vec<Option<u32>>, first: u32, last: u32)
     requires first { 0 < last }
     requires last { last < first }

@@ -48,7 +48,9 @@ pub fn write_text<S: Sink>(sink: &mut S, progress: Progress, text: &[u8]) -> Pro
     advanced(progress, total, write_all(sink, text))
 }
 
-/// Writes a text in pieces to the sink, and counts its bytes as `write_text` does.
+/// Writes a text, given as pieces, to the sink, and increases `written` by the number of bytes that the sink took. If the length of the text exceeds
+/// `usize::MAX`, or the sum for the whole text would exceed 2^64 - 1, nothing is written, and writing is halted with `NoMemory`. If the sink refuses
+/// a call, writing is halted with `Failed`.
 pub fn write_in_pieces<S: Sink>(sink: &mut S, progress: Progress, text: Pieces<'_, '_>) -> Progress
     requires countable { IsCountable (S.seen sink.old) }
     ensures handed { Handed text.entry (S.seen sink.old) (S.seen sink.new) progress result }

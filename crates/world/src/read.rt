@@ -14,7 +14,7 @@ pub const MOST_BYTES: usize = 1_073_741_825;
 /// The number of bytes for which a source is offered room first. It is small, because most documents are small and touching memory takes time.
 const FIRST_PIECE: usize = 16_384;
 
-/// The least number of bytes for which a source is offered room later.
+/// The least number of bytes for which a source is offered room after the vector has grown beyond `FIRST_PIECE` bytes.
 const LEAST_ROOM: usize = 65_536;
 
 /// The number of bytes that are cleared at a time before a source fills them. It is small enough for these bytes to stay in the processor's cache.

@@ -28,7 +28,7 @@ pub fn reported(out: &mut Answer, words: &[String]) -> Option<()> {
     Some(())
 }
 
-/// The fault with this name.
+/// The fault of pstops with this name, or `None` if none of its faults has the name.
 fn pstops_fault_named(name: &str) -> Option<Fault> {
     match name {
         "Command.NoMemory" => Some(Fault::Command(CommandFault::NoMemory)),

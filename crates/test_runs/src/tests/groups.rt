@@ -53,7 +53,7 @@ fn put_together<'r, R: Abort>(
     text
 }
 
-/// The text that `put_together` makes. It must equal the text that `sheet_text` makes of the sheet.
+/// The text that `put_together` makes for a sheet. The test fails if `sheet_text` makes another text for this sheet.
 fn text_with<'r, R: Abort>(
     rt: &R,
     alloc: Global,
@@ -177,7 +177,7 @@ impl<'r> Spent<'r> for GivenBack {
     }
 }
 
-/// The lengths in bytes of the calls that write the four sheets, if these come as one group.
+/// Puts the four sheets into a buffer as one group, and writes them. Returns the number of bytes in each call of the writer.
 fn calls_of_all<R: Abort>(
     rt: &R,
     alloc: Global,

@@ -25,7 +25,7 @@ impl Tally {
         }
     }
 
-    /// Counts an addition of this number.
+    /// Counts one addition of this number. A number that isn't below the end counts only among all additions.
     pub(super) fn add(&self, number: usize) {
         if let Some(count) = self.counts.as_slice().get(number) {
             count.fetch_add(1, SeqCst);

@@ -176,7 +176,8 @@ impl<'r, R> Called<R> for InTexts<'r> {
     }
 }
 
-/// A story, for a buffer with `places` places for sheets that come before their turn.
+/// A story that is told with a buffer of `places` places for sheets that come before their turn. Where a line of the story has the word `long` or
+/// `longer`, the slice of this name is meant.
 #[derive(Drop)]
 struct Story<'s> {
     places: u32,
