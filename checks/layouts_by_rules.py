@@ -394,20 +394,39 @@ def spot_in(cell: Cell, paper: Paper, scale: Fraction, trim: int, shift: int) ->
 class Poster:
     """14.3: the sides of tiles are rounded down."""
 
-    def __init__(self, options: Options, sheet: Paper) -> None:
-        assert options.grid
-        self.grid, self.margin, overlap = options.grid, Room(options).top, ceil(options.overlap)
+    def __init__(self, options: Options, sheet: Paper, paper: Paper) -> None:
+        self.margin, overlap = Room(options).top, ceil(options.overlap)
         self.steps = [floor(side) - 2 * self.margin - overlap for side in sheet]
         if min(self.steps) <= 0:
             raise Refused("room")
+        self.scale, self.grid = options.scale, options.grid or (0, 0)
+        if not options.grid:
+            self.scale = Fraction(1) if options.scale is None else options.scale
+            scaled = [ceil(self.scale * side) for side in paper]
+            columns, rows = (max(1, -((overlap - side) // step)) for side, step in zip(scaled, self.steps))
+            self.grid = columns, rows
+        if self.grid[0] * self.grid[1] > 1024:
+            raise Refused("tiles")
         wide, high = (parts * step + overlap for parts, step in zip(self.grid, self.steps))
         if max(wide, high) >= TOO_LONG:
             raise Refused("sides")
         self.sides = wide, high
+        self.scale_of(paper)
+
+    def scale_of(self, paper: Paper) -> Fraction:
+        """The scale of a page of this paper."""
+        largest = scale_in(self.sides, paper, 0)
+        if self.scale is None:
+            return largest
+        if self.scale <= 0:
+            raise Refused("range of a poster's scales")
+        if self.scale > largest:
+            raise Refused("scale of a poster")
+        return self.scale
 
     def spots(self, paper: Paper) -> Iterator[Spot]:
         """One for each sheet."""
-        scale = scale_in(self.sides, paper, 0)
+        scale = self.scale_of(paper)
         left, low = (self.margin + floor((whole - scale * side) / 2) for whole, side in zip(self.sides, paper))
         for row in reversed(range(self.grid[1])):
             for column in range(self.grid[0]):
@@ -449,7 +468,7 @@ def refuse_layout(options: Options, paper: Paper, sheet: Paper) -> None:
         raise Refused("sides")
     refuse_lengths(lengths)
     if layout == "poster":
-        Poster(options, sheet)
+        Poster(options, sheet, paper)
         return
     if min(side - 2 * room.trim for side in paper) <= 0:
         raise Refused("trim")
@@ -626,9 +645,9 @@ class Run:
             yield sheet
 
     def poster(self) -> Iterator[Sheet]:
-        poster = Poster(self.options, self.sheet)
+        poster = Poster(self.options, self.sheet, self.cells_paper)
         for entry, own in enumerate(self.own):
-            for spot in poster.spots(self.turned(own or self.cells_paper)):
+            for spot in poster.spots(self.turned(own) if own else self.cells_paper):
                 sheet = Sheet(self.sheet)
                 if own:
                     self.write(sheet, Slot(entry, Cell(0, 0, 0, 0)), spot)

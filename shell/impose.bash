@@ -21,7 +21,7 @@ _impose_options_of() {
         zine) echo "--same-scale --margin --gap --rtl $row $looks $sheet $all" ;;
         stack) echo "--duplex $cells $sheet $all" ;;
         notes) echo "--same-scale --margin --gap --trim $numbers $row $looks $sheet $all" ;;
-        poster) echo "--overlap --margin $row $looks $sheet $all" ;;
+        poster) echo "--scale --overlap --margin $row $looks $sheet $all" ;;
         select) echo "$numbers $parts $looks $all" ;;
         spec) echo "--signature $row $shown $spec $all" ;;
     esac
@@ -96,7 +96,7 @@ _impose() {
             help:*) ;;
             nup:0 | cards:0 | stack:0) COMPREPLY=($(compgen -W '1 2 4 6 8 9 16 2x4' -- "$cur")) ;;
             notes:0) COMPREPLY=($(compgen -W '1 2 3 4' -- "$cur")) ;;
-            poster:0) COMPREPLY=($(compgen -W '2x2 2x3 3x2 3x3 4x4' -- "$cur")) ;;
+            poster:0) COMPREPLY=($(compgen -W 'auto 2x2 2x3 3x2 3x3 4x4' -- "$cur")) ;;
             select:0 | spec:0) ;;
             *) _impose_files "${patterns[@]}" ;;
         esac

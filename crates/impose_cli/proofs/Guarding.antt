@@ -9,6 +9,7 @@ use Rattle.rules.specs.Rows.{Row}
 use Rattle.rules.specs.Specification.{Spec}
 use Rattle.row_runs.specs.declared.sheet_request.Laying.{Laying}
 use Rattle.row_runs.specs.declared.sheet_request.Laying.TheVariants as laying
+use Rattle.layouts.specs.declared.arrangement.Cells.TheVariants.{AtLeast, Exactly}
 use Rattle.impose_words.specs.declared.request.Layout.{Layout}
 use Rattle.impose_words.specs.declared.request.Layout.TheVariants as layout
 use Rattle.impose_words.specs.declared.request.Spacing.{Spacing}
@@ -38,7 +39,8 @@ by_layout layout.Selection s page sheet found papers row l is chosen =
     is_laid papers row (first_paper found papers sheet) _ l is
     (subst (λ f. IsOfFirst (laying.AsTheyAre sheet) papers row (first_paper f papers sheet)) (sym chosen) (of_selection papers sheet row))
 by_layout (layout.Booklet signing long_edge) s page sheet found papers row l is chosen = is_laid papers row sheet _ l is refl
-by_layout (layout.Poster columns rows) s page sheet found papers row l is chosen = is_laid papers row sheet _ l is refl
+by_layout (layout.Poster (Exactly columns rows)) s page sheet found papers row l is chosen = is_laid papers row sheet _ l is refl
+by_layout (layout.Poster (AtLeast n)) s page sheet found papers row l is chosen = is_laid papers row sheet _ l is refl
 by_layout (layout.NUp cells) s page sheet found papers row l is chosen = is_laid papers row sheet _ l is refl
 by_layout (layout.Cards cells) s page sheet found papers row l is chosen = is_laid papers row sheet _ l is refl
 by_layout (layout.Stack cells duplex) s page sheet found papers row l is chosen = is_laid papers row sheet _ l is refl

@@ -87,7 +87,7 @@ notes = refl
 abbrev tile : (left below : ℤ) → List Lies
 tile left below = Some (1, Upright, left, below) ∷ []
 
-poster : sheets_of (layout.Poster 2 3) nothing_kept (points 200 300) square 1
+poster : sheets_of (layout.Poster (Exactly 2 3)) nothing_kept (points 200 300) square 1
     ≡ tile (pos 0) (negsuc 199_999_999_999) ∷ tile (negsuc 99_999_999_999) (negsuc 199_999_999_999)
     ∷ tile (pos 0) (negsuc 99_999_999_999) ∷ tile (negsuc 99_999_999_999) (negsuc 99_999_999_999)
     ∷ tile (pos 0) (pos 0) ∷ tile (negsuc 99_999_999_999) (pos 0) ∷ []

@@ -16,6 +16,8 @@ use Rattle.rows.specs.declared.sewing.Signing.{Signing}
 use Rattle.layouts.specs.Fitted.{binding_setting_of, setting_of}
 use Rattle.layouts.specs.Grids.{cells_per_sheet, rounded_down, rounded_up, is_same}
 use Rattle.layouts.specs.Refusals.{error_unless, is_length, why_not_arranged, why_not_bound}
+use Rattle.layouts.specs.declared.arrangement.Cells.{Cells}
+use Rattle.layouts.specs.declared.arrangement.Cells.TheVariants.{AtLeast, Exactly}
 use Rattle.layouts.specs.declared.arrangement.Free.{Free}
 use Rattle.layouts.specs.declared.arrangement.Arrangement.{Arrangement}
 use Rattle.layouts.specs.declared.error.ArrangementError.TheVariants as why
@@ -36,7 +38,7 @@ use Rattle.row_runs.specs.declared.begun.Begun.{Begun}
 use Rattle.row_runs.specs.declared.begun.Begun.TheVariants as begun
 use Rattle.row_runs.specs.declared.run.RowJob.{RowJob}
 use Rattle.impose_words.specs.Choices.{choice_in}
-use Rattle.row_sheets.specs.Posters.{why_no_poster}
+use Rattle.row_sheets.specs.Posters.{on_fewest, why_no_poster}
 use Rattle.row_sheets.specs.declared.poster.Poster.{Poster}
 use Rattle.impose_words.specs.Spacings.{arrangement_in, binding_in, swaps_margins, notes_in, zine_in}
 use Rattle.impose_words.specs.declared.request.Spacing.{Spacing}
@@ -100,21 +102,27 @@ begun_in other skipped = begun.Pages skipped
 abbrev pub filled_in : Layout → (skipped : ℕ) → Arrangement → (page_paper sheet_paper : Paper) → Laying
 filled_in l skipped a page sheet = laying.InCells (setting_of page sheet a) (scheme_in l skipped (cells_per_sheet a.cells))
 
--- so many columns and rows of sheets of a paper, with one margin along all edges: of it and of the overlap none is lost
-abbrev pub poster_in : Spacing → (columns rows : ℕ) → (sheet : Paper) → Poster
-poster_in s columns rows sheet = record {
+-- columns and rows of sheets of a paper, with one margin along all edges: of it and of the overlap none is lost
+abbrev pub tiles_in : Spacing → (columns rows : ℕ) → (sheet : Paper) → Poster
+tiles_in s columns rows sheet = record {
   sheet = sheet;
   columns = columns;
   rows = rows;
   edge = rounded_up s.free.left;
   overlap = rounded_up s.overlap;
+  scale = s.scale;
 }
+
+-- the columns and rows that are named, or the fewest that hold a page of this paper at its scale (RULES, 14.3)
+abbrev pub poster_in : Spacing → Cells → (page_paper sheet_paper : Paper) → Poster
+poster_in s (Exactly columns rows) page sheet = tiles_in s columns rows sheet
+poster_in s (AtLeast n) page sheet = on_fewest page (tiles_in s 1 1 sheet)
 
 -- how a layout lays a row of pages of a paper on sheets, if it does and names no specification for it (RULES, 14)
 abbrev pub laying_in : Layout → Spacing → (page_paper sheet_paper : Paper) → Option Laying
 laying_in (layout.Booklet signing long_edge) s page sheet =
     Some (laying.InCells (binding_setting_of sheet (binding_in s long_edge)) (scheme.Booklet long_edge (rounded_down s.creep)))
-laying_in (layout.Poster columns rows) s page sheet = Some (laying.Poster (poster_in s columns rows sheet))
+laying_in (layout.Poster cells) s page sheet = Some (laying.Poster (poster_in s cells page sheet))
 laying_in layout.Selection s page sheet = Some (laying.AsTheyAre sheet)
 laying_in (layout.Spec specs) s page sheet = None
 laying_in (layout.SpecRow specs signing) s page sheet = None
@@ -130,7 +138,7 @@ has_one_margin f = has_even_margins f && int_eq f.left f.bottom
 -- margins are as even as the layout needs them: what is behind a part of a sheet, or turned by half, needs even ones
 abbrev pub is_even_enough : Layout → Free → Bool
 is_even_enough (layout.Stack cells duplex) f = not duplex || has_even_margins f
-is_even_enough (layout.Poster columns rows) f = has_one_margin f
+is_even_enough (layout.Poster cells) f = has_one_margin f
 is_even_enough layout.Zine f = has_even_margins f
 is_even_enough other f = true
 
@@ -138,8 +146,8 @@ is_even_enough other f = true
 abbrev pub why_not_placed : Layout → Spacing → (page_paper sheet_paper : Paper) → Option ImposeFault
 why_not_placed (layout.Booklet signing long_edge) s page sheet = option_map fault.Layout
     (error_unless (is_length s.creep) why.LengthOutOfRange (why_not_bound page sheet (binding_in s long_edge)))
-why_not_placed (layout.Poster columns rows) s page sheet = if is_length s.free.left && is_length s.overlap
-    then option_map fault.Poster (why_no_poster page (poster_in s columns rows sheet))
+why_not_placed (layout.Poster cells) s page sheet = if is_length s.free.left && is_length s.overlap
+    then option_map fault.Poster (why_no_poster page (poster_in s cells page sheet))
     else Some (fault.Layout why.LengthOutOfRange)
 why_not_placed layout.Selection s page sheet = None
 why_not_placed (layout.Spec specs) s page sheet = None

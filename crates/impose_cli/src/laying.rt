@@ -143,7 +143,7 @@ pub(crate) fn laying_for(
         Layout::Booklet { signing, long_edge } => {
             booklet_laying(*signing, *long_edge, spacing, papers)
         }
-        Layout::Poster { columns, rows } => poster_laying(*columns, *rows, spacing, papers),
+        Layout::Poster(cells) => poster_laying(*cells, spacing, papers),
         Layout::Selection => Ok(Some(Laying::AsTheyAre {
             blank: papers.sheet,
         })),
@@ -183,7 +183,7 @@ fn kept_free(layout: &Layout, spacing: &Spacing) -> Option<Free>
         ),
         Layout::Zine => Some(cells_for(layout, spacing).free),
         Layout::Booklet { long_edge, .. } => Some(spacing.binding(*long_edge).free),
-        Layout::Poster { .. } | Layout::Selection => None,
+        Layout::Poster(_) | Layout::Selection => None,
         Layout::Spec(_) | Layout::SpecRow { .. } => None,
     }
 }
@@ -195,7 +195,7 @@ fn is_even_enough(layout: &Layout, free: &Free) -> bool
 {
     match layout {
         Layout::Stack { duplex, .. } => !*duplex || has_even_margins(free),
-        Layout::Poster { .. } => has_even_margins(free) && free.left.get() == free.bottom.get(),
+        Layout::Poster(_) => has_even_margins(free) && free.left.get() == free.bottom.get(),
         Layout::Zine => has_even_margins(free),
         _ => true,
     }
@@ -309,29 +309,37 @@ fn booklet_laying(
 }
 
 fn poster_laying(
-    columns: u32,
-    rows: u32,
+    cells: Cells,
     spacing: &Spacing,
     papers: &Papers,
 ) -> Result<Option<Laying<'static>>, ImposeFault>
     ensures laying { IfOk result (λ laying.
-        laying ≡ laying_in (layout.Poster columns rows) spacing.now papers.now.page papers.now.sheet) }
+        laying ≡ laying_in (layout.Poster cells) spacing.now papers.now.page papers.now.sheet) }
     ensures may_be { IfOk result (λ laying. IfSome laying MayBeLaid) }
     ensures possible { OnOk result
-        (why_not_placed (layout.Poster columns rows) spacing.now papers.now.page papers.now.sheet ≡ None) }
+        (why_not_placed (layout.Poster cells) spacing.now papers.now.page papers.now.sheet ≡ None) }
     ensures refused { IfErr result (λ fault.
-        why_not_placed (layout.Poster columns rows) spacing.now papers.now.page papers.now.sheet ≡ Some fault) }
+        why_not_placed (layout.Poster cells) spacing.now papers.now.page papers.now.sheet ≡ Some fault) }
 {
     let margin = spacing.free.left;
     if !(is_length(margin) && is_length(spacing.overlap)) {
         return Err(ImposeFault::Layout(ArrangementError::LengthOutOfRange));
     }
-    let poster = Poster {
+    let one = Poster {
         sheet: papers.sheet,
-        columns,
-        rows,
+        columns: 1,
+        rows: 1,
         edge: rounded_up(margin),
         overlap: rounded_up(spacing.overlap),
+        scale: spacing.scale,
+    };
+    let poster = match cells {
+        Cells::Exactly { columns, rows } => Poster {
+            columns,
+            rows,
+            ..one
+        },
+        Cells::AtLeast(_) => one.on_fewest_sheets(&papers.page),
     };
     match check_poster(&poster, &papers.page) {
         Ok(()) => Ok(Some(Laying::Poster { poster })),

@@ -298,7 +298,7 @@ fn placing(
         Layout::Cards(_) | Layout::Stack { .. } | Layout::Selection => Err(
             ImposeFault::NoSpecification,
         ),
-        Layout::Notes { .. } | Layout::Poster { .. } | Layout::Zine => Err(
+        Layout::Notes { .. } | Layout::Poster(_) | Layout::Zine => Err(
             ImposeFault::NoSpecification,
         ),
         Layout::Spec(specs) => named_placing(alloc, specs.as_str(), None),

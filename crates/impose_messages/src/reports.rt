@@ -108,7 +108,7 @@ fn places_on(layout: &Layout) -> u64
         Layout::Notes { pages } => u64::from(*pages),
         Layout::Booklet { .. } => 2,
         Layout::Zine => 8,
-        Layout::Cards(_) | Layout::Stack { .. } | Layout::Poster { .. } | Layout::Selection => 0,
+        Layout::Cards(_) | Layout::Stack { .. } | Layout::Poster(_) | Layout::Selection => 0,
         Layout::Spec(_) | Layout::SpecRow { .. } => 0,
     }
 }
@@ -164,7 +164,7 @@ fn prints_leaves(request: &ImposeRequest) -> bool
         Layout::Booklet { .. } => true,
         Layout::Stack { duplex, .. } => *duplex,
         Layout::NUp(_) | Layout::Cards(_) | Layout::Notes { .. } => request.swaps_margins(),
-        Layout::Poster { .. } | Layout::Zine | Layout::Selection => request.swaps_margins(),
+        Layout::Poster(_) | Layout::Zine | Layout::Selection => request.swaps_margins(),
         Layout::Spec(_) | Layout::SpecRow { .. } => request.swaps_margins(),
     }
 }

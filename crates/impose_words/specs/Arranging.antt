@@ -53,6 +53,10 @@ exact_alone None = None
 exact_alone (Some (AtLeast n)) = None
 exact_alone (Some (Exactly columns rows)) = Some (Exactly columns rows)
 
+-- the tiles of a poster: these columns and rows, or as many as its scale needs, and at least one (RULES, 14.3)
+abbrev pub tiles_named : List ℕ → Option Cells
+tiles_named text = if bytes_eq text (codes "auto") then Some (AtLeast 1) else exact_alone (cells_named text)
+
 -- this number of pages, if a sheet takes as many cells again beside them, for notes; a number alone is one of pages
 abbrev pub with_notes : ℕ → Option Cells
 with_notes n = if is_count (2 * n) then Some (AtLeast n) else None

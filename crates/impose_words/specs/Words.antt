@@ -7,7 +7,7 @@ use Rattle.clap.specs.Words.{Row, Text, fault_of, first_of, subcommand_of}
 use Rattle.rules.specs.Papers.{Paper}
 use Rattle.command_words.specs.Matches.{has_true}
 use Rattle.layouts.specs.declared.arrangement.Cells.{Cells}
-use Rattle.layouts.specs.declared.arrangement.Cells.TheVariants.{AtLeast, Exactly}
+use Rattle.layouts.specs.declared.arrangement.Cells.TheVariants.{AtLeast}
 use Rattle.layouts.specs.declared.arrangement.Order.{Order}
 use Rattle.layouts.specs.declared.arrangement.FillOrder.{FillOrder}
 use Rattle.layouts.specs.declared.arrangement.FillOrder.TheVariants.{Rows}
@@ -21,7 +21,7 @@ use Rattle.rows.specs.declared.choices.Part.{Part}
 use Rattle.rows.specs.declared.choices.Part.TheVariants.{All, Odd, Even}
 use Rattle.dressing.specs.declared.numbers.Numbering.{Numbering}
 use Rattle.dressing.specs.declared.strokes.Marks.{Marks}
-use Rattle.impose_words.specs.Arranging.{booklet_marks_named, cells_named, cut_marks_named, exact_alone, lines_alone, no_marks, noted_alone}
+use Rattle.impose_words.specs.Arranging.{booklet_marks_named, cells_named, cut_marks_named, lines_alone, no_marks, noted_alone, tiles_named}
 use Rattle.impose_words.specs.Arranging.{number_size_named, numbering, run_named, turn_named, turned_named, marks_and_numbers}
 use Rattle.impose_words.specs.Choices.{is_all_pages}
 use Rattle.layouts.specs.Grids.{cells_per_sheet, nothing_free}
@@ -127,14 +127,13 @@ command_name grid.Stack = codes "stack"
 command_name grid.Notes = codes "notes"
 command_name grid.Poster = codes "poster"
 
--- the cells that a text after such a command means; those of notes are a number of pages, and those of a poster are its sheets,
--- in so many columns and rows
+-- the cells that a text after such a command means; those of notes are a number of pages, and those of a poster are its sheets
 abbrev pub cells_of_command : CellCommand → Text → Option Cells
 cells_of_command grid.NUp text = cells_named text
 cells_of_command grid.Cards text = cells_named text
 cells_of_command grid.Stack text = cells_named text
 cells_of_command grid.Notes text = noted_alone (cells_named text)
-cells_of_command grid.Poster text = exact_alone (cells_named text)
+cells_of_command grid.Poster text = tiles_named text
 
 -- how many cells of the first sheet are used already, of so many: at least one is left
 abbrev pub skip_named : (cells : ℕ) → Text → Option ℕ
@@ -176,7 +175,7 @@ order_found found = order_by (run_found found) (has_flag (codes "rtl") found) (t
 abbrev pub lines_found : Layout → (found : List Row) → Option Marks
 lines_found (layout.Booklet signing long_edge) found = asked no_marks booklet_marks_named (given opt.BookletMarks found)
 lines_found (layout.Notes pages) found = Some lines_alone
-lines_found (layout.Poster columns rows) found = Some no_marks
+lines_found (layout.Poster cells) found = Some no_marks
 lines_found layout.Zine found = Some no_marks
 lines_found layout.Selection found = Some no_marks
 lines_found (layout.Spec specs) found = Some no_marks
@@ -199,7 +198,7 @@ first_found found = first_number (is_some (given opt.Numbers found)) (given opt.
 -- zines, posters, and what specifications place, have no numbers
 abbrev pub has_numbers : Layout → Bool
 has_numbers layout.Zine = false
-has_numbers (layout.Poster columns rows) = false
+has_numbers (layout.Poster cells) = false
 has_numbers (layout.Spec specs) = false
 has_numbers (layout.SpecRow specs signing) = false
 has_numbers other = true
@@ -262,8 +261,8 @@ AsksFor name found (layout.Cards cells) = (name ≡ codes "cards") × (cells_fou
 AsksFor name found (layout.Stack cells duplex) = (name ≡ codes "stack") × (cells_found grid.Stack found ≡ Some cells)
     × (has_flag (codes "duplex") found ≡ duplex)
 AsksFor name found (layout.Notes pages) = (name ≡ codes "notes") × (cells_found grid.Notes found ≡ Some (AtLeast pages))
-AsksFor name found (layout.Poster columns rows) = (name ≡ codes "poster")
-    × (cells_found grid.Poster found ≡ Some (Exactly columns rows))
+AsksFor name found (layout.Poster cells) = (name ≡ codes "poster")
+    × (cells_found grid.Poster found ≡ Some cells)
 AsksFor name found (layout.Booklet signing long_edge) = (name ≡ codes "booklet")
     × (option_map (λ sewn. unwrap_or sewn InOne) (signing_found found) ≡ Some signing)
     × (has_flag (codes "long-edge") found ≡ long_edge)

@@ -297,11 +297,16 @@ const NOTES: [Argument; 7] = [
     NUMBERS_FROM,
 ];
 
-const POSTER: [Argument; 3] = [
+const POSTER: [Argument; 4] = [
     Argument::Required(
         "count",
         "CxR",
-        "Columns and rows of sheets, such as 2x3, at most 1024 sheets in all",
+        "Columns and rows of sheets, such as 2x3, at most 1024 sheets in all; auto takes as few as hold the pages at their scale",
+    ),
+    Argument::Valued(
+        "scale",
+        "SCALE",
+        "The scale of the pages, such as 1 [default: as large as the sheets allow; with auto 1]",
     ),
     Argument::Valued(
         "overlap",

@@ -54,10 +54,14 @@ fn exactly(columns: u32, rows: u32) -> Option<Cells>
     }
 }
 
-/// The grid that the text names by its columns and rows. `None` if the text names only a number of cells, or no cells that a sheet can have.
-pub fn exact_cells(text: &str) -> Option<Cells>
-    ensures { result ≡ meaning.exact_alone (meaning.cells_named text.now) }
+/// The tiles of a poster that the text names: by their columns and rows, or `auto` for at least one tile. `None` for any other text, and for 0 or more
+/// than 1,024 tiles.
+pub fn tiles_named(text: &str) -> Option<Cells>
+    ensures { result ≡ meaning.tiles_named text.now }
 {
+    if text == "auto" {
+        return Some(Cells::AtLeast(1));
+    }
     match cells_named(text) {
         Some(Cells::AtLeast(_)) => None,
         cells => cells,

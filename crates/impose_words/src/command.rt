@@ -19,8 +19,8 @@ ghost use Rattle.impose_words.specs.declared.fault.OptionId.TheVariants as opt;
 
 use crate::arguments::command;
 use crate::arranging::{
-    NO_MARKS, booklet_marks_named, cells_named, cut_marks_named, exact_cells, number_size_named,
-    parse_note_count, run_named, turn_named, turned_named,
+    NO_MARKS, booklet_marks_named, cells_named, cut_marks_named, number_size_named,
+    parse_note_count, run_named, tiles_named, turn_named, turned_named,
 };
 use crate::edges::{Margins, gaps_named, margins_named};
 use crate::fault::{CellCommand, OptionId, ProductOption, RequestFault};
@@ -282,20 +282,20 @@ fn cells_layout(
             duplex: is_set(found, "duplex"),
         },
         (CellCommand::Notes, Cells::AtLeast(pages)) => Layout::Notes { pages },
-        (CellCommand::Poster, Cells::Exactly { columns, rows }) => Layout::Poster { columns, rows },
+        (CellCommand::Poster, cells) => Layout::Poster(cells),
         (CellCommand::Notes, Cells::Exactly { .. }) => unreachable!(),
-        (CellCommand::Poster, Cells::AtLeast(_)) => unreachable!(),
     })
 }
 
-/// The cells that the text after a command names. For notes the text is a number of pages, and for a poster it is the columns and rows of sheets.
+/// The cells that the text after a command names. For notes the text is a number of pages. For a poster it is the columns and rows of sheets, or
+/// `auto`.
 /// `None` if the text names no cells that a sheet can have.
 fn cells_in(command: CellCommand, text: &str) -> Option<Cells>
     ensures { result ≡ cells_of_command command text.now }
 {
     match command {
         CellCommand::Notes => parse_note_count(text),
-        CellCommand::Poster => exact_cells(text),
+        CellCommand::Poster => tiles_named(text),
         CellCommand::NUp | CellCommand::Cards | CellCommand::Stack => cells_named(text),
     }
 }

@@ -89,7 +89,7 @@ fn is_cut_outside(layout: &Layout) -> bool
         Layout::NUp(cells) | Layout::Cards(cells) => cells.count() == 1,
         Layout::Stack { cells, .. } => cells.count() == 1,
         Layout::Booklet { .. } => true,
-        Layout::Notes { .. } | Layout::Poster { .. } | Layout::Zine | Layout::Selection => false,
+        Layout::Notes { .. } | Layout::Poster(_) | Layout::Zine | Layout::Selection => false,
         Layout::Spec(_) | Layout::SpecRow { .. } => false,
     }
 }

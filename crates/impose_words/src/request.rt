@@ -31,11 +31,8 @@ pub enum Layout {
     Notes {
         pages: u32,
     },
-    /// Each page spread over a grid of sheets.
-    Poster {
-        columns: u32,
-        rows: u32,
-    },
+    /// Each page spread over this grid of sheets, or over the grid of the fewest sheets that hold the page at its scale.
+    Poster(Cells),
     /// Two pages on each side of a leaf. The leaves are folded and sewn in the signatures that `signing` gives. With `long_edge`, backs are turned
     /// for printers that flip on the long edge.
     Booklet {
@@ -64,7 +61,7 @@ impl Layout {
         match self {
             Layout::NUp(_) | Layout::Cards(_) | Layout::Stack { .. } | Layout::Booklet { .. } =>
                 true,
-            Layout::Notes { .. } | Layout::Poster { .. } | Layout::Zine => true,
+            Layout::Notes { .. } | Layout::Poster(_) | Layout::Zine => true,
             Layout::Selection | Layout::Spec(_) | Layout::SpecRow { .. } => false,
         }
     }
@@ -74,9 +71,7 @@ impl Layout {
         ensures { result ≡ has_numbers self.now }
     {
         match self {
-            Layout::Zine | Layout::Poster { .. } | Layout::Spec(_) | Layout::SpecRow { .. } => {
-                false
-            }
+            Layout::Zine | Layout::Poster(_) | Layout::Spec(_) | Layout::SpecRow { .. } => false,
             _ => true,
         }
     }

@@ -11,7 +11,7 @@ use Rattle.rules.specs.Made.{MadeSlot, Blank, Placed}
 use Rattle.row_sheets.specs.Filled.{Filling, stack_entry, duplex_entry, cell_behind, card_entry, zine_place, zine_slot}
 use Rattle.row_sheets.specs.Zine.{in_hand, zine_grid}
 use Rattle.row_sheets.specs.Creep.{creep_of}
-use Rattle.row_sheets.specs.Posters.{tiles_length}
+use Rattle.row_sheets.specs.Posters.{fewest_tiles, scaled_length, tiles_length}
 use Rattle.rules.specs.Papers.{points}
 use Rattle.rules.specs.Specification.{Turn, Half, Upright}
 use Rattle.std.specs.Prelude.{nat_abs}
@@ -54,6 +54,20 @@ one_leaf = refl
 -- three tiles of 595 pt with margins of 10 pt that overlap by 20 pt
 three_tiles : tiles_length (nat_abs (points 595 842).width) 1_000_000 2_000_000 3 ≡ 168_500_000
 three_tiles = refl
+
+-- a page of 1191 x 842 pt at full size on sheets of 595 x 842 pt, with margins of 10 pt and an overlap of 20 pt: two tiles are 1130 pt wide, and three
+-- 1685; one is 822 pt high. On sheets of its own paper without margins it needs one
+fewest_across : fewest_tiles (nat_abs (points 595 842).width) 1_000_000 2_000_000 (scaled_length (nat_abs (points 1191 842).width) (pos 1_000_000_000)) ≡ 3
+fewest_across = refl
+
+fewest_up : fewest_tiles (nat_abs (points 595 842).height) 1_000_000 2_000_000 (scaled_length (nat_abs (points 1191 842).height) (pos 1_000_000_000)) ≡ 2
+fewest_up = refl
+
+one_alone : fewest_tiles (nat_abs (points 595 842).width) 0 0 (scaled_length (nat_abs (points 595 842).width) (pos 1_000_000_000)) ≡ 1
+one_alone = refl
+
+too_many : fewest_tiles (nat_abs (points 595 842).width) 0 0 (scaled_length (nat_abs (points 595 842).width) (pos 2_000_000_000_000)) ≡ 1_025
+too_many = refl
 
 -- from the left, the upper row of a zine has the pages 5, 4, 3 and 2, the lower one 6, 7, 8 and 1
 zine : map (λ c. zine_place c + 1) (range_with_len 0 8) ≡ 5 ∷ 4 ∷ 3 ∷ 2 ∷ 6 ∷ 7 ∷ 8 ∷ 1 ∷ []

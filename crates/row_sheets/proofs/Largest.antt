@@ -1,17 +1,19 @@
 -- The page of a poster is as large as its tiles allow, and in their middle.
-use Rattle.std.proofs.Common.{arith, ◌≡◌, ℕ, suc, zero, ◌+◌, ◌-◌, ◌*◌, ◌<◌, ◌≤◌, inl, inr, sym, subst}
-use Rattle.std.specs.Prelude.{min, ℤ, pos, negsuc, nat_abs, IsTrue}
-use Rattle.std.proofs.Math.Nat.{lt-div-mul-add, min-le_left, min-le_right, mul-le-mul_left, mul-le-mul_right, suc-mul}
+use Rattle.std.proofs.Common.{arith, ◌≡◌, ℕ, suc, zero, ◌+◌, ◌-◌, ◌*◌, ◌<◌, ◌≤◌, inl, inr, ap, sym, subst, ◌∙◌}
+use Rattle.std.specs.Prelude.{min, Option, ℤ, pos, negsuc, nat_abs, IsTrue}
+use Rattle.std.proofs.Math.Nat.{lt-div-mul-add, mul-le-mul_left, mul-le-mul_right, suc-mul}
 use Rattle.std.proofs.lemmas.Bool.{cases_lt}
 use Rattle.std.proofs.lemmas.Int.{ints}
 use Rattle.rules.specs.Papers.{Paper, is_side}
 use Rattle.layouts.specs.Cells.{fitting, slack}
+use Rattle.layouts.specs.Grids.{scale_for}
 use Rattle.layouts.specs.Laws.{IsInMiddle, IsMean, IsPaper}
 use Rattle.layouts.proofs.AlongSide.{in_cell, in_middle, scaled_fits}
 use Rattle.layouts.proofs.Sides.{of_sides}
 use Rattle.layouts.proofs.InGrid.{both_true, sides_are}
 use Rattle.row_sheets.specs.declared.poster.Poster.{Poster}
 use Rattle.row_sheets.specs.Posters.{PosterIsInMiddle, PosterIsLarge, exact_length, tiles_length, poster_cell, poster_height, poster_scale, poster_width, stride, tile, tile_item}
+use Rattle.row_sheets.proofs.Tiles.{fits_height, fits_width}
 
 -- ---- as large as its tiles
 
@@ -77,6 +79,9 @@ some_side page is =
     above_zero (pos (suc n)) h = omega arith
     above_zero (negsuc n) h = absurd (cc (h))
 
+least_of_one : (n : ℕ) → min n n ≡ n
+least_of_one n = grind arith
+
 pub poster_is_large : PosterIsLarge
 poster_is_large page p is =
     let v = nat_abs page.width in
@@ -85,7 +90,11 @@ poster_is_large page p is =
     let b = fitting (poster_height p) u in
     let some = some_side page is in
     record {
-      fits = record { wide = scaled_fits (poster_width p) v (min a b) (min-le_left a b); high = scaled_fits (poster_height p) u (min a b) (min-le_right a b) };
+      fits = record {
+        wide = scaled_fits (poster_width p) v (poster_scale page p) (fits_width page p);
+        high = scaled_fits (poster_height p) u (poster_scale page p) (fits_height page p);
+      };
+      unasked = λ none. ap (λ (asked : Option ℤ). min (scale_for asked (min a b)) (min a b)) none ∙ least_of_one (min a b);
       largest = λ s h. both_least a b s (no_larger (poster_width p) v s some.0 h.wide) (no_larger (poster_height p) u s some.1 h.high);
       large = λ s tiny has h. both_below a b s p.columns p.rows
           (allowed (poster_width p) p.columns v s (exact_length (nat_abs p.sheet.width) p.edge p.overlap p.columns) has.some_columns tiny.wide h.wide
@@ -114,8 +123,8 @@ poster_is_in_middle page p is =
     middle : (v u : ℕ) → InMiddleIf p (of_sides v u)
     middle v u =
         let s = poster_scale (of_sides v u) p in
-        let across = along (poster_width p) p.edge v s (min-le_left (fitting (poster_width p) v) (fitting (poster_height p) u)) in
-        let up = along (poster_height p) p.edge u s (min-le_right (fitting (poster_width p) v) (fitting (poster_height p) u)) in
+        let across = along (poster_width p) p.edge v s (fits_width (of_sides v u) p) in
+        let up = along (poster_height p) p.edge u s (fits_height (of_sides v u) p) in
         let a0 = across.0 in let a1 = across.1 in let b0 = up.0 in let b1 = up.1 in
         record {
           across = (omega (arith, ints, a0), omega (arith, ints, a1));

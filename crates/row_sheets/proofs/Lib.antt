@@ -20,6 +20,7 @@ pub mod ZineCells
 mod Largest
 mod AtRest
 mod Tiles
+mod Fewest
 pub mod Shown
 mod OneScale
 mod Examples

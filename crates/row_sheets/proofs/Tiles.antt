@@ -1,6 +1,6 @@
 -- Tiles of a poster.
 use Rattle.std.proofs.Common.{arith, ◌≡◌, inl, inr, ℕ, suc, ◌+◌, ◌-◌, ◌*◌, ◌/◌, ◌<◌, ◌≤◌, sym, ap, subst}
-use Rattle.std.specs.Prelude.{ℤ, pos, negsuc, nat_abs}
+use Rattle.std.specs.Prelude.{ℤ, pos, negsuc, min, nat_abs}
 use Rattle.std.proofs.Math.Nat.{lt-div-mul-add, div-mul-le_self, suc-mul, mul-le-mul_left, mul-le-mul_right, min-le_left, min-le_right, mul_left_comm}
 use Rattle.std.proofs.lemmas.Bool.{cases_lt}
 use Rattle.std.proofs.lemmas.Int.{ints}
@@ -11,7 +11,7 @@ use Rattle.layouts.proofs.AlongSide.{scaled_fits, in_cell}
 use Rattle.layouts.proofs.Sides.{of_sides, point}
 use Rattle.layouts.proofs.InGrid.{sides_are}
 use Rattle.row_sheets.specs.declared.poster.Poster.{Poster}
-use Rattle.row_sheets.specs.Posters.{tile, stride, poster_width, poster_height, poster_scale, begins_at, tile_item, IsShown, HasTiles, PosterCovers, TilesOverlap}
+use Rattle.row_sheets.specs.Posters.{tile, stride, asked_scale, poster_width, poster_height, poster_scale, begins_at, tile_item, IsShown, HasTiles, PosterCovers, TilesOverlap}
 
 -- ---- a point along a side
 
@@ -40,6 +40,19 @@ along : (length side s a : ℕ) → s ≤ fitting length side → a ≤ side →
 along length side s a fits in_page =
     omega (arith, in_cell length side s (scaled_fits length side s fits), mul-le-mul_left s in_page)
 
+-- the page fits the tiles at its scale, along both sides
+pub fits_width : (page : Paper) (p : Poster) → poster_scale page p ≤ fitting (poster_width p) (nat_abs page.width)
+fits_width page p =
+    let a = fitting (poster_width p) (nat_abs page.width) in
+    let b = fitting (poster_height p) (nat_abs page.height) in
+    omega (arith, min-le_right (asked_scale page p) (min a b), min-le_left a b)
+
+pub fits_height : (page : Paper) (p : Poster) → poster_scale page p ≤ fitting (poster_height p) (nat_abs page.height)
+fits_height page p =
+    let a = fitting (poster_width p) (nat_abs page.width) in
+    let b = fitting (poster_height p) (nat_abs page.height) in
+    omega (arith, min-le_right (asked_scale page p) (min a b), min-le_right a b)
+
 covers_at : (v u : ℕ) (p : Poster) (a b : ℤ) → HasTiles p → IsOfPage 0 (of_sides v u) (point a b)
     → (column row : ℕ) × (column < p.columns) × (row < p.rows) × IsShown p (stands (of_sides v u) (tile_item (of_sides v u) p column row) (point a b))
 covers_at v u p (pos a) (pos b) has of =
@@ -49,8 +62,8 @@ covers_at v u p (pos a) (pos b) has of =
     let h = nat_abs p.sheet.height in
     let in_width : a ≤ v = let f = of.right in omega (arith, ints) in
     let in_height : b ≤ u = let f = of.top in omega (arith, ints) in
-    let across = along (poster_width p) v s a (min-le_left (fitting (poster_width p) v) (fitting (poster_height p) u)) in_width in
-    let up = along (poster_height p) u s b (min-le_right (fitting (poster_width p) v) (fitting (poster_height p) u)) in_height in
+    let across = along (poster_width p) v s a (fits_width page p) in_width in
+    let up = along (poster_height p) u s b (fits_height page p) in_height in
     let wide = has.wide in let high = has.high in
     let column = on_tile (1_270_000_000_000_000 * begins_at (poster_width p) v s + s * a) (stride w p.edge p.overlap) (tile w p.edge) p.columns (omega (arith, wide)) (omega arith) has.some_columns across in
     let row = on_tile (1_270_000_000_000_000 * begins_at (poster_height p) u s + s * b) (stride h p.edge p.overlap) (tile h p.edge) p.rows (omega (arith, high)) (omega arith) has.some_rows up in

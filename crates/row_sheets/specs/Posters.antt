@@ -1,12 +1,13 @@
 -- Posters: one page over several sheets, which are its tiles. All here is this project's own rules.
 use Rattle.std.specs.Prelude.{◌≡◌, ◌⊎◌, ⊤, ℕ, ◌+◌, ◌-◌, ◌*◌, ◌/◌, ◌%◌, ◌<◌, min, pos, ◌+ℤ◌, ◌-ℤ◌, ◌≤ℤ◌, ◌≤◌, nat_abs, nat_le, nat_lt, ◌&&◌}
-use Rattle.std.specs.Prelude.{false, if◌then◌else◌, List, [], ◌∷◌, length, map, flat_map, slice_get, slice_index_or, Option, Some, None}
+use Rattle.std.specs.Prelude.{false, if◌then◌else◌, List, [], ◌∷◌, length, map, flat_map, slice_get, slice_index_or, Option, Some, None, ℤ, unwrap_or}
 use Rattle.std.specs.List.{range_with_len}
 use Rattle.rules.specs.Papers.{Paper}
 use Rattle.rules.specs.Specification.{Item, Upright}
 use Rattle.rules.specs.Placement.{Point}
 use Rattle.layouts.specs.Placed.{fine, stands, IsOfPage}
 use Rattle.layouts.specs.Cells.{fitting, slack, in_points, whole_parts}
+use Rattle.layouts.specs.Grids.{above_zero, scale_for}
 use Rattle.layouts.specs.Refusals.{is_paper_reached, is_scale_in_range, most_on_sheet}
 use Rattle.layouts.specs.Laws.{Cell, IsInMiddle, IsPaper}
 use Rattle.rules.specs.Signatures.{entry_of}
@@ -37,9 +38,17 @@ abbrev pub poster_height : Poster → ℕ
 poster_height p = tiles_length (nat_abs p.sheet.height) p.edge p.overlap p.rows
 
 -- the largest scale with which the page fits its tiles, in 10^-9
-abbrev pub poster_scale : (page : Paper) → Poster → ℕ
-poster_scale page p =
+abbrev pub largest_scale : (page : Paper) → Poster → ℕ
+largest_scale page p =
     min (fitting (poster_width p) (nat_abs page.width)) (fitting (poster_height p) (nat_abs page.height))
+
+-- the scale that is asked for, and the largest one without a request
+abbrev pub asked_scale : (page : Paper) → Poster → ℕ
+asked_scale page p = scale_for p.scale (largest_scale page p)
+
+-- the scale of the page: the one that is asked for, unless the page is too large for its tiles at that scale; then it is refused
+abbrev pub poster_scale : (page : Paper) → Poster → ℕ
+poster_scale page p = min (asked_scale page p) (largest_scale page p)
 
 -- where the page begins on the poster: it is in its middle
 abbrev pub begins_at : (length side scale : ℕ) → ℕ
@@ -76,11 +85,34 @@ why_no_poster page p =
     then (if is_paper_reached p.sheet
     then (if nat_lt p.overlap (tile (nat_abs p.sheet.width) p.edge) && nat_lt p.overlap (tile (nat_abs p.sheet.height) p.edge)
     then (if nat_lt (poster_width p) 10_000_000_000 && nat_lt (poster_height p) 10_000_000_000
-    then (if is_scale_in_range (poster_scale page p) then None else Some why.ScaleOutOfRange)
+    then (if is_scale_in_range (asked_scale page p)
+    then (if nat_le (asked_scale page p) (largest_scale page p) then None else Some why.ScaleTooLarge)
+    else Some why.ScaleOutOfRange)
     else Some why.SideTooLong)
     else Some why.NothingButOverlap)
     else Some why.SideTooLong)
     else Some why.TilesOutOfRange
+
+-- how long a side of a page is at this scale, in 10^-5 of a point
+abbrev pub scaled_length : (side : ℕ) → (scale : ℤ) → ℕ
+scaled_length side scale = (above_zero scale * side + 1_269_999_999_999_999) / 1_270_000_000_000_000
+
+-- the fewest tiles that are so long together. More than a poster may have count as one more than that (RULES, 14.3)
+abbrev pub fewest_tiles : (side edge overlap needed : ℕ) → ℕ
+fewest_tiles side edge overlap needed =
+    min ((needed - tile side edge + (stride side edge overlap - 1)) / stride side edge overlap) most_tiles + 1
+
+-- the scale that a poster on the fewest sheets has: the one that is asked for, and else 1
+abbrev pub scale_or_one : Poster → ℤ
+scale_or_one p = unwrap_or p.scale (pos 1_000_000_000)
+
+-- the poster with the fewest columns and the fewest rows that hold the page at its scale
+abbrev pub on_fewest : (page : Paper) → Poster → Poster
+on_fewest page p = record p {
+  columns = fewest_tiles (nat_abs p.sheet.width) p.edge p.overlap (scaled_length (nat_abs page.width) (scale_or_one p));
+  rows = fewest_tiles (nat_abs p.sheet.height) p.edge p.overlap (scaled_length (nat_abs page.height) (scale_or_one p));
+  scale = Some (scale_or_one p);
+}
 
 -- the error is that one; want of memory only if there is none
 abbrev pub IsNoPoster : Option PosterError → PosterError → Type 0
@@ -239,16 +271,35 @@ pub record IsNoTinyPage (page : Paper) : Type 0 where
   pub wide : 1_397_000_000_000 ≤ nat_abs page.width
   pub high : 1_397_000_000_000 ≤ nat_abs page.height
 
--- the page of a poster fits its tiles, and at no larger scale. If nothing is rounded they allow no scale that is larger by 10^-6
--- for each column and row
+-- the page of a poster fits its tiles. It has their largest scale if no other is asked for, and fits them at no larger one. If nothing is
+-- rounded they allow no scale that is larger by 10^-6 for each column and row
 pub record IsLarge (page : Paper) (p : Poster) : Type 0 where
   pub fits : FitsTiles page p (poster_scale page p)
-  pub largest : (scale : ℕ) → FitsTiles page p scale → scale ≤ poster_scale page p
-  pub large : (scale : ℕ) → IsNoTinyPage page → HasTiles p → AllowTiles page p scale → scale < poster_scale page p + 1_000 * (p.columns + p.rows)
+  pub unasked : p.scale ≡ None → poster_scale page p ≡ largest_scale page p
+  pub largest : (scale : ℕ) → FitsTiles page p scale → scale ≤ largest_scale page p
+  pub large : (scale : ℕ) → IsNoTinyPage page → HasTiles p → AllowTiles page p scale → scale < largest_scale page p + 1_000 * (p.columns + p.rows)
 
 -- the page of a poster is as large as its tiles allow, as by `impose poster 2x2 --overlap 1cm`: a law
 abbrev pub PosterIsLarge : Type 0
 PosterIsLarge = (page : Paper) (p : Poster) → IsPaper page → IsLarge page p
+
+-- a page of a poster that isn't refused has the scale that is asked for, on each tile: a law
+abbrev pub PosterHasScale : Type 0
+PosterHasScale = (page : Paper) (p : Poster) (scale : ℤ) (column row : ℕ) → p.scale ≡ Some scale → why_no_poster page p ≡ None
+    → (tile_item page p column row).scale ≡ scale
+
+-- these columns and rows hold the page at this scale, and no fewer columns and no fewer rows do
+pub record HoldsOnFewest (page : Paper) (p : Poster) (scale : ℕ) : Type 0 where
+  pub fits : p.columns ≤ most_tiles → p.rows ≤ most_tiles → FitsTiles page p scale
+  pub columns : (fewer : ℕ) → 0 < fewer → fewer < p.columns
+      → 1_270_000_000_000_000 * tiles_length (nat_abs p.sheet.width) p.edge p.overlap fewer < scale * nat_abs page.width
+  pub rows : (fewer : ℕ) → 0 < fewer → fewer < p.rows
+      → 1_270_000_000_000_000 * tiles_length (nat_abs p.sheet.height) p.edge p.overlap fewer < scale * nat_abs page.height
+
+-- the grid that is found for a scale has the fewest columns and rows that hold the page: a law
+abbrev pub FewestHold : Type 0
+FewestHold = (page : Paper) (p : Poster) → HasTiles (on_fewest page p)
+    → HoldsOnFewest page (on_fewest page p) (above_zero (scale_or_one p))
 
 -- all tiles together as one cell, measured from the corner of the lower left sheet
 abbrev pub poster_cell : Poster → Cell

@@ -9,7 +9,7 @@ ghost use Rattle.row_sheets.specs.Creep.{CreepMoves, CreepGrows, CreepKeepsSides
 ghost use Rattle.row_sheets.specs.Halves.{BookletKeepsGap, BookletLiesInHalves};
 ghost use Rattle.row_sheets.specs.Bound.{BookletIsRead};
 ghost use Rattle.row_sheets.specs.Stacked.{CardsAreRead, CellsLieBehind, GridIsRead, LeavesAreRead, StackIsRead};
-ghost use Rattle.row_sheets.specs.Posters.{PosterCovers, PosterHasTiles, PosterIsInMiddle, PosterIsLarge, RowIsShown, TilesOverlap};
+ghost use Rattle.row_sheets.specs.Posters.{FewestHold, PosterCovers, PosterHasScale, PosterHasTiles, PosterIsInMiddle, PosterIsLarge, RowIsShown, TilesOverlap};
 ghost use Rattle.row_sheets.specs.SameScale.{HaveOneScale, OneScaleStands};
 ghost use Rattle.row_sheets.specs.Standing.{FilledStandsInCells};
 ghost use Rattle.row_sheets.specs.Zine.{ZineIsRead, ZineLiesInCells};
@@ -142,10 +142,20 @@ pub fn tiles_overlap()
     ensures { TilesOverlap }
 {}
 
-/// The page of a poster is as large as the tiles allow. A scale that is larger by 10^-6 for each column and each row of tiles would be too large,
-/// unless a side of the page is under 11 points.
+/// The page of a poster without a requested scale is as large as the tiles allow. A scale that is larger by 10^-6 for each column and each row of
+/// tiles would be too large, unless a side of the page is under 11 points.
 pub fn poster_is_large()
     ensures { PosterIsLarge }
+{}
+
+/// The page of a poster with a requested scale has this scale on each of its tiles.
+pub fn poster_has_scale()
+    ensures { PosterHasScale }
+{}
+
+/// The grid that is found for a scale holds the page at this scale. A grid with fewer columns or fewer rows doesn't.
+pub fn fewest_hold()
+    ensures { FewestHold }
 {}
 
 /// The middle of a poster's page is the middle of all its tiles together, to 10^-5 of a point.

@@ -2,15 +2,17 @@
 ghost use Rattle.std.specs.Prelude.{◌≡◌, ◌++◌, ◌+◌, ◌-◌, ◌*◌, ◌<◌, ◌≤◌, IfOk, IfErr, OnOk, Some, None};
 ghost use Rattle.pagespec.specs.Items.{item_of};
 ghost use Rattle.rules.specs.Numbers.{greatest_number};
+ghost use Rattle.layouts.specs.Grids.{above_zero, scale_for};
 ghost use Rattle.layouts.specs.Laws.{IsPaper};
 ghost use Rattle.row_sheets.specs.Posters.{tile as tile_of, poster_sheets as sheets_of};
 ghost use Rattle.row_sheets.specs.Posters.{most_tiles, why_no_poster, IsNoPoster, MayBePoster, laid_of, laid_item, IsNear};
+ghost use Rattle.row_sheets.specs.Posters.{fewest_tiles, on_fewest, scaled_length};
 
 use layouts::{
     HUNDRED_THOUSANDTH, MOST_ON_SHEET, distance, extent, fits_offsets, is_scale, largest_scale,
     scale_e9, slack,
 };
-use lengths::Paper;
+use lengths::{Number, Paper};
 use pagespec::{Item, Turn};
 use sheet_plan::{MadeSheets, MadeSlot};
 use std::alloc::Global;
@@ -26,6 +28,68 @@ pub struct Poster {
     pub edge: u64,
     /// The overlap of neighbouring sheets, in 10^-5 of a point.
     pub overlap: u64,
+    /// The scale of the page. `None` for a page as large as the sheets allow.
+    pub scale: Option<Number>,
+}
+
+impl Poster {
+    /// This poster with the fewest columns and the fewest rows that hold a page of this paper at the poster's scale, or at its full size without a
+    /// scale. More than 1,024 columns or rows count as 1,025.
+    pub fn on_fewest_sheets(self, page_paper: &Paper) -> Poster
+        ensures { result ≡ on_fewest page_paper.now self }
+    {
+        let scale = self.scale.unwrap_or(Number::ONE);
+        let (width, height) = (extent(self.sheet.width()), extent(self.sheet.height()));
+        Poster {
+            columns: self.fewest_along(width, scaled_side(extent(page_paper.width()), scale)),
+            rows: self.fewest_along(height, scaled_side(extent(page_paper.height()), scale)),
+            scale: Some(scale),
+            ..self
+        }
+    }
+
+    /// The fewest tiles that are at least `needed` long together, along sides of sheets that are `side` grains long. More than 1,024 count as 1,025.
+    fn fewest_along(&self, side: u64, needed: u128) -> u32
+        ensures { result ≡ fewest_tiles side self.now.edge self.now.overlap needed }
+    {
+        let tile = tile(side, self.edge);
+        let stride = tile.saturating_sub(self.overlap);
+        let Some(last) = stride.checked_sub(1) else {
+            return 1;
+        };
+        let further = (needed.saturating_sub(u128::from(tile)) + u128::from(last))
+            / u128::from(stride);
+        further.min(u128::from(MOST_ON_SHEET)) as u32 + 1
+    }
+}
+
+/// The length of a side of a page at this scale, rounded up to 10^-5 of a point; 0 for a negative scale. `side` is in grains.
+fn scaled_side(side: u64, scale: Number) -> u128
+    ensures { result ≡ scaled_length side scale }
+{
+    (positive(scale) * u128::from(side) + 1_269_999_999_999_999) / 1_270_000_000_000_000
+}
+
+/// The number in 10^-9, or 0 if it is negative.
+fn positive(number: Number) -> u128
+    ensures { result ≡ above_zero number }
+{
+    let billionths = number.billionths();
+    if billionths < 0 {
+        0
+    } else {
+        billionths as u128
+    }
+}
+
+/// The requested scale, in 10^-9, or the largest one if none is requested.
+fn scale_asked(asked: Option<Number>, largest: u128) -> u128
+    ensures { result ≡ scale_for asked largest }
+{
+    match asked {
+        None => largest,
+        Some(scale) => positive(scale),
+    }
 }
 
 /// The reason why a poster can't be made.
@@ -43,6 +107,9 @@ pub enum PosterError {
     /// The scale of the page would be 0, or above 99,999.
     #[error("the page would be too small or too large: its scale must be from 0.000000001 to 99999")]
     ScaleOutOfRange,
+    /// The page doesn't fit the sheets at the requested scale.
+    #[error("the page is larger than the sheets at this scale")]
+    ScaleTooLarge,
     /// There was not enough memory.
     #[error("out of memory")]
     NoMemory,
@@ -71,8 +138,8 @@ pub fn check_poster(poster: &Poster, page_paper: &Paper) -> Result<(), PosterErr
     Ok(())
 }
 
-/// The sheets of a poster of one page, row by row from the top, each row from the left. The page is as large as the sheets allow, and lies in the
-/// middle of all sheets together. Fails with the error of `check_poster`, or with `NoMemory`.
+/// The sheets of a poster of one page, row by row from the top, each row from the left. The page has the poster's scale, or is as large as the sheets
+/// allow. It lies in the middle of all sheets together.
 pub fn poster_sheets(
     alloc: Global,
     poster: &Poster,
@@ -147,10 +214,14 @@ fn laid_on(poster: &Poster, page_paper: &Paper) -> Result<PosterFit, PosterError
     let (page_width, page_height) = (extent(page_paper.width()), extent(page_paper.height()));
     let scale_across = largest_scale(whole_width, page_width);
     let largest = scale_across.min(largest_scale(whole_height, page_height));
-    if !is_scale(largest) {
+    let asked = scale_asked(poster.scale, largest);
+    if !is_scale(asked) {
         return Err(PosterError::ScaleOutOfRange);
     }
-    let scale = largest as u64;
+    if largest < asked {
+        return Err(PosterError::ScaleTooLarge);
+    }
+    let scale = asked as u64;
     Ok(PosterFit {
         scale,
         left: poster.edge + slack(whole_width, page_width, scale) as u64,

@@ -130,8 +130,8 @@ pub(crate) const FOR_BOOKLETS: [Tip; 4] = [
 /// Tips on options that `poster` doesn't have, or has under another name than other programs.
 pub(crate) const FOR_POSTERS: [Tip; 2] = [
     (
-        &["--scale", "--size", "--poster-size"],
-        "the size of a poster follows from its sheets: give other columns and rows, as in: impose poster 3x3 in.ps out.ps",
+        &["--size", "--poster-size"],
+        "the size of a poster follows from its sheets, as in: impose poster 3x3 in.ps out.ps; or from its scale, as in: impose poster auto --scale 2 in.ps out.ps",
     ),
     (
         &["--gap", "--spacing"],
@@ -187,7 +187,7 @@ pub(crate) const OF_COMMANDS: [Tip; 17] = [
     ),
     (
         &["--scale"],
-        "nup, booklet, cards and stack have a scale, as in: impose nup 2 --scale 0.7 in.ps out.ps",
+        "nup, booklet, cards, stack and poster have a scale, as in: impose nup 2 --scale 0.7 in.ps out.ps",
     ),
     (
         &["--skip"],

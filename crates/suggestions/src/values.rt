@@ -465,7 +465,7 @@ fn command_named(command: CellCommand) -> (&'static str, &'static str, &'static 
         CellCommand::Stack => ("stack", "stack 2"),
         CellCommand::Notes => ("notes", "notes 3"),
         CellCommand::Poster => {
-            let missing = "columns and rows of sheets are";
+            let missing = "columns and rows of sheets, or auto, are";
             return ("poster", "poster 2x2", missing, "': they come after ");
         }
     };
@@ -484,7 +484,7 @@ fn bad_cells(command: CellCommand, is_grid: bool) -> (&'static str, &'static str
         CellCommand::Notes => ("bad number of pages", "one from 1 to 512, as 3"),
         CellCommand::Poster => (
             "bad grid",
-            "columns and rows of sheets as 2x3, at most 1024 in all",
+            "columns and rows of sheets as 2x3, at most 1024 in all, or auto",
         ),
         CellCommand::NUp | CellCommand::Cards | CellCommand::Stack if is_grid => (
             "bad grid",

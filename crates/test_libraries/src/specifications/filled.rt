@@ -108,6 +108,7 @@ fn two_tiles() -> Poster
         rows: 1,
         edge: 1_000_000,
         overlap: 2_000_000,
+        scale: None,
     }
 }
 
