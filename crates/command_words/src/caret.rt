@@ -2,10 +2,10 @@
 use crate::shell::is_hidden;
 use std::alloc::{AllocError, Global};
 
-/// The number of bytes of a text that are shown before the place of a fault.
+/// The greatest number of bytes of a text that are shown before the place of a fault.
 const SHOWN_BEFORE: usize = 50;
 
-/// The number of bytes of a text that are shown from the place of a fault onwards.
+/// The greatest number of bytes of a text that are shown from the place of a fault onwards.
 const SHOWN_BEHIND: usize = 20;
 
 /// Two lines, each after a line end: the text around this place, and a caret below the place. An end at which the text is cut off is shown as two
@@ -38,7 +38,7 @@ pub fn caret_below(alloc: Global, text: &str, place: usize) -> Result<String, Al
 }
 
 /// The place of a fault in the range that begins at byte `start` of this text. The place is the end of the longest prefix of the range with which a
-/// valid range begins.
+/// valid range begins, or `start` if the text can't be split there.
 pub fn range_place(text: &str, start: usize) -> usize {
     let Some((_, range)) = text.split_at_checked(start) else {
         return start;

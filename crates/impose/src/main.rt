@@ -59,7 +59,7 @@ fn said<W: World>(
     (text, ended.status())
 }
 
-/// The words of the command line; the first is the program's name.
+/// The words of the command line; the first is the program's name. The error is `NoMemory` if memory is refused, otherwise `NoText`.
 fn own_words(rt: &(impl Env + AllocGlobal)) -> Result<Vec<String>, RequestFault> {
     match env::args(rt) {
         Ok(args) => Ok(args.collect(rt.alloc())?),

@@ -12,9 +12,9 @@ use lengths::Paper;
 use papers::{Comment, document_paper, first_comment, first_name, is_at_end};
 use row_runs::declared_page_count;
 
-/// Facts that a document states in its comments, for the messages about the document. They are the number of its pages, its paper's name if no paper
-/// of this name is known, and its creator. The name is left out if the command line names a paper for the pages. The creator is given only if its
-/// pages depend on the text before them. No memory is allocated.
+/// Facts that a document states in its comments, for the messages about the document. They are the number of pages that it declares, its paper's name
+/// if no paper of this name is known, and its creator. The name is left out if the command line names a paper for the pages. The creator is given
+/// only if its pages depend on the text before them. No memory is allocated.
 pub(crate) fn claims_of(request: &ImposeRequest, input: &[u8]) -> Claims
     ensures { meaning.IsToldBy request.now input.now result }
 {
@@ -28,7 +28,7 @@ pub(crate) fn claims_of(request: &ImposeRequest, input: &[u8]) -> Claims
     }
 }
 
-/// The name, as messages show it.
+/// The name, as messages show it, if there is a name.
 fn shown(name: Option<&[u8]>) -> Option<ShownName>
     ensures { result ≡ option_map shown_name (option_map (λ n. n.now) name.entry) }
 {
@@ -111,7 +111,7 @@ fn header_value<'t>(input: &'t [u8], key: &[u8], with_colon: &[u8]) -> Option<&'
     value_in(header, key, with_colon)
 }
 
-/// The value of the first comment with this key in these lines.
+/// The value of the first comment with this key in these lines. `None` if there is no such comment.
 fn value_in<'t>(lines: &'t [u8], key: &[u8], with_colon: &[u8]) -> Option<&'t [u8]>
     requires { with_colon.now ≡ key.now ++ colon ∷ [] }
     ensures { option_map (λ value. value.now) result ≡ comment_value key.now (contents lines.now) }

@@ -23,7 +23,7 @@ pub fn check_request(alloc: Global, request: &ImposeRequest) -> Result<(), Impos
     check_ranges(alloc, &request.choice)
 }
 
-/// The fault of the options, if they have one.
+/// The fault of a drawing whose name is that of the input, or else of an option without effect. `None` if there is neither.
 fn option_fault(request: &ImposeRequest) -> Option<ImposeFault>
     ensures { result ≡ meaning.option_fault request.now }
 {

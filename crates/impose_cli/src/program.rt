@@ -251,7 +251,8 @@ fn roomy_document(bytes: Vec<u8>) -> RoomyText
     RoomyText::with_headroom(start, bytes)
 }
 
-/// Prints the specification, with a command line of pstops that places pages in the same way, to standard output.
+/// Prints the specification, with a command line of pstops that places pages in the same way, to standard output. If the request is refused, no
+/// output is created.
 fn print_input<W: World>(
     alloc: Global,
     request: &ImposeRequest,
@@ -273,7 +274,8 @@ fn print_input<W: World>(
     create_with_text(None, lines.as_slice(), Done::Printed, world)
 }
 
-/// Writes the list or drawing of the sheets to the file of this name, or to standard output if there is no name.
+/// Writes the list or drawing of the sheets to the file of this name, or to standard output if there is no name. If the request is refused, no output
+/// is created.
 fn show_input<W: World>(
     alloc: Global,
     request: &ImposeRequest,

@@ -93,7 +93,8 @@ fn reach_on_row(
     }))
 }
 
-/// The pages of the request's row that reach beyond this paper, by which all pages are placed. They include pages that the paper cuts.
+/// The pages of the request's row that reach beyond this paper, by which all pages are placed. They include pages that the paper cuts. `None` if
+/// there are no such pages, or if the choice gives no row.
 pub(crate) fn reach_over(
     alloc: Global,
     request: &ImposeRequest,

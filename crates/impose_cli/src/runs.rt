@@ -190,7 +190,8 @@ fn impose_by_spec<R: Threads + Wait + Sync, W: World>(
     write_job(rt, alloc, &job, name, world)
 }
 
-/// Checks the border, reads the specification, and makes the document from its text and its parts.
+/// Checks the border, reads the specification, and makes the document from the task's text and from `parts`. The error is that of the first of the
+/// three that is refused.
 fn read_task<'t>(
     alloc: Global,
     task: &'t Task,
@@ -225,7 +226,7 @@ struct About {
     told: Claims,
 }
 
-/// The outcome of a run. If the run finished, the facts in `about` are added to its report.
+/// The outcome of a run. If the run finished, the facts in `about` are added to its report. A fault stays as it is.
 fn reported(outcome: Result<Report, ImposeFault>, about: About) -> Result<Done, ImposeFault>
     ensures { result ≡ reported_by about outcome }
 {
@@ -250,7 +251,8 @@ fn reported(outcome: Result<Report, ImposeFault>, about: About) -> Result<Done, 
 const WRITTEN_AT_ONCE: usize = 16_384;
 
 /// Writes the sheets of a job to the file of this name, or to standard output if there is no name. The output is created when the first byte is to be
-/// written. The job has been checked, so it isn't refused here: only memory, the output's creation or a write can fail.
+/// written, or at the end if there are no bytes. The job has been checked, so it isn't refused here: only memory, the output's creation or a write
+/// can fail.
 fn write_job<R: Threads + Wait + Sync, W: World>(
     rt: &R,
     alloc: Global,

@@ -28,7 +28,7 @@ pub(crate) fn row_of_choice(
     }
 }
 
-/// The number of different pages in the row that a choice gives, for a document of `pages` pages.
+/// The number of different pages in the row that a choice gives, for a document of `pages` pages. It is 0 if the choice gives no row.
 pub(crate) fn pages_of_choice(
     alloc: Global,
     pages: u32,

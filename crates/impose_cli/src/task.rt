@@ -60,7 +60,7 @@ pub struct CountedPages {
     pub behind: usize,
     /// The number of pages that are imposed. A page that is imposed several times counts once.
     pub taken: u32,
-    /// The pages that reach beyond the paper by which they are placed.
+    /// The pages that reach beyond the paper by which they are placed. `None` if no page does.
     pub reach: Option<Reach>,
 }
 
@@ -103,8 +103,8 @@ fn check_spec(alloc: Global, specs: &str) -> Result<(), ImposeFault>
     }
 }
 
-/// Whether a specification can express the request, apart from its layout. The request must not choose or turn pages, skip cells, keep the last page
-/// at the back, or draw marks or numbers. Nor may it ask for one scale or exchange margins on backs.
+/// Whether a specification can express the request, apart from its layout and creep. The request must not choose or turn pages, skip cells, keep the
+/// last page at the back, or draw marks or numbers. Nor may it ask for one scale or exchange margins on backs.
 fn is_said(request: &ImposeRequest) -> bool
     ensures { result ≡ says request.now }
 {
@@ -128,7 +128,7 @@ fn is_said(request: &ImposeRequest) -> bool
 ///
 /// `SeveralPapers` for `nup` and `booklet`, if the pages don't all have the same paper.
 ///
-/// `NoSpecification` for a layout that no specification can express, or a fault of the layout.
+/// `NoSpecification` for a layout that no specification can express and for a booklet with creep, or a fault of the layout.
 pub fn task_for(
     alloc: Global,
     request: &ImposeRequest,
@@ -315,7 +315,7 @@ fn creeps(spacing: &Spacing) -> bool
     spacing.creep.get() != 0
 }
 
-/// The text of the specification that the request names, with this number of sides of a signature.
+/// The text of the specification that the request names, with this number of sides of a signature. The only error is refused memory.
 fn named_placing(alloc: Global, specs: &str, sides: Option<u32>) -> Result<PlacedItem, ImposeFault>
     ensures text { IfOk result (λ placed. string_bytes placed.0 ≡ specs.now) }
     ensures sides { IfOk result (λ placed. placed.1 ≡ sides) }
@@ -363,7 +363,7 @@ fn booklet_placing(
     }
 }
 
-/// The text of a specification, with this number of sides of a signature.
+/// The text of a specification, with this number of sides of a signature. The only error is refused memory.
 fn written(alloc: Global, spec: &Spec, sides: Option<u32>) -> Result<PlacedItem, ImposeFault>
     ensures text { IfOk result (λ placed. IsWritten spec.now (string_bytes placed.0)) }
     ensures sides { IfOk result (λ placed. placed.1 ≡ sides) }

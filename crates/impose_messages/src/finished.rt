@@ -9,7 +9,7 @@ use papers::{Comment, Cut, Reach};
 pub enum PaperOrigin {
     /// The command line names the paper.
     Named,
-    /// This comment of the document's header names the paper.
+    /// The document gives the paper, in this comment of its header or in its setup.
     ByComment(Comment),
     /// Neither the command line nor the document names a paper, so the pages have the user's default paper.
     ByDefault,
@@ -49,7 +49,7 @@ pub struct Finished {
     pub origin: PaperOrigin,
     /// The pages that `--paper` cuts. If a specification places the pages, this is `None`, and `reach` includes the cut pages.
     pub cut: Option<Cut>,
-    /// The pages that reach beyond the papers by which they are placed on sheets.
+    /// The pages that reach beyond the papers by which they are placed on sheets. `None` if no page does.
     pub reach: Option<Reach>,
     /// The number of pages after the document's trailer, which aren't imposed.
     pub behind: usize,

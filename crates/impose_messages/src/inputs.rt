@@ -8,7 +8,7 @@ use imposer::RunError;
 
 /// The fault for an input that can't be read as a document. An empty input, a PDF, a compressed file, a printer's job and a UTF-16 text have faults
 /// of their own. So have an EPS file in DOS format, an EPS file without pages, and an input that is longer than a document may be. Any other `error`
-/// is reported as an error of the run, and so is a document that only its guard makes too long.
+/// is reported as an error of the run.
 pub fn refused_document(error: DscError, input: &[u8]) -> ImposeFault
     ensures { result ≡ document_fault error input.now }
 {

@@ -18,7 +18,8 @@ use suggestions::{is_range, joined_texts, looks_like_file, shown_word, value_tex
 
 const OUT_OF_MEMORY: &str = "out of memory";
 
-/// The message about a fault, without a line end. `request` is `None` if the command line was refused. The only error is running out of memory.
+/// The message about a fault, without a line end. It is empty for words that the command doesn't take, because `words_text` makes the message about
+/// those. `request` is `None` if the command line was refused. The only error is running out of memory.
 pub fn fault_text(
     alloc: Global,
     fault: &ImposeFault,
@@ -69,7 +70,8 @@ fn no_page_text(
     shown(alloc, message.as_str(), context.ranges, place)
 }
 
-/// The message about an input that couldn't be opened or read.
+/// The message about an input that couldn't be opened or read. If INFILE is most likely a second page range, the message says that ranges are one
+/// word.
 fn read_text(
     alloc: Global,
     cause: &Option<io::Error>,
@@ -149,7 +151,8 @@ fn idle_message(option: IdleOption) -> &'static str {
     }
 }
 
-/// The message about an output file that holds another program's document.
+/// The message about an output file that holds another program's document. If INFILE is most likely a second page range, it says that ranges are one
+/// word. Otherwise it says how to write the sheets.
 fn over_document_text(alloc: Global, context: &Context<'_>) -> Result<String, AllocError> {
     let name = file_name(alloc, context.written, "standard output")?;
     if has_second_range(context) {

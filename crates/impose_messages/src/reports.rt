@@ -86,8 +86,8 @@ fn push_page_count(said: &mut ReportText, taken: u32, pages: u32)
     said.push_number(u128::from(pages));
 }
 
-/// The number of empty cells that the report gives as blanks. It is 0 if the request chooses pages, and for layouts whose empty cells aren't
-/// reported.
+/// The number of empty cells that the report gives as blanks. It is 0 if the request chooses pages or their order, and for layouts whose empty cells
+/// aren't reported.
 fn blanks_of(request: &ImposeRequest, report: &Report) -> u128
     ensures { result ≡ blanks_in request.now report.now }
 {
@@ -125,7 +125,7 @@ fn push_blanks(said: &mut ReportText, blanks: u128)
     said.push_number(blanks);
 }
 
-/// Appends the number of leaves, if every two sheets are the front and the back of a leaf.
+/// Appends the number of leaves, if every two sheets are the front and the back of a leaf. A last sheet without a back counts as a leaf.
 fn push_leaves(said: &mut ReportText, request: &ImposeRequest, sheets: u32)
     requires room { length said.old + 160 ≤ most_said }
     ensures text { said.new ≡ said.old ++ (if are_sides_of request.now.layout request.now.spacing
@@ -212,7 +212,7 @@ pub(crate) fn push_cut(said: &mut ReportText, cut: &Cut, named: &Paper)
     push_size(said, named);
 }
 
-/// Appends the numbers of the pages that are cut, counted from 1.
+/// Appends the pages that are cut, by their numbers counted from 1: one page, a range of pages, or else their count with the first and the last page.
 fn push_cut_pages(said: &mut ReportText, cut: &Cut)
     requires room { length said.old + 136 ≤ most_said }
     ensures text { said.new ≡ said.old ++ cut_pages_text cut.now }
@@ -353,7 +353,7 @@ pub(crate) fn push_told(said: &mut ReportText, told: usize, found: usize)
     said.push(told_advice(told, found));
 }
 
-/// The end of the message about the declared number of pages. It asks whether the document is complete if fewer pages were found. Otherwise it says
+/// The end of the message about the declared number of pages. If fewer pages were found, it asks whether the document is complete. Otherwise it says
 /// that all pages are counted.
 fn told_advice(told: usize, found: usize) -> &'static [u8]
     ensures value { result.now ≡ advice_told told found }

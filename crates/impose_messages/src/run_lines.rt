@@ -151,7 +151,7 @@ pub(crate) fn push_note_line(said: &mut ReportText, request: &ImposeRequest)
     }
 }
 
-/// Appends the line about the output file. `name` is the file's name as messages show it.
+/// Appends the line about an output file, with this advice. `name` is the file's name as messages show it.
 fn push_note_on(said: &mut ReportText, advice: &[u8], name: &str)
     requires short { length advice.now ≤ 100 }
     requires few { length name.now ≤ 1_002 }
@@ -163,8 +163,8 @@ fn push_note_on(said: &mut ReportText, advice: &[u8], name: &str)
     said.push(b"\n");
 }
 
-/// The advice about an output file whose name has the ending of another kind of file, such as `.pdf`. It says that the file isn't of that kind, and
-/// how to make one that is. The line has the file's name before and after this text. `None` for other endings.
+/// The advice about an output file whose name ends with `.pdf`, `.PDF`, `.gz`, `.svg` or `.eps`. It says that the file isn't of that kind, and how to
+/// make one that is. In the line of the report, the file's name comes before and after this text. `None` for any other name.
 fn advice_on(name: &str) -> Option<&'static [u8]>
     ensures value { option_map (λ advice. advice.now) result ≡ advice_by_name name.now }
     ensures short { IfSome result (λ advice. length advice.now ≤ 100) }

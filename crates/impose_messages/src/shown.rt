@@ -44,7 +44,7 @@ impl ShownName {
     }
 }
 
-/// The first bytes of a name as messages show them.
+/// The first bytes `front` of a name, each as `shown_byte` gives it.
 fn shown_front(front: &[u8]) -> ArrayVec<u8, 102>
     requires few { length front.now ≤ 100 }
     ensures { result.items ≡ map byte_shown front.now }

@@ -11,9 +11,9 @@ use row_sheets::PosterError;
 use rows::RowError;
 use sheet_plan::MadeError;
 
-/// The exit status of a fault. It is 1 if the page ranges, specification, layout, document or plan is refused. It is 2 if the command line or an
-/// option is refused, or if the input or another program's document would be overwritten. It is 3 if memory or a thread was refused, or if reading or
-/// writing failed. It is 0 for help and version.
+/// The exit status of a fault. It is 1 if the page ranges, specification, layout, document or plan is refused, or if no specification can be printed
+/// for the request. It is 2 if the command line or an option is refused, or if the input or another program's document would be overwritten. It is 3
+/// if memory or a thread was refused, or if reading or writing failed. It is 0 for help and version.
 pub fn fault_status(fault: &ImposeFault) -> u8
     ensures { result ≡ status_of_fault fault.now }
 {

@@ -502,8 +502,8 @@ fn order_of(found: &ArgMatches<'_>) -> Result<Order, OptionId>
     })
 }
 
-/// The order that `--order` names: whether cells are filled by rows or by columns, and whether from right to left. `None` if the option's value names
-/// no order.
+/// The order that `--order` names: whether cells are filled by rows or by columns, and whether from right to left. Without the option they are filled
+/// by rows, from the left. `None` if the option's value names no order.
 fn run_of(found: &ArgMatches<'_>) -> Option<(FillOrder, bool)>
     ensures { result ≡ run_found (rows_of (found_of found.now)) }
 {

@@ -17,7 +17,8 @@ pub enum IdleOption {
     CutMarks,
     /// A margin at the inner edge, although sheets of this layout have no inner edge.
     Inner,
-    /// A left margin together with a margin at the inner edge. The inner edge of fronts is their left edge, so the left margin would have no effect.
+    /// A left margin of `nup` other than 0, together with a margin at the inner edge. The inner edge of fronts is their left edge, so the left margin
+    /// would have no effect.
     Left,
     /// Cut marks together with a margin at the inner edge. Cut marks are the same on fronts and backs, but a margin at the inner edge isn't.
     InnerMarks,
@@ -81,7 +82,7 @@ fn has_two_left(layout: &Layout, spacing: &Spacing) -> bool
     }
 }
 
-/// Whether sheets are cut only outside their cells, because they have one cell or are folded between the cells.
+/// Whether sheets of this layout can have cut marks, but only outside their cells, because they have one cell or are folded between the cells.
 fn is_cut_outside(layout: &Layout) -> bool
     ensures { result ≡ meaning.is_cut_outside layout.now }
 {

@@ -13,8 +13,8 @@ pub fn size_named(text: &str) -> Option<Paper>
     read_paper(text.as_bytes()).ok()
 }
 
-/// The number that the whole text gives. `None` if the text isn't a number, or if the number is above 99,999.999999999. Decimals after the ninth have
-/// no effect.
+/// The number that the whole text gives. `None` if the text isn't a number, or if the number without its sign is above 99,999.999999999. Decimals
+/// after the ninth have no effect.
 pub fn parse_number(text: &str) -> Option<Number>
     ensures { result ≡ meaning.number_alone text.now }
 {

@@ -5,18 +5,17 @@ use std::sync::atomic::AtomicU64;
 use std::sync::atomic::Ordering::SeqCst;
 use std::time::Duration;
 
-/// The approximate number of bytes of the pages that a preparer handles in one stint. An imposer's stint has as many batches of sheets as a
-/// preparer's has pages.
+/// Approximately the greatest number of bytes in a preparer's stint: those of its pages, and `BYTES_BESIDE` for each page. An imposer's stint has as
+/// many batches of sheets as a preparer's has pages.
 const BYTES_OF_A_STINT: usize = 524_288;
 
 /// The cost of a page apart from the cost of its bytes. It is an estimate, expressed as a number of bytes.
 const BYTES_BESIDE: usize = 512;
 
-/// The greatest number of pages, or batches of sheets, in one stint.
+/// The greatest number of pages, or batches of sheets, that follow the first one of a stint.
 const LONGEST_STINT: usize = 512;
 
-/// The least number of pages in a stint for which workers take turns. If a stint has fewer pages, the pages are so large that workers don't get in
-/// each other's way.
+/// The least `len` of a `Baton` for which workers take turns. If `len` is less, the pages are so large that workers don't get in each other's way.
 const FEWEST_IN_TURN: u32 = 32;
 
 /// The greatest number of naps that a worker takes while it waits for the turn. After them it goes on without the turn.
@@ -32,7 +31,7 @@ const MICROSECONDS_OF_A_NAP: u64 = 500;
 pub(crate) struct Baton {
     /// 1 if a worker has the turn, 0 if none has.
     taken: CachePadded<AtomicU64>,
-    /// The number of pages, or batches of sheets, in a stint.
+    /// The number of pages, or batches of sheets, that follow the first one of a stint.
     len: u32,
 }
 
@@ -67,8 +66,8 @@ impl Baton {
         }
     }
 
-    /// Counts one more page, or batch of sheets, of this worker. If the worker's stint is over, the worker first gives up its turn. It then waits for
-    /// its next turn, if a stint has at least `FEWEST_IN_TURN` pages.
+    /// Counts one more page, or batch of sheets, of this worker. If the worker has no stint yet, or its stint is over, it gives up its turn and
+    /// begins a stint. If `len` is at least `FEWEST_IN_TURN`, it waits for its next turn before it begins.
     pub(crate) fn pass_if_due<R: Wait>(&self, rt: &R, stint: &mut Shift) {
         if stint.left > 0 {
             stint.left -= 1;

@@ -57,10 +57,10 @@ pub(crate) struct RuledJob<'s, 'r, 'd, T: SheetTexts> {
 /// A token with which messages are sent or received.
 pub(crate) type Ticket<'r> = Pass<Texts<'r>, ()>;
 
-/// The end of the channel that imposers use.
+/// The sending end of the channel, which imposers use.
 pub(crate) type SheetSender<'r, T> = RuledSender<Texts<'r>, (), SheetRule<T>>;
 
-/// The end of the channel that the collector uses.
+/// The receiving end of the channel, which the collector uses.
 pub(crate) type SheetReceiver<'r, T> = RuledReceiver<Texts<'r>, (), SheetRule<T>>;
 
 /// Both ends of the channel, and the queue in which the memory of written sheets goes back to the imposers.

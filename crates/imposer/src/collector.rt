@@ -70,8 +70,8 @@ fn take_all<'r, R: Wait, T: SheetTexts, G: Gate, S: Sink>(
     }
 }
 
-/// Takes one message from the channel and writes the sheets that are next in order. If there is no message, waits for a short time. Returns false if
-/// no further message will come, or if nothing more may be written.
+/// Takes one message from the channel and writes the sheets that are next in order. If there is no message, but one may still come, waits for a short
+/// time. Returns false if no further message will come, or if nothing more may be written.
 fn take_turn<'r, R: Wait, T: SheetTexts, G: Gate, S: Sink>(
     rt: &R,
     input: &RunInput<'_, 'r, '_, '_, T, G>,

@@ -18,7 +18,8 @@ pub enum Look {
     Channel,
 }
 
-/// A gate is called before and after each step, by the thread that takes the step. It may make the thread wait; tests use this to order the steps.
+/// A gate is called before and after each step of a run and each look for work, by the thread that takes the step or looks. It may make the thread
+/// wait; tests use this to order the steps.
 pub trait Gate {
     /// Is called before this step.
     fn before(&self, step: Step);

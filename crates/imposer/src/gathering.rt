@@ -53,7 +53,7 @@ pub struct Gathered<'d> {
     /// The token of a page for which the shelf gave no receipt. None if there was no such page, or if a thread or memory was refused before all
     /// workers had ended.
     pub unshelved: Option<Overflow<'d>>,
-    /// The seat and the pass that join the seats and the passes of all workers. None if memory or a thread was refused.
+    /// The seat and the pass in which those of all workers are joined. None if memory or a thread was refused.
     pub tokens: Option<(Seat, Pass)>,
 }
 
@@ -62,9 +62,9 @@ pub struct Gathered<'d> {
 /// end.
 ///
 /// The table must be one of the job's plan, the seat and the pass must be unused, and the queue must have room for every sheet. Each worker gets a
-/// seat and a pass of its own, and these are joined when the worker ends. If the pass has room for all puts of the preparers, each preparer gets the
-/// room that it needs, and the queue refuses no put. If the pass has less room, puts may be refused even though the queue isn't full, and the sheets
-/// of these puts are made at the end.
+/// seat and a pass of its own, and these are joined when the worker ends. If the pass has room for all puts of the run, those of sheets without pages
+/// included, each preparer gets the room that it needs, and the queue refuses no put. If the pass has less room, puts may be refused even though the
+/// queue isn't full, and the sheets of these puts are made at the end.
 pub fn gather<'j, 'd, R: Threads + Wait + Sync, G: Gate + Sync, S: Sink>(
     rt: &R,
     alloc: Global,
@@ -272,7 +272,7 @@ fn gather_on_threads<
     gathered
 }
 
-/// Puts the sheets without pages on the queue, since no preparer completes them.
+/// Puts the sheets without pages on the queue, since no preparer completes them. If the queue refuses one, the window loses its end.
 fn put_blank_sheets<R: Wait, G: Gate>(
     rt: &R,
     shared: &Shared<'_, '_, '_, '_, G>,
@@ -291,7 +291,7 @@ fn put_blank_sheets<R: Wait, G: Gate>(
     }
 }
 
-/// The result after memory or a thread was refused.
+/// The result after memory or a thread was refused. `written` bytes of the output have been written.
 fn out_of_memory<'d>(written: u64) -> Gathered<'d>
     ensures { GivesUp written result }
 {
@@ -327,7 +327,7 @@ fn finish<'d, S: Sink>(
     }
 }
 
-/// Writes the remaining sheets and the trailer, and returns the result. All workers have ended.
+/// Writes the remaining sheets and the trailer, unless writing has been halted, and returns the result. All workers have ended.
 fn conclude<'d, S: Sink>(
     alloc: Global,
     job: &Job<'_, 'd>,

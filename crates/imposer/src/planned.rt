@@ -71,8 +71,8 @@ pub fn run_plan<R: Threads + Wait + Sync, G: Gate + Sync, S: Sink, L: Listener>(
     }
 }
 
-/// Imposes and writes like `run_plan`, and returns the object that the listener gets. If memory is refused before there is a table, nothing is
-/// written.
+/// Imposes and writes like `run_plan`, and returns the object that the listener gets. If memory is refused before there is a table, the call fails
+/// and nothing is written.
 fn gather_plan<'j, 'd, R: Threads + Wait + Sync, G: Gate + Sync, S: Sink>(
     rt: &R,
     alloc: Global,

@@ -39,8 +39,8 @@ pub(crate) fn most_puts(plan: &Plan<'_>, number: u32, count: u32) -> u32
     puts
 }
 
-/// The greatest number of puts that a preparer makes for this page and its earlier pages. `puts` is the number for the earlier pages. Each slot with
-/// this page adds one, but the result is at most the number of sheets.
+/// The greatest number of puts that a preparer makes for its pages up to this page. `puts` is this number for the pages before this page. Each slot
+/// with this page adds one, but the result is at most the number of sheets.
 fn with_puts_of(plan: &Plan<'_>, page: u32, puts: u32) -> u32
     requires page { page < plan.now.pages }
     ensures { result ≡ min (puts + length (places_of (layout plan.now) page)) (length plan.now.sheets) }

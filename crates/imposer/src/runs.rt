@@ -68,7 +68,7 @@ struct Given<'d> {
     document: Document<'d>,
 }
 
-/// Checks the options, then reads the specification and the document.
+/// Checks the options, then reads the specification and the document. The error is that of the first of the three that is refused.
 fn read_request<'d>(
     alloc: Global,
     input: &'d [u8],
@@ -87,7 +87,7 @@ fn read_request<'d>(
     Ok(Given { spec, document })
 }
 
-/// Plans the sheets of a request that has been read, imposes them and writes them.
+/// Plans the sheets of a request that has been read, imposes them and writes them. The errors are a refused plan, `NoMemory` and `Write`.
 fn run_read<R: Threads + Wait + Sync, G: Gate + Sync, S: Sink>(
     rt: &R,
     alloc: Global,
@@ -117,7 +117,8 @@ fn run_read<R: Threads + Wait + Sync, G: Gate + Sync, S: Sink>(
     )
 }
 
-/// Plans the sheets for pages in their order, or for pages in signatures if `sides`, the number of sides of a signature, is given.
+/// Plans the sheets for pages in their order, or for pages in signatures if `sides`, the number of sides of a signature, is given. The error says why
+/// the sheets can't be planned.
 fn plan_pages<'s>(
     alloc: Global,
     spec: &'s Spec,

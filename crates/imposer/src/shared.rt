@@ -32,7 +32,7 @@ pub(crate) struct RunObjects<'s, 'r, 't, 'd, G> {
 #[derive(Drop)]
 pub(crate) struct Shared<'s, 'r, 't, 'd, G> {
     pub(crate) floor: RunObjects<'s, 'r, 't, 'd, G>,
-    /// Whether the queue guarantees all puts of the run, so that it refuses none of them.
+    /// Whether the pass of the run has room for all puts, so that the queue refuses none of them.
     pub(crate) by_right: bool,
     /// The number of preparers that haven't ended.
     pub(crate) preparers_left: AtomicU32,

@@ -17,7 +17,7 @@ use std::sync::atomic::Ordering::SeqCst;
 use std::sync::atomic::{AtomicBool, AtomicU64};
 use std::time::Duration;
 
-/// The approximate number of bytes that the texts of a window have together.
+/// The approximate number of bytes that the texts of a window have together, within the limits on its number of sheets.
 const BYTES_AHEAD: usize = 786_432;
 
 /// The approximate number of bytes of text around a placed page.
@@ -43,15 +43,15 @@ const SHORTEST_NAP: u64 = 50;
 /// The length of the longest nap, in microseconds.
 const LONGEST_NAP: u64 = 400;
 
-/// The sheets that may be imposed now: `len` sheets, beginning with the next sheet to be written. Finished texts take memory until they are written.
-/// So an imposer only notes the number of a sheet past the window, and imposes the sheet when the window reaches it.
+/// The sheets that may be imposed now: `len` sheets, beginning with `next`, or all further sheets if the window has no end. Finished texts take
+/// memory until they are written. So an imposer only notes the number of a sheet past the window, and imposes the sheet when the window reaches it.
 #[derive(Drop)]
 pub(crate) struct Window {
     /// The next sheet to be written (counted from 0), or a sheet shortly before it.
     next: CachePadded<AtomicU64>,
     /// Whether the window has no end. It loses its end once a sheet may never come, or once nothing more is collected.
     lifted: AtomicBool,
-    /// The number of sheets in the window.
+    /// The number of sheets in the window, as long as it has an end.
     pub(crate) len: u32,
     /// The number of sheets that must be written after a move of the window before `come_to` moves the window again.
     step: u32,
@@ -147,7 +147,7 @@ pub(crate) struct Idling {
 }
 
 impl Idling {
-    /// Notes that work was found.
+    /// Notes that work was found. A thread that yields before its naps yields again when it next waits.
     pub(crate) fn end(&self) {
         self.backoff.reset();
     }

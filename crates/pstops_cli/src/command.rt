@@ -99,7 +99,7 @@ fn parse<'a>(alloc: Global, words: &'a [String]) -> Result<ArgMatches<'a>, Comma
     }
 }
 
-/// The request that these values give.
+/// The request that these values give. The error is that of the first wrong value, or `NoMemory`.
 fn request_of(alloc: Global, matches: &ArgMatches<'_>) -> Result<Request, CommandFault>
     requires { is_some (first_value (found_of matches.now) (codes "specs")) ≡ true }
     ensures read { IfOk result (Reads (rows_of (found_of matches.now))) }
@@ -119,7 +119,7 @@ fn request_of(alloc: Global, matches: &ArgMatches<'_>) -> Result<Request, Comman
     })
 }
 
-/// The options of a run that these values give.
+/// The options of a run that these values give. The error is that of the first wrong value of `-p`, `-w`, `-h` and `-d`, in this order.
 fn options_of(matches: &ArgMatches<'_>) -> Result<Options, CommandFault>
     ensures { result ≡ options_found (rows_of (found_of matches.now)) }
 {
@@ -201,7 +201,7 @@ fn letter_flag<'a>(alloc: Global, id: &'a str, short: char) -> Arg<'a>
     Arg::new(alloc, id).short(short).action(ArgAction::SetTrue)
 }
 
-/// An option with a value.
+/// An option that has this letter and takes a value.
 fn valued<'a>(alloc: Global, id: &'a str, short: char) -> Arg<'a>
     ensures { rule_of result ≡ valued_rule id.entry.now short }
 {

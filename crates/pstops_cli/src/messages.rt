@@ -39,7 +39,7 @@ pub fn fault_line(alloc: Global, fault: &Fault) -> Result<(u8, Vec<u8>), AllocEr
     Ok((fault_exit_status(fault), line_of(alloc, text.as_str())?))
 }
 
-/// The line that reports a finished run.
+/// The line that reports a finished run: its numbers of pages, sheets and bytes.
 pub(crate) fn report_line(alloc: Global, report: &Report) -> Result<Vec<u8>, AllocError>
     ensures { IfOk result (λ line. line.items ≡ program_line (text_of_report report.now)) }
 {

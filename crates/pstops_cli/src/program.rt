@@ -34,7 +34,7 @@ pub struct ExitReport<W: World> {
 }
 
 /// Runs the program: reads the request from the words after the program's name, reads the input, creates the output, writes the imposed sheets to it,
-/// and flushes it.
+/// and flushes it. The first fault ends the program with its status and line.
 ///
 /// The input is closed before the output is created, so both may be the same file.
 pub fn pstops<R: Threads + Wait + Sync, W: World>(
@@ -57,7 +57,7 @@ pub fn pstops<R: Threads + Wait + Sync, W: World>(
     }
 }
 
-/// Reads the request from the words, and then the input of the request.
+/// Reads the request from the words, and then the input of the request. The error is the fault of the first of the two that fails.
 fn read<W: World>(
     alloc: Global,
     words: &[String],
@@ -79,7 +79,8 @@ fn read<W: World>(
     }
 }
 
-/// Reads the file with this name, or standard input without a name. Reading stops after `world::MOST_BYTES` bytes.
+/// Reads the file with this name, or standard input without a name. Reading stops after `world::MOST_BYTES` bytes. The error is `NoMemory` if memory
+/// is refused, and `Device` if the input can't be opened or read.
 fn input_of<W: World>(
     alloc: Global,
     name: Option<&str>,

@@ -7,8 +7,8 @@ use command_words::border_named;
 use imposer::{Options, Workers};
 use lengths::{Paper, length_named, paper_by_name};
 
-/// The options of a run with these values of `-p`, `-w`, `-h` and `-d`, this number of sides of a signature, and these numbers of threads. The error
-/// reports the first wrong value of `-p`, `-w`, `-h` and `-d`, in this order.
+/// The options of a run with these values of `-p`, `-w`, `-h` and `-d`, this number of sides of a signature, and these numbers of threads. Without
+/// `-p` the paper is a4. The error reports the first wrong value of `-p`, `-w`, `-h` and `-d`, in this order.
 pub(crate) fn options_named(
     paper: Option<&str>,
     width: Option<&str>,

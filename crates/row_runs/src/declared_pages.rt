@@ -33,21 +33,21 @@ fn count_by(field: &[u8], text: &[u8]) -> Option<usize>
     }
 }
 
-/// The first field after the first `%%Pages:` in these lines.
+/// The first field after the first `%%Pages:` in these lines. None if there is no such comment or field.
 fn pages_field(lines: &[u8]) -> Option<&[u8]>
     ensures { option_map (λ field. field.now) result ≡ meaning.pages_field (contents lines.now) }
 {
     first_field(pages_value(lines)?)
 }
 
-/// The first field after the first `%%Pages:` that is in these lines but not in an embedded document.
+/// The first field after the first `%%Pages:` that is in these lines but not in an embedded document. None if there is no such comment or field.
 fn last_field(lines: &[u8]) -> Option<&[u8]>
     ensures { option_map (λ field. field.now) result ≡ meaning.first_field (meaning.pages_outside 0 (contents lines.now)) }
 {
     first_field(value_outside(lines)?)
 }
 
-/// The text after the first `%%Pages:` that is in these lines but not in an embedded document.
+/// The text after the first `%%Pages:` that is in these lines but not in an embedded document. None if there is no such comment.
 fn value_outside(lines: &[u8]) -> Option<&[u8]>
     ensures { option_map (λ value. fields_in value.now) result ≡ meaning.pages_outside 0 (contents lines.now) }
 {
@@ -97,7 +97,7 @@ fn first_field(value: &[u8]) -> Option<&[u8]>
     Some(field)
 }
 
-/// The text after the first `%%Pages:` in these lines.
+/// The text after the first `%%Pages:` in these lines. None if there is no such comment.
 fn pages_value(lines: &[u8]) -> Option<&[u8]>
     ensures { option_map (λ value. fields_in value.now) result ≡ comment_fields (codes "%%Pages") (contents lines.now) }
 {
@@ -162,7 +162,7 @@ fn is_trailer_line(content: &[u8]) -> bool
     key_of(content) == b"%%Trailer".as_slice()
 }
 
-/// The value of a field of digits, or `usize::MAX` if the value is greater. None if the field has other characters.
+/// The value of a field of digits, or `usize::MAX` if the value is greater. It is 0 for an empty field. None if the field has other characters.
 fn value_of_digits(field: &[u8]) -> Option<usize>
     ensures { result ≡ meaning.value_of_digits field.now }
 {

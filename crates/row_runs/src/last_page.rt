@@ -44,7 +44,7 @@ fn filled_length(how: Signing, entries: usize) -> usize
     (entries.div_ceil(sides) * sides).min(MOST_ENTRIES)
 }
 
-/// The row with as many blanks inserted before its last entry as give it `filled` entries.
+/// The row, with blanks inserted before its last entry so that it has `filled` entries.
 fn with_blanks(row: Vec<Option<u32>>, filled: usize) -> Result<Vec<Option<u32>>, AllocError>
     requires some { 0 < length row.items }
     requires more { length row.items ≤ filled }

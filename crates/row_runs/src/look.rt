@@ -80,7 +80,7 @@ fn guides_for(alloc: Global, job: &RowJob<'_, '_>) -> Result<Vec<Guide>, AllocEr
     }
 }
 
-/// The sheets that a run would impose, with pages shifted on backs and turned as the job requests.
+/// The sheets that a run would impose, with pages shifted on backs and turned as the job requests. The errors are those of the run.
 fn planned_sheets(alloc: Global, job: &RowJob<'_, '_>) -> Result<MadeSheets, SheetError>
     requires asked { MayBeAsked job.now.asked }
     ensures made { IfOk result (ArePlanned job.now) }
@@ -99,7 +99,7 @@ fn planned_sheets(alloc: Global, job: &RowJob<'_, '_>) -> Result<MadeSheets, She
     }
 }
 
-/// Checks that these sheets can be planned for a document with this number of pages.
+/// Checks that these sheets can be planned for a document with this number of pages. The error says why they can't.
 fn check_plan(alloc: Global, pages: u32, sheets: &MadeSheets) -> Result<(), MadeError>
     ensures planned { OnOk result (made_plan_of pages sheets.now ≡ Ok sheets.now) }
     ensures refused { IfErr result (RefusesMade pages sheets.now) }

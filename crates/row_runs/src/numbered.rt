@@ -103,7 +103,7 @@ fn named_places(alloc: Global, row: &[Option<u32>]) -> Result<Vec<Option<u32>>, 
     Ok(places)
 }
 
-/// The entry at this place of the row, with its page named by the place.
+/// The entry at this place of the row, with its page named by the place. A blank stays None.
 fn named_at(row: &[Option<u32>], place: u32) -> Option<u32>
     requires { place < length row.now }
     ensures { (entry : Option ℕ) → slice_get row.now place ≡ Some entry → result ≡ place_named place entry }
@@ -139,7 +139,7 @@ fn entry_paper(papers: &[Paper], other: &Paper, entry: Option<u32>) -> Paper
     }
 }
 
-/// The paper of the laying's sheets. It is used for pages whose own paper isn't known.
+/// The paper of pages whose own paper isn't known: that of the laying's sheets, or that of blanks if pages are left as they are.
 fn sheet_paper<'p>(laying: &'p Laying<'_>) -> &'p Paper
     ensures { result.now ≡ sheet_paper_of laying.now }
 {

@@ -38,7 +38,7 @@ pub(crate) fn sides_by(swap: &Option<Room>, laying: &Laying<'_>) -> Sides
     }
 }
 
-/// The edge that runs along the height of a sheet as it is printed: the short edge or the long edge.
+/// The edge that runs along the height of a sheet as it is printed: the short one if the sheet is wider than high, and otherwise the long one.
 fn edge_as_printed(paper: &Paper) -> Edge
     ensures { result ≡ edge_printed paper.now }
 {
@@ -74,7 +74,8 @@ fn edge_of_backs(turned: bool) -> Edge
     if turned { Edge::Long } else { Edge::Short }
 }
 
-/// The edge on which leaves are turned over like the pages of a book, with the sheet held for reading.
+/// The edge on which leaves are turned over like the pages of a book, with the sheet held for reading: the short one if the sheet is then wider than
+/// high, and otherwise the long one.
 fn edge_at_side(setting: &Setting) -> Edge
     ensures { result ≡ edge_of setting.now }
 {
@@ -111,7 +112,8 @@ fn sides_held(turned: bool, paper: &Paper) -> (u64, u64)
     }
 }
 
-/// The places of pages on a sheet: its cells, the tiles of a poster, or the items of a specification's longest group.
+/// The places of pages on a sheet: its cells, the tiles of a poster, the items of a specification's longest group, or one place if pages are left as
+/// they are.
 fn places_of(laying: &Laying<'_>) -> Places
     ensures { result ≡ places_read laying.now }
 {

@@ -30,7 +30,7 @@ pub struct RowJob<'j, 'd> {
     pub papers: &'j [Paper],
     /// The pages that are chosen, their signatures, and how they are laid on sheets.
     pub asked: SheetRequest<'j>,
-    /// Whether left and right margins are exchanged on every second sheet, since it is the back of a leaf.
+    /// Whether left and right margins are exchanged on every second sheet, since it is the back of a leaf. Only sheets with cells are changed.
     pub swapped: bool,
     /// The width of a border around each page, in grains and above 0. None if pages have no border.
     pub border: Option<Grains>,

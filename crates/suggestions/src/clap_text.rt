@@ -15,7 +15,7 @@ use clap::error::ErrorKind;
 pub(crate) struct Quoted<'t> {
     /// The word that clap refuses as an unknown argument or subcommand. It is empty for other kinds of mistakes.
     pub(crate) refused: &'t str,
-    /// The option that clap suggests in place of an unknown one, if it suggests one. Clap's usage line is then about this option.
+    /// The option that clap suggests in place of an unknown one, if it suggests exactly one. Clap's usage line is then about this option.
     pub(crate) meant: Option<&'t str>,
 }
 

@@ -17,8 +17,8 @@ use std::alloc::{AllocError, Global};
 use strsim::osa_distance;
 
 /// The message about a command line with words that the command doesn't take. `words` is the whole command line, with the program's name first. The
-/// message is clap's text, with a tip on the refused word in place of clap's own tip. Hidden characters are escaped, and long words are cut. The only
-/// error is running out of memory.
+/// message is clap's text, in which a tip on the refused word, if one is known, takes the place of clap's own tips. Hidden characters are escaped,
+/// and long words are cut. The only error is running out of memory.
 pub fn words_text(alloc: Global, error: &Error, words: &[String]) -> Result<String, AllocError>
     ensures { IfOk result (λ said. IsLines (string_bytes said)) }
 {
@@ -53,8 +53,8 @@ fn with_shown(alloc: Global, text: String, word: &str) -> Result<String, AllocEr
     text.as_str().replace(alloc, word, shown.as_str())
 }
 
-/// Clap's text with `tip` inserted above the usage, or above the last line if there is no usage. An empty tip isn't inserted. Clap's own tips are
-/// left out, and so is the usage unless `keeps_usage` is true.
+/// Clap's text with `tip` inserted above the usage, or above the last line if the usage is missing or left out. An empty tip isn't inserted. Clap's
+/// own tips are left out, and so is the usage unless `keeps_usage` is true. Of blank lines that then follow one another, only the first is kept.
 fn with_tip(alloc: Global, text: &str, tip: &str, keeps_usage: bool) -> Result<String, AllocError>
     ensures { IfOk result (λ said. IsLines (string_bytes said)) }
 {
@@ -124,7 +124,8 @@ fn nearest_command(alloc: Global, word: &str) -> Result<Option<&'static str>, Al
 }
 
 /// The number of letters that are missing, added, replaced or exchanged in a word, compared with a name. A `--` before either isn't compared. The
-/// number is 0 if only the case differs. `None` if the number is more than a third of the word's bytes, or if the word is too long to be compared.
+/// number is 0 if only the case differs. Otherwise `None` is returned if the number is more than a third of the word's bytes, or if the word is too
+/// long to be compared.
 fn distance(alloc: Global, word: &str, name: &str) -> Result<Option<usize>, AllocError> {
     let word = word.strip_prefix("--").unwrap_or(word);
     let name = name.strip_prefix("--").unwrap_or(name);

@@ -44,7 +44,7 @@ fn shown_letter(letter: char) -> ArrayString<10>
     shown
 }
 
-/// The escape of a character.
+/// The escape of a character, such as `\u{1b}`.
 fn escaped(letter: char) -> ArrayString<10>
     ensures { result.bytes ≡ escape_unicode letter }
 {
@@ -84,7 +84,7 @@ pub(crate) fn push_line(out: &mut String, line: &str) -> Result<(), AllocError>
     out.push('\n')
 }
 
-/// A message about a word: the texts `before` it, the word as messages show it, and the texts `behind` it.
+/// A message about a word: the texts `before` it, the word as messages show it, and the texts `behind` it. Hidden characters are escaped.
 pub(crate) fn message_on(
     alloc: Global,
     before: &[&str],

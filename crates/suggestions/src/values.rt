@@ -77,7 +77,7 @@ fn with_points(alloc: Global, text: &str) -> Result<String, AllocError> {
     Ok(pointed)
 }
 
-/// Whether a text is a size, a length or a scale that the option takes. False for options that take other values.
+/// Whether a text is a size, a scale, a length or a list of lengths that the option takes. False for options that take other values.
 fn is_value(option: OptionId, text: &str) -> bool {
     match option {
         OptionId::Paper | OptionId::Sheet => size_named(text).is_some(),
@@ -221,7 +221,7 @@ fn first_number_text(alloc: Global, text: &str) -> Result<String, AllocError>
     message_on(alloc, &["--numbers-from "], text, &[cure, shown.as_str()])
 }
 
-/// The first edge that a text names twice.
+/// The first edge that a text names twice. `None` if there is no such edge.
 fn edge_named_twice(text: &str) -> Option<&str> {
     for (place, part) in text.split(',').enumerate() {
         for (other, again) in text.split(',').enumerate() {
@@ -329,7 +329,7 @@ fn no_size_unit_text(alloc: Global, option: OptionId, text: &str) -> Result<Stri
     message_on(alloc, &["size '"], text, &cure)
 }
 
-/// The message about a text that isn't a paper.
+/// The message about a text that isn't a paper: that its unit is missing, that one of its sides isn't possible, or that no paper has this name.
 fn paper_text(alloc: Global, option: OptionId, text: &str) -> Result<String, AllocError>
     ensures { IfOk result (λ said. IsMessageOn text.now (string_bytes said)) }
 {
@@ -422,7 +422,8 @@ fn signature_text(alloc: Global, text: &str) -> Result<String, AllocError>
     }
 }
 
-/// The message about a text after `--skip` that isn't a number below the number of cells on a sheet.
+/// The message about a text after `--skip` that isn't a number below the number of cells on a sheet. If a sheet has one cell, the message says to
+/// leave the option out.
 fn skip_text(alloc: Global, cells: u64, text: &str) -> Result<String, AllocError>
     ensures { IfOk result (λ said. IsMessageOn text.now (string_bytes said)) }
 {
@@ -437,8 +438,8 @@ fn skip_text(alloc: Global, cells: u64, text: &str) -> Result<String, AllocError
     message_on(alloc, &["bad number '"], text, &[cure.as_str()])
 }
 
-/// The message about a text after a command that isn't a number of pages or a grid. If the text looks like a file, the message says that the number
-/// or grid is missing before it.
+/// The message about a refused text in the place of a command's number of pages or grid. If the text looks like a file, the message says that the
+/// number or grid is missing before it.
 fn cells_text(alloc: Global, command: CellCommand, text: &str) -> Result<String, AllocError>
     ensures { IfOk result (λ said. IsMessageOn text.now (string_bytes said)) }
 {

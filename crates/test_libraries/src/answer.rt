@@ -5,7 +5,7 @@ use std::fmt::{Debug, Display};
 use std::io::Write;
 
 /// The form of an answer. `Whole` and `Line` give the whole answer: `Whole` gives a refusal by its name in the program, and `Line` by its message.
-/// `Taken` gives `yes` in place of an answer that isn't a refusal.
+/// `Taken` gives `yes` in place of an answer that isn't a refusal, and a refusal as `Whole` does.
 #[derive(Clone, Copy, PartialEq, Eq)]
 pub enum Form {
     Whole,
@@ -34,7 +34,7 @@ impl Answer {
         }
     }
 
-    /// The bytes of the answer. `None` if memory ran out while it was put together.
+    /// The bytes of the answer in its form. `None` if memory ran out while the answer was put together.
     pub fn whole(mut self) -> Option<Vec<u8>> {
         if self.form == Form::Taken && !self.is_refused {
             self.bytes.clear();
@@ -47,7 +47,7 @@ impl Answer {
         }
     }
 
-    /// Appends another answer.
+    /// Appends another answer. If that answer isn't whole, this one isn't either.
     pub fn add(&mut self, other: Answer) {
         self.note(other.is_whole);
         self.add_bytes(other.bytes.as_slice());
@@ -92,8 +92,8 @@ impl Answer {
         self.is_whole = self.is_whole && is_added;
     }
 
-    /// Notes whether a library's call could append to the answer, which had `before` bytes before the call. A call that fails must leave the answer's
-    /// length as it was. If it doesn't, this isn't counted as a lack of memory, so that the answer is given and shows the fault.
+    /// Notes whether a call of a library could append to the answer. `before` is the number of bytes that the answer had before the call. A call that
+    /// fails must append nothing. If it appends bytes all the same, the answer still counts as whole, so that it shows these bytes.
     pub fn note_appended(&mut self, before: usize, is_appended: bool) {
         let len = self.bytes.len();
         self.note(is_appended || len != before);

@@ -8,7 +8,7 @@ use std::sync::Wait;
 use std::thread::Threads;
 use test_tools::{has_refused, refuse};
 
-/// The largest number of growths that are refused in turn for one command.
+/// The number of the first growth that isn't refused, even if a command has more growths. Growths are counted from 1.
 const MOST_REFUSED: u32 = 1_000;
 
 /// The answer of a command, if there is one, from a run in which no growth is refused. A run in which a growth is refused must have no answer, report

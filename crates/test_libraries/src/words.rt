@@ -118,7 +118,7 @@ pub fn length(text: &str, unit: i128) -> Option<Grains> {
 }
 
 /// The text that a word gives. The word `repeat N TEXT BETWEEN FRONT BACK` gives `N` copies of `TEXT`, with `BETWEEN` between them, `FRONT` before
-/// the first and `BACK` after the last. `BETWEEN`, `FRONT` and `BACK` may be left out.
+/// the first and `BACK` after the last. `BETWEEN`, `FRONT` and `BACK` may be left out. `None` if `N` isn't a number, or if memory is refused.
 pub fn long_text(alloc: Global, text: &str) -> Option<String> {
     if part(text, 0) != "repeat" {
         return String::from_str(alloc, text).ok();

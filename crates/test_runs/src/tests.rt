@@ -88,7 +88,7 @@ struct Trial<'a> {
     counts: (u32, u32),
 }
 
-/// Runs a trial with this gate into this sink.
+/// Runs a trial with this gate into this sink. Returns the report or the error of the run.
 fn run_into<R: Threads + Wait + Sync, G: Gate + Sync, S: Sink>(
     rt: &R,
     alloc: Global,
@@ -103,7 +103,7 @@ fn run_into<R: Threads + Wait + Sync, G: Gate + Sync, S: Sink>(
     run(rt, alloc, input, trial.items, &options, gate, sink)
 }
 
-/// Runs a trial with this gate into memory with room for 100,000 bytes, and returns its report.
+/// Runs a trial with this gate into memory with room for 100,000 bytes, and returns its report. The test fails if the run does.
 fn report_of<R: Threads + Wait + Sync + Abort, G: Gate + Sync>(
     rt: &R,
     alloc: Global,
@@ -114,7 +114,7 @@ fn report_of<R: Threads + Wait + Sync + Abort, G: Gate + Sync>(
     done(rt, run_into(rt, alloc, trial, gate, &mut sink))
 }
 
-/// A document of `pages` pages. Each page has `lines` lines of nine bytes.
+/// A document of `pages` pages. Each page has `lines` lines of nine bytes after its `%%Page:` comment.
 fn large_pages<R: Abort>(rt: &R, alloc: Global, pages: u32, lines: usize) -> String {
     let lines = done(rt, "% a line\n".repeat(alloc, lines));
     let mut text = done(rt, String::from_str(alloc, "%!PS-Adobe-3.0\n"));

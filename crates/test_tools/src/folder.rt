@@ -13,7 +13,8 @@ use std::io;
 use std::io::ErrorKind;
 use world::{Failures, ReadSource, Refused, World, WriteOutput};
 
-/// A world of files in memory that can be read. Standard input is the file named `-`, or is empty without such a file.
+/// A world of files in memory, which can only be read, and of one output in memory. Standard input is the file named `-`, or is empty without such a
+/// file.
 #[derive(Drop)]
 pub struct Folder<'a> {
     alloc: Global,

@@ -5,7 +5,7 @@ ghost use Rattle.test_tools.specs.Traces.{access_of, accesses_in};
 
 use std::alloc::{AllocError, Global};
 
-/// A request to open an input, or to create an output, with its name.
+/// A request to open an input, or to create an output, with its name. The name is `None` for standard input or output.
 #[derive(Drop)]
 pub struct Asked {
     pub creates: bool,
@@ -56,7 +56,7 @@ fn with(
     Ok(all)
 }
 
-/// A copy of a name.
+/// A copy of a name, or None if there is no name.
 pub(crate) fn owned(alloc: Global, name: Option<&str>) -> Result<Option<String>, AllocError>
     ensures { IfOk result (λ own. option_map string_bytes own ≡ option_map (λ n. n.now) name.entry) }
 {

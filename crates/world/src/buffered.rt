@@ -31,7 +31,8 @@ pub fn write_all<T: Output>(output: &mut T, bytes: &[u8]) -> Result<(), Broken>
     Ok(())
 }
 
-/// An output with a buffer in front of it, used as a sink. Bytes wait in the buffer until further bytes no longer fit.
+/// An output with a buffer in front of it, used as a sink. Bytes wait in the buffer until further bytes no longer fit, or until `write_out` or
+/// `finish` is called.
 #[derive(Drop)]
 pub struct Buffered<T> {
     output: T,
@@ -49,7 +50,8 @@ impl<T: Output> Buffered<T> {
         Buffered { output, buffer }
     }
 
-    /// Writes the bytes in the buffer to the output, and flushes the output. After an error, bytes that weren't written stay in the buffer.
+    /// Writes the bytes in the buffer to the output, and then flushes the output if all were written. After an error, bytes that weren't written stay
+    /// in the buffer.
     pub fn write_out(&mut self) -> Result<(), SinkFault>
         requires countable { (⟦<Buffered<T> as Sink>⟧.seen self.old).failures < u64.MAX }
         ensures kept { Keeps (⟦<Buffered<T> as Sink>⟧.seen self.old).bytes (⟦<Buffered<T> as Sink>⟧.seen self.new).bytes }
@@ -120,7 +122,7 @@ impl<T: Output> Buffered<T> {
 
     /// Takes bytes for which the buffer has too little room, and returns the number of bytes taken. First the content of the buffer is written to the
     /// output. If the bytes are fewer than the capacity of the buffer, all of them are then put into the buffer. Otherwise they are passed directly
-    /// to the output, which may take only the first of them.
+    /// to the output, which may take only the first of them. If a write fails, none of the bytes are taken.
     fn accept_many(&mut self, bytes: &[u8]) -> Result<usize, SinkFault>
         requires some { 0 < length bytes.now }
         requires countable { (T.seen self.old.output).failures < u64.MAX }

@@ -6,7 +6,7 @@ use crate::source::ReadSource;
 use std::io;
 use std::io::{ErrorKind, Read};
 
-/// The number of failures of a world, and the kind of error of its last failure.
+/// The number of failures of a world, and the kind of error of its last failure, if it has failed.
 #[derive(Clone, Copy, Debug, PartialEq, Eq)]
 pub struct Failures {
     pub count: u64,
@@ -35,7 +35,8 @@ impl Failures {
         self.last = Some(cause.kind());
     }
 
-    /// Closes an input, and adds its failures. Returns the error of the input's last failure, or None if the input hasn't failed.
+    /// Closes an input, adds its failures, and keeps the kind of its last failure, if it has failed. Returns the error of the input's last failure,
+    /// or None if the input hasn't failed.
     pub fn close<T: Read + Drop>(&mut self, source: ReadSource<T>) -> Option<io::Error>
         requires { self.old.count + failures_of source ≤ u64.MAX }
         ensures cause { result ≡ cause_of source }

@@ -14,10 +14,12 @@ pub const MOST_BYTES: usize = 1_073_741_825;
 /// The number of bytes for which a source is offered room first. It is small, because most documents are small and touching memory takes time.
 const FIRST_PIECE: usize = 16_384;
 
-/// The least number of bytes for which a source is offered room after the vector has grown beyond `FIRST_PIECE` bytes.
+/// The least number of bytes for which a source is offered room after the vector has grown beyond `FIRST_PIECE` bytes, unless fewer may still be
+/// read.
 const LEAST_ROOM: usize = 65_536;
 
-/// The number of bytes that are cleared at a time before a source fills them. It is small enough for these bytes to stay in the processor's cache.
+/// The greatest number of bytes that are cleared at a time before a source fills them. It is small enough for these bytes to stay in the processor's
+/// cache.
 const PIECE: usize = 262_144;
 
 /// The number of bytes from which an input counts as large. Room for the longest possible input is then reserved at once, so that no byte has to be
@@ -52,8 +54,9 @@ impl From<SourceFault> for ReadFault {
 /// All bytes of the source, or the first [`MOST_BYTES`] if there are more. The error is `Device` if the source fails, and `NoMemory` if memory is
 /// refused.
 ///
-/// The bytes are read directly into the vector, which grows piece by piece. Once it has a megabyte, address space for the longest possible input is
-/// reserved until the input ends. If this space is refused, the vector goes on growing piece by piece. After an error the bytes read so far are lost.
+/// The bytes are read directly into the vector, which grows piece by piece. Once it has 1,048,576 bytes, address space for the longest possible input
+/// is reserved until the input ends. If this space is refused, the vector goes on growing piece by piece. After an error the bytes read so far are
+/// lost.
 pub fn read_input<S: Source>(alloc: Global, source: &mut S) -> Result<Vec<u8>, ReadFault>
     requires countable { (S.seen source.old).failures < u64.MAX }
     ensures within { IfOk result (λ bytes. vec_len bytes ≤ most_bytes) }
@@ -103,7 +106,7 @@ pub fn read_input_behind<S: Source>(
 }
 
 /// Makes room after the first `filled` bytes if there is too little, and reads into it once. The vector has at most `most` bytes. Returns the number
-/// of bytes read, which is 0 at the end of the source.
+/// of bytes read, which is 0 at the end of the source. The error is `Device` if the source fails, and `NoMemory` if memory is refused.
 fn fill_more<S: Source>(
     source: &mut S,
     bytes: &mut Vec<u8>,
@@ -163,7 +166,7 @@ fn least_room(len: usize) -> usize
     if len <= FIRST_PIECE { 1 } else { LEAST_ROOM }
 }
 
-/// The length to which a vector of the length `len` grows next. It is at most `most`.
+/// The length to which a vector of the length `len` grows next: `FIRST_PIECE` if it is shorter, and otherwise `PIECE` bytes more, but at most `most`.
 fn next_len(len: usize, most: usize) -> usize
     requires more { len < most }
     requires enough { MOST_BYTES ≤ most }

@@ -4,7 +4,7 @@ ghost use Rattle.std.specs.Prelude.{◌≡◌, ◌<◌, ◌≤◌, IfOk, is_some
 use std::io;
 use std::io::Read;
 
-/// The error of a source that failed. The source gave no bytes in this call.
+/// The error of a failed call of a source. Such a call gives no bytes.
 #[derive(Clone, Copy, Debug, PartialEq, Eq)]
 pub struct SourceFault;
 

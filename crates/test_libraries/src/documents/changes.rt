@@ -54,7 +54,7 @@ impl Ranges {
         }
     }
 
-    /// Counts the pages of the text, and records the count as the answer for the next number.
+    /// Records the number of pages of the text, or the reason why it is refused, as the answer for the next number.
     fn count(&mut self, out: &mut Answer, text: &[u8]) {
         let mut answer = Answer::new(out.alloc);
         counted(&mut answer, text);

@@ -3,7 +3,8 @@ use crate::answer::Answer;
 use dsc::{Body, Document, DscError, prepare};
 use std::alloc::{AllocError, Global};
 
-/// Prints the filtered preamble for `sheets` sheets, each page with its body, and the filtered trailer. If the text is refused, prints the reason.
+/// Prints the filtered preamble for `sheets` sheets, each page with its body, and the filtered trailer. Adds a line if the document doesn't have the
+/// text that it was read from. If the text is refused, prints only the reason.
 pub fn cut(out: &mut Answer, sheets: u32, text: &[u8]) {
     match Document::read(out.alloc, text) {
         Ok(document) => parts(out, sheets, &document, text),

@@ -1,6 +1,6 @@
 //! Laws that hold for all documents. They are proved, so it is only tested that they can be called.
 
-/// Calls each of the laws.
+/// Calls the laws of the crates `dsc` and `guard`.
 pub fn call_laws() {
     dsc::laws::pages_stand_alone();
     dsc::laws::pages_have_bodies();

@@ -14,14 +14,14 @@ const TOO_MANY: u32 = 1_000_001;
 /// The largest number of entries of a row that is printed whole.
 const FEW: usize = 20;
 
-/// Prints the row that page ranges name.
+/// Prints the row that page ranges name, or the reason why they name none. `None` if the words aren't understood.
 pub fn named(out: &mut Answer, words: &[String]) -> Option<()> {
     let (pages, text) = (count(words, 1)?, word(words, 2)?);
     told(out, read_row(out.alloc, pages, text.as_bytes()));
     Some(())
 }
 
-/// Prints the row of pages that a choice gives.
+/// Prints the row of pages that a choice gives, or the reason why the choice gives none. `None` if the words aren't understood.
 pub fn chosen(out: &mut Answer, words: &[String]) -> Option<()> {
     let pages = count(words, 1)?;
     let choice = choice_of(words.get(2..)?);
@@ -33,7 +33,8 @@ pub fn chosen(out: &mut Answer, words: &[String]) -> Option<()> {
     Some(())
 }
 
-/// Prints the row of pages that a choice gives. The row is put into signatures unless the word for signatures is `unsigned`.
+/// Prints the row of pages that a choice gives, or the reason why it gives none. The row is put into signatures unless the word for signatures is
+/// `unsigned`. `None` if the words aren't understood.
 pub fn imposed(out: &mut Answer, words: &[String]) -> Option<()> {
     let (pages, signing) = (count(words, 1)?, word(words, 2)?);
     let choice = choice_of(words.get(3..)?);
@@ -82,7 +83,8 @@ fn choice_of(words: &[String]) -> Choice<'_> {
     choice
 }
 
-/// Prints the number of sides that `Signing::Auto` gives signatures, for a row with this number of entries.
+/// Prints the number of sides that `Signing::Auto` gives the signatures of a row. The word after the command's name is the number of the row's
+/// entries. `None` if it isn't a number.
 pub fn sides_for(out: &mut Answer, words: &[String]) -> Option<()> {
     let entries = count(words, 1)?;
     if 0 < entries && entries < TOO_MANY {
@@ -93,7 +95,7 @@ pub fn sides_for(out: &mut Answer, words: &[String]) -> Option<()> {
     Some(())
 }
 
-/// Prints a row in signatures of a given number of sides.
+/// Prints a row in signatures of a given number of sides, or the reason why there is none. `None` if the words aren't understood.
 pub fn sewn(out: &mut Answer, words: &[String]) -> Option<()> {
     let sides = count(words, 1)?;
     let row = entries(out.alloc, word(words, 2)?)?;
@@ -117,7 +119,7 @@ pub fn entries(alloc: Global, text: &str) -> Option<Vec<Option<u32>>> {
     Some(row)
 }
 
-/// An entry of a row, and the number of times that the word repeats it.
+/// The entry that a word gives, and the number of times that it is repeated. `None` if the word gives no entry.
 fn entry_of(word: &str) -> Option<(Option<u32>, u32)> {
     if word == "-" {
         return Some((None, 1));

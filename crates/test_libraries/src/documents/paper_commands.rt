@@ -14,7 +14,7 @@ pub fn run(out: &mut Answer, words: &[String], documents: &[Document]) -> Option
     }
 }
 
-/// Runs a command on a document.
+/// Runs a command on a document. `None` if no command has this name, or its words aren't understood.
 fn run_on(out: &mut Answer, words: &[String], text: &[u8]) -> Option<()> {
     match word(words, 0)? {
         "paper" => told(out, text),

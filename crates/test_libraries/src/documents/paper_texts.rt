@@ -18,8 +18,8 @@ pub fn show_paper(out: &mut Answer, paper: &Paper) {
     out.points(paper.height());
 }
 
-/// Prints the paper that a document's comments give, with a4 as the default paper, and the comment that gives it. Prints `none` if no comment gives a
-/// paper.
+/// Prints the paper that a document's comments or setup give, with a4 as the default paper, and the comment or setup that gives it. Prints `none` if
+/// none of these gives a paper.
 pub fn told(out: &mut Answer, text: &[u8]) {
     match document_paper(text, &a4()) {
         Some((paper, comment)) => {
@@ -30,7 +30,8 @@ pub fn told(out: &mut Answer, text: &[u8]) {
     }
 }
 
-/// Prints the paper of each page, with letter as the default paper and `asked` as the paper of the command line.
+/// Prints the paper of each page, with letter as the default paper and `asked` as the paper of the command line. If the document is refused, prints
+/// the reason.
 pub fn home_papers(out: &mut Answer, text: &[u8], asked: Option<Paper>) -> Option<()> {
     let home = paper_by_name("letter")?;
     match papers_at(out.alloc, text, asked, &home) {
@@ -40,7 +41,8 @@ pub fn home_papers(out: &mut Answer, text: &[u8], asked: Option<Paper>) -> Optio
     Some(())
 }
 
-/// Prints the papers of the pages. Papers of nearly the same size are replaced by the smallest paper that covers them.
+/// Prints the papers of the pages, with letter as the default paper. Papers of nearly the same size are replaced by the smallest paper that covers
+/// them. If the document is refused, prints the reason.
 pub fn counted(out: &mut Answer, text: &[u8]) -> Option<()> {
     let home = paper_by_name("letter")?;
     match papers_at(out.alloc, text, None, &home) {
@@ -85,8 +87,8 @@ fn paper_line(out: &mut Answer, paper: &Paper) {
     out.text("\n");
 }
 
-/// Prints the first and the last page that a paper cuts, counted from 1, the number of such pages, and the smallest paper that covers them. The words
-/// give the paper, and then the papers of the pages.
+/// Prints the first and the last page that a paper cuts, counted from 1, the number of such pages, and the smallest paper that covers them. Prints
+/// `none` if the paper cuts no page. The words give the paper, and then the papers of the pages. `None` if one of them names no paper.
 pub fn cutting(out: &mut Answer, words: &[String]) -> Option<()> {
     let sheet = paper(words, 1)?;
     let own = papers_of(out.alloc, words.get(2..)?)?;
@@ -122,7 +124,7 @@ pub fn trailing_box(out: &mut Answer, text: &[u8]) {
     value(out, trailer_box(text));
 }
 
-/// Prints the value of a line that is a `%%Title:` comment, or `none` for another line.
+/// Prints the value of a line that is a `%%Title:` comment, or `none` for another line. `None` if no line is given.
 pub fn value_of_title(out: &mut Answer, words: &[String]) -> Option<()> {
     let line = word(words, 1)?.as_bytes();
     value(out, comment_value(line, b"%%Title", b"%%Title:"));

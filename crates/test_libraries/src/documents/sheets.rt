@@ -16,7 +16,7 @@ use std::fmt::Display;
 /// The largest number of sheets that are printed without omissions.
 const FEW: u32 = 20;
 
-/// Prints the sheets of a row, with each entry on a sheet of its own.
+/// Prints the sheets of a row, with each entry on a sheet of its own. `None` if the words aren't understood.
 pub fn on_their_own(out: &mut Answer, words: &[String]) -> Option<()> {
     let (blank, row) = (paper(words, 1)?, word(words, 3)?);
     let (pages, names) = pages_and_names(word(words, 2)?)?;
@@ -29,13 +29,14 @@ pub fn on_their_own(out: &mut Answer, words: &[String]) -> Option<()> {
     Some(())
 }
 
-/// The number of pages, and the names of their papers. Both are in one text, such as `5 a4 a3`.
+/// The number of pages, and the names of their papers. Both are in one text, such as `5 a4 a3`. `None` for another text.
 fn pages_and_names(text: &str) -> Option<(u32, &str)> {
     let (pages, names) = text.split_once(' ')?;
     Some((pages.parse::<u32>().ok()?, names))
 }
 
-/// Prints the sheets that a specification makes from a row, with sheets of A3 and pages of A4, or the reason why there are none.
+/// Prints the sheets that a specification makes from a row, with sheets of A3 and pages of A4, or the reason why there are none. `None` if the row
+/// isn't understood.
 pub fn by_specification(out: &mut Answer, words: &[String]) -> Option<()> {
     let Some(spec) = specification(out, words, 1) else {
         return Some(());
@@ -51,7 +52,8 @@ pub fn by_specification(out: &mut Answer, words: &[String]) -> Option<()> {
     Some(())
 }
 
-/// The papers of `pages` pages. The named papers are taken in their order, beginning again with the first after the last.
+/// The papers of `pages` pages. The named papers are taken in their order, beginning again with the first after the last. `None` if a name isn't that
+/// of a paper.
 fn papers_in_turn(alloc: Global, pages: u32, names: &str) -> Option<Vec<Paper>> {
     let turns = names.split_whitespace().count().max(1);
     let mut papers = Vec::new(alloc);
@@ -65,7 +67,7 @@ fn paper_at(names: &str, at: usize) -> Option<Paper> {
     paper_by_name(names.split_whitespace().nth(at)?)
 }
 
-/// The entries of a row. The text `all` gives all pages.
+/// The row that a text gives: all pages for `all`, otherwise the entries that the text names. `None` if it isn't a row.
 fn row_of(alloc: Global, pages: u32, row: &str) -> Option<Vec<Option<u32>>> {
     match row {
         "all" => all_pages(alloc, pages).ok(),
@@ -111,7 +113,7 @@ fn sheet_line(out: &mut Answer, made: &MadeSheets, sheet: u32)
     out.text("\n");
 }
 
-/// Appends the content of a slot, such as `1 a4 left`: the page's number from 1, its paper, and its turn.
+/// Appends the content of a slot, such as `1 a4 left`: the page's number from 1, its paper, and its turn. A blank slot is `-`.
 fn show_slot(out: &mut Answer, slot: Option<PlacedSlot<'_>>) {
     match slot {
         Some(placed) => {

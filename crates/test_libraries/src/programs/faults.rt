@@ -4,7 +4,8 @@ use crate::programs::made_faults::fault_named;
 use crate::words::word;
 use impose_cli::{fault_status, read_command, text_of_fault};
 
-/// Prints the exit status and the message for the fault that the first word names, as if all the words were the command line.
+/// Prints the exit status and the message for the fault that the first word names, as if all the words were the command line. `None` if that word
+/// names no fault, or if the words make no request.
 pub fn reported(out: &mut Answer, words: &[String]) -> Option<()> {
     let name = word(words, 0)?;
     let fault = fault_named(name)?;

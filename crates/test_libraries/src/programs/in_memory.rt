@@ -14,7 +14,7 @@ const PAGE: GivenFile<'static> = GivenFile {
     is_regular: true,
 };
 
-/// Prints the report of impose for this value of `PAPERSIZE` and this text of `/etc/papersize`.
+/// Prints the report of impose for this value of `PAPERSIZE` and this text of `/etc/papersize`. `is_regular` says whether this file is a regular one.
 pub fn at_home<R: Threads + Wait + Sync>(
     rt: &R,
     out: &mut Answer,
@@ -30,22 +30,23 @@ pub fn at_home<R: Threads + Wait + Sync>(
     report(rt, out, paper_size, &[PAGE, home], Takes::Bytes(10_000));
 }
 
-/// Prints the report of impose for an output that takes all bytes, but can't be flushed.
+/// Prints the message of impose about an output that takes all bytes, but can't be flushed.
 pub fn unflushed<R: Threads + Wait + Sync>(rt: &R, out: &mut Answer) {
     report(rt, out, "", &[PAGE], Takes::NoFlush);
 }
 
-/// Prints the report of impose for an output that can't be created.
+/// Prints the message of impose about an output that can't be created, and the requests that the folder has received.
 pub fn uncreated<R: Threads + Wait + Sync>(rt: &R, out: &mut Answer) {
     report(rt, out, "", &[PAGE], Takes::Nothing);
 }
 
-/// Prints the report of impose for an input that doesn't exist.
+/// Prints the message of impose about an input that doesn't exist, and the requests that the folder has received.
 pub fn unread<R: Threads + Wait + Sync>(rt: &R, out: &mut Answer) {
     report(rt, out, "", &[], Takes::Bytes(10_000));
 }
 
-/// Prints the report of impose for a page on a sheet of its own. If no output was created, also prints the requests that the folder has received.
+/// Prints the report of impose, or its message about a fault, for a page on a sheet of its own. If no output was created, also prints the requests
+/// that the folder has received.
 fn report<R: Threads + Wait + Sync>(
     rt: &R,
     out: &mut Answer,

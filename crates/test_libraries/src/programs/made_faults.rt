@@ -9,7 +9,8 @@ use sheet_plan::{MadeError, PlanError};
 use std::io;
 use std::io::ErrorKind;
 
-/// The fault with this name, or `None` if no fault has the name. A number may follow the name, as in `Spec.Syntax(12)`.
+/// The fault with this name, or `None` if no fault has the name. The number in a fault may follow its name, as in `Spec.Syntax(12)`; otherwise it is
+/// 0.
 pub fn fault_named(name: &str) -> Option<ImposeFault> {
     let (name, number) = match name.split_once('(') {
         None => (name, 0),

@@ -15,7 +15,7 @@ use std::sync::Wait;
 use std::thread::Threads;
 use test_tools::{GivenFile, ONE_PAGE, Takes, document_of};
 
-/// Prints the exit status and the message for the fault that the first word names.
+/// Prints the exit status and the message for the fault that the first word names. `None` if it names none.
 pub fn reported(out: &mut Answer, words: &[String]) -> Option<()> {
     let fault = pstops_fault_named(word(words, 0)?)?;
     match fault_line(out.alloc, &fault) {
@@ -57,7 +57,8 @@ pub fn long_input(out: &mut Answer, len: u32) {
     }
 }
 
-/// A reader of a document with one page. It gives seven bytes per call, fails at call number `fails_at`, and counts its calls.
+/// A reader of a document with one page. It gives at most seven bytes per call, fails at call number `fails_at`, counted from 1, and counts its
+/// calls.
 #[derive(Drop)]
 struct Failing {
     rest: &'static [u8],
@@ -106,7 +107,7 @@ pub fn failing_input(out: &mut Answer, fails_at: u32, is_interrupted: bool) {
 
 /// Prints the outcome of running pstops with these words over a document with one page in the file `in.ps`: exit status, message, and output. If no
 /// output was created, prints the requests that the folder received. The first word says how the output behaves: `all`, `unflushed`, `nothing`, or
-/// the number of bytes that the output takes per call. The further words are those of pstops.
+/// the number of bytes that the output takes per call. `None` if this word isn't understood. The further words are those of pstops.
 pub fn ran<R: Threads + Wait + Sync>(rt: &R, out: &mut Answer, words: &[String]) -> Option<()> {
     let (takes, words) = words.split_first()?;
     let takes = match takes.as_str() {
@@ -133,7 +134,8 @@ pub fn ran<R: Threads + Wait + Sync>(rt: &R, out: &mut Answer, words: &[String])
 }
 
 /// Prints the outcome of running a request of pstops over a document, with the output in memory: exit status, message, and the bytes written. The
-/// first two words are the number of pages, and the number of bytes for which the output has room.
+/// first two words are the number of pages, and the number of bytes for which the output has room. `None` if they aren't numbers. The further words
+/// are those of pstops.
 pub fn request_ran<R: Threads + Wait + Sync>(
     rt: &R,
     out: &mut Answer,

@@ -26,7 +26,7 @@ pub fn run(out: &mut Answer, words: &[String]) -> Option<()> {
     }
 }
 
-/// Two columns and one row of cells on A4, for pages of A4.
+/// Two columns and one row of cells on A4, for pages of A4. `None` if these cells are refused.
 pub fn two_columns() -> Option<Setting>
     ensures { IfSome result (λ t. 2 ≤ size t.grid) }
 {
@@ -45,7 +45,7 @@ pub fn two_columns() -> Option<Setting>
 }
 
 /// Prints the pages of the sheets that are filled from a row. The first word after the command's name says how: as a `grid`, as `cards`, as a `stack`
-/// or as `leaves`. `papers` are the papers of the pages.
+/// or as `leaves`. `papers` are the papers of the pages. `None` if the words aren't understood.
 fn filled(out: &mut Answer, words: &[String], papers: &[Paper]) -> Option<()> {
     let setting = two_columns()?;
     let (alloc, way) = (out.alloc, word(words, 1)?);
@@ -77,7 +77,7 @@ fn tell_sheets(out: &mut Answer, made: &MadeSheets) {
     }
 }
 
-/// Prints the scale of a page of the named paper in the second cell, in 10^-9, and its offset, in 10^-9 of a point.
+/// Prints the scale of a page of the named paper in the second cell, in 10^-9, and its offset, in 10^-9 of a point. `None` if no paper is named.
 fn fitted(out: &mut Answer, words: &[String]) -> Option<()> {
     match two_columns()?.item(&paper(words, 1)?, 1) {
         Ok(item) => {
@@ -113,7 +113,7 @@ fn two_tiles() -> Poster
 }
 
 /// The poster of `two_tiles`. If three numbers come after the page's paper, they replace its number of columns, its margin and its overlap. Margin
-/// and overlap are in 10^-5 of a point.
+/// and overlap are in 10^-5 of a point. `None` if one of the three isn't a number in range.
 fn told(words: &[String]) -> Option<Poster> {
     let mut poster = two_tiles();
     if word(words, 2).is_some() {
@@ -140,7 +140,8 @@ fn checked(out: &mut Answer, words: &[String]) -> Option<()> {
     Some(())
 }
 
-/// Prints the offsets for the pages of a row, each on the two sheets of `two_tiles`. The second page has a paper of its own.
+/// Prints the offsets for the pages of a row, each on the two sheets of `two_tiles`. The second page has a paper of its own. `None` if the words
+/// aren't understood.
 fn posters(out: &mut Answer, words: &[String]) -> Option<()> {
     let papers = [a4(), paper(words, 1)?];
     let row = row(out.alloc, words.get(2..)?)?;
@@ -151,7 +152,8 @@ fn posters(out: &mut Answer, words: &[String]) -> Option<()> {
     Some(())
 }
 
-/// Prints the offset of the first page of each sheet, in 10^-9 of a point.
+/// Prints, for each sheet, the offset of the page in its first slot, in 10^-9 of a point. Prints `-` if that slot is blank, and `no slots` if there
+/// is none.
 fn offsets(out: &mut Answer, made: &MadeSheets) {
     let Ok(sheets) = u32::try_from(made.len()) else {
         return out.text("too many\n");

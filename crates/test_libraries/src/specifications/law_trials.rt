@@ -129,7 +129,8 @@ fn booklets_tried(out: &mut Answer, page: &Named, sheet: &Named) -> Option<u32> 
     Some(2)
 }
 
-/// The specification of `n` pages on a sheet, with margins and gaps of `MILLIMETRES` unless `kept` has no margin.
+/// The specification of `n` pages on a sheet, with margins and gaps of `MILLIMETRES` unless `kept` has no margin. `None` if the layout or memory is
+/// refused.
 fn laid_out(alloc: Global, n: u32, papers: &Papers, kept: Kept) -> Option<Spec> {
     let mut arrangement = Arrangement::plain(Cells::AtLeast(n));
     if kept.margin != 0 {
@@ -253,7 +254,7 @@ fn fault_of_leaf(front: &[Placed], back: &[Placed], sheet: (i64, i64)) -> &'stat
     ""
 }
 
-/// Calls the proved laws.
+/// Calls the proved laws of the crates `lengths`, `placement` and `layouts`, and then prints `called`.
 fn laws_called(out: &mut Answer) {
     lengths::laws::printed_scale_is_read();
     lengths::laws::printed_number_is_read();

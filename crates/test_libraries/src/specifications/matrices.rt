@@ -15,7 +15,7 @@ pub fn run(out: &mut Answer, words: &[String]) -> Option<()> {
     }
 }
 
-/// Runs a command on an item and a page's paper.
+/// Runs a command on an item and a page's paper. `None` if its words aren't understood.
 fn run_on(out: &mut Answer, words: &[String], item: &Item, paper: &Paper) -> Option<()> {
     match word(words, 0)? {
         "matrix" => matrix(out, item, paper),
@@ -35,7 +35,7 @@ fn coordinate(words: &[String], at: usize) -> Option<i32> {
     i32::try_from(number(words, at)?).ok()
 }
 
-/// The width of a border, in grains, that word `at` gives. `None` without such a word.
+/// The width of a border, in grains, that word `at` gives. `None` if there is no such word, or if it isn't a whole number in range.
 fn border(words: &[String], at: usize) -> Option<Grains> {
     Grains::new(number(words, at)?)
 }

@@ -76,7 +76,7 @@ fn points(out: &mut Answer, length: Grains) {
     out.text("\n");
 }
 
-/// Prints the width and the height of a paper in whole points.
+/// Prints the width and the height of the paper with this name, rounded down to whole points, or `none` if no paper has the name.
 fn named(out: &mut Answer, name: &str) {
     match paper_by_name(name) {
         Some(paper) => {

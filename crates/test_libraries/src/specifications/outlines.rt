@@ -50,7 +50,7 @@ fn leaves_of_a4(out: &mut Answer, words: &[String]) -> Option<()> {
     }
 }
 
-/// The papers of pages and sheets that the words name.
+/// The paper of pages and the paper of sheets that the words name. `None` if one of the two isn't a paper.
 fn papers(words: &[String]) -> Option<Papers> {
     Some(Papers {
         page: paper(words, 2)?,
@@ -58,7 +58,7 @@ fn papers(words: &[String]) -> Option<Papers> {
     })
 }
 
-/// Prints a specification, or the reason why there is none.
+/// Prints a specification, or the reason why there is none. Returns `Some` in both cases.
 fn tell<E: Debug + Display + Drop>(out: &mut Answer, made: Result<Spec, E>) -> Option<()> {
     match made {
         Ok(spec) => written(out, &spec),
@@ -74,7 +74,7 @@ fn on_a4() -> Papers {
     }
 }
 
-/// The arrangement that the words give: its cells, and the options that follow them.
+/// The arrangement that the words give: its cells, and the options that follow them. `None` if a word isn't understood.
 fn arrangement(words: &[String]) -> Option<Arrangement> {
     let mut arrangement = Arrangement::plain(cells(word(words, 1)?)?);
     for word in words.get(2..)? {
@@ -83,7 +83,7 @@ fn arrangement(words: &[String]) -> Option<Arrangement> {
     Some(arrangement)
 }
 
-/// The cells that a text gives: the least number of cells, or columns and rows, such as `2x3`.
+/// The cells that a text gives: the least number of cells, or columns and rows, such as `2x3`. `None` for another text.
 fn cells(text: &str) -> Option<Cells> {
     match text.split_once('x') {
         None => Some(Cells::AtLeast(count_in(text)?)),
@@ -116,7 +116,8 @@ fn put_in_order(order: &mut Order, text: &str) -> Option<()> {
     Some(())
 }
 
-/// Sets the lengths that `name` stands for to this value, in 10^-5 of a point: one margin or all four, one gap or both, or the trim.
+/// Sets the lengths that `name` stands for to this value, in 10^-5 of a point: one margin or all four, one gap or both, or the trim. `None` for
+/// another name, or if the value isn't a length.
 fn keep(free: &mut Free, name: &str, value: &str) -> Option<()> {
     let length = length(value, 1_270_000)?;
     match name {

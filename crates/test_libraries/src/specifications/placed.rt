@@ -81,7 +81,7 @@ fn between(one: (i64, i64), other: (i64, i64)) -> Area {
 }
 
 /// The point of the sheet to which a matrix with these numbers sends a point of the page. The page's coordinates are in points, those of the result
-/// in 10^-9 of a point.
+/// in 10^-9 of a point. `None` unless there are six numbers.
 fn sent(numbers: &[i64], x: i64, y: i64) -> Option<(i64, i64)> {
     match numbers {
         [a, b, c, d, tx, ty] => Some((
@@ -106,7 +106,8 @@ fn as_held(quarters: u32, point: (i64, i64)) -> (i64, i64) {
     }
 }
 
-/// The turn of a matrix, in quarter turns to the left, and its scale in 10^-9. `None` if the matrix does more than turn, scale and move a page.
+/// The turn of a matrix, in quarter turns to the left, and its scale in 10^-9. `None` if the matrix does more than turn, scale and move a page, or
+/// doesn't have six numbers.
 fn turn_of(numbers: &[i64]) -> Option<(u32, i64)> {
     let [a, b, c, d, _, _] = *numbers else {
         return None;
@@ -145,7 +146,8 @@ pub fn pages_of(
     Ok(pages)
 }
 
-/// The page that a matrix with these numbers places. `sides` are the sides of the page, in points.
+/// The page that a matrix with these numbers places. `sides` are the sides of the page, in points. `None` if the matrix does more than turn, scale
+/// and move the page, or doesn't have six numbers.
 fn placed_by(numbers: &[i64], sides: (i64, i64)) -> Option<Placed> {
     let one = sent(numbers, 0, 0)?;
     let other = sent(numbers, sides.0, sides.1)?;

@@ -23,7 +23,8 @@ pub fn run(out: &mut Answer, words: &[String]) -> Option<()> {
     Some(())
 }
 
-/// Prints the plan of a specification for this number of pages, in signatures of `sides` sides if that number is given.
+/// Prints the plan of a specification for this number of pages, in signatures of `sides` sides if that number is given. `None` if a signature can't
+/// have this number of sides.
 fn planned(out: &mut Answer, spec: &Spec, pages: u32, sides: Option<u32>) -> Option<()> {
     let plan = match sides {
         None => Plan::new(out.alloc, spec, pages),
@@ -55,7 +56,7 @@ fn all_lines(out: &mut Answer, plan: &Plan<'_>) {
     blank_sheets(out, plan);
 }
 
-/// Prints the pages of each sheet.
+/// Prints the pages of each sheet. Long lists are shortened as `begin` says.
 pub fn page_lists(out: &mut Answer, plan: &Plan<'_>) {
     sheet_lists(out, plan, What::Pages);
 }
@@ -70,7 +71,7 @@ enum What {
 }
 
 /// Begins the entry at place `at`, counted from 0, of a list with `count` entries. Returns whether the entry is shown: the first `SHOWN` entries and
-/// the last one are.
+/// the last one are. One `..` stands for the others.
 fn begin(out: &mut Answer, at: u32, count: u32, between: &str) -> bool {
     let is_last = count.saturating_sub(1) <= at;
     if SHOWN < at && !is_last {
@@ -86,7 +87,7 @@ fn begin(out: &mut Answer, at: u32, count: u32, between: &str) -> bool {
     true
 }
 
-/// Ends a list of `count` entries.
+/// Ends a list of `count` entries. If there are none, prints `none`.
 fn end(out: &mut Answer, count: u32) {
     out.text(if count == 0 { "none\n" } else { "\n" });
 }

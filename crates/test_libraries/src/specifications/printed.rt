@@ -19,7 +19,8 @@ pub fn run(out: &mut Answer, words: &[String]) -> Option<()> {
     }
 }
 
-/// Prints the list of sheets that are filled from a row, with two pages on each. Every two sheets are the front and the back of a leaf.
+/// Prints the list of sheets that are filled from a row, with two pages on each. Every two sheets are the front and the back of a leaf. The words
+/// after the command's name give the greatest number of lines, and the row. `None` if they aren't understood.
 fn booklet_plan(out: &mut Answer, words: &[String]) -> Option<()> {
     let (setting, most) = (two_columns()?, count(words, 1)?);
     let row = row(out.alloc, words.get(2..)?)?;
@@ -29,7 +30,8 @@ fn booklet_plan(out: &mut Answer, words: &[String]) -> Option<()> {
     Some(())
 }
 
-/// Prints the list of sheets that are filled from a row and printed on one side. The second page has a paper of its own.
+/// Prints the list of sheets that are filled from a row, with two pages on each, and printed on one side. The words after the command's name give the
+/// greatest number of lines, the paper of the second page, and the row. `None` if they aren't understood.
 fn grid_plan(out: &mut Answer, words: &[String]) -> Option<()> {
     let (setting, most) = (two_columns()?, count(words, 1)?);
     let papers = [a4(), paper(words, 2)?, a4()];
@@ -67,7 +69,7 @@ fn add(out: &mut Answer, text: Result<Vec<u8>, AllocError>) {
     }
 }
 
-/// Prints the drawing of a sheet of this paper that has a page, a blank and the line of `fold`.
+/// Prints the drawing of one sheet of this paper. The sheet has a page, a blank and the line of `fold`.
 fn folded_sheet(out: &mut Answer, paper: &Paper) -> Option<()> {
     let (alloc, fold) = (out.alloc, fold()?);
     match one_sheet(alloc, 2, paper) {

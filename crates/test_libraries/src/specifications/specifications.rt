@@ -57,7 +57,8 @@ pub fn written(out: &mut Answer, spec: &Spec) {
     }
 }
 
-/// Prints the byte at which a text is refused, once as the refusal gives it and once as a slow search finds it.
+/// Prints the byte at which the syntax of a text is refused, once as the refusal gives it and once as a slow search finds it. Another refusal, or
+/// `taken`, is printed in place of the first of the two.
 fn syntax(out: &mut Answer, text: &str) {
     match read_spec(out.alloc, text) {
         Err(SpecError::Syntax(place)) => out.show(place),

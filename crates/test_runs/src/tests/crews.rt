@@ -64,7 +64,7 @@ impl<'a, R> Fates<'a, R> {
     }
 }
 
-/// Whether the bit with this number is set.
+/// Whether the bit with this number is set. False for numbers above 31.
 fn has_bit(bits: usize, number: usize) -> bool {
     number < 32 && bits >> number & 1 == 1
 }

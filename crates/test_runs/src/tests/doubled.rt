@@ -62,7 +62,7 @@ const IMPOSED: usize = 4_000;
 
 const WRONG: usize = 5_000;
 
-/// The deeds of all callers, counted by kind and number.
+/// The deeds of all callers, counted by kind and number, and the number of their calls that close a group of slots.
 #[derive(Drop)]
 struct Done {
     sizes: Sizes,
@@ -84,7 +84,7 @@ impl Done {
         self.deeds.add(deed.saturating_add(number as usize));
     }
 
-    /// Counts the reply to a mark of this slot, on this sheet.
+    /// Counts the reply to a mark of this slot, on this sheet, unless the slot was marked before.
     fn add_reply(&self, slot: u32, sheet: u32, reply: Reply) {
         match reply {
             Reply::Repeated => return,

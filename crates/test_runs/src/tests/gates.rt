@@ -149,9 +149,9 @@ struct Late {
     /// The number of looks that have begun. `ended` is the number of those that have ended.
     begun: AtomicUsize,
     ended: AtomicUsize,
-    /// The number of looks that have waited.
+    /// The number of looks that have begun to wait.
     waited: AtomicUsize,
-    /// The number of steps that brought a sheet and have ended. `came` is the number of sheets that have come.
+    /// The number of steps that brought a sheet and have ended. `came` is above 0 once the sheet has come.
     worked: AtomicUsize,
     came: AtomicUsize,
     /// The number of looks that had begun when the sheet was found.
@@ -182,7 +182,8 @@ impl Late {
         }
     }
 
-    /// If the first look is to wait on this side, waits until the sheet has come and the step that brought it has ended.
+    /// If the first look is to wait on this side, waits until the sheet has come. Then yields the processor 100,000 times, so that the other threads
+    /// go on.
     fn wait_at(&self, side: Side) {
         if side != self.side {
             return;

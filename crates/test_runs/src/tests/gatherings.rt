@@ -37,7 +37,7 @@ pub(super) struct Gathering {
     pub(super) sink: MemorySink,
 }
 
-/// A queue for the sheets of a job. If `puts` is given, the queue guarantees at least that number of puts.
+/// A queue for the sheets of a job, and its pass. If `puts` is given, the queue guarantees at least that number of puts.
 fn queue_for<R: Abort>(rt: &R, alloc: Global, job: &Job<'_, '_>, puts: Option<u32>) -> (Ready, Pass)
     ensures pass { IsFreshPass result.0 result.1 }
     ensures room { length job.now.plan.sheets ≤ result.0.capacity }
@@ -112,7 +112,8 @@ pub(super) fn gather_pairs<R: Threads + Wait + Sync + Abort, G: Gate + Sync>(
     gather_at(rt, alloc, &job, way, gate)
 }
 
-/// The expected outcome for `pages` pages, two on a sheet. The bytes `written` of the output are written, and the bytes `rest` aren't.
+/// The expected outcome for `pages` pages, two on a sheet, if the bytes `written` of the output are written and the bytes `rest` aren't. It is a
+/// report if `rest` is empty, otherwise a failed write.
 fn outcome_of(pages: u32, written: &[u8], rest: &[u8]) -> Result<Report, RunError> {
     let bytes = written.len() as u64;
     if !rest.is_empty() {

@@ -136,7 +136,7 @@ const START: Progress = Progress {
     halted: None,
 };
 
-/// A sink that takes all bytes, and notes the length of each call.
+/// A writer that takes all bytes, and notes the number of bytes in each call.
 #[derive(Drop)]
 struct Calls {
     lengths: Vec<usize>,
@@ -223,7 +223,8 @@ fn write_two_groups<R: Abort>(
     [first, (progress.next, given_back.sheets.len())]
 }
 
-/// Calls `write_two_groups`. Asserts that the two groups are given back one after the other, with all bytes that were written.
+/// Calls `write_two_groups`. Asserts that the two groups are given back one after the other, with all bytes that were written. Returns the sink,
+/// which has these bytes.
 fn two_groups<R: Abort>(
     rt: &R,
     alloc: Global,

@@ -22,7 +22,7 @@ const ROUNDS: u32 = 1_000;
 /// Two slots, each named by its sheet and its number on that sheet, both counted from 0.
 type Slots = [(u32, u16); 2];
 
-/// The replies to marks of two slots.
+/// The replies to marks of two slots. `None` for a slot that isn't marked.
 type Replies = [Option<Reply>; 2];
 
 const FRESH: Replies = [Some(Reply::Fresh), Some(Reply::Repeated)];
@@ -46,7 +46,7 @@ struct Bringer<'s, 't, 'p> {
 }
 
 impl<'s, 't, 'p> Bringer<'s, 't, 'p> {
-    /// Publishes the page of a slot.
+    /// Publishes the page of a slot, if the slot has a page. The page's index is its number.
     fn publish(&mut self, (sheet, slot): (u32, u16)) {
         if let Some(page) = page_in(self.plan, sheet, slot) {
             self.table.publish(&mut self.seat, page, page);

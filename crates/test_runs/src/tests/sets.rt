@@ -2,7 +2,8 @@
 use super::checks::{assert_that, done};
 use imposer::SheetSet;
 
-/// For each pair, takes the smallest number below the pair's end from the set. Returns whether each taken number is the one in its pair.
+/// For one pair after the other, takes the smallest number from the set if it is below the pair's end. Returns whether each answer is the one in its
+/// pair; `None` means that no number is taken.
 fn are_taken(set: &mut SheetSet, wanted: &[(u32, Option<u32>)]) -> bool {
     for (end, number) in wanted {
         if set.take_first_before(*end) != *number {

@@ -118,7 +118,7 @@ fn nothing_is_written_after_a_failure(rt: HostRuntime) {
     }
 }
 
-/// A writer that takes at most seven bytes per call, fails only at call number `fails_at`, and counts its calls.
+/// A writer that takes at most seven bytes per call, fails only at call number `fails_at`, counted from 1, and counts its calls.
 #[derive(Drop)]
 struct Torn {
     cause: ErrorKind,

@@ -31,7 +31,7 @@ const BLANK_LAST: &str = "7:0,1,2,3,4,5,6";
 /// The pages in their order, each four times on its sheet.
 const FOUR_TIMES: &str = "0+0+0+0";
 
-/// A document of six pages that have only comments.
+/// A document of six pages, each of more than `PAGE_LEN` bytes, that have only comments.
 pub(super) fn six_pages<R: Abort>(rt: &R, alloc: Global) -> String {
     large_pages(rt, alloc, PAGES as u32, PAGE_LEN / 9 + 1)
 }
@@ -49,7 +49,7 @@ pub(super) struct Words {
     imposed: AtomicUsize,
     /// The number of waits that ran out.
     pub(super) run_out: AtomicUsize,
-    /// The number of sheets that were imposed too early.
+    /// The number of sheets that were imposed while they were past the window.
     too_early: AtomicUsize,
 }
 
@@ -143,8 +143,8 @@ impl<'w> Gate for FirstSheetLast<'w> {
     }
 }
 
-/// Runs a trial in which `first_page`, the page of the first sheet, is delivered last. Asserts that workers impose all of the `sheets` sheets, and no
-/// sheet too early.
+/// Runs a trial in which `first_page`, the page of the first sheet, is delivered last. Asserts that workers impose all of the `sheets` sheets, and
+/// none while it is past the window.
 fn assert_in_turn<R: Threads + Wait + Sync + Abort>(
     rt: &R,
     alloc: Global,
@@ -194,7 +194,8 @@ fn no_sheet_is_imposed_far_before_its_turn(rt: HostRuntime) {
     }
 }
 
-/// Whether a run into a sink that takes `room` bytes ends with a failed write after `room` bytes, and no wait runs out.
+/// Whether a run into a sink that takes `room` bytes ends with a failed write after `room` bytes. The sink must refuse one call, and no wait may run
+/// out.
 fn is_stopped<R: Threads + Wait + Sync, G: Gate + Sync>(
     rt: &R,
     alloc: Global,

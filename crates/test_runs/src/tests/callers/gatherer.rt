@@ -135,7 +135,7 @@ impl<'s, 'j, 't, 'd> Gatherer<'s, 'j, 't, 'd> {
         mark_checked(self.table, self.job.plan(), &mut self.seat, sheet, slot)
     }
 
-    /// Puts a sheet in the queue.
+    /// Puts a sheet in the queue. Fails if the queue has no room for the sheet.
     pub(crate) fn hand_on<R: Wait>(&mut self, rt: &R, sheet: u32) -> Result<(), Full> {
         self.ready.put(rt, &mut self.pass, sheet)
     }
@@ -210,7 +210,7 @@ fn outcome_of_text(
     }
 }
 
-/// Imposes a sheet, and returns the outcome.
+/// Imposes a sheet, and returns the outcome. The error is refused memory, or a gatherer that has only one share of its seat or of its pass.
 pub(crate) fn outcome_of(
     alloc: Global,
     gatherer: &mut Gatherer<'_, '_, '_, '_>,

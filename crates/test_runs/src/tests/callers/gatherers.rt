@@ -40,7 +40,7 @@ fn show_delivery(
     }
 }
 
-/// Appends a page that is returned for lack of memory.
+/// Appends `NoMemory` and the number of a page that is returned for lack of memory.
 fn show_unshelved(prepared: &Prepared<'_>, answer: &mut Vec<u8>) -> Result<(), AllocError> {
     say(format_args!("NoMemory {}", prepared.page()), answer)
 }
@@ -92,7 +92,7 @@ fn index_on<'d>(shelf: &Shelf<'d>, receipt: &Receipt<'d>, known: Known<'_>) -> O
     if is_found { Some(index) } else { None }
 }
 
-/// Puts a page of the document on the shelf, and appends its index.
+/// Puts a page of the document on the shelf, and appends its index, or the reason why the page isn't put there.
 fn put<'d, R: Wait>(
     rt: &R,
     alloc: Global,
@@ -118,7 +118,7 @@ fn put<'d, R: Wait>(
     put_known(rt, shelf, prepared, known, answer)
 }
 
-/// Puts a known page on the shelf, and appends its index.
+/// Puts a known page on the shelf, and appends the answer of `index_on` for it, or the reason why the page isn't put there.
 fn put_known<'d, R: Wait>(
     rt: &R,
     shelf: &Shelf<'d>,
@@ -159,7 +159,7 @@ fn show_outcome(
     show(outcome_of(alloc, gatherer, sheet)?, answer)
 }
 
-/// The number of the page that the shelf shows at an index.
+/// The number of the page that the shelf shows at an index. `None` if the shelf shows no page there.
 fn shown_at(shelf: &Shelf<'_>, index: u32) -> Option<u32> {
     match shelf.at(index) {
         Some(page) => Some(page.page()),
@@ -351,7 +351,7 @@ const IN_ORDER: &str = "\
     deliver 0 = Stored [Completing] [] []\n\
 ";
 
-/// A page in each of 64 slots.
+/// The same page in each of 64 slots of a sheet.
 const IN_64_SLOTS: &str = "\
     0+0+0+0+0+0+0+0+0+0+0+0+0+0+0+0+0+0+0+0+0+0+0+0+0+0+0+0+0+0+0+0+0+0+0+0+0+0+0+0+0+0+0+0+0+0+0+0+0+0+\
     0+0+0+0+0+0+0+0+0+0+0+0+0+0 1 1\n\
@@ -363,7 +363,7 @@ const IN_64_SLOTS: &str = "\
     Fresh, Fresh, Fresh, Fresh, Fresh, Completing] [] []\n\
 ";
 
-/// A page in each of 65 slots.
+/// The same page in each of 65 slots of a sheet.
 const IN_65_SLOTS: &str = "\
     0+0+0+0+0+0+0+0+0+0+0+0+0+0+0+0+0+0+0+0+0+0+0+0+0+0+0+0+0+0+0+0+0+0+0+0+0+0+0+0+0+0+0+0+0+0+0+0+0+0+\
     0+0+0+0+0+0+0+0+0+0+0+0+0+0+0 1 1\n\

@@ -49,7 +49,7 @@ fn shown(alloc: Global, report: &Report) -> Result<String, NoMemory> {
 }
 
 /// The options that a line gives: the numbers of preparers and imposers, the number of sides of a signature, and the width of a border in grains. A
-/// dash means none.
+/// dash means no signatures, or no border.
 fn options_of(settings: &str) -> Options {
     let mut words = settings.split(' ');
     let preparers = number(words.next());

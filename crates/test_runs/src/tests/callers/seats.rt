@@ -7,8 +7,8 @@ use sheet_plan::Plan;
 use std::alloc::Global;
 use std::process::Abort;
 
-/// Publishes a page through one of two seats, if the plan has a page, and returns the index that the other seat finds after the two have met. Asserts
-/// that the two seats together have the shares of the whole seat.
+/// Publishes a page through one of two seats, if the plan has a page, and returns the index that the other seat finds after the two have met. `None`
+/// if the plan has no page. Asserts that the two seats together have the shares of the whole seat.
 fn found_by_the_other<R: Abort>(rt: &R, alloc: Global, plan: &Plan) -> Option<u32> {
     let (table, mut one) = done(rt, GatherTable::new(alloc, plan));
     let two = table.split(&mut one, 1);

@@ -8,7 +8,7 @@ use test_tools::{has_refused, refuse};
 
 /// An object on which the lines of a story make their calls.
 pub(crate) trait Called<R> {
-    /// Makes the call that these words name, and appends its answer.
+    /// Makes the call that these words name, and appends its answer. Fails if memory is refused.
     fn call(
         &mut self,
         rt: &R,
@@ -69,12 +69,12 @@ fn call_again<R: Abort, C: Called<R>>(
     true
 }
 
-/// The words of the call in a line, and the expected answer.
+/// The words of the call in a line, and the expected answer, which is empty if the line has none.
 pub(crate) fn parts_of(line: &str) -> (&str, &str) {
     line.split_once(" = ").unwrap_or((line, ""))
 }
 
-/// The first word, and the text after it.
+/// The first word, and the text after it, which is empty if there is only one word.
 pub(crate) fn first_word(words: &str) -> (&str, &str) {
     words.split_once(' ').unwrap_or((words, ""))
 }

@@ -87,7 +87,7 @@ fn two_sheets<R: Abort>(rt: &R, alloc: Global) -> MadeSheets {
     sheets
 }
 
-/// The additions to an output whose sheets report their papers: a line in the header, and the same line at the end of each sheet.
+/// The additions to an output whose sheets report their papers: a line in the header, and another line at the end of each sheet.
 fn lines<R: Abort>(rt: &R, alloc: Global) -> SheetExtras {
     let mut header = Lines::new(alloc);
     done(rt, header.push(b"%%DocumentMedia: x"));

@@ -97,7 +97,7 @@ impl Gate for Counted {
     }
 }
 
-/// The number of calls before steps or looks, and the number of calls after them.
+/// The two counters of a pair: that of calls before steps or looks, and that of calls after them.
 fn counts_of(words: &[AtomicUsize; 2]) -> (usize, usize) {
     (words[0].load(SeqCst), words[1].load(SeqCst))
 }

@@ -40,7 +40,7 @@ impl<'r> InTexts<'r> {
         Ok(())
     }
 
-    /// The number of finished texts, and the capacity and the length of the next one, in bytes.
+    /// The number of finished texts, and the capacity and the length of the next one, in bytes. The length is `None` if it is above `usize::MAX`.
     fn sizes(&self) -> (usize, usize, Option<usize>) {
         let text = &self.text;
         (self.texts.len(), text.capacity(), text.pieces().len())
@@ -85,7 +85,8 @@ impl<'r> InTexts<'r> {
         count
     }
 
-    /// Takes the sheets that came together with this sheet from the buffer, and returns their number.
+    /// Takes a group of sheets from the buffer, if this sheet is the group's last one. Returns the number of sheets taken, which is 0 for another
+    /// sheet.
     fn take(&mut self, sheet: u32) -> usize {
         match self.early.take_written(sheet) {
             Some(written) => written.len(),
@@ -94,7 +95,7 @@ impl<'r> InTexts<'r> {
     }
 
     /// Joins up to `most` finished sheets, beginning with this sheet. The sheet's number is also its index. Appends the number of joined sheets, and
-    /// their pieces.
+    /// their pieces, or `no such text` if `most` is 0 or the sheet isn't at its index.
     fn join(&self, sheet: u32, most: u32, answer: &mut Vec<u8>) -> Result<(), AllocError> {
         if most == 0 {
             return show("no such text", answer);
@@ -106,7 +107,7 @@ impl<'r> InTexts<'r> {
         self.show_pieces(text, answer)
     }
 
-    /// Appends the text of a sheet that is in the buffer.
+    /// Appends the text of a sheet that is in the buffer, or that there is no such sheet.
     fn text_of(&self, sheet: u32, answer: &mut Vec<u8>) -> Result<(), AllocError> {
         match self.early.joined(sheet, 1) {
             Some((_, text)) => self.show_pieces(text, answer),

@@ -44,7 +44,7 @@ struct Ended {
     is_refused: bool,
 }
 
-/// The number of bytes that this answer reports as written. `None` for a run that finished.
+/// The number of bytes that this answer reports as written. `None` for a run that finished. The test fails for an error other than `NoMemory`.
 fn written_by<R: Abort>(rt: &R, answer: &Result<Report, RunError>) -> Option<u64> {
     match answer {
         Ok(_) => None,
@@ -102,8 +102,8 @@ fn refuse_one<R: Threads + Wait + Abort + Sync>(
     ended.is_refused
 }
 
-/// Refuses each growth of the run in turn. The order in which threads grow memory varies. The test therefore ends only after four successive numbers
-/// for which no growth was refused.
+/// Refuses each growth of the run in turn. `holds` says whether imposers may hold sheets until their turn. The order in which threads grow memory
+/// varies. The test therefore ends only after four successive numbers for which no growth was refused.
 fn refuse_each<R: Threads + Wait + Abort + Sync>(
     rt: &R,
     alloc: Global,
@@ -178,8 +178,9 @@ fn runs_whose_first_sheet_comes_last(rt: HostRuntime) {
     }
 }
 
-/// Gathers the pages of a document while the growth with this number is refused. Asserts that the sink has the first bytes of this output, and that
-/// the tokens come back if and only if no growth was refused. Returns whether one was refused.
+/// Gathers the pages of a document while the growth with this number is refused. Asserts that the sink has the first bytes of this output, as many as
+/// the run reports. Asserts that the run finishes, and that the tokens come back, if and only if no growth was refused. Returns whether one was
+/// refused.
 fn gather_refused<R: Threads + Wait + Abort + Sync>(
     rt: &R,
     alloc: Global,
