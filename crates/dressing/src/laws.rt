@@ -61,9 +61,9 @@ pub fn drawn_is_quiet()
     ensures { DrawnIsQuiet }
 {}
 
-/// In an output whose sheets report their papers, the paper of each sheet is found again, as it is printed, whatever is drawn on the sheets. The
-/// sides of the papers must be from 1 point to 99,999.99999 points. The output must have at least one sheet and be within the limits of an input, and
-/// the last page of the document must leave no embedded document open.
+/// In an output whose sheets report their papers, the paper of each sheet is found again, with its sides as they are printed, whatever is drawn on
+/// the sheets. The sides of the papers must be from 1 point to 99,999.99999 points. The output must have at least one sheet and be within the limits
+/// of an input, and the last page of the document must leave no embedded document open.
 pub fn drawn_are_found()
     ensures { DrawnAreFound }
 {}

@@ -13,7 +13,7 @@ use papers::smallest_cover;
 use sheet_text::Lines;
 use std::alloc::{AllocError, Global};
 
-/// The header lines that report these papers, with a medium for each paper. Without papers there are no lines.
+/// The header lines that report these papers: a bounding box that covers them all, and a medium for each paper. Without papers there are no lines.
 pub(crate) fn header_lines(alloc: Global, told: &[Paper]) -> Result<Lines, AllocError>
     ensures { IfOk result (λ lines. lines ≡ (telling_of told.now).header) }
 {

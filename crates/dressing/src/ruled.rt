@@ -34,7 +34,7 @@ fn push_row(room: &Room, grid: Grid, row: u32, lines: &mut Vec<Stroke>) -> Resul
     Ok(())
 }
 
-/// The number of lines in a cell.
+/// The number of lines in a cell. It is 0 if the cell is at most 24 points high.
 fn line_count(room: &Room, grid: Grid) -> u32
     ensures value { result ≡ count_of room.now grid }
     ensures few { result ≤ 10_000_000 }

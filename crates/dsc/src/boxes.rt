@@ -80,7 +80,8 @@ fn found_by<'d>(
     }
 }
 
-/// The text after the colon, if the unit is a `%%BoundingBox:` comment outside embedded documents.
+/// The text after the colon, if the unit is a `%%BoundingBox:` comment outside embedded documents. None for any other
+/// unit.
 fn box_in<'d>(unit: &LineOrBlock<'d>, depth: usize) -> Option<&'d [u8]>
     ensures { option_map (λ value. fields_in value.now) result ≡ told_box (at_depth depth (unit_of unit.now)) }
 {

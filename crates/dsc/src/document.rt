@@ -232,7 +232,7 @@ impl<'d> Document<'d> {
     }
 
     /// The trailer of the output: the trailer of the document without the lines that `preamble_text` drops from a
-    /// preamble. Fails only if memory is refused.
+    /// preamble. It is empty if the document has no trailer. Fails only if memory is refused.
     pub fn trailer_text(&self) -> Result<Vec<u8>, AllocError>
         ensures text { IfOk result (λ v. v.items ≡ trailer_text self.now) }
     {

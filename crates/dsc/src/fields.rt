@@ -38,7 +38,8 @@ pub fn next_field(text: &[u8]) -> Option<(&[u8], &[u8])>
     Some(from.split_at(len))
 }
 
-/// The value of a field of digits, or `usize::MAX` if the value is larger. None if a byte isn't a digit.
+/// The value of a field of digits, or `usize::MAX` if the value is larger. It is 0 if there are no digits. None if a
+/// byte isn't a digit.
 pub(crate) fn count_in(field: &[u8]) -> Option<usize>
     ensures { MatchOption result (list_all is_ascii_digit field.now ≡ false) (λ n.
         (list_all is_ascii_digit field.now ≡ true) × (n ≡ min (number_of field.now) usize.MAX)) }

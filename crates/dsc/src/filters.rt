@@ -75,8 +75,9 @@ fn drops_in_header(content: &[u8]) -> bool
                         || key == b"%%Orientation".as_slice()))))
 }
 
-/// Whether the filter drops a unit at this depth in embedded documents. `was` says whether the filter dropped the unit
-/// before it. If so, a `%%+` line is dropped too, because it continues that unit.
+/// Whether the filter drops a unit at this depth in embedded documents. A data block is never dropped. `was` says
+/// whether the filter dropped the unit before this one. If so, a `%%+` line is dropped too, because it continues that
+/// unit.
 pub(crate) fn drops_unit(drops: Drops, was: bool, unit: &LineOrBlock<'_>, depth: usize) -> bool
     ensures { result ≡ is_dropped drops was (at_depth depth (unit_of unit.now)) }
 {
@@ -86,9 +87,9 @@ pub(crate) fn drops_unit(drops: Drops, was: bool, unit: &LineOrBlock<'_>, depth:
     (depth == 0 && drops_line(drops, unit.content)) || (was && unit.content.starts_with(b"%%+"))
 }
 
-/// The bytes that a filter has kept of a text. They are the copied bytes, then the run `held`, and then the first
-/// `run_len` bytes of `run`. The two runs are borrowed from the text. The unread text follows in `run`, so the second
-/// run can grow.
+/// The bytes with which a filter began, and those that it has kept of a text. They are the copied bytes, then the run
+/// `held`, and then the first `run_len` bytes of `run`. The two runs are borrowed from the text. The unread text
+/// follows in `run`, so the second run can grow.
 #[derive(Drop)]
 pub(crate) struct Kept<'d> {
     pub copied: Vec<u8>,
@@ -160,8 +161,8 @@ fn copy(copied: &mut Vec<u8>, part: &[u8], room: usize) -> Result<(), AllocError
     copied.extend_from_slice(part)
 }
 
-/// Filters a text. Returns the bytes in `copied`, followed by the bytes of the text that the filter keeps. Refuses the
-/// text's first faulty data block.
+/// Filters a text. Returns the bytes in `copied`, followed by the bytes of the text that the filter keeps. Fails with
+/// the text's first faulty data block, or if memory is refused.
 pub(crate) fn filter<'d>(
     copied: Vec<u8>,
     drops: Drops,
@@ -257,8 +258,8 @@ pub fn end_line(kept: &mut Vec<u8>) -> Result<(), AllocError>
     Ok(())
 }
 
-/// The prepared body of a page: its bytes without the lines that set up the page. It ends with a line end, unless it
-/// is empty. The lines left out are the outermost lines whose key begins with `%%Page` or is `%%BeginPageSetup` or
+/// The prepared body of a page: its bytes without the comments about the page. It ends with a line end, unless it is
+/// empty. The dropped comments are the outermost lines whose key begins with `%%Page` or is `%%BeginPageSetup` or
 /// `%%EndPageSetup`, and the `%%+` lines that continue them. The page is cut as a text by itself, and needn't begin
 /// with a `%%Page:` line.
 ///

@@ -69,7 +69,7 @@ fn meaning_of_line(content: &[u8], depth: usize) -> Meaning
     }
 }
 
-/// The meaning of a line with this content at this depth, if it isn't a `%%Page:` line.
+/// The meaning of a line with this content at this depth. The line must not be a `%%Page:` line.
 fn meaning_of_key(content: &[u8], depth: usize) -> Meaning
     requires countable { depth < usize.MAX }
     requires no_page { starts_with nat_eq content.now (codes "%%Page:") ≡ false }

@@ -17,7 +17,7 @@ pub(crate) fn is_line_end(byte: u8) -> bool
 }
 
 /// The length of the line end with which these bytes begin: 2 for CR LF, and 1 for CR or LF alone. It is 0 if there are
-/// no bytes.
+/// no bytes. Callers pass no bytes that begin in another way.
 fn end_at(text: &[u8]) -> usize
     ensures { result ≡ end_len text.now }
 {

@@ -6,9 +6,9 @@ ghost use Rattle.dsc.specs.Plain.{BeginsPlain, next_line};
 use crate::lines::{content_end, is_line_end, line_end_after};
 use memchr::memmem::Finder;
 
-/// The number of bytes of lines at the start of the text, of which none begins with two percent signs. The lines before
-/// the first two percent signs of the text, which `percent_signs` finds, are counted. The line that contains these
-/// signs is counted as well, unless it begins with them. A text without two percent signs is counted whole.
+/// The number of bytes of the lines before the one that contains the text's first `%%`, which `percent_signs` finds.
+/// That line is counted as well, unless it begins with this `%%`. A text without `%%` is counted whole. So no counted
+/// line begins with `%%`.
 pub(crate) fn plain_len(percent_signs: &Finder<'_>, text: &[u8]) -> usize
     requires { percent_signs.now ≡ codes "%%" }
     ensures plain { BeginsPlain result text.now }

@@ -97,7 +97,8 @@ impl<'d> Walk<'d> {
     }
 }
 
-/// The first unit of a non-empty text. Successive lines that don't begin with two percent signs count as one unit.
+/// The first unit of a non-empty text. Successive lines that don't begin with two percent signs count as one unit. If
+/// the unit is a faulty data block, it is refused.
 fn first_piece<'d>(percent_signs: &Finder<'_>, text: &'d [u8]) -> Result<LineOrBlock<'d>, UnitError>
     requires needle { percent_signs.now ≡ codes "%%" }
     requires some { 0 < length text.now }

@@ -66,7 +66,7 @@ fn homes_of(alloc: Global, plan: &Plan) -> Result<(Vec<Home>, u32), AllocError>
     Ok((homes, wide))
 }
 
-/// The number of words with lanes.
+/// The number of words with lanes. It is 1 even if no sheet has a lane.
 fn lane_words(plan: &Plan) -> u32
     ensures { result ≡ (free (layout plan.now) (length (layout plan.now).sheets)).word + 1 }
 {

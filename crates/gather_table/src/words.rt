@@ -1,5 +1,5 @@
-//! The meaning of the words of a table. A page's word holds its index. In the word of a group, bit k is for slot k of
-//! the group. In the closing word of a wide sheet, bit g is for group g.
+//! The meaning of the words of a table. A page's word is its index plus one, or 0 if it has no index. In the word of a
+//! group, bit k is for slot k of the group. In the closing word of a wide sheet, bit g is for group g.
 ghost use Rattle.std.specs.Prelude.{◌≡◌, ◌+◌, ◌-◌, ◌*◌, ◌/◌, ◌<◌, ◌≤◌, ◌^◌, nat_lt, if◌then◌else◌, length};
 ghost use Rattle.rules.specs.Admissible.{most_slots};
 ghost use Rattle.rules.specs.Sheets.{layout};

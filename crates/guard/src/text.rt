@@ -13,7 +13,7 @@ const FIRST_LINES: &[u8] = b"\
     %%BeginResource: procset ImposeGuard 1.0 0\n\
     userdict /ImposeGuard known not {userdict begin\n";
 
-/// The lines of the guard that follow `FIRST_LINES` or, if the guard sets the page size, the line that sets it.
+/// The lines of the guard after `FIRST_LINES` and after the line that sets the page size, if there is one.
 /// docs/GUARD.md says what each line does.
 const OTHER_LINES: &[u8] = b"\
     /ImposeShow /showpage load def\n\
@@ -56,9 +56,9 @@ const OTHER_LINES: &[u8] = b"\
 /// The number of bytes that are reserved for the guard. With any paper of the sheet, the guard has fewer bytes.
 const ROOM: usize = 2_560;
 
-/// A copy of the text with the guard inserted after its header comments (see `header_len`). If `sheet_paper` is a
-/// paper, the guard first sets the device's page size to it, provided that the interpreter has `setpagedevice`. The
-/// text needn't be a document. Fails only if memory is refused.
+/// A copy of the text with the guard inserted after its header comments (see `header_len`). If these lack a line end,
+/// LF is added to them. If `sheet_paper` is a paper, the guard first sets the device's page size to it, provided that
+/// the interpreter has `setpagedevice`. The text needn't be a document. Fails only if memory is refused.
 pub fn guarded(
     alloc: Global,
     text: &[u8],
@@ -75,8 +75,8 @@ pub fn guarded(
     Ok(out)
 }
 
-/// Inserts the guard into `text`, at the place where `guarded` inserts it into a copy. If memory is refused, the call
-/// fails, and the text is unchanged.
+/// Inserts the guard into `text`, as `guarded` inserts it into a copy. If memory is refused, the call fails, and the
+/// text is unchanged.
 pub fn put_guard(text: &mut Vec<u8>, sheet_paper: Option<&Paper>) -> Result<(), AllocError>
     ensures put_in { OnOk result (text.new.items ≡ guarded (option_map (λ p. p.now) sheet_paper.entry) text.old.items) }
     ensures unchanged { OnErr result (text.new.items ≡ text.old.items) }

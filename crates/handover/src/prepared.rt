@@ -13,8 +13,8 @@ use std::fmt;
 use std::marker::Model;
 
 /// A page of a document with its prepared body, which is the part of the page that is placed on a sheet. The page
-/// comments and the page setup lines of DSC 3.0 are dropped from the body. A prepared page takes 32 bytes. It takes
-/// more memory only if `new` made it, or if its body isn't a suffix of the page.
+/// comments of DSC 3.0, and the comments around the page setup, are dropped from the body. A prepared page takes 32
+/// bytes. It takes more memory only if `new` made it, or if its body isn't a suffix of the page.
 #[derive(Drop)]
 pub struct Prepared<'d> {
     kept: KeptBody<'d>,

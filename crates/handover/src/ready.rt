@@ -66,8 +66,8 @@ impl Ready {
     /// Makes a queue that guarantees `capacity` puts (puts by right), and the pass that has all its shares. `capacity`
     /// must be at least 1. The pass has room for `capacity` puts, and this room can be split among several passes.
     /// While a pass has room, its puts are never refused, and each put lowers its room by one. A put by a pass without
-    /// room is refused, unless the pass has all shares: free places in the queue may be guaranteed to other passes.
-    /// Fails only if memory is refused.
+    /// room is refused unless the pass has all shares and the queue isn't full. The reason is that free places in the
+    /// queue may be guaranteed to other passes. Fails only if memory is refused.
     ///
     /// A take gives no room back: the queue never guarantees more than `capacity` puts in all.
     pub fn by_right(alloc: Global, capacity: u32) -> Result<(Ready, Pass), AllocError>

@@ -19,7 +19,7 @@ pub(crate) fn may_put(room: Option<u32>, share: u64) -> bool
     }
 }
 
-/// The room of a pass after a put.
+/// The room of a pass after a put: one less than before, but not below 0. `None` stays `None`.
 pub(crate) fn room_after_put(room: Option<u32>) -> Option<u32>
     ensures { (sheet : ℕ) → result ≡ room_after (Put sheet) room }
 {
@@ -50,7 +50,8 @@ pub(crate) fn room_given(give: u32, room: Option<u32>) -> Option<u32>
     }
 }
 
-/// The room of the pass into which two passes are joined.
+/// The room of the pass into which two passes are joined: the sum of their rooms. `None` counts as 0, but the sum of
+/// two `None` is `None`.
 pub(crate) fn both_rooms(one: Option<u32>, two: Option<u32>) -> Option<u32>
     requires { puts_in one + puts_in two ≤ u32.MAX }
     ensures { result ≡ both_rooms one two }

@@ -10,7 +10,8 @@ use super::room::Room;
 use super::scale::exact_scale;
 use lengths::Paper;
 
-/// The requested grid. If only a number of cells is requested, it is the best grid for that number.
+/// The requested columns and rows, with upright pages unless turned ones are larger. If only a number of cells is requested, the result is the best
+/// grid for that number.
 pub(crate) fn grid_of(page: &Paper, room: &Room, reading: Turned, cells: Cells) -> Grid
     requires shown { IsTrue (is_shown page.now room.now) }
     requires cells { IsTrue (is_count (cells_per_sheet cells)) }

@@ -27,7 +27,7 @@ pub enum ArrangementError {
     /// Margins and gaps leave nothing of this sheet for pages, or so little that the scale of pages would be below 10^-9.
     #[error("margins and gaps leave no room for pages")]
     NoRoom(Room),
-    /// The scale of the pages would be 0, or above 99,999, or so large that no offset makes up for the trim.
+    /// The scale of the pages would be 0 or negative, or above 99,999, or so large that no offset makes up for the trim.
     #[error("the pages would be too small or too large: their scale must be from 0.000000001 to 99999")]
     ScaleOutOfRange,
     /// At the requested scale, pages are larger than their cells.

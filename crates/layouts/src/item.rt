@@ -44,7 +44,7 @@ pub fn points_e5(n: i64) -> Measure
     }
 }
 
-/// The distance from one place to another, both in 10^-5 of a point.
+/// The distance from one coordinate to another, both in 10^-5 of a point. It is negative if `to` is less than `from`.
 pub fn distance(from: i64, to: i64) -> Measure
     requires { nat_abs (to -ℤ from) ≤ 9_999_999_999 }
     ensures { measure_of result ≡ in_points (to -ℤ from) }
@@ -137,7 +137,7 @@ impl GridLayout {
     }
 
     /// Half of the width and half of the height that a page leaves free in its cell, with the sheet held so that the page is upright. Both are in
-    /// 10^-5 of a point.
+    /// 10^-5 of a point, and rounded down. Each is 0 if the page is longer than its cell in this direction.
     fn slacks(&self) -> (u64, u64)
         ensures across { result.0 ≡ slack_x self.now.page self.now.room self.now.grid self.now.scale }
         ensures down { result.1 ≡ slack_y self.now.page self.now.room self.now.grid self.now.scale }
@@ -158,7 +158,7 @@ impl GridLayout {
         )
     }
 
-    /// The distances by which page k is moved to the right and up, in 10^-5 of a point.
+    /// The distances by which page k, counted from 0, is moved to the right and up, in 10^-5 of a point. Each may be negative.
     fn shift(&self, k: u32) -> (i64, i64)
         requires place { HasPlace self.now.page self.now.room self.now.grid self.now.scale }
         requires near { IsTrue (are_near self.now.room self.now.scale) }
@@ -178,7 +178,7 @@ impl GridLayout {
         moved_by(self.grid.turned, x, y, back)
     }
 
-    /// The item that places page k in its cell.
+    /// The item that places page k, counted from 0, in its cell.
     pub fn item_in(&self, k: u32) -> Item
         requires place { HasPlace self.now.page self.now.room self.now.grid self.now.scale }
         requires near { IsTrue (are_near self.now.room self.now.scale) }

@@ -82,7 +82,7 @@ impl Model for Along {
 }
 
 impl Room {
-    /// The sheet that has this paper, with these margins, gaps and trim.
+    /// The sheet that has this paper, with these margins, gaps and trim, rounded as `Free` says.
     pub fn of(sheet: Paper, free: &Free) -> Room
         requires { IsTrue (may_be_lengths free.now) }
         ensures { result ≡ room_of sheet free.now }
@@ -123,7 +123,8 @@ impl Room {
         }
     }
 
-    /// The margins and gaps in both directions, with the sheet held so that its pages are upright. Those across come first, then those down.
+    /// The margins, the gap and the trim in both directions, with the sheet held so that its pages are upright. Those across come first, then those
+    /// down.
     pub fn as_read(&self, turned: bool) -> (Along, Along)
         ensures across { result.0 ≡ across_of turned self.now }
         ensures down { result.1 ≡ down_of turned self.now }

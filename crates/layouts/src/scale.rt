@@ -27,8 +27,8 @@ pub fn extent(side: Grains) -> u64
     side.get() as u64
 }
 
-/// The length that is kept free for a margin or gap, in 10^-5 of a point. If pages are trimmed it is one unit longer, because the length by which
-/// pages are moved back for the trim is rounded.
+/// The length that is kept free for a margin or gap, in 10^-5 of a point. If pages are trimmed, it is 10^-5 of a point longer than `length`, because
+/// the length by which pages are moved back for the trim is rounded.
 pub(crate) fn kept_length(trim: u64, length: u64) -> u64
     requires { length ≤ 10_000_000_000 }
     ensures value { result ≡ kept_of trim length }
@@ -61,8 +61,8 @@ pub(crate) fn pitch(along: &Along, side: u64, parts: u32) -> u64
     free / (HUNDRED_THOUSANDTH * u64::from(parts))
 }
 
-/// The distances from the start of one cell to the start of the next, across and down, in 10^-5 of a point, with the sheet held so that its pages are
-/// upright.
+/// The distances from the start of one cell to the start of the next, across and down, with the sheet held so that its pages are upright. Both are in
+/// 10^-5 of a point and rounded down.
 pub(crate) fn pitches(room: &Room, grid: Grid) -> (u64, u64)
     ensures across { result.0 ≡ step_across room.now grid }
     ensures down { result.1 ≡ step_down room.now grid }
@@ -85,8 +85,8 @@ pub(crate) fn pitches(room: &Room, grid: Grid) -> (u64, u64)
     }
 }
 
-/// The width and the height of a cell, in 10^-5 of a point, with the sheet held so that its pages are upright. Each is 0 if the gap leaves nothing
-/// for it.
+/// The width and the height of a cell, in 10^-5 of a point and rounded down, with the sheet held so that its pages are upright. Each is 0 if the gap
+/// leaves nothing for it.
 pub fn cell_size(room: &Room, grid: Grid) -> (u64, u64)
     ensures width { result.0 ≡ wide room.now grid }
     ensures height { result.1 ≡ high room.now grid }
@@ -109,7 +109,7 @@ pub(crate) fn trimmed_side(room: &Room, length: Grains) -> u64
     extent(length).saturating_sub(2_540_000 * room.trim)
 }
 
-/// The largest scale, in 10^-9, at which a side fits into a cell. `cell` is in 10^-5 of a point, and `side` in grains.
+/// The largest scale, in 10^-9 and rounded down, at which a side fits into a cell. `cell` is in 10^-5 of a point, and `side` in grains.
 pub fn largest_scale(cell: u64, side: u64) -> u128
     requires { 0 < side }
     ensures { result ≡ fits cell side }
@@ -117,7 +117,7 @@ pub fn largest_scale(cell: u64, side: u64) -> u128
     1_270_000_000_000_000 * u128::from(cell) / u128::from(side)
 }
 
-/// The largest scale, in 10^-9, at which a page fits into a cell of the grid.
+/// The largest scale, in 10^-9 and rounded down, at which a page fits into a cell of the grid.
 pub(crate) fn scale_in(page: &Paper, room: &Room, grid: Grid) -> u128
     requires { IsTrue (is_shown page.now room.now) }
     ensures { result ≡ scale_of page.now room.now grid }
@@ -129,8 +129,8 @@ pub(crate) fn scale_in(page: &Paper, room: &Room, grid: Grid) -> u128
     ))
 }
 
-/// The largest scale, in 10^-9, of pages in this number of equal cells along a side. `side` and `page`, the sides of the sheet and of a page, are in
-/// grains.
+/// The largest scale, in 10^-9 and rounded down, of pages in this number of equal cells along a side. It is 0 if margins and gaps leave nothing.
+/// `side` and `page`, the sides of the sheet and of a page, are in grains.
 fn exact_along(along: &Along, side: u64, parts: u32, page: u64) -> u128
     requires some { 0 < parts }
     requires shown { 0 < page }
@@ -143,7 +143,7 @@ fn exact_along(along: &Along, side: u64, parts: u32, page: u64) -> u128
         / (u128::from(page) * u128::from(parts))
 }
 
-/// The largest scale, in 10^-9, at which pages fit into exact parts of the sheet. Unlike cells, these parts aren't rounded.
+/// The largest scale, in 10^-9 and rounded down, at which pages fit into exact parts of the sheet. Unlike cells, these parts aren't rounded.
 pub(crate) fn exact_scale(page: &Paper, room: &Room, grid: Grid) -> u128
     requires { IsTrue (is_shown page.now room.now) }
     ensures { result ≡ exact_scale_of page.now room.now grid }

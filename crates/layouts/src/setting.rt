@@ -116,7 +116,8 @@ impl Setting {
         Ok(scale_e9(found))
     }
 
-    /// The length that a page of this paper leaves free at each end of its cell's width, in 10^-5 of a point. Fails with the error of `scale`.
+    /// The length that a page of this paper leaves free at each end of its cell's width, in 10^-5 of a point and rounded down. Fails with the error
+    /// of `scale`.
     pub fn slack(&self, page_paper: &Paper) -> Result<u128, ArrangementError>
         ensures value { IfOk result (λ n. n
             ≡ slack_x page_paper.now self.now.room self.now.grid (scale_on self.now page_paper.now)) }

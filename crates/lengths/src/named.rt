@@ -30,7 +30,7 @@ pub fn paper_by_name(name: &str) -> Option<Paper>
     None
 }
 
-/// The paper a4, which is used where no paper is given.
+/// The paper a4, which is 595 points wide and 842 points high.
 pub fn a4() -> Paper
     ensures { result ≡ a4 }
 {

@@ -11,7 +11,8 @@ use super::number::Number;
 use itoa::Buffer;
 use std::alloc::AllocError;
 
-/// Appends a length in points, rounded to five decimals, half away from zero. If memory is refused, nothing is appended.
+/// Appends a length in points, rounded to five decimals, half away from zero, but without zeros at the end of the decimals. If memory is refused,
+/// nothing is appended.
 pub fn print_points(grains: Grains, out: &mut Vec<u8>) -> Result<(), AllocError>
     ensures appended { OnOk result (out.new.items ≡ out.old.items ++ points_text grains) }
     ensures unchanged { OnErr result (out.new.items ≡ out.old.items) }
@@ -21,8 +22,8 @@ pub fn print_points(grains: Grains, out: &mut Vec<u8>) -> Result<(), AllocError>
     print_grains(grains.get(), out)
 }
 
-/// Appends `grains` in points, rounded to five decimals, half away from zero. `grains` may be a length, or the difference of two lengths. If memory
-/// is refused, nothing is appended.
+/// Appends `grains` in points, as `print_points` does. `grains` may be a length, or the difference of two lengths. If memory is refused, nothing is
+/// appended.
 pub fn print_grains(grains: i128, out: &mut Vec<u8>) -> Result<(), AllocError>
     requires { nat_abs grains ≤ 2 * 10 ^ 23 }
     ensures appended { OnOk result (out.new.items ≡ out.old.items ++ points_text grains) }
@@ -43,8 +44,8 @@ pub fn print_scale(number: Number, out: &mut Vec<u8>) -> Result<(), AllocError>
     append_decimal(number.billionths(), 9, out)
 }
 
-/// Appends a number as a page specification writes it. The text is that of `print_scale`, but without an integer part of 0 before a dot. If memory is
-/// refused, nothing is appended.
+/// Appends a number in the canonical form of page specifications. The text is that of `print_scale`, but without an integer part of 0 before a dot.
+/// If memory is refused, nothing is appended.
 pub fn print_number(number: Number, out: &mut Vec<u8>) -> Result<(), AllocError>
     ensures appended { OnOk result (out.new.items ≡ out.old.items ++ number_text number) }
     ensures unchanged { OnErr result (out.new.items ≡ out.old.items) }
@@ -68,7 +69,7 @@ pub fn print_number(number: Number, out: &mut Vec<u8>) -> Result<(), AllocError>
     )
 }
 
-/// Appends `value` times 10^-`places` as a decimal number, without zeros at the end of its decimals.
+/// Appends `value` times 10^-`places` as a decimal number, without zeros at the end of its decimals. If memory is refused, nothing is appended.
 fn append_decimal(value: i64, places: u32, out: &mut Vec<u8>) -> Result<(), AllocError>
     requires { places ≤ 9 }
     ensures appended { OnOk result (out.new.items ≡ out.old.items ++ printed places value) }
@@ -88,8 +89,8 @@ fn append_decimal(value: i64, places: u32, out: &mut Vec<u8>) -> Result<(), Allo
     )
 }
 
-/// The decimals of a fraction, without zeros at the end. The fraction is `part` times 10^-`places`. A `part` of 0 is tested for first, because most
-/// numbers are whole.
+/// The decimals of the fraction `part` times 10^-`places`, without zeros at the end. `digits` is the buffer that keeps them. A `part` of 0 is tested
+/// for first, because most numbers are whole.
 fn decimals_of_part(digits: &mut Buffer, places: u32, part: u64) -> &[u8]
     requires places { places ≤ 9 }
     requires part { part < 10 ^ places }
@@ -139,7 +140,8 @@ fn strip_zeros(digits: &[u8]) -> &[u8]
     rest
 }
 
-/// Appends a minus if the number is negative, then its integer part, then a dot and the decimals if there are any.
+/// Appends a minus if the number is negative, then its integer part, then a dot and the decimals if there are any. If memory is refused, nothing is
+/// appended.
 fn append_decimals(
     negative: bool,
     whole: &[u8],

@@ -55,7 +55,7 @@ pub fn read_digits(bytes: &[u8]) -> Option<(u32, &[u8])>
     Some((capped(front), rest))
 }
 
-/// The number at the start of a text and its length in bytes, as the definition `number_at` gives them.
+/// The result of `read_number`, as the definition `number_at` gives it.
 fn scan_number(bytes: &[u8]) -> Result<(Number, usize), NumberError>
     ensures found { IfOk result (λ x. number_at bytes.now ≡ Some (x.0, drop x.1 bytes.now)) }
     ensures within { IfOk result (λ x. x.1 ≤ length bytes.now) }
@@ -76,7 +76,7 @@ fn scan_number(bytes: &[u8]) -> Result<(Number, usize), NumberError>
     Ok((Number::of_parts(negative, points, nine(decimals)), len))
 }
 
-/// Whether a text begins with a minus, and the text after its sign. A text that begins with no sign is returned whole.
+/// Whether a text begins with a minus, and the text after its sign, a minus or a plus. A text that begins with no sign is returned whole.
 fn split_sign(bytes: &[u8]) -> (bool, &[u8])
     ensures sign { result.0 ≡ is_minus bytes.now }
     ensures rest { result.1.now ≡ unsigned bytes.now }

@@ -17,8 +17,8 @@ const MOST_GROUPS: usize = 10_000;
 /// The greatest modulo, the greatest page number, and the greatest integer part of a number.
 const MOST: u32 = 99_999;
 
-/// The fault that the first failing check reports, with the index of the first item or group at fault, if the fault has an index. None if no check
-/// fails. `lengths` has the number of items in each group.
+/// The fault of the first check that fails, in the order of `SpecError`. If the fault has an index, it is that of the first item or group at fault.
+/// None if no check fails. `lengths` has the number of items in each group.
 pub(crate) fn first_fault(modulo: u32, items: &[ParsedItem], lengths: &[usize]) -> Option<SpecError>
     requires items { length items.now < 2 ^ 32 }
     requires groups { length lengths.now < 2 ^ 32 }

@@ -23,7 +23,8 @@ pub(crate) enum Stop {
     NoMemory,
 }
 
-/// Reads all groups of a specification from the text after its modulo. If there is only one item, its page number may be left out.
+/// Reads all groups of a specification from the text after its modulo. If there is only one item, its page number may be left out. Fails with the
+/// place where reading stops if the text doesn't follow the grammar, or if memory is refused.
 pub(crate) fn read_all_groups(alloc: Global, bytes: &[u8]) -> Result<ParsedGroups, Stop>
     ensures { MatchResult result (ParsesTo (all_groups_at bytes.now)) (IsStop AreGroups all_groups_at bytes.now) }
 {
@@ -47,7 +48,8 @@ fn later_stop(one: ParseStop, other: ParseStop) -> ParseStop
     }
 }
 
-/// Reads the groups of a text. Reading stops if the text goes on after them.
+/// Reads the groups of a text. Fails with the place where reading stops if the text doesn't begin with groups or goes on after them, or if memory is
+/// refused.
 fn read_groups_to_end(alloc: Global, bytes: &[u8]) -> Result<ParsedGroups, Stop>
     ensures { MatchResult result (ParsesTo (whole_groups_at bytes.now)) (IsStop AreWholeGroups whole_groups_at bytes.now) }
 {
@@ -59,7 +61,7 @@ fn read_groups_to_end(alloc: Global, bytes: &[u8]) -> Result<ParsedGroups, Stop>
     }
 }
 
-/// One group, which has only this item.
+/// One group, which has only this item. Fails only if memory is refused.
 fn one_item(alloc: Global, item: ParsedItem) -> Result<ParsedGroups, Stop>
     ensures alone { IfOk result (λ k. (k.items.items ≡ item ∷ []) × (k.lengths.items ≡ 1 ∷ [])) }
     ensures stop { IfErr result (λ e. e ≡ Stop.NoMemory) }
@@ -74,7 +76,8 @@ fn one_item(alloc: Global, item: ParsedItem) -> Result<ParsedGroups, Stop>
     }
 }
 
-/// Reads a text that is a single item without a page number. The page number is then 0.
+/// Reads a text that is a single item without a page number. The page number is then 0. Fails with the place where reading stops if the text isn't
+/// such an item; an empty text isn't one.
 fn read_bare_item(bytes: &[u8]) -> Result<ParsedItem, ParseStop>
     ensures { MatchResult result (BareRead bytes.now) (λ stuck. StuckIn IsBareItem bare_at bytes.now stuck.left) }
 {
@@ -93,7 +96,8 @@ fn read_bare_item(bytes: &[u8]) -> Result<ParsedItem, ParseStop>
     })
 }
 
-/// Reads the groups at the start of a text, and also returns the text after them.
+/// Reads the groups at the start of a text, and also returns the text after them. Fails with the place where reading stops if there are no groups, or
+/// if memory is refused.
 fn read_groups(alloc: Global, bytes: &[u8]) -> Result<(ParsedGroups, Rest<'_>), Stop>
     ensures { MatchResult result (λ x. GroupsRead bytes.now x.0 x.1.text.now
         × StuckAfter AreWholeGroups groups_at bytes.now x.1.text.now x.1.stuck.left)
@@ -116,7 +120,8 @@ fn read_groups(alloc: Global, bytes: &[u8]) -> Result<(ParsedGroups, Rest<'_>), 
     Err(Stop::Stuck(ParseStop { left: 0 }))
 }
 
-/// Reads the group at the start of a text and appends its items to `items`. Returns the number of these items, and the text after the group.
+/// Reads the group at the start of a text and appends its items to `items`. Returns the number of these items, and the text after the group. Fails
+/// with the place where reading stops if there is no group, or if memory is refused.
 fn read_group<'t>(bytes: &'t [u8], items: &mut Vec<ParsedItem>) -> Result<(usize, Rest<'t>), Stop>
     ensures { MatchResult result (λ x. GroupRead bytes.now items.old.items items.new.items x.0 x.1.text.now
         × StuckAfter IsGroup group_at bytes.now x.1.text.now x.1.stuck.left)
@@ -133,7 +138,8 @@ fn read_group<'t>(bytes: &'t [u8], items: &mut Vec<ParsedItem>) -> Result<(usize
     Err(Stop::Stuck(ParseStop { left: 0 }))
 }
 
-/// Reads the item at the start of a text and appends it to `items`. Returns the text after the item.
+/// Reads the item at the start of a text and appends it to `items`. Returns the text after the item. Fails with the place where reading stops if
+/// there is no item, or if memory is refused.
 fn append_item<'t>(bytes: &'t [u8], items: &mut Vec<ParsedItem>) -> Result<Rest<'t>, Stop>
     ensures { MatchResult result (λ x. ItemAppended bytes.now items.old.items items.new.items x.text.now
         × StuckAfter IsItem item_at bytes.now x.text.now x.stuck.left)

@@ -1,5 +1,5 @@
-//! Page specifications of pstops. A specification says which pages are on a sheet, in which order, and how they are turned, scaled and moved. A text
-//! is read only once. If the text isn't admissible, it is refused with a named error. A specification can be written in its canonical form.
+//! Page specifications of pstops. A specification says which pages are on a sheet, in which order, and how they are turned, scaled and moved. If a
+//! text isn't admissible, it is refused with a named error. A specification can be written in its canonical form.
 #![tactic(auto)]
 
 mod check;

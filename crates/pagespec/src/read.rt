@@ -22,7 +22,8 @@ const MOST_BYTES: usize = 65_536;
 /// The specification that a text means (pstops manual, page specifications). A modulo that isn't written is 1. If there is only one item, its page
 /// number may be left out and is then 0. Leading zeros of a number have no effect.
 ///
-/// Each check covers the whole text. The first check that fails is reported, with the first item or group at fault. The text is read only once.
+/// Each check covers the whole text. The first check that fails, in the order of `SpecError`, is reported, with the first item or group at fault. The
+/// checks don't read the text again.
 pub fn read_spec(alloc: Global, text: &str) -> Result<Spec, SpecError>
     ensures taken { IfOk result (λ spec. Takes most_slots text.now spec) }
     ensures refused { IfErr result (IsRefusal text.now) }
@@ -49,7 +50,7 @@ pub fn read_spec(alloc: Global, text: &str) -> Result<Spec, SpecError>
     }
 }
 
-/// The modulo and the groups of a text. A modulo above 100,000 counts as 100,000.
+/// The modulo and the groups of a text. A modulo above 100,000 counts as 100,000. If no modulo is written, it is 1. Fails as `read_all_groups` does.
 fn read_written(alloc: Global, bytes: &[u8]) -> Result<(u32, ParsedGroups), Stop>
     ensures { MatchResult result (λ x. WrittenRead bytes.now x.0 x.1) (IsStop IsSpec spec_at bytes.now) }
 {

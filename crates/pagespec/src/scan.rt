@@ -38,7 +38,7 @@ pub(crate) enum Modifier {
     TooLarge,
 }
 
-/// The modifier at the start of a text, and the text after it.
+/// The modifier at the start of a text, and the text after it. Fails with the place where reading stops if there is no modifier.
 pub(crate) fn read_modifier(bytes: &[u8]) -> Result<(Modifier, &[u8]), ParseStop>
     ensures { MatchResult result (λ x. ModifierRead bytes.now x.0 x.1.now)
         (λ stuck. StuckIn IsModifier modifier_at bytes.now stuck.left) }
@@ -62,7 +62,7 @@ pub(crate) fn read_modifier(bytes: &[u8]) -> Result<(Modifier, &[u8]), ParseStop
     }
 }
 
-/// The number of quarter turns to the left that a letter means. It is 0 if the letter isn't a turn.
+/// The number of quarter turns to the left that a letter means, in upper or lower case. It is 0 if the letter means no turn.
 fn quarters_of(letter: u8) -> u8
     ensures value { result ≡ quarters_of letter }
     ensures few { result < 4 }
@@ -75,7 +75,7 @@ fn quarters_of(letter: u8) -> u8
     }
 }
 
-/// Reads a scale after its `@`.
+/// Reads a scale after its `@`. Fails with the place where reading stops if there is no number.
 fn read_scale(bytes: &[u8]) -> Result<(Modifier, &[u8]), ParseStop>
     ensures { MatchResult result
         (λ x. (m : WrittenModifier) × (scale_at bytes.now ≡ Some (m, x.1.now)) × StandsFor x.0 m)
@@ -88,7 +88,7 @@ fn read_scale(bytes: &[u8]) -> Result<(Modifier, &[u8]), ParseStop>
     }
 }
 
-/// Reads an offset after its opening parenthesis.
+/// Reads an offset after its opening parenthesis. Fails with the place where reading stops if the offset isn't complete.
 fn read_offset(bytes: &[u8]) -> Result<(Modifier, &[u8]), ParseStop>
     ensures { MatchResult result
         (λ x. (m : WrittenModifier) × (offset_at bytes.now ≡ Some (m, x.1.now)) × StandsFor x.0 m)
@@ -122,7 +122,8 @@ fn offset_of(x: Option<Measure>, y: Option<Measure>) -> Modifier
     }
 }
 
-/// Reads a number and its unit. The measure is None if the integer part of the number is over 99,999.
+/// Reads a number and its unit, which is points if none is written. The measure is None if the integer part of the number is over 99,999. Fails with
+/// the place where reading stops if there is no number.
 fn read_measure(bytes: &[u8]) -> Result<(Option<Measure>, Rest<'_>), ParseStop>
     ensures { MatchResult result (λ x. MeasureRead bytes.now x.0 x.1.text.now
         × StuckAfter IsMeasure measure_at bytes.now x.1.text.now x.1.stuck.left)

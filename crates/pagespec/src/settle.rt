@@ -28,7 +28,7 @@ pub(crate) fn settled_groups(
     Ok(groups)
 }
 
-/// The group of these items.
+/// The group that these items form, in their order.
 fn settled_group(alloc: Global, parsed: &[ParsedItem]) -> Result<Vec<Item>, AllocError>
     ensures { IfOk result (λ group. map item_of group.items ≡ map item_of_parsed parsed.now) }
 {
@@ -52,7 +52,7 @@ fn settled_item(parsed: ParsedItem) -> Item
     }
 }
 
-/// The turn to the left by this number of quarters.
+/// The turn to the left by this number of quarters, modulo 4.
 fn turn_by(quarters: u8) -> Turn
     ensures { turn_of result ≡ rules.quarter_turn quarters }
 {

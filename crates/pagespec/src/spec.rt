@@ -47,7 +47,7 @@ impl Spec {
         Spec::new(modulo, groups)
     }
 
-    /// The number of pages in a block, at least 1.
+    /// The number of pages in a block, from 1 to 99,999.
     pub fn modulo(&self) -> u32
         ensures value { result ≡ self.now.modulo }
         ensures admissible { IsAdmissible most_slots self.now }

@@ -13,8 +13,9 @@ use itoa::Buffer;
 use lengths::{Number, Unit, print_number};
 use std::alloc::{AllocError, Global};
 
-/// The canonical text of a specification, from which `read_spec` reads the same specification. The text leaves out a modulo of 1, leading zeros, a
-/// scale of 1, an offset whose two lengths are 0 pt, and the unit of points. A turn is one letter.
+/// The canonical text of a specification, from which `read_spec` reads the same specification. The text leaves out a modulo of 1, a scale of 1, an
+/// offset whose two lengths are 0 pt, and the unit of points. It also leaves out zeros at the start of a number and at the end of its decimals. A
+/// turn is one letter, or left out if the page isn't turned. Fails only if memory is refused.
 pub fn write_spec(alloc: Global, spec: &Spec) -> Result<String, AllocError>
     ensures canonical { IfOk result (λ text. string_bytes text ≡ rules.canonical spec.now) }
     ensures taken { IfOk result (λ text. Takes most_slots (string_bytes text) spec.now) }

@@ -20,7 +20,7 @@ pub fn default_paper(variable: &[u8], file: &[u8]) -> Paper
     }
 }
 
-/// The first word outside comments in a text. Empty if there is no such word.
+/// The first word outside comments in a text. A comment extends from `#` to the end of the line. Empty if there is no such word.
 fn first_word(text: &[u8]) -> &[u8]
     ensures { result.now ≡ meaning.first_word text.now }
 {
@@ -65,7 +65,7 @@ fn word_at(text: &[u8]) -> &[u8]
     word
 }
 
-/// The length in bytes of the word at the start of a text.
+/// The length in bytes of the word at the start of a text, or 0 if the text doesn't begin with a word.
 fn word_len(text: &[u8]) -> usize
     ensures value { result ≡ meaning.word_len text.now }
     ensures within { result ≤ length text.now }

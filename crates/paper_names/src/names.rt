@@ -78,7 +78,7 @@ pub(crate) fn upright_paper(name: &[u8]) -> Option<Paper>
     paper_in(&PAPERS, behind_maker(name))
 }
 
-/// The paper of the first row that has this name. None if no row has the name.
+/// The paper of the first row that has this name, compared as in `is_named`. None if no row has the name.
 fn paper_in(rows: &[(&str, u32, u32)], name: &[u8]) -> Option<Paper>
     requires sides { list_all sides_fit rows.now ≡ true }
     ensures { result ≡ paper_among (map entry rows.now) (letters name.now) }
@@ -112,7 +112,8 @@ fn has_no_letter(text: &[u8]) -> bool
     }
 }
 
-/// The name without the `din`, `iso` or `us` that it begins with, or the whole name if it begins with none of them.
+/// The name without the `din`, `iso` or `us` that it begins with, compared as in `after_word`. A name that begins with none of them is returned
+/// whole.
 fn behind_maker(name: &[u8]) -> &[u8]
     ensures { letters result.now ≡ meaning.behind_maker (letters name.now) }
 {
@@ -170,7 +171,8 @@ fn is_between(byte: u8) -> bool
     (byte == b' ' || byte == b'\t') || (byte == b'-' || byte == b'_')
 }
 
-/// The part of a text before a final `landscape` or `quer`, which exchanges width and height. None if the text ends with neither word.
+/// The part of a text before a final `landscape` or `quer`, which exchanges width and height. Capitals make no difference. None if the text ends with
+/// neither word.
 pub(crate) fn upright_part(text: &[u8]) -> Option<&[u8]>
     ensures { option_map (λ front. front.now) result ≡ meaning.upright_part text.now }
 {

@@ -21,8 +21,9 @@ struct Side {
 /// `landscape` or `quer` exchanges width and height.
 ///
 /// A side is a number with `pt`, `cm`, `mm`, `in`, `inch` or `"` after it. The integer part of the number is at most 99,999. If only the height has a
-/// unit, the width has this unit too, as in `210x297mm`. `X`, `*` and `×` may replace the `x`. A name and an underscore before the size are passed
-/// over, as in `iso_a4_210x297mm`. A text that means no paper is refused, with `Unknown`, `NoUnit` or `NoSuchSize`.
+/// unit, the width has this unit too, as in `210x297mm`. Capitals in units make no difference, and blanks around numbers are allowed. `X`, `*` and
+/// `×` may replace the `x`. A name and an underscore before the size are passed over, as in `iso_a4_210x297mm`. A text that means no paper is
+/// refused, with `Unknown`, `NoUnit` or `NoSuchSize`.
 pub fn read_paper(text: &[u8]) -> Result<Paper, PaperError>
     ensures { result ≡ meaning.paper_of text.now }
 {
@@ -32,7 +33,7 @@ pub fn read_paper(text: &[u8]) -> Result<Paper, PaperError>
     }
 }
 
-/// The paper that a text means, if the text doesn't end with a word that exchanges width and height.
+/// The paper that a text without a final `landscape` or `quer` means, or the error with which `read_paper` refuses the text.
 fn read_upright(text: &[u8]) -> Result<Paper, PaperError>
     ensures { result ≡ meaning.upright_paper text.now }
 {
@@ -42,7 +43,7 @@ fn read_upright(text: &[u8]) -> Result<Paper, PaperError>
     }
 }
 
-/// The paper with its width and height exchanged, or the same error.
+/// The paper with its width and height exchanged. An error is handed on unchanged.
 fn on_its_side(paper: Result<Paper, PaperError>) -> Result<Paper, PaperError>
     ensures { result ≡ meaning.on_its_side paper }
 {
@@ -67,7 +68,7 @@ fn last_part(text: &[u8]) -> &[u8]
     part
 }
 
-/// The paper whose width and height a text gives, with `x`, `X`, `*` or `×` between them.
+/// The paper of a text that has a width, then `x`, `X`, `*` or `×`, then a height. Fails as `size_of_both` does.
 fn size_of(text: &[u8]) -> Result<Paper, PaperError>
     ensures { result ≡ meaning.size_of text.now }
 {
@@ -93,8 +94,8 @@ fn side_behind(text: &[u8]) -> Option<Side>
     side_of(behind_cross(text)?)
 }
 
-/// The text after the sign at its start. Of the sign, only the second byte of a `×` is tested, since the caller has found the first byte. None if the
-/// text is empty, or if this second byte is missing.
+/// The text after the `x`, `X`, `*` or `×` at its start. Of a `×`, which has two bytes, only the second is tested, since the caller has found the
+/// first. None if the text is empty, or if this second byte is missing.
 fn behind_cross(text: &[u8]) -> Option<&[u8]>
     ensures { option_map (λ rest. rest.now) result ≡ meaning.behind_cross text.now }
 {
@@ -114,7 +115,8 @@ fn behind_second(text: &[u8]) -> Option<&[u8]>
     if *second == 0x97 { Some(rest) } else { None }
 }
 
-/// The side that a text means, or None if it means no side.
+/// The side that a text gives: a number, which may have blanks before it and a unit after it. None for any other text, or if the integer part of the
+/// number is over 99,999.
 fn side_of(text: &[u8]) -> Option<Side>
     ensures { option_map (λ s. (s.number, option_map length_unit s.unit)) result ≡ meaning.side_of text.now }
 {
@@ -141,7 +143,7 @@ fn blanks_at(text: &[u8]) -> usize
         .count()
 }
 
-/// The unit with this name: `pt`, `cm`, `mm`, `in`, `inch` or `"`. None for any other name.
+/// The unit with this name, compared as in `is_named`: `pt`, `cm`, `mm`, `in`, `inch` or `"`. None for any other name.
 fn unit_of(name: &[u8]) -> Option<Unit>
     ensures { option_map length_unit result ≡ meaning.unit_of name.now }
 {
@@ -188,8 +190,8 @@ fn size_of_sides(width: Side, height: Side) -> Result<Paper, PaperError>
     }
 }
 
-/// The paper that is `width` units `u` wide and `height` units `v` high. Neither unit depends on a paper. Fails with `NoSuchSize` if a paper can't
-/// have these sides.
+/// The paper that is `width` units `u` wide and `height` units `v` high. Callers give only units that don't depend on a paper, so the a4 handed to
+/// `to_grains` has no effect. Fails with `NoSuchSize` if a paper can't have these sides.
 fn in_units(width: Number, u: Unit, height: Number, v: Unit) -> Result<Paper, PaperError>
     ensures { result ≡ meaning.in_units width (length_unit u) height (length_unit v) }
 {

@@ -56,8 +56,8 @@ pub(crate) fn box_paper(value: &[u8]) -> Option<Paper>
     }
 }
 
-/// The paper that has a box in its middle. None if the box doesn't reach past `paper` by more than 15 points, if it
-/// begins left of 0 or below 0, or if there is no such paper.
+/// The paper that has the box given by `value` in its middle. None if the value doesn't have four edges, or if
+/// `paper_beyond` gives no paper for them.
 fn wider_paper(paper: &Paper, value: &[u8]) -> Option<Paper>
     ensures { result ≡ meaning.wider_paper paper.now (fields_in value.now) }
 {

@@ -64,7 +64,8 @@ fn declared_papers(
     )
 }
 
-/// The paper that the document's comments give, or `other` if they give none.
+/// The paper that the document's comments give, or `other` if they give none. A box that doesn't begin at 0 0 must
+/// reach beyond `other`.
 fn document_or(text: &[u8], other: &Paper) -> Paper
     ensures { result
         ≡ or_this (told_by_document paper_named other.now (header text.now) (trailer_lines (units_of text.now))) other.now }
@@ -139,7 +140,8 @@ fn told_by_page(
     }
 }
 
-/// The paper of the medium that a page names in `%%PageMedia:`. `head` is the page's text after its first line.
+/// The paper of the medium that a page names in `%%PageMedia:`. `head` is the page's text after its first line. None if
+/// the page names no medium, or if `known` has no paper for it.
 #[tactic(auto, using(crate::proofs::PageTells::names_none, crate::proofs::PageTells::names_one))]
 fn named_paper(alloc: Global, known: &KnownMedia, head: &[u8]) -> Result<Option<Paper>, AllocError>
     ensures { IfOk result (λ paper. paper ≡ option_and_then (named_medium (known_paper known.now))
@@ -152,7 +154,8 @@ fn named_paper(alloc: Global, known: &KnownMedia, head: &[u8]) -> Result<Option<
 }
 
 /// The paper that a page's `%%PageBoundingBox:` gives. `head` is the page's text after its first line. `other` is the
-/// document's paper, beyond which a box that doesn't begin at 0 0 must reach.
+/// document's paper, beyond which a box that doesn't begin at 0 0 must reach. None if there is no such comment, or if
+/// its box gives no paper.
 fn boxed_paper(head: &[u8], other: &Paper) -> Option<Paper>
     ensures { result ≡ option_and_then (paper_of_box_at other.now)
         (comment_fields (codes "%%PageBoundingBox") (head_of (length head.now) head.now)) }

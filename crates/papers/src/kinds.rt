@@ -44,7 +44,8 @@ pub fn merge_near_sizes(
     Ok(papers)
 }
 
-/// The paper of the first page, if no page has `paper` or a paper that counts as equal to it. Otherwise `None`.
+/// The paper of the first page, if there are pages and none of them has `paper` or a paper that counts as equal to it.
+/// Otherwise `None`.
 pub fn first_instead_of(paper: &Paper, own: &[Paper]) -> Option<Paper>
     ensures { result ≡ first_instead paper.now own.now }
 {
@@ -117,7 +118,7 @@ fn is_larger(paper: &Paper, other: &Paper) -> bool
             && other.height().get() < paper.height().get())
 }
 
-/// The kind of the papers that count as equal to `first`.
+/// The kind that `first` forms with those of `papers` that count as equal to it.
 fn kind_of(first: &Paper, papers: &[Paper]) -> PaperKind
     ensures { result ≡ kind_made first.now papers.now }
 {

@@ -24,7 +24,7 @@ pub fn papers_are_found()
     ensures { PapersAreFound }
 {}
 
-/// The paper that replaces a taken paper covers it, so no page is cut.
+/// The paper that replaces a taken paper covers it, so no taken page is cut.
 pub fn nothing_is_cut()
     ensures { NothingIsCut }
 {}

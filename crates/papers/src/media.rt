@@ -57,7 +57,7 @@ pub fn document_paper(text: &[u8], usual: &Paper) -> Option<(Paper, Comment)>
 }
 
 /// The paper that the comments alone give, and the comment that gives it. A box that doesn't begin at 0 0 must reach
-/// beyond the paper `usual`.
+/// beyond the paper `usual`. None if the comments give no paper.
 pub(crate) fn document_told(text: &[u8], usual: &Paper) -> Option<(Paper, Comment)>
     ensures { result ≡ meaning.document_told usual.now text.now }
 {
@@ -68,7 +68,8 @@ pub(crate) fn document_told(text: &[u8], usual: &Paper) -> Option<(Paper, Commen
     }
 }
 
-/// The paper of the first known name in `%%DocumentPaperSizes:`, or else the paper that the document's box gives.
+/// The paper of the first known name in `%%DocumentPaperSizes:`, turned on its side if the document's box has its sides
+/// exchanged. If no name is known, the paper that this box gives.
 fn named_or_boxed(header: &[u8], text: &[u8], usual: &Paper) -> Option<(Paper, Comment)>
     ensures { result ≡ meaning.or_named usual.now (meaning.contents header.now) (meaning.trailer_lines (units_of text.now)) None }
 {
@@ -116,7 +117,8 @@ fn are_near(one: Grains, other: Grains) -> bool
     (one.get() - other.get()).unsigned_abs() <= NEARNESS
 }
 
-/// The paper of the first known name in the first `%%DocumentPaperSizes:` and the `%%+` lines that continue it.
+/// The paper of the first known name in the first `%%DocumentPaperSizes:` and the `%%+` lines that continue it. None if
+/// they have no known name.
 fn named_in(header: &[u8]) -> Option<Paper>
     ensures { result ≡ meaning.paper_of_first_name_in
         (meaning.comment_values (codes "%%DocumentPaperSizes") (meaning.contents header.now)) }
@@ -128,7 +130,7 @@ fn named_in(header: &[u8]) -> Option<Paper>
     }
 }
 
-/// The paper of the first known name in the `%%+` lines at the start of the text.
+/// The paper of the first known name in the `%%+` lines at the start of the text. None if they have no known name.
 fn named_behind(text: &[u8]) -> Option<Paper>
     ensures { result ≡ meaning.paper_of_first_name_in (meaning.continued (meaning.contents text.now)) }
 {
@@ -142,7 +144,7 @@ fn named_behind(text: &[u8]) -> Option<Paper>
     None
 }
 
-/// The paper of the first field that is the name of a known paper.
+/// The paper of the first field that is the name of a known paper. None if there is no such field.
 fn first_named(value: &[u8]) -> Option<Paper>
     ensures { result ≡ meaning.paper_of_first_name (fields_in value.now) }
 {
@@ -156,7 +158,8 @@ fn first_named(value: &[u8]) -> Option<Paper>
     None
 }
 
-/// The paper that the first `%%DocumentMedia:` gives.
+/// The paper that the first `%%DocumentMedia:` gives. None if there is no such comment, or if its sides can't be those
+/// of a paper.
 fn media_in(header: &[u8]) -> Option<Paper>
     ensures { result ≡ option_and_then meaning.media_paper
         (meaning.comment_value (codes "%%DocumentMedia") (meaning.contents header.now)) }
@@ -164,8 +167,8 @@ fn media_in(header: &[u8]) -> Option<Paper>
     media_paper(comment_text(header, b"%%DocumentMedia", b"%%DocumentMedia:")?)
 }
 
-/// The value of the document's `%%BoundingBox:`. If the value in the header is `(atend)`, the value in the trailer
-/// counts.
+/// The value of the header's first `%%BoundingBox:`, or that of the trailer's first one if the value in the header is
+/// `(atend)`. None if there is no such comment.
 pub(crate) fn box_of<'t>(header: &'t [u8], text: &'t [u8]) -> Option<&'t [u8]>
     ensures { option_map (λ value. fields_in value.now) result
         ≡ meaning.box_of (meaning.contents header.now) (meaning.trailer_lines (units_of text.now)) }
@@ -197,7 +200,7 @@ pub fn is_at_end(value: &[u8]) -> bool
     }
 }
 
-/// The value of the first comment with this key: the text after its colon.
+/// The value of the header's first comment with this key: the text after its colon. None if there is no such comment.
 #[tactic(auto, using(crate::proofs::Contents::none_said, crate::proofs::Contents::first_said))]
 fn comment_text<'t>(header: &'t [u8], key: &[u8], with_colon: &[u8]) -> Option<&'t [u8]>
     requires { with_colon.now ≡ key.now ++ colon ∷ [] }
@@ -209,7 +212,7 @@ fn comment_text<'t>(header: &'t [u8], key: &[u8], with_colon: &[u8]) -> Option<&
     }
 }
 
-/// The value of the first comment with this key. Its contract gives the fields of the value.
+/// The value that `comment_text` finds. The contract of this function gives the fields of the value.
 #[tactic(auto, using(crate::proofs::Contents::none_told, crate::proofs::Contents::first_told))]
 fn value_of<'t>(header: &'t [u8], key: &[u8], with_colon: &[u8]) -> Option<&'t [u8]>
     requires { with_colon.now ≡ key.now ++ colon ∷ [] }
@@ -223,7 +226,7 @@ fn value_of<'t>(header: &'t [u8], key: &[u8], with_colon: &[u8]) -> Option<&'t [
 }
 
 /// The paper of a medium. The value has the medium's name, its width and its height in points; further fields aren't
-/// read. None if the sides can't be those of a paper.
+/// read. None if a side is missing, or if the sides can't be those of a paper.
 pub fn media_paper(value: &[u8]) -> Option<Paper>
     ensures { result ≡ meaning.media_paper value.now }
 {
@@ -231,8 +234,8 @@ pub fn media_paper(value: &[u8]) -> Option<Paper>
     sides_paper(rest)
 }
 
-/// The paper of a medium, from the text after its name: its width and its height in points; further fields aren't
-/// read. None if the sides can't be those of a paper.
+/// The paper of a medium, from the text after its name: its width and its height in points; further fields aren't read.
+/// None if a side is missing, or if the sides can't be those of a paper.
 pub(crate) fn sides_paper(rest: &[u8]) -> Option<Paper>
     ensures { result ≡ meaning.sides_paper (fields_in rest.now) }
 {

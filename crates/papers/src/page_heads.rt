@@ -28,7 +28,8 @@ fn first_line_len(text: &[u8]) -> usize
         .count()
 }
 
-/// The value of the first comment with this key, among the comments at the start of the text.
+/// The value of the first comment with this key, among the comments at the start of the text. None if there is no such
+/// comment.
 fn text_in_head<'t>(text: &'t [u8], key: &[u8], with_colon: &[u8]) -> Option<&'t [u8]>
     requires { with_colon.now ≡ key.now ++ colon ∷ [] }
     ensures { option_map (λ value. value.now) result ≡ comment_value key.now (head_of (length text.now) text.now) }
@@ -48,8 +49,7 @@ fn text_in_head<'t>(text: &'t [u8], key: &[u8], with_colon: &[u8]) -> Option<&'t
     None
 }
 
-/// The value of the first comment with this key, among the comments at the start of the text. Its contract gives the
-/// fields of the value.
+/// The value that `text_in_head` finds. The contract of this function gives the fields of the value.
 pub(crate) fn value_in_head<'t>(text: &'t [u8], key: &[u8], with_colon: &[u8]) -> Option<&'t [u8]>
     requires { with_colon.now ≡ key.now ++ colon ∷ [] }
     ensures { option_map (λ value. fields_in value.now) result
@@ -58,7 +58,8 @@ pub(crate) fn value_in_head<'t>(text: &'t [u8], key: &[u8], with_colon: &[u8]) -
     text_in_head(text, key, with_colon)
 }
 
-/// The name of the medium in `%%PageMedia:`, among the comments at the start of the text, as it is written.
+/// The name of the medium in `%%PageMedia:`, among the comments at the start of the text, as it is written. None if
+/// there is no such comment, or if it names no medium.
 pub(crate) fn medium_name(text: &[u8]) -> Option<&[u8]>
     ensures { option_map (λ name. name_meant name.now) result ≡ medium_told (head_of (length text.now) text.now) }
 {

@@ -14,7 +14,7 @@ use dsc::{Document, header_len};
 use lengths::{Grains, Paper};
 
 /// The edges of a page's own `%%PageBoundingBox:`, or else of the document's box `other`. The document's box isn't used
-/// if the page names a medium. None if there is no such box, or if one of its edges isn't a number.
+/// if the page names a medium. None if there is no such box, or if one of its edges is missing or isn't a number.
 fn page_box(page: &[u8], other: Option<&[u8]>) -> Option<Edges>
     ensures { result ≡ meaning.page_box (option_map (λ v. fields_in v.now) other.entry) page.now }
 {
@@ -26,7 +26,7 @@ fn page_box(page: &[u8], other: Option<&[u8]>) -> Option<Edges>
 }
 
 /// The document's box `other`, unless the comments of the page name a medium. If a document has several media, its box
-/// covers all of them.
+/// covers all of them. None if a medium is named, or if there is no such box.
 fn unless_medium<'t>(head: &[u8], other: Option<&'t [u8]>) -> Option<&'t [u8]>
     ensures { option_map (λ v. fields_in v.now) result ≡ meaning.unless_named
         (comment_fields (codes "%%PageMedia") (head_of (length head.now) head.now)) (option_map (λ v. fields_in v.now) other.entry) }
@@ -37,7 +37,7 @@ fn unless_medium<'t>(head: &[u8], other: Option<&'t [u8]>) -> Option<&'t [u8]>
     }
 }
 
-/// The edges of this box. None if there is no box, or if one of its edges isn't a number.
+/// The edges of this box. None if there is no box, or if one of its edges is missing or isn't a number.
 fn edges_if(value: Option<&[u8]>) -> Option<Edges>
     ensures { result ≡ option_and_then edges_told (option_map (λ v. fields_in v.now) value.entry) }
 {
@@ -56,7 +56,8 @@ pub struct PlacedPages<'p, 'd> {
     pub papers: &'p [Paper],
     /// For each page, its own paper.
     pub own: &'p [Paper],
-    /// Whether to leave out each page that is cut by the paper for which it is placed. `cut_by` reports such pages.
+    /// Whether `reach_beyond` leaves out each page that is cut by the paper for which it is placed. `cut_by` reports
+    /// such pages.
     pub cut_apart: bool,
 }
 
@@ -99,7 +100,7 @@ fn reach_with(pages: &PlacedPages<'_, '_>, other: Option<&[u8]>) -> Option<Reach
     reach
 }
 
-/// The pages found so far, together with page `page` if its edges lie outside its paper.
+/// The pages found so far, together with page `page` if its edges lie more than one point outside its paper.
 fn with_if_beyond(
     reach: Option<Reach>,
     page: usize,
@@ -136,7 +137,8 @@ fn with_reaching_page(reach: Option<Reach>, page: usize, paper: &Paper, edges: E
     }
 }
 
-/// The edges to which a page reaches. None if the page isn't taken, has no box, or is cut and left out.
+/// The edges to which a page reaches: those of its box or, if the page is cut, those of its own paper. None if the page
+/// isn't taken, if it is cut and left out, or if it isn't cut and has no box.
 fn extent_at(
     pages: &PlacedPages<'_, '_>,
     other: Option<&[u8]>,
@@ -192,7 +194,7 @@ fn box_at(document: &Document<'_>, other: Option<&[u8]>, page: usize) -> Option<
     }
 }
 
-/// The edges of a paper whose lower left corner is at 0 0.
+/// The edges of a paper whose lower left corner is at 0 0. The result is never None.
 fn paper_edges(paper: &Paper) -> Option<Edges>
     ensures { result ≡ Some (meaning.paper_edges paper.now) }
 {

@@ -17,7 +17,7 @@ pub(crate) fn usual_in(text: &[u8], home: &Paper) -> Paper
     set_size(text).unwrap_or(*home)
 }
 
-/// The paper in the first line that asks for a paper, among the lines before the first page.
+/// The paper in the first line that asks for a paper, among the lines before the first page. None if no line does.
 pub(crate) fn set_size(text: &[u8]) -> Option<Paper>
     ensures { result ≡ meaning.set_size (meaning.contents text.now) }
 {
@@ -44,6 +44,7 @@ fn begins_page(content: &[u8]) -> bool
 }
 
 /// The paper that a line asks for: its width and its height in points, in brackets after the line's first `/PageSize`.
+/// None if the line asks for no paper.
 fn size_asked(content: &[u8]) -> Option<Paper>
     ensures { result ≡ meaning.size_asked content.now }
 {
@@ -51,7 +52,7 @@ fn size_asked(content: &[u8]) -> Option<Paper>
 }
 
 /// The paper in brackets at the start of this text, which follows `/PageSize`. Blanks may come before the opening
-/// bracket.
+/// bracket. None if there is no such bracket, or if `two_sides` finds no paper in the brackets.
 fn size_behind(text: &[u8]) -> Option<Paper>
     ensures { result ≡ meaning.size_behind text.now }
 {
@@ -59,7 +60,7 @@ fn size_behind(text: &[u8]) -> Option<Paper>
     two_sides(in_brackets(text)?)
 }
 
-/// The text after the first `/PageSize` of a line.
+/// The text after the first `/PageSize` of a line. None if the line has no `/PageSize`.
 fn behind_key(content: &[u8]) -> Option<&[u8]>
     ensures { option_map (λ text. text.now) result ≡ meaning.behind_key content.now }
 {

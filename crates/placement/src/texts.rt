@@ -1,4 +1,4 @@
-//! The texts around a placed page. Each text is appended as a whole or not at all.
+//! The texts around a placed page. A public function appends its text as a whole or not at all.
 ghost use Rattle.std.specs.Prelude.{◌≡◌, ◌+◌, ◌<◌, ◌≤◌, ◌++◌, ◌-ℤ◌, length, OnOk, OnErr, vec_len};
 ghost use Rattle.std.specs.Prelude.{vec_capacity, take};
 ghost use Rattle.rules.specs.Numbers.{scale_text, points_text};

@@ -38,7 +38,8 @@ pub fn preview_text(
     Ok(text)
 }
 
-/// Appends all `count` sheets, or only the first `most` if there are more.
+/// Appends the start of the drawing and the drawings of all `count` sheets. If there are more than `most`, only the first `most` are drawn, and a
+/// line of text has the number of the remaining sheets.
 fn append_all(
     sheets: &MadeSheets,
     sides: Sides,
@@ -75,7 +76,7 @@ fn append_first(
     Ok(())
 }
 
-/// The height of a drawing of `count` sheets, in units of the drawing.
+/// The height, in units of the drawing, of the squares of `count` sheets, which are drawn four in a row.
 fn height_of(count: u32) -> u64
     ensures { result ≡ (count + 3) / 4 * 260 }
 {
@@ -114,7 +115,7 @@ fn append_left_out(count: u32, more: u32, out: &mut Vec<u8>) -> Result<(), Alloc
     Ok(())
 }
 
-/// Appends the first `count` sheets.
+/// Appends the drawings of the first `count` sheets.
 fn append_sheets(
     sheets: &MadeSheets,
     sides: Sides,

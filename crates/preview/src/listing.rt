@@ -13,7 +13,8 @@ use sheet_plan::{MadeSheets, PlacedSlot};
 use std::alloc::{AllocError, Global};
 
 /// The list of these sheets. If sheets are printed on both sides, each leaf has a line, and otherwise each sheet. The line has the pages in the
-/// places of the sheet, row by row, with the sheet held so that the pages are upright. Pages are counted from 1.
+/// places of the sheet, or of both sides of the leaf. They are listed row by row, with the sheet held so that the pages are upright. For a sheet of a
+/// poster, the line has the page and the sheet's column and row. Pages are counted from 1.
 ///
 /// The next line has the numbers of sheets and blank places. If sheets are printed on both sides, that line has the number of leaves as well, and a
 /// further line names the edge on which leaves are flipped. Then each way in which pages lie on sheets has a line, with papers and scale.

@@ -22,7 +22,7 @@ pub enum Sides {
     Both { flip: Edge },
 }
 
-/// The number of sheets. Fails with `AllocError` if a `u32` can't hold it, because lines for more sheets than that wouldn't fit into memory.
+/// The number of sheets. If a `u32` can't hold it, the call fails as if memory were refused.
 pub(crate) fn number_of_sheets(sheets: &MadeSheets) -> Result<u32, AllocError>
     ensures value { IfOk result (λ count. count ≡ length sheets.now) }
     ensures many { OnErr result (u32.MAX < length sheets.now) }
@@ -56,7 +56,7 @@ pub(crate) fn append_sheet_name(
     Ok(())
 }
 
-/// The text that says which side of its leaf a sheet is: the front or the back.
+/// ` front` for a sheet with an even number, counted from 0, and ` back` for any other sheet.
 fn face_of(sheet: u32) -> &'static [u8]
     ensures { result.now ≡ face_text sheet }
 {

@@ -102,7 +102,7 @@ fn different_ways(alloc: Global, sheets: &MadeSheets, count: u32) -> Result<Vec<
     Ok(ways)
 }
 
-/// Adds to `ways` the ways in which the pages of a sheet lie on it.
+/// Adds to `ways` the ways in which the pages of a sheet lie on it, as `add_way` does.
 fn note_sheet(sheets: &MadeSheets, sheet: u32, ways: &mut Vec<Way>) -> Result<(), AllocError>
     requires { sheet < length sheets.now }
     ensures { OnOk result ((it : MadeSheet) → slice_get sheets.now sheet ≡ Some it →
@@ -112,7 +112,7 @@ fn note_sheet(sheets: &MadeSheets, sheet: u32, ways: &mut Vec<Way>) -> Result<()
     Ok(())
 }
 
-/// Adds the ways in which the pages in the slots of a sheet lie on it. `paper` is the paper of the sheet.
+/// Adds the ways in which the pages in the slots of a sheet lie on it, as `add_way` does. `paper` is the paper of the sheet.
 fn note_slots(
     sheets: &MadeSheets,
     sheet: u32,
@@ -128,7 +128,7 @@ fn note_slots(
     Ok(())
 }
 
-/// Adds the way in which the page in a slot lies on its sheet. `sheet` is the paper of the sheet.
+/// Adds the way in which the page in a slot lies on its sheet, as `add_way` does. A blank slot adds nothing. `sheet` is the paper of the sheet.
 fn note_slot(
     placed: Option<PlacedSlot<'_>>,
     sheet: &Paper,
@@ -149,7 +149,7 @@ fn note_slot(
     }
 }
 
-/// Adds a way, unless it is in the list or the list is full.
+/// Adds a way, unless the list has it or has 17 ways already.
 fn add_way(way: Way, ways: &mut Vec<Way>) -> Result<(), AllocError>
     ensures { OnOk result (ways.new.items ≡ with_way ways.old.items way) }
 {
@@ -160,7 +160,7 @@ fn add_way(way: Way, ways: &mut Vec<Way>) -> Result<(), AllocError>
     Ok(())
 }
 
-/// Whether the list is full or has this way.
+/// Whether the list has this way, or has 17 ways.
 fn is_full_or_there(ways: &[Way], way: &Way) -> bool
     ensures { result ≡ (nat_lt most_ways (length ways.now) || list_any (is_same_way way.now) ways.now) }
 {

@@ -115,7 +115,7 @@ fn fill_sheet(
     Ok(())
 }
 
-/// The slot of an item in a block.
+/// The slot of an item in a block. It is blank if the item names a blank, or an entry after the end of the row.
 fn slot_for(on: &SpecOnRow<'_>, block: u32, item: &Item) -> MadeSlot
     requires few { blocks_of on.now.spec.now.modulo (length on.now.row.now) ≤ most_sheets }
     requires block { block < blocks_of on.now.spec.now.modulo (length on.now.row.now) }

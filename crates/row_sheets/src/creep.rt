@@ -84,7 +84,8 @@ fn first_refusal(
     }
 }
 
-/// The sides of the leaves, with each front followed by its back.
+/// The sides of the leaves, with each front followed by its back. Fails if a page can't be placed in its half or would cross the fold, or if memory
+/// is refused.
 fn sides_of_leaves(
     alloc: Global,
     setting: &Setting,
@@ -154,7 +155,7 @@ fn half_before(made: &MadeSheets, creep: Creep, s: u32, cell: u32) -> Option<Pla
 }
 
 /// The slot for an entry of a row in a half of a side. If `before`, the page in this half of the previous leaf, has the same paper, its item is used
-/// again, which saves computing one.
+/// again, which saves computing one. Fails with the error of `creeping_item`.
 fn creeping_slot(
     setting: &Setting,
     papers: &[Paper],
@@ -226,8 +227,8 @@ fn half_item(
     }
 }
 
-/// Checks that a page of this paper doesn't cross the fold if its leaf creeps by this distance, in 10^-5 of a point. Fails with `CreepOverFold` if it
-/// does, and with the error of `Setting::scale` if the page has no scale.
+/// Checks that a page of this paper doesn't cross the fold if its leaf creeps by this distance, in 10^-5 of a point. A distance of 0 always passes.
+/// Fails with `CreepOverFold` if the page crosses the fold, and with the error of `Setting::scale` if it has no scale.
 fn check_fold(setting: &Setting, paper: &Paper, creep: u64) -> Result<(), ArrangementError>
     requires halves { AreHalves setting.now }
     ensures possible { OnOk result

@@ -138,7 +138,8 @@ pub fn zine_sheets(
     fill_cells(alloc, setting, papers, row, CellKind::Zine, 8)
 }
 
-/// The sheets of this kind with this number of cells each, filled with the row.
+/// The sheets of this kind with this number of cells each, filled with the row. Fails with the error of the first page that can't be placed, or else
+/// with `NoMemory`.
 fn fill_cells(
     alloc: Global,
     setting: &Setting,
@@ -217,7 +218,7 @@ pub(crate) fn blocks_of(row: &[Option<u32>], entries: u64) -> Result<u32, Arrang
     }
 }
 
-/// The sheets of this shape, filled with the row.
+/// The sheets of this shape, filled with the row. Fails if a page can't be placed, or if memory is refused.
 fn filled(
     alloc: Global,
     setting: &Setting,
@@ -245,7 +246,7 @@ fn filled(
     Ok(made)
 }
 
-/// Replaces the content of `slots` with the slots of the next sheet.
+/// Replaces the content of `slots` with the slots of the next sheet. Fails if a page can't be placed, or if memory is refused.
 fn fill_slots(
     slots: &mut Vec<MadeSlot>,
     made: &MadeSheets,
@@ -332,7 +333,7 @@ fn slot_by(
     }
 }
 
-/// The slot for an entry of a row, in a cell of a sheet that is rotated by 180 degrees.
+/// The slot for an entry of a row, in a cell of a sheet that is rotated by 180 degrees. Fails if the page can't be placed.
 fn back_slot_in(
     setting: &Setting,
     papers: &[Paper],
@@ -354,7 +355,7 @@ fn back_slot_in(
 }
 
 /// The slot for an entry of a row, in a cell. If `before`, the page in this cell of the previous sheet, has the same paper, its item is used again,
-/// which saves computing one.
+/// which saves computing one. Fails if the page can't be placed.
 fn slot_in(
     setting: &Setting,
     papers: &[Paper],
@@ -394,7 +395,7 @@ fn place(shape: Shape, setting: &Setting, s: u32, c: u32) -> u128
     }
 }
 
-/// The index of the zine's entry in this cell, among the eight entries of the sheet.
+/// The index of the zine's entry in this cell, among the eight entries of the sheet. Cells and entries are counted from 0.
 fn zine_place(cell: u128) -> u128
     requires { cell < 4_294_967_296 }
     ensures { result ≡ place_in_zine cell }

@@ -24,12 +24,12 @@ pub fn grid_runs_on()
     ensures { GridRunsOn }
 {}
 
-/// If the sheets of a grid are read cell by cell and sheet by sheet, they show the row.
+/// If the sheets of a grid are read cell by cell and sheet by sheet, they show the row, followed by blanks in the cells that are left over.
 pub fn grid_is_read()
     ensures { GridIsRead }
 {}
 
-/// Each sheet of cards shows one entry of the row in all of its cells.
+/// Each sheet of cards shows one entry of the row in all of its cells. The sheets show the entries in the order of the row.
 pub fn cards_are_read()
     ensures { CardsAreRead }
 {}
@@ -49,7 +49,7 @@ pub fn zine_is_read()
     ensures { ZineIsRead }
 {}
 
-/// Each page of a zine lies in its cell, and the pages in the first row of cells are upside down.
+/// If no page is refused, each page of a zine lies in its cell, and the pages in the first row of cells are upside down.
 pub fn zine_lies_in_cells()
     ensures { ZineLiesInCells }
 {}
@@ -112,17 +112,18 @@ pub fn creep_keeps_sides()
     ensures { CreepKeepsSides }
 {}
 
-/// A booklet whose leaves don't creep is the plain booklet.
+/// A booklet whose leaves don't creep is the plain booklet, and is refused with the same error.
 pub fn no_creep_is_plain()
     ensures { NoCreepIsPlain }
 {}
 
-/// Each page of a booklet, without its trim, lies in its half of a leaf. Apart from the creep, it lies in the middle of that half.
+/// If no page is refused, each page of a booklet, without its trim, lies in its half of a leaf. Apart from the creep, it lies in the middle of that
+/// half.
 pub fn booklet_lies_in_halves()
     ensures { BookletLiesInHalves }
 {}
 
-/// The two pages on a side of a leaf, without their trim, are apart by at least the gap less twice the creep of the leaf.
+/// If no page is refused, the two pages on a side of a leaf are apart by at least the gap less twice the creep of the leaf. Their trim isn't counted.
 pub fn booklet_keeps_gap()
     ensures { BookletKeepsGap }
 {}
@@ -168,7 +169,7 @@ pub fn poster_has_tiles()
     ensures { PosterHasTiles }
 {}
 
-/// In a row of posters, each point of each page is shown on one of the sheets of that page.
+/// If no page of a row is refused as a poster, each point of each page is shown on one of the sheets of that page.
 pub fn row_is_shown()
     ensures { RowIsShown }
 {}

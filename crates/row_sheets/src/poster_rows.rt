@@ -40,7 +40,7 @@ fn first_refusal(poster: &Poster, papers: &[Paper], row: &[Option<u32>]) -> Post
     }
 }
 
-/// The sheets of all entries, one poster after the other.
+/// The sheets of all entries, one poster after the other. Fails if a page can't be a poster, or if memory is refused.
 fn tiles_of_row(
     alloc: Global,
     poster: &Poster,
@@ -58,7 +58,7 @@ fn tiles_of_row(
     Ok(made)
 }
 
-/// Adds the sheets of an entry.
+/// Adds the sheets of an entry: those of a poster, or blank ones for a blank entry. Fails if the page can't be a poster, or if memory is refused.
 fn push_entry(
     poster: &Poster,
     papers: &[Paper],
@@ -75,7 +75,7 @@ fn push_entry(
     }
 }
 
-/// Adds as many blank sheets as a poster has.
+/// Adds as many blank sheets as a poster has. Fails only if memory is refused.
 fn push_blanks(poster: &Poster, made: &mut MadeSheets) -> Result<(), PosterError>
     requires { poster.now.rows * poster.now.columns ≤ most_tiles }
     ensures pushed { OnOk result (made.new ≡ made.old ++ blank_tiles poster.now) }

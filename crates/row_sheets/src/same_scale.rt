@@ -8,8 +8,9 @@ use crate::selecting::paper_or;
 use layouts::{ArrangementError, Setting};
 use lengths::{Number, Paper};
 
-/// The setting with one scale for all pages of the row: the least of the scales that they would have on their own. A page whose paper isn't in
-/// `papers` has the paper of the sheet. Fails with the error of the first page that has no scale of its own.
+/// The setting with one scale for all pages of the row: the least of the scales that they would have on their own. If the row has no pages, the
+/// setting has no scale. A page whose paper isn't in `papers` has the paper of the sheet. Fails with the error of the first page that has no scale of
+/// its own.
 pub fn at_one_scale(
     setting: &Setting,
     papers: &[Paper],
@@ -31,7 +32,8 @@ pub fn at_one_scale(
     })
 }
 
-/// The lesser of `least`, which is the least scale of the earlier entries, and the scale of this entry. A blank changes nothing.
+/// The lesser of `least` and the scale of this entry. `least` is the least scale of the earlier entries, or None if they have no pages. A blank
+/// changes nothing. Fails with the error of `Setting::scale` if the page has no scale.
 fn with_entry(
     setting: &Setting,
     papers: &[Paper],

@@ -6,7 +6,8 @@ ghost use Rattle.rows.specs.Found.{row_found, entries_found, entries_if, pages_f
 use crate::cutting::split_at_byte;
 use crate::found_ranges::{ResolvedRange, read_range};
 
-/// Appends the entries of all ranges of a text. The caller has to show that the row has room for them.
+/// Appends the entries of all ranges of a text. Parts of the text that aren't ranges are passed over. The caller has to show that the row has room
+/// for the entries.
 pub(crate) fn append_ranges(row: &mut Vec<Option<u32>>, pages: u32, text: &[u8])
     requires { vec_len row.old + length (row_found pages text.now) ≤ vec_capacity row.old }
     ensures appended { row.new.items ≡ row.old.items ++ row_found pages text.now }
@@ -32,7 +33,7 @@ fn append_range_if(row: &mut Vec<Option<u32>>, range: Option<ResolvedRange>)
     }
 }
 
-/// Appends the entries of a range.
+/// Appends the entries of a range, or nothing if its first or its last page isn't in the document.
 fn append_range(row: &mut Vec<Option<u32>>, range: ResolvedRange)
     requires { vec_len row.old + length (entries_found range) ≤ vec_capacity row.old }
     ensures appended { row.new.items ≡ row.old.items ++ entries_found range }

@@ -54,7 +54,7 @@ pub fn auto_sides(entries: usize) -> u32
     leaves.div_ceil(signatures) as u32 * 4
 }
 
-/// The number of leaves for this number of entries. A leaf has four entries.
+/// The number of leaves for this number of entries. A leaf has four entries, and the last leaf is filled up with blanks.
 fn leaves_for(entries: usize) -> u32
     requires some { 0 < entries }
     requires few { entries ≤ most_entries }
@@ -81,7 +81,7 @@ pub fn signed_row(
     }
 }
 
-/// The row in signatures.
+/// The row in signatures, sewn as `how` says.
 fn sewn_row(
     alloc: Global,
     row: &[Option<u32>],

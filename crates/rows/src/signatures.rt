@@ -25,7 +25,7 @@ pub fn in_signatures(
     Ok(printed)
 }
 
-/// Appends a signature. Its first page, as it is read, is the entry of the row with the index `first`.
+/// Appends a signature. Its first page, as it is read, is the entry of the row with the index `first`. Entries after the end of the row are blank.
 fn append_signature(
     printed: &mut Vec<Option<u32>>,
     row: &[Option<u32>],

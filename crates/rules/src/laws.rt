@@ -13,14 +13,14 @@ ghost use Rattle.rules.specs.Rows.{PartsOfRow, PartsByNumber, SheetsOfAll, Signa
 ghost use Rattle.rules.specs.Ranges.{RangesAreRead, RangesOfAll};
 ghost use Rattle.rules.specs.Leaves.{ReadInOrder, RowIsRead, SheetsAreFaces};
 
-/// Of all texts in the form of printed numbers, only one has the value of a given number: its printed text. This holds for up to 63 decimals and for
-/// absolute values below 10^64.
+/// Of all texts that have the form of a printed number, only one has the value of a given number: its printed text. This holds for up to 63 decimals
+/// and for absolute values below 10^64.
 pub fn printed_is_printed()
     ensures { PrintedIsPrinted }
 {}
 
-/// Of all texts in the canonical form of numbers in a specification, only one has the value of a given number: its canonical text. This holds for
-/// absolute values below 10^64.
+/// Of all texts that have the canonical form of a number in a specification, only one has the value of a given number: its canonical text. This holds
+/// for absolute values below 10^64.
 pub fn number_is_printed()
     ensures { NumberIsPrinted }
 {}
@@ -138,7 +138,7 @@ pub fn ranges_are_read()
 {}
 
 /// In a document with at least one page, `1-` names all pages in order, and `last-1` names all pages backwards. `_k` names the k-th page from the
-/// end, if the document has at least k pages.
+/// end, for each k from 1 to the number of pages.
 pub fn ranges_of_all()
     ensures { RangesOfAll }
 {}

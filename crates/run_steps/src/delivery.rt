@@ -18,7 +18,7 @@ use std::fmt;
 use std::fmt::Debug;
 use std::sync::Wait;
 
-/// The result of a delivery: the answers of the table, and the sheets that the queue refused.
+/// The result of a delivery: the receipt of the page, the answers of the table, and the sheets that the queue refused.
 #[derive(Debug, Drop)]
 pub struct Delivered<'d> {
     /// The receipt with which any thread can read the page from the shelf.
@@ -120,7 +120,8 @@ pub struct Delivery<'f, 'p, 't, 'd> {
 }
 
 impl<'f, 'p, 't, 'd> Delivery<'f, 'p, 't, 'd> {
-    /// Delivers a page like the function `deliver`, but stores the answers in the memory of `answers`.
+    /// Delivers a page like the function `deliver`, but stores the answers in the memory of `answers`. If `as_own` is true, the page must be a page
+    /// of the shelf's document.
     pub fn deliver<R: Wait>(
         &self,
         rt: &R,

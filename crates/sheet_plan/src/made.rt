@@ -12,7 +12,7 @@ use pagespec::{Item, Measure, Turn};
 use std::alloc::{AllocError, Global};
 use std::marker::Model;
 
-/// The number of placings, at the start of the list, with which a placing is compared before it is added.
+/// The number of placings at the start of the list with which `find_placing` compares a placing, after the one at index `near`.
 const FEW: u32 = 64;
 
 /// The item of a blank slot. It places nothing.
@@ -138,7 +138,7 @@ impl MadeSheets {
         sheets.len()
     }
 
-    /// The number of slots on all sheets.
+    /// The number of slots on all sheets, including blank ones.
     pub fn places(&self) -> u32
         ensures { result ≡ sum_by slot_count self.now }
     {
@@ -146,7 +146,7 @@ impl MadeSheets {
         last_end(sheets)
     }
 
-    /// The number of slots on a sheet.
+    /// The number of slots on a sheet, including blank ones.
     pub fn slots(&self, sheet: u32) -> u32
         requires { sheet < length self.now }
         ensures { result ≡ length (slots_at self.now sheet) }
@@ -255,7 +255,7 @@ fn count_in_u32(count: usize) -> Result<u32, AllocError>
     }
 }
 
-/// Adds slots. The placing of each slot is added too, unless it is found among the placings already kept.
+/// Adds slots, and those of their placings that `find_placing` doesn't find. If this fails, some of the slots and placings may have been added.
 fn keep_slots(
     placings: &mut Vec<Placing>,
     slots: &mut Vec<KeptSlot>,
@@ -271,7 +271,7 @@ fn keep_slots(
     Ok(())
 }
 
-/// Adds a slot. Its placing is added too, unless it is found among the placings already kept.
+/// Adds a slot and, unless `find_placing` finds it, the slot's placing. A blank slot has no placing.
 #[tactic(auto, using(crate::proofs::Stored::grown_placings))]
 fn keep_slot(
     placings: &mut Vec<Placing>,

@@ -70,7 +70,7 @@ fn is_uneven(made: &MadeSheets, sheet: u32) -> bool
     !is_slot_count(slots)
 }
 
-/// Whether a sheet may have this number of slots.
+/// Whether a sheet may have this number of slots: from 1 to 4,096.
 fn is_slot_count(slots: u32) -> bool
     ensures { result ≡ is_slot_count slots }
 {

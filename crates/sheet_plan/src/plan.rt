@@ -120,7 +120,8 @@ impl<'s> Plan<'s> {
         })
     }
 
-    /// Plans the sheets of a specification for a row of pages.
+    /// Plans the sheets of a specification for a row of pages. Fails with the first limit that the sheets exceed, in the order of `PlanError`, or
+    /// with `NoMemory`.
     fn over(alloc: Global, spec: &'s Spec, row: Row) -> Result<Plan<'s>, PlanError>
         requires { AreSidesIfGiven row.sides }
         ensures planned { IfOk result (λ plan. plan ≡ planned_in row.sides spec.now row.pages) }
@@ -137,7 +138,7 @@ impl<'s> Plan<'s> {
         })
     }
 
-    /// The number of pages.
+    /// The number of pages, without the blanks that fill up the last signature.
     pub fn pages(&self) -> u32
         ensures value { result ≡ self.now.pages }
         ensures sound { IsSound self.now }

@@ -12,7 +12,8 @@ pub fn are_sides(sides: u32) -> bool
     sides > 0 && sides % 4 == 0 && sides <= MOST_SIDES
 }
 
-/// Pages in the order of their numbers, or in signatures with `sides` sides each. The last signature is filled up with blanks.
+/// Pages in the order of their numbers if `sides` is None, or else in signatures with this number of sides each. The last signature is filled up with
+/// blanks.
 #[derive(Clone, Copy)]
 pub struct Row {
     pub pages: u32,
@@ -20,7 +21,7 @@ pub struct Row {
 }
 
 impl Row {
-    /// The number of entries of the row.
+    /// The number of entries of the row, including blanks.
     pub fn len(self) -> u64
         requires { AreSidesIfGiven self.sides }
         ensures { result ≡ row_len self.sides self.pages }

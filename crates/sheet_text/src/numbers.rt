@@ -79,7 +79,7 @@ fn append_number_line(
     Ok(())
 }
 
-/// Appends the operators that set the font, Times-Roman, in this size (in grains).
+/// Appends the operators that save the graphics state, and set the colour (black) and the font (Times-Roman, in this size, which is in grains).
 fn append_font(size: Grains, text: &mut Rope<'_>) -> Result<(), AllocError>
     ensures { OnOk result (text.new ≡ text.old ++ font_text size) }
 {
@@ -115,7 +115,8 @@ fn degrees(turn: Turn) -> &'static [u8]
     }
 }
 
-/// Appends the point at which the page's number is drawn, in points from the lower left corner of the placed page, and the operator `moveto`.
+/// Appends the point at which the page's number is drawn, the operator `moveto`, and the parenthesis before the number. The point is in points from
+/// the lower left corner of the placed page.
 fn append_foot(
     below: Option<Grains>,
     placed: &PlacedSlot<'_>,
@@ -162,7 +163,7 @@ fn scaled(scale: Number, side: Grains) -> u128
     u128::from(scale.billionths().unsigned_abs()) * side.get().unsigned_abs()
 }
 
-/// Appends the number and the operators that draw it, centred at the current point.
+/// Appends the number, the operators that draw it with its middle above the current point, and `grestore`.
 fn append_shown(number: u64, text: &mut Rope<'_>) -> Result<(), AllocError>
     ensures { OnOk result (text.new ≡ text.old ++ shown_text number) }
 {

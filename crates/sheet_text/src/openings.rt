@@ -124,7 +124,7 @@ impl Openings {
 }
 
 impl Opening {
-    /// The kept text, if it was made for this item, this paper, and the width and inset of the job's border. None otherwise.
+    /// The kept text, if it was made for this item (apart from its page), this paper, and the width and inset of the job's border. None otherwise.
     fn text_for(&self, job: &Job<'_, '_>, item: &Item, paper: &Paper) -> Option<&[u8]>
         ensures { IfSome result (λ text. text.now ≡ opening (record { paper = paper.now; border = job.now.border }) (item_of item.now)) }
     {

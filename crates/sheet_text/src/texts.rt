@@ -93,8 +93,9 @@ impl<'r> Texts<'r> {
         self.parts[nth].sheet
     }
 
-    /// The text for a single write: the text of this sheet, and then the texts of the sheets that follow it in number and in memory. Returns the
-    /// number of these sheets, which is at most `most`, and the bytes of their texts. None if this sheet isn't at the index `nth` of the list.
+    /// The text for a single write: the text of this sheet, and then the texts of the sheets that follow it in number and in memory. A text with
+    /// borrowed slices is returned alone. Returns the number of these sheets, which is at most `most`, and the bytes of their texts. None if this
+    /// sheet isn't at the index `nth` of the list.
     pub fn joined(&self, sheet: u32, nth: usize, most: u32) -> Option<(u32, Pieces<'_, 'r>)>
         requires most { 0 < most }
         ensures count { IfSome result (λ j. (0 < j.0) × (j.0 ≤ most)) }

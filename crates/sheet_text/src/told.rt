@@ -8,7 +8,8 @@ use crate::rope::Rope;
 use lengths::Paper;
 use std::alloc::AllocError;
 
-/// Appends the lines by which a sheet reports this paper: its `%%PageMedia:` line, then the PostScript code that sets the device's page size.
+/// Appends the lines by which a sheet reports this paper: its `%%PageMedia:` line, then the PostScript code that sets the device's page size. The
+/// code does nothing if `showpage` is disabled, or if the interpreter has no `setpagedevice`.
 pub(crate) fn append_paper_report(paper: &Paper, text: &mut Rope<'_>) -> Result<(), AllocError>
     ensures { OnOk result (text.new ≡ text.old ++ lines_text (sheet_lines paper.now)) }
 {

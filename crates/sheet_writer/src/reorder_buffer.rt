@@ -21,9 +21,9 @@ pub struct Place {
     pub nth: usize,
 }
 
-/// Finished sheets that wait until all sheets before them are written. The place of a sheet is its number modulo the number of places. So sheets with
-/// successive numbers have different places, if there are at most as many sheets as places. Sheets arrive in groups. A group is stored at the place
-/// of its last sheet (the sheet with the greatest number), since the whole group has been written once that sheet has.
+/// Finished sheets that wait until all sheets before them are written. The place of a sheet is its number modulo the number of places. So successive
+/// sheets have different places, if they are at most as many as the places. Sheets arrive in groups. A group is stored at the place of its last sheet
+/// (the sheet with the greatest number), since the whole group has been written once that sheet has.
 #[derive(Drop)]
 pub struct ReorderBuffer<'r> {
     /// For each place, the position that was last recorded for a sheet with this place. At first it is index 0 of group 0.
@@ -49,9 +49,9 @@ impl<'r> ReorderBuffer<'r> {
         Ok(ReorderBuffer { places, groups })
     }
 
-    /// Stores a group of finished sheets at the place of its last sheet. If that place isn't free, the new group is dropped, and its sheets are made
-    /// again when they are to be written. After the call all sheets of a stored group can be found, if no two of them have the same place. An earlier
-    /// sheet whose place is taken over counts as one that never came.
+    /// Stores a group of finished sheets at the place of its last sheet. If that place isn't free, or the buffer has no places, the new group is
+    /// dropped, and its sheets are made again when they are to be written. After the call all sheets of a stored group can be found, if no two of
+    /// them have the same place. An earlier sheet whose place is taken over counts as one that never came.
     pub fn put(&mut self, finished: Texts<'r>)
         ensures early { (job : JobView) → HaveTexts (text_of job) finished.entry
             → AreEarly job self.old.groups.items → AreEarly job self.new.groups.items }
@@ -115,8 +115,9 @@ impl<'r> ReorderBuffer<'r> {
         sheet as usize % self.groups.len().max(1)
     }
 
-    /// The text for a single write: the text of this sheet, and then the texts of the sheets that follow it in number and in memory. Returns the
-    /// number of these sheets, which is at most `most`, and the bytes of their texts. None if this sheet hasn't come.
+    /// The text for a single write: the text of this sheet, and then the texts of the sheets that follow it in number and in memory. A text with
+    /// borrowed slices is returned alone. Returns the number of these sheets, which is at most `most`, and the bytes of their texts. None if this
+    /// sheet hasn't come.
     pub fn joined(&self, sheet: u32, most: u32) -> Option<(u32, Pieces<'_, 'r>)>
         requires most { 0 < most }
         ensures count { IfSome result (λ j. (0 < j.0) × (j.0 ≤ most)) }
@@ -164,7 +165,7 @@ impl<'r> ReorderBuffer<'r> {
     }
 }
 
-/// The greatest sheet number in the group. 0 if the group is empty.
+/// The greatest sheet number in the group. It is 0 if the group is empty.
 fn last(finished: &Texts<'_>) -> u32
     ensures { result ≡ last_entry (sheets_of finished.now) }
 {

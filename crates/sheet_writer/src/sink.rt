@@ -121,8 +121,8 @@ impl<T: io::Write> Sink for WriteSink<T> {
     }
 }
 
-/// A sink that keeps its bytes in a vector. It has room for `room` bytes in all, takes at most `per_call` bytes in one call, and refuses every call
-/// after the first `calls` successful ones.
+/// A sink that keeps its bytes in a vector. It has room for `room` bytes in all, and takes at most `per_call` bytes in one call. It refuses a call if
+/// it could take no byte, or if `calls` calls have succeeded before.
 #[derive(Drop)]
 pub struct MemorySink {
     bytes: Vec<u8>,

@@ -97,7 +97,7 @@ fn halted(progress: Progress, written: u64, why: Halt) -> Progress
     }
 }
 
-/// Writes the text of the next `count` sheets, and moves `next` past them.
+/// Writes the text of the next `count` sheets, and moves `next` past them, even if writing is halted within the text.
 fn write_sheets<S: Sink>(
     job: &Job<'_, '_>,
     sink: &mut S,
@@ -122,8 +122,8 @@ fn write_sheets<S: Sink>(
     }
 }
 
-/// Writes the next sheets from the buffer, until the next sheet hasn't come, all sheets are written, or writing is halted. A group whose sheets are
-/// all written is passed to `spent`.
+/// Writes the next sheets from the buffer, until the next sheet hasn't come, all sheets are written, or writing is halted. A group is passed to
+/// `spent` once none of its sheets is still to be written.
 pub fn write_early<'r, S: Sink, B: Spent<'r>>(
     job: &Job<'_, '_>,
     sink: &mut S,
@@ -160,7 +160,7 @@ pub fn write_early<'r, S: Sink, B: Spent<'r>>(
 }
 
 /// Writes the end of the output after all workers have ended: the remaining sheets in order, then the trailer. A sheet that never came is made by
-/// this call. Nothing is written after a halt.
+/// this call, and counted in `swept`, which starts at 0. Nothing is written after a halt.
 pub fn write_rest<S: Sink>(
     alloc: Global,
     job: &Job<'_, '_>,
