@@ -59,6 +59,7 @@ class Options:
     order: str = "right-down"
     turned: str = ""
     turn: int = 0  # quarters to the left
+    wide: bool = False  # only pages that are wider than high are turned
     signature: int | None = None  # sides, 0 for auto
     numbers: Fraction = Fraction(0)
     first: int = 1
@@ -558,8 +559,13 @@ class Run:
         own = (min(paper), max(paper)) if self.options.layout == "booklet" else paper
         return paper, self.options.sheet or own
 
+    def turn(self, paper: Paper) -> int:
+        """13.7: the quarters by which a page of this paper is turned."""
+        is_kept = self.options.wide and paper[0] <= paper[1]
+        return 0 if is_kept else self.options.turn
+
     def turned(self, paper: Paper) -> Paper:
-        return paper[::-1] if self.options.turn % 2 else paper
+        return paper[::-1] if self.turn(paper) % 2 else paper
 
     def sheets(self) -> list[Sheet]:
         if self.options.layout in ("select", "poster"):
@@ -621,8 +627,8 @@ class Run:
         """The lines of section 7, with the border and the number of section 15."""
         page, own = self.row[slot.entry], self.own[slot.entry]
         assert page is not None and own
-        spot = spot.of_turned(self.options.turn, self.turned(own))
-        if self.options.turn and max(abs(spot.x), abs(spot.y)) >= TOO_LONG:
+        spot = spot.of_turned(self.turn(own), self.turned(own))
+        if self.turn(own) and max(abs(spot.x), abs(spot.y)) >= TOO_LONG:
             raise Refused("far")
         spot = spot.half_turned(sheet.paper) if slot.half else spot
         lines = ["userdict /ImposeSave save put", "userdict /showpage {} put", spot.text()]

@@ -37,7 +37,7 @@ _impose_values_of() {
         --skip) echo '1 2 3 4' ;;
         --order) echo 'right-down down-right left-down down-left' ;;
         --turned) echo 'left right' ;;
-        --turn) echo 'left right half' ;;
+        --turn) echo 'left right half wide' ;;
         --scale) echo '0.5 0.7 1' ;;
         --marks) echo 'fold cut fold,cut' ;;
         --numbers) echo '8pt 10pt 12pt' ;;

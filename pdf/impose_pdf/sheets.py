@@ -55,12 +55,15 @@ def label(sheet: Sheet) -> str:
 
 def turn_to_read(request: Request, sheets: list[Sheet]) -> int:
     """By how much sheets are turned on a screen to be read. What is folded or laid in a pile isn't turned."""
-    first = next((sheet.placed[0].matrix for sheet in sheets if sheet.placed), None)
+    first = next((sheet.placed[0] for sheet in sheets if sheet.placed), None)
     if request.command not in ("nup", "notes", "cards") or first is None:
         return 0
-    lies = next((degrees for degrees, side in SIDES.items() if side == tuple((v > 0) - (v < 0) for v in first[:2])), 0)
-    asked = request.options.get("--turn") or request.options.get("--turned")
-    return (lies - {"left": 90, "half": 180, "right": 270}.get(asked or "", 0)) % 360
+    lies = next((degrees for degrees, side in SIDES.items() if side == tuple((v > 0) - (v < 0) for v in first.matrix[:2])), 0)
+    turn = request.options.get("--turn")
+    if turn == "wide" and first.paper[0] <= first.paper[1]:
+        turn = None
+    asked = turn or request.options.get("--turned")
+    return (lies - {"left": 90, "wide": 90, "half": 180, "right": 270}.get(asked or "", 0)) % 360
 
 
 def preferences(old: Any, flip: str) -> Dictionary:

@@ -1,5 +1,5 @@
 -- What comes of a task with a row, and of a request.
-use Rattle.std.proofs.Common.{◌≡◌, ◌⊎◌, ◌∙◌, ap, ap₂, sym, subst, refl, arith, inl, inr, Bool, Bor, true, false, true≢false, List, ℕ, Option, Some, None, Result, Ok, Err}
+use Rattle.std.proofs.Common.{◌≡◌, ◌⊎◌, ◌∙◌, ap, ap₂, sym, subst, refl, arith, inl, inr, Bool, Bor, true, false, true≢false, List, [], ◌∷◌, ℕ, Option, Some, None, Result, Ok, Err}
 use Rattle.std.specs.Prelude.{IfSome, length, map, option_map, string_bytes}
 use Rattle.rules.specs.Rows.{Row}
 use Rattle.rules.specs.Papers.{Paper}
@@ -21,6 +21,9 @@ use Rattle.impose_cli.specs.declared.runs.About.{About}
 use Rattle.impose_cli.proofs.Coming.{comes_as, comes_refused, comes_reported}
 use Rattle.papers.specs.AsOne.{kinds, most_kinds, kind_paper}
 use Rattle.papers.specs.declared.cuts.Cut.{Cut}
+use Rattle.pagespec.specs.declared.item.Turn.{Turn}
+use Rattle.pagespec.specs.declared.item.Turn.TheVariants as by
+use Rattle.impose_words.specs.declared.request.Turning.TheVariants as turning
 use Rattle.paper_names.specs.Names.{paper_named}
 use Rattle.impose_messages.specs.Faults.{without_memory}
 use Rattle.dsc.specs.PagesBehind.{pages_behind}
@@ -33,7 +36,7 @@ use Rattle.impose_cli.specs.Tasks.{HasBehind, HasPageCount, page_paper_found}
 use Rattle.impose_cli.specs.Refusals.{HasGoodName, RefusesDocument, RefusesFor, RefusesNamed, RefusesOptions, RefusesRowLayout, RefusesRowTask}
 use Rattle.impose_cli.specs.Reaches.{HasReachOver, reach_in, reach_over}
 use Rattle.papers.specs.declared.reach.Reach.{Reach}
-use Rattle.impose_cli.specs.RowTasks.{ArePapersOf, cut_in, papers_in, papers_to_place, row_paper, text_for, why_no_row, FinishesRow, ImposesTask, IsJobOf, IsRowJob, IsRowPaper, IsRowTask, LaysRows, HasReach, IsLaidBy, IsLaidSo, IsLayingOf, LaysSo, TakesNamed, cells_paper, counted_among, counted_in, has_cuts_apart, laying_in, own_in, paper_for, row_papers, sheet_paper_in}
+use Rattle.impose_cli.specs.RowTasks.{ArePapersOf, cut_in, papers_in, papers_to_place, row_paper, text_for, why_no_row, FinishesRow, ImposesTask, IsJobOf, IsRowJob, IsRowPaper, IsRowTask, LaysRows, HasReach, HasTurns, IsLaidBy, IsLaidSo, IsLayingOf, LaysSo, TakesNamed, cells_paper, counted_among, counted_in, has_cuts_apart, paper_turned, turns_in, laying_in, own_in, paper_for, row_papers, sheet_paper_in}
 use Rattle.impose_cli.specs.Taken.{HasTaken, row_in, taken_below, taken_in}
 use Rattle.row_runs.specs.declared.sheet_request.Laying.{Laying}
 use Rattle.row_runs.specs.declared.sheet_request.Laying.TheVariants as laying
@@ -80,7 +83,7 @@ lays_by l s page sheet (row.Plain plain) (laying.Poster p) is so = is ∙ ap Som
 pub is_row_job : (r : ImposeRequest) (input : List ℕ) (t : RowTask) (job : RowJob) → IsRowTask r input t → IsJobOf r t job → IsRowJob r input t.page_paper job
 is_row_job r input t job is of = record {
   document = ap (λ ps. document_of (text_for r ps t.page_paper input)) of.papers ∙ ap document_of (sym is.text) ∙ of.document;
-  turn = of.turn;
+  turns = subst (HasTurns r input) (sym of.turns) is.turns;
   choice = of.choice;
   signing = of.signing ∙ is.signing;
   last_at_back = of.last_at_back;
@@ -104,14 +107,19 @@ pub are_papers : (r : ImposeRequest) (input : List ℕ) (us : List NestedUnit) (
 are_papers r input us papers cut read own cuts = let same = whole input us read in
     record { units = us; document = read; own = own ∙ ap (λ t. papers_in r t us) same; cut_pages = cuts ∙ ap (λ t. cut_in r t us) same }
 
--- papers are found one after another: the pages' own, those of the row, those that count, and those of turned pages
-pub are_placed : (r : ImposeRequest) (us : List NestedUnit) (row : Row) (own taken counted papers : List Paper) (one : Paper) → own ≡ own_in r (bytes_of us) us
-    → row ≡ row_in r us → taken ≡ row_papers row own → one ≡ (row_paper r (bytes_of us) us).0 → counted ≡ papers_to_place r.layout one taken own → papers ≡ map (cells_paper r) counted
-    → papers ≡ papers_in r (bytes_of us) us
-are_placed r us row own taken counted papers one own_is row_is taken_is one_is counted_is are =
-    are ∙ ap (map (cells_paper r)) (counted_is ∙ ap (λ p. papers_to_place r.layout p taken own) one_is
+-- papers of pages that aren't turned stay as they are
+pub unturned_papers : (papers : List Paper) → map (paper_turned (turning.All by.None)) papers ≡ papers
+unturned_papers [] = refl
+unturned_papers (paper ∷ papers) = ap (λ (ps : List Paper). paper ∷ ps) (unturned_papers papers)
+
+-- papers are found one after another: the pages' own, those of the row, and those that count
+pub are_counted : (r : ImposeRequest) (us : List NestedUnit) (row : Row) (own taken counted : List Paper) (one : Paper) → own ≡ own_in r (bytes_of us) us
+    → row ≡ row_in r us → taken ≡ row_papers row own → one ≡ (row_paper r (bytes_of us) us).0 → counted ≡ papers_to_place r.layout one taken own
+    → counted ≡ counted_in r (bytes_of us) us
+are_counted r us row own taken counted one own_is row_is taken_is one_is counted_is =
+    counted_is ∙ ap (λ p. papers_to_place r.layout p taken own) one_is
     ∙ ap (λ t. papers_to_place r.layout (row_paper r (bytes_of us) us).0 t own) (taken_is ∙ ap (λ w. row_papers w own) row_is)
-    ∙ ap (λ o. papers_to_place r.layout (row_paper r (bytes_of us) us).0 (row_papers (row_in r us) o) o) own_is)
+    ∙ ap (λ o. papers_to_place r.layout (row_paper r (bytes_of us) us).0 (row_papers (row_in r us) o) o) own_is
 
 -- the paper for which sheets and cells are made
 pub is_counted : (r : ImposeRequest) (us : List NestedUnit) (row : Row) (own taken : List Paper) (found : Paper × PaperOrigin) (one : Paper) → own ≡ own_in r (bytes_of us) us → row ≡ row_in r us → taken ≡ row_papers row own
@@ -124,6 +132,9 @@ is_counted r us row own taken found one own_is row_is taken_is found_is one_is =
 pub is_row_paper : (r : ImposeRequest) (input : List ℕ) (us : List NestedUnit) (found : Paper × PaperOrigin) → document_of input ≡ Ok us
     → found ≡ row_paper r (bytes_of us) us → IsRowPaper r input found
 is_row_paper r input us found read e = (us, read, e ∙ ap (λ t. row_paper r t us) (whole input us read))
+
+pub has_turns : (r : ImposeRequest) (input : List ℕ) (us : List NestedUnit) (turns : List Turn) → document_of input ≡ Ok us → turns ≡ turns_in r (bytes_of us) us → HasTurns r input turns
+has_turns r input us turns read e = (us, read, e ∙ ap (λ t. turns_in r t us) (whole input us read))
 
 pub has_reach : (r : ImposeRequest) (input : List ℕ) (us : List NestedUnit) (reach : Option Reach) → document_of input ≡ Ok us
     → reach ≡ reach_in (has_cuts_apart r.layout) r (counted_in r (bytes_of us) us) (bytes_of us) us → HasReach r input reach

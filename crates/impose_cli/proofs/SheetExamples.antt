@@ -13,12 +13,14 @@ use Rattle.rows.specs.Sewing.{signing_of}
 use Rattle.rows.specs.declared.sewing.Signing.TheVariants.{InOne}
 use Rattle.row_runs.specs.SwappedMargins.{swapped_room_in, swapped}
 use Rattle.row_runs.specs.Sheets.{leaves_in, sheets_laid}
+use Rattle.row_runs.specs.Turning.{turn_on, turned_sheet}
 use Rattle.row_runs.specs.declared.sheet_request.Laying.{Laying}
 use Rattle.impose_words.specs.Spacings.{swaps_margins, nothing_kept}
 use Rattle.impose_words.specs.declared.request.Layout.{Layout}
 use Rattle.impose_words.specs.declared.request.Layout.TheVariants as layout
 use Rattle.impose_words.specs.declared.request.Spacing.{Spacing}
-use Rattle.impose_cli.specs.RowTasks.{laying_in, signing_in}
+use Rattle.impose_words.specs.declared.request.Turning.TheVariants as turning
+use Rattle.impose_cli.specs.RowTasks.{laying_in, paper_turned, signing_in, turns_of}
 
 abbrev swapped_room_or_none : Bool → Option Laying → Option Room
 swapped_room_or_none exchanged None = None
@@ -112,6 +114,20 @@ flipped_on_long_edge = refl
 bound_at_right : sheets_of (layout.Booklet InOne false) (record nothing_kept { order = leaf_order true }) square high 4
     ≡ (at 4 Left 100 100 ∷ at 1 Left 100 0 ∷ []) ∷ (at 2 Left 100 100 ∷ at 3 Left 100 0 ∷ []) ∷ []
 bound_at_right = refl
+
+-- Pages of three papers in cells of 100 by 200 points. The second one is wide: it is turned to the left, so its lower left corner is 100 points farther right.
+
+abbrev papers : List Paper
+papers = high ∷ wide ∷ square ∷ []
+
+abbrev placed_or_none : Option Laying → List MadeSheet
+placed_or_none None = []
+placed_or_none (Some how) = sheets_laid how 0 (map (paper_turned turning.Wide) papers) (all_pages 3)
+
+wide_turned : map (λ (made : MadeSheet). map lies (turned_sheet (turn_on (turns_of turning.Wide papers)) made).slots)
+    (placed_or_none (laying_in (layout.NUp (Exactly 3 1)) nothing_kept high (points 300 200)))
+    ≡ (at 1 Upright 0 0 ∷ at 2 Left 200 0 ∷ at 3 Upright 200 50 ∷ []) ∷ []
+wide_turned = refl
 
 -- Inner edges: of 10 points at the left of a front and at the right of its back, and of 10 points on both sides of a fold.
 

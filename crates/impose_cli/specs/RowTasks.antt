@@ -46,6 +46,11 @@ use Rattle.impose_cli.specs.Claims.{IsToldBy}
 use Rattle.impose_cli.specs.Reaches.{reach_in, takes}
 use Rattle.impose_cli.specs.Taken.{HasTaken, row_in}
 use Rattle.pagespec.specs.Items.{turn_of}
+use Rattle.pagespec.specs.declared.item.Turn.{Turn}
+use Rattle.pagespec.specs.declared.item.Turn.TheVariants as by
+use Rattle.impose_words.specs.Arranging.{turn_for}
+use Rattle.impose_words.specs.declared.request.Turning.{Turning}
+use Rattle.impose_words.specs.declared.request.Turning.TheVariants as turning
 use Rattle.row_runs.specs.Turning.{turned_paper}
 use Rattle.papers.specs.declared.reach.Reach.{Reach}
 use Rattle.impose_cli.specs.Tasks.{HasBehind, page_paper_found, taken_text}
@@ -159,9 +164,17 @@ abbrev pub why_no_layout : Layout → Spacing → (page_paper sheet_paper : Pape
 why_no_layout l s page sheet =
     if is_even_enough l s.free then why_not_placed l s page sheet else Some (fault.Layout why.UnevenMargins)
 
--- the paper of the pages once they are turned
+-- a paper of pages once they are turned
+abbrev pub paper_turned : Turning → (page_paper : Paper) → Paper
+paper_turned turning page_paper = turned_paper (turn_of (turn_for turning page_paper)) page_paper
+
 abbrev pub cells_paper : ImposeRequest → (page_paper : Paper) → Paper
-cells_paper r page_paper = turned_paper (turn_of r.turn) page_paper
+cells_paper r page_paper = paper_turned r.turn page_paper
+
+-- the turns of pages of these papers; none is listed if no page is to be turned
+abbrev pub turns_of : Turning → (papers : List Paper) → List Turn
+turns_of (turning.All by.None) papers = []
+turns_of turning papers = map (turn_for turning) papers
 
 -- the layout names this specification for a row
 abbrev pub TakesNamed : Layout → Spec → Type 0
@@ -275,9 +288,16 @@ abbrev pub counted_in : ImposeRequest → (input : List ℕ) → List NestedUnit
 counted_in r input us = let own = own_in r input us in
     papers_to_place r.layout (row_paper r input us).0 (row_papers (row_in r us) own) own
 
--- by which the pages are placed, once they are turned
+-- by which the pages are placed, once they are turned; each is turned by its own (RULES, 13.7)
 abbrev pub papers_in : ImposeRequest → (input : List ℕ) → List NestedUnit → List Paper
 papers_in r input us = map (cells_paper r) (counted_in r input us)
+
+abbrev pub turns_in : ImposeRequest → (input : List ℕ) → List NestedUnit → List Turn
+turns_in r input us = turns_of r.turn (counted_in r input us)
+
+-- the document is accepted, and its pages have these turns
+abbrev pub HasTurns : ImposeRequest → (input : List ℕ) → List Turn → Type 0
+HasTurns r input turns = (us : List NestedUnit) × (document_of input ≡ Ok us) × (turns ≡ turns_in r input us)
 
 -- pages that the named paper cuts are reported apart from those that reach beyond their papers, but by a specification
 abbrev pub has_cuts_apart : Layout → Bool
@@ -337,6 +357,7 @@ LaysRows other = ⊤
 
 -- the task is what the request asks for with this document
 pub record IsRowTask (r : ImposeRequest) (input : List ℕ) (t : RowTask) : Type 0 where
+  pub turns : HasTurns r input t.turns.items
   pub papers : ArePapersOf r input t.papers.items t.cut
   pub reach : HasReach r input t.reach
   pub page_paper : IsRowPaper r input (t.page_paper, t.origin)
@@ -353,7 +374,7 @@ pub record IsRowTask (r : ImposeRequest) (input : List ℕ) (t : RowTask) : Type
 -- the job is the run of such a task
 pub record IsJobOf (r : ImposeRequest) (t : RowTask) (job : RowJob) : Type 0 where
   pub document : document_of t.text.items ≡ Ok job.document.now
-  pub turn : job.turn ≡ r.turn
+  pub turns : job.turns.now ≡ t.turns.items
   pub papers : job.papers.now ≡ t.papers.items
   pub choice : choice_of job.asked.choice ≡ choice_in r.choice
   pub signing : job.asked.signing ≡ t.signing
@@ -373,7 +394,7 @@ ImposesTask r t old new report = (job : RowJob) × IsJobOf r t job × Imposes jo
 -- its cells, these papers and its options it had to be refused
 pub record IsRowJob (r : ImposeRequest) (input : List ℕ) (page_paper : Paper) (job : RowJob) : Type 0 where
   pub document : document_of (text_for r job.papers.now page_paper input) ≡ Ok job.document.now
-  pub turn : job.turn ≡ r.turn
+  pub turns : HasTurns r input job.turns.now
   pub choice : choice_of job.asked.choice ≡ choice_in r.choice
   pub signing : job.asked.signing ≡ signing_in r.layout
   pub last_at_back : job.asked.last_at_back ≡ r.last_at_back

@@ -26,7 +26,8 @@ use Rattle.papers.specs.declared.media.Comment.{Comment}
 use Rattle.impose_messages.specs.declared.finished.PaperOrigin.{PaperOrigin}
 use Rattle.impose_messages.specs.declared.finished.PaperOrigin.TheVariants.{Named, ByComment, ByDefault}
 use Rattle.impose_words.specs.Choices.{is_all_pages}
-use Rattle.pagespec.specs.declared.item.Turn.{Turn}
+use Rattle.impose_words.specs.declared.request.Turning.{Turning}
+use Rattle.impose_words.specs.declared.request.Turning.TheVariants as turning
 use Rattle.pagespec.specs.declared.item.Turn.TheVariants as turned
 use Rattle.sheet_text.specs.Jobs.{is_border}
 use Rattle.impose_words.specs.Spacings.{arrangement_in, binding_in, swaps_margins}
@@ -81,8 +82,8 @@ ComesToSpec (layout.SpecRow specs signing) s page_paper sheet_paper pages text s
 ComesToSpec other s page_paper sheet_paper pages text sides = ⊥
 
 -- no page is turned
-abbrev pub is_unturned : Turn → Bool
-is_unturned turned.None = true
+abbrev pub is_unturned : Turning → Bool
+is_unturned (turning.All turned.None) = true
 is_unturned other = false
 
 -- no line is drawn, and no number

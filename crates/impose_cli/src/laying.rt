@@ -37,7 +37,7 @@ pub(crate) fn papers_for(request: &ImposeRequest, page_paper: &Paper) -> Papers
     ensures sheet { result.sheet ≡ sheet_paper_in request.now.layout request.now.sheet_paper
         (cells_paper request.now page_paper.now) }
 {
-    let page = turned_paper(request.turn, page_paper);
+    let page = turned_paper(request.turn.of(page_paper), page_paper);
     let sheet = match &request.layout {
         Layout::Selection => page,
         _ => request.sheet_paper_for(&page),

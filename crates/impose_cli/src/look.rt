@@ -67,7 +67,7 @@ fn task_text(
     let pages = document.pages();
     let job = RowJob {
         document: &document,
-        turn: request.turn,
+        turns: task.turns.as_slice(),
         papers: task.papers.as_slice(),
         asked: SheetRequest {
             choice: request.choice.as_choice(),

@@ -9,13 +9,14 @@ ghost use Rattle.impose_messages.specs.Faults.{without_memory};
 ghost use Rattle.impose_cli.specs.Faults.{of_asked as asked_fault};
 ghost use Rattle.rules.specs.Run.{most_pages};
 ghost use Rattle.rules.specs.Choice.{imposed_row as row_of};
+ghost use Rattle.impose_words.specs.Arranging.{turn_for as turn_by};
 ghost use Rattle.impose_words.specs.Choices.{choice_in};
 ghost use Rattle.impose_cli.specs.RowTasks.{guarded_in, first_paper as first_paper_of};
-ghost use Rattle.impose_cli.specs.RowTasks.{ArePapersOf, HasReach, ImposesTask, IsRowPaper, IsRowTask, LaysRows, counted_in};
+ghost use Rattle.impose_cli.specs.RowTasks.{ArePapersOf, HasReach, HasTurns, ImposesTask, IsRowPaper, IsRowTask, LaysRows, counted_in};
 ghost use Rattle.std.specs.List.{list_all};
 ghost use Rattle.impose_cli.specs.RowTasks.{MayBeLaidSo, TellsOnePaper, has_cuts_apart as cuts_apart};
 ghost use Rattle.layouts.specs.Grids.{is_same as are_same};
-ghost use Rattle.impose_cli.specs.RowTasks.{counted_among, cut_by_named, cut_in, paper_for, papers_in as papers_found, papers_to_place, row_paper};
+ghost use Rattle.impose_cli.specs.RowTasks.{counted_among, cut_by_named, cut_in, paper_for, paper_turned, papers_in as papers_found, papers_to_place, row_paper, turns_in, turns_of};
 ghost use Rattle.impose_cli.specs.Reaches.{reach_in};
 ghost use Rattle.impose_cli.specs.Taken.{HasTaken, taken_in};
 ghost use Rattle.impose_cli.specs.Refusals.{RefusesDocument, RefusesRowTask};
@@ -33,12 +34,13 @@ use command_words::name_of;
 use dsc::{Document, Parts};
 use guard::RoomyText;
 use impose_messages::{ImposeFault, PaperOrigin, refused_document};
-use impose_words::{ImposeRequest, Layout, PageChoice};
+use impose_words::{ImposeRequest, Layout, PageChoice, Turning};
 use imposer::{Report, RunError};
 use layouts::is_of_size;
 use lengths::Paper;
+use pagespec::Turn;
 use papers::{Cut, Reach, cut_by, first_instead_of, merge_near_sizes, page_papers};
-use row_runs::{RowJob, SheetError, SheetRequest, turned_papers};
+use row_runs::{RowJob, SheetError, SheetRequest, turned_paper};
 use rows::{RowError, Signing, imposed_row};
 use std::alloc::{AllocError, Global};
 use std::sync::Wait;
@@ -52,6 +54,8 @@ pub(crate) struct RowTask {
     pub(crate) text: RoomyText,
     pub(crate) page_paper: Paper,
     pub(crate) origin: PaperOrigin,
+    /// The turn of each page. Empty if no page is to be turned.
+    pub(crate) turns: Vec<Turn>,
     /// The papers by which the document's pages are placed, each turned with its page.
     pub(crate) papers: Vec<Paper>,
     /// The pages that `--paper` cuts.
@@ -88,6 +92,7 @@ pub(crate) fn row_task(
         text,
         page_paper: found.page_paper,
         origin: found.origin,
+        turns: found.turns,
         papers: found.papers,
         cut: found.cut,
         reach: found.reach,
@@ -108,6 +113,8 @@ struct FoundPapers {
     page_paper: Paper,
     /// Where `page_paper` is taken from.
     origin: PaperOrigin,
+    /// The turn of each page. Empty if no page is to be turned.
+    turns: Vec<Turn>,
     /// The papers by which the pages are placed, each turned with its page.
     papers: Vec<Paper>,
     /// The pages that `--paper` cuts.
@@ -127,6 +134,7 @@ fn papers_of(
     input: &[u8],
 ) -> Result<(FoundPapers, Parts), ImposeFault>
     ensures found { IfOk result (λ found. ArePapersOf request.now input.now found.0.papers.items found.0.cut) }
+    ensures turns { IfOk result (λ found. HasTurns request.now input.now found.0.turns.items) }
     ensures paper { IfOk result (λ found. IsRowPaper request.now input.now (found.0.page_paper, found.0.origin)) }
     ensures reach { IfOk result (λ found. HasReach request.now input.now found.0.reach) }
     ensures behind { IfOk result (λ found. HasBehind input.now found.0.behind) }
@@ -183,6 +191,8 @@ fn papers_in(
     request: &ImposeRequest,
     document: &Document<'_>,
 ) -> Result<FoundPapers, AllocError>
+    ensures turns { IfOk result (λ found.
+        found.turns.items ≡ turns_in request.now (bytes_of document.now) document.now) }
     ensures papers { IfOk result (λ found.
         found.papers.items ≡ papers_found request.now (bytes_of document.now) document.now) }
     ensures paper { IfOk result (λ found.
@@ -218,18 +228,53 @@ fn papers_in(
         own.as_slice(),
         has_cuts_apart(&request.layout),
     )?;
-    let papers = turned_papers(alloc, request.turn, counted)?;
+    let (turns, papers) = turned_pages(alloc, request.turn, counted)?;
     let count = taken_count(alloc, row.as_slice(), document.pages())?;
     Ok(FoundPapers {
         pages: document.pages(),
         page_paper,
         origin,
+        turns,
         papers,
         cut,
         reach,
         behind: document.pages_behind_trailer(),
         taken: count,
     })
+}
+
+/// The turn of each page of these papers, and the papers after these turns. If no page is to be turned, no turns are listed.
+#[tactic(auto, using(crate::proofs::Rows::unturned_papers))]
+fn turned_pages(
+    alloc: Global,
+    turning: Turning,
+    papers: Vec<Paper>,
+) -> Result<(Vec<Turn>, Vec<Paper>), AllocError>
+    ensures turns { IfOk result (λ turned. turned.0.items ≡ turns_of turning papers.items) }
+    ensures papers { IfOk result (λ turned. turned.1.items ≡ map (paper_turned turning) papers.items) }
+{
+    match turning {
+        Turning::All(Turn::None) => Ok((Vec::new(alloc), papers)),
+        _ => each_turned(alloc, turning, papers.as_slice()),
+    }
+}
+
+fn each_turned(
+    alloc: Global,
+    turning: Turning,
+    papers: &[Paper],
+) -> Result<(Vec<Turn>, Vec<Paper>), AllocError>
+    ensures turns { IfOk result (λ turned. turned.0.items ≡ map (turn_by turning) papers.now) }
+    ensures papers { IfOk result (λ turned. turned.1.items ≡ map (paper_turned turning) papers.now) }
+{
+    let mut turns = Vec::new(alloc);
+    let mut turned = Vec::new(alloc);
+    for paper in papers {
+        let turn = turning.of(paper);
+        turns.push(turn)?;
+        turned.push(turned_paper(turn, paper))?;
+    }
+    Ok((turns, turned))
 }
 
 /// The paper for which sheets and cells are made, and where it is taken from. It is the paper that `paper_of_pages` finds, if a page of the row has
@@ -411,7 +456,7 @@ pub(crate) fn impose_task<R: Threads + Wait + Sync, W: World>(
     };
     let job = RowJob {
         document: &document,
-        turn: request.turn,
+        turns: task.turns.as_slice(),
         papers: task.papers.as_slice(),
         asked: SheetRequest {
             choice: request.choice.as_choice(),

@@ -28,7 +28,7 @@ use crate::taken::pages_of_choice;
 use dsc::{Document, Parts};
 use guard::RoomyText;
 use impose_messages::{ImposeFault, PaperOrigin, refused_document};
-use impose_words::{ImposeRequest, Layout, Spacing};
+use impose_words::{ImposeRequest, Layout, Spacing, Turning};
 use imposer::{Options, Workers};
 use layouts::{Binding, Cells, Papers, arrange, bind};
 use lengths::Paper;
@@ -111,7 +111,7 @@ fn is_said(request: &ImposeRequest) -> bool
     let marks = request.marks;
     request.choice.is_whole()
         && !request.last_at_back
-        && request.turn == Turn::None
+        && matches!(request.turn, Turning::All(Turn::None))
         && !(marks.fold || marks.cut || marks.ruled || marks.numbers.is_some())
         && !request.spacing.same_scale
         && request.spacing.skipped == 0

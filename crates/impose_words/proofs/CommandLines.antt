@@ -16,6 +16,7 @@ use Rattle.layouts.specs.declared.arrangement.Turned.TheVariants as sideways
 use Rattle.rows.specs.declared.choices.Part.TheVariants as part
 use Rattle.rows.specs.declared.sewing.Signing.TheVariants as signing
 use Rattle.pagespec.specs.declared.item.Turn.TheVariants as turn
+use Rattle.impose_words.specs.declared.request.Turning.TheVariants as turning
 use Rattle.impose_words.specs.Command.{impose}
 use Rattle.impose_words.specs.Arranging.{lines_alone, no_marks}
 use Rattle.impose_words.specs.Spacings.{keeps_room, nothing_kept}
@@ -42,7 +43,7 @@ plain l = record {
   spacing = nothing_kept;
   choice = all_pages;
   last_at_back = false;
-  turn = turn.None;
+  turn = turning.All turn.None;
   page_paper = None;
   default_paper = a4;
   sheet_paper = None;
@@ -148,7 +149,7 @@ cards = makes _ _ _ _ (record { taken = refl; entered = refl }) refl (refl, refl
 stack : Makes (codes "stack" ∷ codes "4" ∷ codes "--duplex" ∷ codes "--turn" ∷ codes "left" ∷ codes "--odd" ∷ codes "--reverse" ∷ codes "--marks" ∷ codes "cut" ∷ [])
     (record (plain (layout.Stack (AtLeast 4) true)) {
       choice = record all_pages { part = part.Odd; backwards = true };
-      turn = turn.Left;
+      turn = turning.All turn.Left;
       marks = record no_marks { cut = true };
     })
 unfolding clap_on_literals impose number_at papers
@@ -170,7 +171,7 @@ poster : (picture : String Global) → string_bytes picture ≡ codes "p.svg"
     → Makes (codes "poster" ∷ codes "2x3" ∷ codes "--overlap" ∷ codes "1in" ∷ codes "--margin" ∷ codes "2in" ∷ codes "--turn" ∷ codes "half" ∷ codes "--preview" ∷ codes "p.svg" ∷ [])
     (record (plain (layout.Poster (Exactly 2 3))) {
       spacing = record nothing_kept { free = record nothing_free { left = pos 18_288_000_000_000; right = pos 18_288_000_000_000; bottom = pos 18_288_000_000_000; top = pos 18_288_000_000_000 }; overlap = pos 9_144_000_000_000 };
-      turn = turn.Half;
+      turn = turning.All turn.Half;
       product = product.Picture (Some picture);
     })
 unfolding clap_on_literals impose number_at papers
@@ -182,7 +183,7 @@ select : (ranges document : String Global) → string_bytes ranges ≡ codes "4-
     → Makes (codes "select" ∷ codes "4-2,_1" ∷ codes "--turn" ∷ codes "right" ∷ codes "--numbers" ∷ codes "10pt" ∷ codes "in.ps" ∷ codes "-" ∷ [])
     (record (plain layout.Selection) {
       choice = record all_pages { ranges = Some ranges };
-      turn = turn.Right;
+      turn = turning.All turn.Right;
       marks = record no_marks { numbers = Some (record { size = pos 1_270_000_000_000; first = 1 }) };
       infile = Some document;
     })

@@ -9,13 +9,15 @@ use Rattle.layouts.specs.declared.arrangement.Order.{Order}
 use Rattle.layouts.specs.declared.arrangement.FillOrder.{FillOrder}
 use Rattle.layouts.specs.declared.arrangement.FillOrder.TheVariants.{Rows, Columns}
 use Rattle.layouts.specs.declared.arrangement.Turned.TheVariants.{Upright, Left, Right}
+use Rattle.pagespec.specs.declared.item.Turn.TheVariants as turn
+use Rattle.impose_words.specs.declared.request.Turning.TheVariants as turning
 use Rattle.rows.specs.declared.choices.Part.TheVariants.{All, Odd, Even}
 use Rattle.rows.specs.declared.sewing.Signing.TheVariants.{OfSides, Auto}
 use Rattle.paper_names.specs.Names.{papers}
 use Rattle.impose_words.specs.Edges.{gaps_named, margins_in, margins_named}
 use Rattle.impose_words.specs.Signatures.{signing_named}
 use Rattle.impose_words.specs.Sizes.{border_with_unit, length_with_unit, number_alone, size_named}
-use Rattle.impose_words.specs.Arranging.{booklet_marks_named, cells_named, cut_marks_named, noted_alone, number_size_named, run_named, turned_named}
+use Rattle.impose_words.specs.Arranging.{booklet_marks_named, cells_named, cut_marks_named, noted_alone, number_size_named, run_named, turn_for, turned_named}
 use Rattle.impose_words.specs.Spacings.{nothing_kept, on_fronts}
 use Rattle.impose_words.specs.Words.{asked, file_asked, first_number, is_outfile, order_by, part_by}
 
@@ -28,6 +30,11 @@ a_size = refl
 no_unit : size_named (codes "72x72") ≡ None
 unfolding number_at papers
 no_unit = refl
+
+-- Wide pages are turned to the left; upright and square ones aren't turned.
+
+wide_alone : map (turn_for turning.Wide) (points 200 100 ∷ points 100 200 ∷ points 100 100 ∷ []) ≡ turn.Left ∷ turn.None ∷ turn.None ∷ []
+wide_alone = refl
 
 -- Lengths: each has its unit, but a 0 alone.
 

@@ -20,7 +20,7 @@ use Rattle.impose_words.specs.declared.request.Layout.TheVariants as layout
 use Rattle.impose_words.specs.declared.request.PageChoice.{PageChoice}
 use Rattle.impose_words.specs.declared.request.ImposeRequest.{ImposeRequest}
 use Rattle.impose_words.specs.declared.request.Spacing.{Spacing}
-use Rattle.pagespec.specs.declared.item.Turn.{Turn}
+use Rattle.impose_words.specs.declared.request.Turning.{Turning}
 use Rattle.dressing.specs.declared.numbers.Numbering.{Numbering}
 use Rattle.dressing.specs.declared.strokes.Marks.{Marks}
 use Rattle.layouts.specs.declared.arrangement.Order.{Order}
@@ -113,7 +113,7 @@ says_next found f a b is h = subst (λ o. SaysWrong found f (first o b)) (sym is
 
 -- ---- nothing is wrong with what was read
 
-pub sizes_right : (found : List Row) (page_paper sheet_paper : Option Paper) (border : Option ℤ) (turn : Turn) → ReadsSizes found page_paper sheet_paper border turn → wrong_sizes found ≡ None
+pub sizes_right : (found : List Row) (page_paper sheet_paper : Option Paper) (border : Option ℤ) (turn : Turning) → ReadsSizes found page_paper sheet_paper border turn → wrong_sizes found ≡ None
 sizes_right found page_paper sheet_paper border turn r = past _ r.page_paper_is (past _ r.sheet_paper_is (past _ r.border_is (past _ r.turn_is refl)))
 
 pub skip_right : (l : Layout) (found : List Row) (skipped : ℕ) → skip_found l found ≡ Some skipped → wrong_skip l found ≡ None

@@ -1,8 +1,9 @@
 -- What the values of those arguments mean that say how pages are arranged in the cells of a sheet.
-use Rattle.std.specs.Prelude.{ℕ, ℤ, pos, int_le, ◌*◌, ◌==◌, ◌&&◌, ◌||◌, Bool, true, false, if◌then◌else◌, List, [], ◌∷◌}
+use Rattle.std.specs.Prelude.{ℕ, ℤ, pos, int_le, int_lt, ◌*◌, ◌==◌, ◌&&◌, ◌||◌, Bool, true, false, if◌then◌else◌, List, [], ◌∷◌}
 use Rattle.std.specs.Prelude.{Option, Some, None, option_map, codes}
 use Rattle.std.specs.Str.{bytes_eq}
 use Rattle.rules.specs.Numbers.{number_of}
+use Rattle.rules.specs.Papers.{Paper}
 use Rattle.lengths.specs.Reading.{digits, is_empty, past_digits}
 use Rattle.paper_names.specs.Sizes.{letter_x}
 use Rattle.layouts.specs.Refusals.{is_count}
@@ -17,6 +18,8 @@ use Rattle.layouts.specs.declared.arrangement.Turned.{Turned}
 use Rattle.layouts.specs.declared.arrangement.Turned.TheVariants.{Left, Right}
 use Rattle.pagespec.specs.declared.item.Turn.{Turn}
 use Rattle.pagespec.specs.declared.item.Turn.TheVariants as turn
+use Rattle.impose_words.specs.declared.request.Turning.{Turning}
+use Rattle.impose_words.specs.declared.request.Turning.TheVariants as turning
 
 -- ---- cells: a number of them, or columns and rows with an x between them
 
@@ -76,12 +79,18 @@ run_named text =
     else (if bytes_eq text (codes "left-down") then Some (Rows, true)
     else (if bytes_eq text (codes "down-left") then Some (Columns, true) else None)))
 
--- how pages are turned before they are placed (RULES, 13.7)
-abbrev pub turn_named : List ℕ → Option Turn
+-- which pages are turned before they are placed, and how: all of them, or those that are wider than high (RULES, 13.7)
+abbrev pub turn_named : List ℕ → Option Turning
 turn_named text =
-    if bytes_eq text (codes "left") then Some turn.Left
-    else (if bytes_eq text (codes "right") then Some turn.Right
-    else (if bytes_eq text (codes "half") then Some turn.Half else None))
+    if bytes_eq text (codes "left") then Some (turning.All turn.Left)
+    else (if bytes_eq text (codes "right") then Some (turning.All turn.Right)
+    else (if bytes_eq text (codes "half") then Some (turning.All turn.Half)
+    else (if bytes_eq text (codes "wide") then Some turning.Wide else None)))
+
+-- the turn of a page of this paper: of wide pages alone it is a quarter to the left
+abbrev pub turn_for : Turning → (paper : Paper) → Turn
+turn_for (turning.All by) paper = by
+turn_for turning.Wide paper = if int_lt paper.height paper.width then turn.Left else turn.None
 
 -- to which side one turns the pages to read them
 abbrev pub turned_named : List ℕ → Option Turned

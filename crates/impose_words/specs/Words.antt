@@ -13,7 +13,6 @@ use Rattle.layouts.specs.declared.arrangement.FillOrder.{FillOrder}
 use Rattle.layouts.specs.declared.arrangement.FillOrder.TheVariants.{Rows}
 use Rattle.layouts.specs.declared.arrangement.Turned.{Turned}
 use Rattle.layouts.specs.declared.arrangement.Turned.TheVariants.{Upright}
-use Rattle.pagespec.specs.declared.item.Turn.{Turn}
 use Rattle.pagespec.specs.declared.item.Turn.TheVariants as turn
 use Rattle.rows.specs.declared.sewing.Signing.{Signing}
 use Rattle.rows.specs.declared.sewing.Signing.TheVariants.{InOne}
@@ -39,6 +38,8 @@ use Rattle.impose_words.specs.declared.request.Product.{Product}
 use Rattle.impose_words.specs.Products.{is_picture_file, is_plan, is_specification, lays_rows, picture_in}
 use Rattle.impose_words.specs.Spacings.{keeps_room, nothing_kept}
 use Rattle.impose_words.specs.declared.request.Spacing.{Spacing}
+use Rattle.impose_words.specs.declared.request.Turning.{Turning}
+use Rattle.impose_words.specs.declared.request.Turning.TheVariants as turning
 use Rattle.impose_words.specs.declared.fault.CellCommand.{CellCommand}
 use Rattle.impose_words.specs.declared.fault.CellCommand.TheVariants as grid
 use Rattle.impose_words.specs.declared.fault.OptionId.{OptionId}
@@ -91,8 +92,8 @@ size_found option found = asked None (λ text. option_map (λ size. Some size) (
 abbrev pub border_found : (found : List Row) → Option (Option ℤ)
 border_found found = asked None border_with_unit (given opt.Border found)
 
-abbrev pub turn_found : (found : List Row) → Option Turn
-turn_found found = asked turn.None turn_named (given opt.Turn found)
+abbrev pub turn_found : (found : List Row) → Option Turning
+turn_found found = asked (turning.All turn.None) turn_named (given opt.Turn found)
 
 abbrev pub length_found : OptionId → (found : List Row) → Option ℤ
 length_found option found = asked (pos 0) length_with_unit (given option found)
@@ -308,7 +309,7 @@ pub record NamesPicture (name : Text) (p : Product) : Type 0 where
   pub is_picture : is_picture_file (file_of name) ≡ true
 
 -- the papers, the border and the turn that are asked for
-pub record ReadsSizes (found : List Row) (page_paper sheet_paper : Option Paper) (border : Option ℤ) (turn : Turn) : Type 0 where
+pub record ReadsSizes (found : List Row) (page_paper sheet_paper : Option Paper) (border : Option ℤ) (turn : Turning) : Type 0 where
   pub page_paper_is : size_found opt.Paper found ≡ Some page_paper
   pub sheet_paper_is : size_found opt.Sheet found ≡ Some sheet_paper
   pub border_is : border_found found ≡ Some border

@@ -2,6 +2,7 @@
 ghost use Rattle.std.specs.Prelude.{◌≡◌, ◌*◌};
 ghost use Rattle.impose_words.specs.Arranging as meaning;
 
+use crate::request::Turning;
 use crate::sizes::length_with_unit;
 use dressing::Marks;
 use layouts::{Cells, FillOrder, MOST_ON_SHEET, Turned};
@@ -103,14 +104,15 @@ pub fn run_named(text: &str) -> Option<(FillOrder, bool)>
     }
 }
 
-/// The turn of pages that the text names: `left`, `right` or `half`. `None` for another text.
-pub(crate) fn turn_named(text: &str) -> Option<Turn>
+/// The turn of pages that the text names: `left`, `right`, `half` or `wide`. `None` for another text.
+pub(crate) fn turn_named(text: &str) -> Option<Turning>
     ensures { result ≡ meaning.turn_named text.now }
 {
     match text {
-        "left" => Some(Turn::Left),
-        "right" => Some(Turn::Right),
-        "half" => Some(Turn::Half),
+        "left" => Some(Turning::All(Turn::Left)),
+        "right" => Some(Turning::All(Turn::Right)),
+        "half" => Some(Turning::All(Turn::Half)),
+        "wide" => Some(Turning::Wide),
         _ => None,
     }
 }

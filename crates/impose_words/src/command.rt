@@ -24,7 +24,7 @@ use crate::arranging::{
 };
 use crate::edges::{Margins, gaps_named, margins_named};
 use crate::fault::{CellCommand, OptionId, ProductOption, RequestFault};
-use crate::request::{ImposeRequest, Layout, PageChoice, Product, Spacing};
+use crate::request::{ImposeRequest, Layout, PageChoice, Product, Spacing, Turning};
 use crate::signature::{signing_named, whole_number};
 use crate::sizes::{border_with_unit, length_with_unit, parse_number, size_named};
 use clap::ArgMatches;
@@ -167,7 +167,7 @@ struct Sizes {
     page_paper: Option<Paper>,
     sheet_paper: Option<Paper>,
     border: Option<Grains>,
-    turn: Turn,
+    turn: Turning,
 }
 
 /// Reads the papers, the border and the turn, in this order. The error is the first option that has an invalid value.
@@ -217,12 +217,12 @@ fn border_of(found: &ArgMatches<'_>) -> Option<Option<Grains>>
     }
 }
 
-/// The requested turn of pages, or `Some(Turn::None)` without `--turn`. `None` if the option's value names no turn.
-fn turn_of(found: &ArgMatches<'_>) -> Option<Turn>
+/// The requested turn of pages, which is none without `--turn`. `None` if the option's value names no turn.
+fn turn_of(found: &ArgMatches<'_>) -> Option<Turning>
     ensures { result ≡ turn_found (rows_of (found_of found.now)) }
 {
     match text_of(found, "turn") {
-        None => Some(Turn::None),
+        None => Some(Turning::All(Turn::None)),
         Some(text) => turn_named(text),
     }
 }

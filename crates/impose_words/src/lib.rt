@@ -18,6 +18,6 @@ pub use command::read_command;
 pub use edges::{gaps_named, margins_named};
 pub use fault::{CellCommand, OptionId, ProductOption, RequestFault};
 pub use idle::IdleOption;
-pub use request::{ImposeRequest, Layout, PageChoice, Product, Spacing};
+pub use request::{ImposeRequest, Layout, PageChoice, Product, Spacing, Turning};
 pub use signature::{signing_named, whole_number};
 pub use sizes::{border_with_unit, lacks_unit, length_with_unit, parse_number, size_named};

@@ -1,6 +1,7 @@
 //! Requests, which are read from command lines.
 ghost use Rattle.std.specs.Prelude.{◌≡◌, option_map, string_bytes, true};
 ghost use Rattle.rows.specs.Choices.{choice_of};
+ghost use Rattle.impose_words.specs.Arranging.{turn_for};
 ghost use Rattle.impose_words.specs.Choices.{choice_in, is_all_pages};
 ghost use Rattle.impose_words.specs.Products.{file_to_spare, lays_rows};
 ghost use Rattle.impose_words.specs.Spacings.{arrangement_in, binding_in, keeps_room, notes_in, nothing_kept, some_gap as some_gap_of, zine_in};
@@ -312,6 +313,28 @@ pub enum Product {
     Picture(Option<String>),
 }
 
+/// The pages that are turned before they are placed, and their turn.
+#[derive(Clone, Copy, Debug, PartialEq, Eq)]
+pub enum Turning {
+    /// All pages, by this turn.
+    All(Turn),
+    /// Pages that are wider than high, by a quarter turn to the left.
+    Wide,
+}
+
+impl Turning {
+    /// The turn of a page of this paper.
+    pub fn of(self, paper: &Paper) -> Turn
+        ensures { result ≡ turn_for self paper.now }
+    {
+        match self {
+            Turning::All(turn) => turn,
+            Turning::Wide if paper.height().get() < paper.width().get() => Turn::Left,
+            Turning::Wide => Turn::None,
+        }
+    }
+}
+
 /// The request that a command line makes.
 #[derive(Drop)]
 pub struct ImposeRequest {
@@ -323,8 +346,8 @@ pub struct ImposeRequest {
     pub choice: PageChoice,
     /// Whether a booklet's last page is kept at the back, after the blanks that fill up the last signature.
     pub last_at_back: bool,
-    /// The turn of each page before it is placed.
-    pub turn: Turn,
+    /// The pages that are turned before they are placed, and their turn.
+    pub turn: Turning,
     /// The paper of the pages, if the command line names it.
     pub page_paper: Option<Paper>,
     /// The paper of the pages if neither the command line nor the document names one: the user's default paper.

@@ -152,7 +152,7 @@ pub(crate) const QUIET: Argument = Argument::LetteredFlag('q', "quiet", "Print n
 pub(crate) const TURN: [Argument; 1] = [Argument::Valued(
     "turn",
     "SIDE",
-    "Turn each page before it is placed: to the left, to the right, or by half",
+    "Turn each page before it is placed: left, right or half; or, with wide, only pages wider than high, to the left",
 )];
 
 /// The options that show the sheets in place of writing them.

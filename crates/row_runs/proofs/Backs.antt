@@ -48,7 +48,7 @@ pub fused : {X Y Z : Type 0} (g : Y → Z) (h : X → Y) (xs : List X) → map (
 fused g h [] = refl
 fused g h (x ∷ xs) = ap (λ zs. g (h x) ∷ zs) (fused g h xs)
 
-one : (t : Turn) (m : Option Room) (s i : ℕ) (all : List MadeSheet) (x : MadeSheet) → slice_get all i ≡ Some x
+one : (t : ℕ → Turn) (m : Option Room) (s i : ℕ) (all : List MadeSheet) (x : MadeSheet) → slice_get all i ≡ Some x
     → map (turned_sheet t) (swapped_from m s (take i all)) ++ turned_sheet t (moved_sheet (swapped_room_on m (s + i)) x) ∷ []
     ≡ map (turned_sheet t) (swapped_from m s (take (suc i) all))
 one t m s i [] x at = absurd (none-some x at)
@@ -61,7 +61,7 @@ one t m s (suc i) (y ∷ all) x at =
     (ap (λ k. map (turned_sheet t) (swapped_from m (s + 1) (take i all)) ++ turned_sheet t (moved_sheet (swapped_room_on m k) x) ∷ []) next
     ∙ one t m (s + 1) i all x at)
 
-pub sheet_more : (t : Turn) (m : Option Room) (old new : List MadeSheet) (i : ℕ) (all : List MadeSheet) (x y : MadeSheet) → slice_get all i ≡ Some x
+pub sheet_more : (t : ℕ → Turn) (m : Option Room) (old new : List MadeSheet) (i : ℕ) (all : List MadeSheet) (x y : MadeSheet) → slice_get all i ≡ Some x
     → old ≡ map (turned_sheet t) (swapped m (take i all)) → new ≡ old ++ y ∷ [] → y ≡ turned_sheet t (moved_sheet (swapped_room_on m i) x)
     → new ≡ map (turned_sheet t) (swapped m (take (i + 1) all))
 sheet_more t m old new i all x y at before step is =

@@ -1,12 +1,13 @@
 -- Worked examples: the marks and the lines of layings, how many leaves a signature has, and how many pages a document.
 use Rattle.std.proofs.Common.{◌≡◌, [], ◌∷◌, false, true, map, refl}
-use Rattle.std.specs.Prelude.{codes, pos, ℤ, List, None, Some}
+use Rattle.std.specs.Prelude.{codes, pos, ℕ, ℤ, List, None, Some}
 use Rattle.std.specs.Fmt.{digits}
 use Rattle.rules.specs.Papers.{Paper, points}
-use Rattle.rules.specs.Specification.{Upright}
+use Rattle.rules.specs.Specification.{Turn, Upright, Left, Half}
 use Rattle.rules.specs.Rows.{Row, all_pages}
 use Rattle.rules.specs.Made.{MadeSlot, Blank, Placed, MadeSheet}
 use Rattle.rules.specs.Choice.{InOne, OfSides}
+use Rattle.pagespec.specs.declared.item.Turn.TheVariants as by
 use Rattle.layouts.specs.Cells.{in_points}
 use Rattle.layouts.specs.Grids.{plain_order}
 use Rattle.layouts.specs.Placed.{Room}
@@ -26,6 +27,7 @@ use Rattle.row_runs.specs.Evened.{at_common_scale}
 use Rattle.row_runs.specs.Guides.{guides_in}
 use Rattle.row_runs.specs.Marked.{strokes_in}
 use Rattle.row_runs.specs.SwappedMargins.{swapped}
+use Rattle.row_runs.specs.Turning.{turn_on, turned_slot}
 use Rattle.row_runs.specs.Numbers.{below_middle}
 use Rattle.row_runs.specs.Sheets.{leaves_in, sheets_laid}
 use Rattle.row_runs.specs.DeclaredPages.{declared_page_count}
@@ -101,6 +103,18 @@ across (Placed page item paper) = item.x.number
 backs_are_moved : map (λ (sheet : MadeSheet). map across sheet.slots) (swapped (Some bound) (side ∷ side ∷ side ∷ []))
     ≡ (pos 20_000_000_000 ∷ pos 0 ∷ []) ∷ (pos 10_000_000_000 ∷ pos 0 ∷ []) ∷ (pos 20_000_000_000 ∷ pos 0 ∷ []) ∷ []
 backs_are_moved = refl
+
+-- each page has its own turn
+abbrev placed : (page : ℕ) → MadeSlot
+placed page = Placed page (record { page = page; from_end = false; turn = Upright; scale = pos 1_000_000_000; x = in_points (pos 0); y = in_points (pos 0) }) (points 70 200)
+
+abbrev turn_in : MadeSlot → Turn
+turn_in Blank = Upright
+turn_in (Placed page item paper) = item.turn
+
+each_has_its_turn : map turn_in (map (turned_slot (turn_on (by.None ∷ by.Left ∷ by.Half ∷ []))) (placed 1 ∷ placed 0 ∷ placed 3 ∷ placed 2 ∷ []))
+    ≡ Left ∷ Upright ∷ Upright ∷ Half ∷ []
+each_has_its_turn = refl
 
 -- the foot of a cell that is 180 points high is 90 points below the middle of its page
 foot_of_cell : below_middle (laying.InCells halves (scheme.Grid 2)) ≡ Some (pos 11_430_000_000_000)

@@ -53,7 +53,7 @@ moved_by false t page c s = (
 )
 
 -- on a front
-on_front : (turn : Turn) (f : Filling) (c : ℕ) (entry : Option ℕ) → c < size f.setting.grid → EntryFits f entry → SlotIsInCell turn f.setting f.setting.room c (turned_slot turn (slot_in_cell f c entry))
+on_front : (turn : ℕ → Turn) (f : Filling) (c : ℕ) (entry : Option ℕ) → c < size f.setting.grid → EntryFits f entry → SlotIsInCell turn f.setting f.setting.room c (turned_slot turn (slot_in_cell f c entry))
 on_front turn f c None within has = tt
 on_front turn f c (Some page) within has =
     let t = f.setting in
@@ -63,8 +63,8 @@ on_front turn f c (Some page) within has =
     let is = fitted_stands t paper c has.page_is has.sheet_is within has.fits in
     let sides = sides_are paper has.page_is in
     let by = moved_by (is_whole t paper) t paper c (scale_on t paper) in
-    subst (λ (q : Paper). IsInCell t.room (turned_paper turn paper) cell (kept_length t.room.trim (past_cell t q)) (turned_item turn paper item)) (sym (twice_turned turn paper))
-    (turned_stays_in_cell turn t.room paper cell (past_cell t paper) item (nat_abs paper.width) (nat_abs paper.height) is.scale by.0 by.1
+    subst (λ (q : Paper). IsInCell t.room (turned_paper (turn page) paper) cell (kept_length t.room.trim (past_cell t q)) (turned_item (turn page) paper item)) (sym (twice_turned (turn page) paper))
+    (turned_stays_in_cell (turn page) t.room paper cell (past_cell t paper) item (nat_abs paper.width) (nat_abs paper.height) is.scale by.0 by.1
     (ap (λ (p : Paper). p.width) sides) (ap (λ (p : Paper). p.height) sides) is.scale_is by.2 by.3 is.in_cell)
 
 -- ---- on a back
@@ -125,7 +125,7 @@ moved_too x by m is =
     let n : (pos 10_000 *ℤ x) +ℤ (pos 10_000 *ℤ by) ≡ pos 10_000 *ℤ (x +ℤ by) = omega (arith, ints) in
     ap (shifted by) is ∙ ap (λ z. record { number = z; unit = Pt }) n
 
-on_back : (turn : Turn) (f : Filling) (c : ℕ) (entry : Option ℕ) → c < size f.setting.grid → EntryFits f entry
+on_back : (turn : ℕ → Turn) (f : Filling) (c : ℕ) (entry : Option ℕ) → c < size f.setting.grid → EntryFits f entry
     → SlotIsInCell turn f.setting (exchanged f.setting.room) c (turned_slot turn (moved_slot (Some f.setting.room) (slot_in_cell f c entry)))
 on_back turn f c None within has = tt
 on_back turn f c (Some page) within has =
@@ -140,11 +140,11 @@ on_back turn f c (Some page) within has =
     let by = moved_by (is_whole t paper) t paper c (scale_on t paper) in
     let inside = back_in_cell t.room paper (cell_at t.room t.grid row column) cell (past_cell t paper) item
     (moved_cell t.room t.grid.rows t.grid.columns t.grid.turned row column) (ap (λ (m : Measure). m.unit) by.2) is.in_cell in
-    subst (λ (q : Paper). IsInCell (exchanged t.room) (turned_paper turn paper) cell (kept_length t.room.trim (past_cell t q)) (turned_item turn paper (moved_item (Some t.room) item))) (sym (twice_turned turn paper))
-    (turned_stays_in_cell turn (exchanged t.room) paper cell (past_cell t paper) (moved_item (Some t.room) item) (nat_abs paper.width) (nat_abs paper.height) is.scale (by.0 +ℤ swap_shift t.room) by.1
+    subst (λ (q : Paper). IsInCell (exchanged t.room) (turned_paper (turn page) paper) cell (kept_length t.room.trim (past_cell t q)) (turned_item (turn page) paper (moved_item (Some t.room) item))) (sym (twice_turned (turn page) paper))
+    (turned_stays_in_cell (turn page) (exchanged t.room) paper cell (past_cell t paper) (moved_item (Some t.room) item) (nat_abs paper.width) (nat_abs paper.height) is.scale (by.0 +ℤ swap_shift t.room) by.1
     (ap (λ (p : Paper). p.width) sides) (ap (λ (p : Paper). p.height) sides) is.scale_is (moved_too by.0 (swap_shift t.room) item.x by.2) by.3 inside)
 
-on_either : (back : Bool) (turn : Turn) (f : Filling) (c : ℕ) (entry : Option ℕ) → c < size f.setting.grid → EntryFits f entry
+on_either : (back : Bool) (turn : ℕ → Turn) (f : Filling) (c : ℕ) (entry : Option ℕ) → c < size f.setting.grid → EntryFits f entry
     → SlotIsInCell turn f.setting (if back then exchanged f.setting.room else f.setting.room) c (turned_slot turn (moved_slot (if back then Some f.setting.room else None) (slot_in_cell f c entry)))
 on_either true turn f c entry within has = on_back turn f c entry within has
 on_either false turn f c entry within has =
@@ -153,7 +153,7 @@ on_either false turn f c entry within has =
 abbrev pub swapped_room_of : Bool → Room → Option Room
 swapped_room_of m room = if m then Some room else None
 
-pub on_side : (m : Bool) (turn : Turn) (f : Filling) (s c : ℕ) (entry : Option ℕ) → c < size f.setting.grid → EntryFits f entry
+pub on_side : (m : Bool) (turn : ℕ → Turn) (f : Filling) (s c : ℕ) (entry : Option ℕ) → c < size f.setting.grid → EntryFits f entry
     → SlotIsInCell turn f.setting (side_room m f.setting.room s) c (turned_slot turn (moved_slot (swapped_room_on (swapped_room_of m f.setting.room) s) (slot_in_cell f c entry)))
 on_side true turn f s c entry within has = on_either (s % 2 == 1) turn f c entry within has
 on_side false turn f s c entry within has =
@@ -169,7 +169,7 @@ pub numbered : (P : ℕ → MadeSlot → Type 0) (g : MadeSlot → MadeSlot) (f 
 numbered P g f n h = subst (Each P) (fused g f (range_with_len 0 n)) (numbered_in_turn P (λ k. g (f k)) n h)
 
 -- sheet s of those that are moved and turned
-pub sheet_is : (turn : Turn) (m : Option Room) (made : ℕ → MadeSheet) (sheets s : ℕ) (d : MadeSheet) → s < sheets
+pub sheet_is : (turn : ℕ → Turn) (m : Option Room) (made : ℕ → MadeSheet) (sheets s : ℕ) (d : MadeSheet) → s < sheets
     → slice_index_or (map (turned_sheet turn) (swapped m (map made (range_with_len 0 sheets)))) s d ≡ turned_sheet turn (moved_sheet (swapped_room_on m s) (made s))
 sheet_is turn m made sheets s d less =
     let laid = map made (range_with_len 0 sheets) in
@@ -180,7 +180,7 @@ sheet_is turn m made sheets s d less =
     get_or-map (turned_sheet turn) (swapped m laid) s d d (omega (arith, within, count))
     ∙ ap (turned_sheet turn) (at_place m 0 s laid d within ∙ ap₂ (λ k x. moved_sheet (swapped_room_on m k) x) here (get_or-map-range_with_len made 0 sheets s s d less (omega arith)))
 
-pub filled_lie : (m : Bool) (turn : Turn) (f : Filling) (sheets cells : ℕ) (entry : (s c : ℕ) → Option ℕ) → cells ≤ size f.setting.grid → ((s c : ℕ) → EntryFits f (entry s c))
+pub filled_lie : (m : Bool) (turn : ℕ → Turn) (f : Filling) (sheets cells : ℕ) (entry : (s c : ℕ) → Option ℕ) → cells ≤ size f.setting.grid → ((s c : ℕ) → EntryFits f (entry s c))
     → AreInCells turn m f.setting (map (turned_sheet turn) (swapped (swapped_room_of m f.setting.room) (filled f sheets cells entry)))
 filled_lie m turn f sheets cells entry enough fits s c sheet d less within =
     let mir = swapped_room_of m f.setting.room in
@@ -242,19 +242,19 @@ zine_is_whole false f c (Some page) many has =
     let is = cond-false (is_whole t paper) (page_alone c) (item_in_cell paper t.room t.grid t.order (scale_on t paper) c) (one_of_many t paper many) in
     record { sides = has.page_is; scale = scale_on t paper; scale_is = ap (λ (i : Item). i.scale) is; x = by.0; y = by.1; x_is = by.2; y_is = by.3 }
 
-zine_turned : (turn : Turn) (t : Setting) (c : ℕ) (slot : MadeSlot) → t.room.trim ≡ 0 → SlotIsWhole slot → zine.SlotLiesInZine t c slot → SlotIsInZine turn t c (turned_slot turn slot)
+zine_turned : (turn : ℕ → Turn) (t : Setting) (c : ℕ) (slot : MadeSlot) → t.room.trim ≡ 0 → SlotIsWhole slot → zine.SlotLiesInZine t c slot → SlotIsInZine turn t c (turned_slot turn slot)
 unfolding SlotIsWhole
 zine_turned turn t c Blank trim is lies = tt
 zine_turned turn t c (Placed page item paper) trim is lies =
     let cell = cell_at t.room t.grid (row_of t.order t.grid c) (column_of t.order t.grid c) in
     let sides = sides_are paper is.sides in (
-      ap (turn_sum turn) lies.turn,
-      subst (λ n. IsInCell t.room (turned_paper turn paper) cell n (turned_item turn paper item)) (ap (λ l. if l == 0 then past_row c else past_row c + 1) trim)
-          (turned_stays_in_cell turn t.room paper cell (past_row c) item (nat_abs paper.width) (nat_abs paper.height) is.scale is.x is.y
+      ap (turn_sum (turn page)) lies.turn,
+      subst (λ n. IsInCell t.room (turned_paper (turn page) paper) cell n (turned_item (turn page) paper item)) (ap (λ l. if l == 0 then past_row c else past_row c + 1) trim)
+          (turned_stays_in_cell (turn page) t.room paper cell (past_row c) item (nat_abs paper.width) (nat_abs paper.height) is.scale is.x is.y
           (ap (λ (p : Paper). p.width) sides) (ap (λ (p : Paper). p.height) sides) is.scale_is is.x_is is.y_is lies.in_cell),
     )
 
-zine_sheet_lies : (turn : Turn) (f : Filling) (row : Row) (s : ℕ) → AreZineCells f.setting → AllEntriesFit f row
+zine_sheet_lies : (turn : ℕ → Turn) (f : Filling) (row : Row) (s : ℕ) → AreZineCells f.setting → AllEntriesFit f row
     → ((c : ℕ) (d : MadeSlot) → c < length (map (λ c. zine_slot f c (zine_entry row s c)) (range_with_len 0 8)) → zine.SlotLiesInZine f.setting c (slice_index_or (map (λ c. zine_slot f c (zine_entry row s c)) (range_with_len 0 8)) c d))
     → Each (SlotIsInZine turn f.setting) (map (turned_slot turn) (map (λ c. zine_slot f c (zine_entry row s c)) (range_with_len 0 8)))
 zine_sheet_lies turn f row s cells fits lie =
@@ -271,7 +271,7 @@ pub even_either : (m : Bool) (room : Room) → room.left ≡ room.right → (xs 
 even_either true room even xs = even_sheets room even 0 xs
 even_either false room even xs = unswapped 0 xs
 
-pub zines_lie : (m : Bool) (turn : Turn) (f : Filling) (row : Row) → AreZineCells f.setting → AllEntriesFit f row
+pub zines_lie : (m : Bool) (turn : ℕ → Turn) (f : Filling) (row : Row) → AreZineCells f.setting → AllEntriesFit f row
     → AreInZines turn f.setting (map (turned_sheet turn) (swapped (swapped_room_of m f.setting.room) (zine_sheets f row)))
 zines_lie m turn f row cells fits =
     let made : ℕ → MadeSheet = λ s. record { paper = f.setting.room.paper; slots = map (λ c. zine_slot f c (zine_entry row s c)) (range_with_len 0 8) } in

@@ -61,7 +61,7 @@ page_is_whole f by_half k creep page halved has =
     moved_is_whole paper (up_to_fold f.setting.order.right_to_left by_half k creep) (in_half f.setting by_half paper k)
     (half_is_whole f by_half k page (two_halves f.setting halved) (fits_in f.setting paper creep has))
 
-slot_in_half : (turn : Turn) (f : Filling) (by_half : Bool) (k creep : ℕ) (entry : Option ℕ) → k < 2 → AreHalves f.setting → EntryCreeps f creep entry
+slot_in_half : (turn : ℕ → Turn) (f : Filling) (by_half : Bool) (k creep : ℕ) (entry : Option ℕ) → k < 2 → AreHalves f.setting → EntryCreeps f creep entry
     → SlotIsInHalf turn f.setting by_half k creep (turned_slot turn (creeping_slot f by_half k creep entry))
 slot_in_half turn f by_half k creep None less halved has = tt
 slot_in_half turn f by_half k creep (Some page) less halved has =
@@ -70,26 +70,26 @@ slot_in_half turn f by_half k creep (Some page) less halved has =
     let lies = slot_lies f by_half k creep (Some page) less halved has in
     let is = page_is_whole f by_half k creep page halved has in
     let sides = sides_are paper is.sides in (
-      ap (turn_sum turn) lies.turn,
-      turned_stays_in_cell turn t.room paper (creeping_half t by_half k creep) (kept_length t.room.trim 0) (creeping t by_half paper k creep) (nat_abs paper.width) (nat_abs paper.height) is.scale is.x is.y
+      ap (turn_sum (turn page)) lies.turn,
+      turned_stays_in_cell (turn page) t.room paper (creeping_half t by_half k creep) (kept_length t.room.trim 0) (creeping t by_half paper k creep) (nat_abs paper.width) (nat_abs paper.height) is.scale is.x is.y
           (ap (λ (p : Paper). p.width) sides) (ap (λ (p : Paper). p.height) sides) is.scale_is is.x_is is.y_is lies.in_cell,
     )
 
 -- if nothing is trimmed it lies between the margins
-slot_keeps : (turn : Turn) (f : Filling) (by_half : Bool) (k creep : ℕ) (entry : Option ℕ) → k < 2 → f.setting.room.trim ≡ 0 → AreHalves f.setting → EntryCreeps f creep entry
+slot_keeps : (turn : ℕ → Turn) (f : Filling) (by_half : Bool) (k creep : ℕ) (entry : Option ℕ) → k < 2 → f.setting.room.trim ≡ 0 → AreHalves f.setting → EntryCreeps f creep entry
     → SlotIsInside (crept_room f.setting.room creep) (turned_slot turn (creeping_slot f by_half k creep entry))
 slot_keeps turn f by_half k creep None less none halved has = tt
 slot_keeps turn f by_half k creep (Some page) less none halved has = λ p of.
     let t = f.setting in
     let paper = f.paper_of page in
     let room = crept_room t.room creep in
-    let item = turned_item turn paper (creeping t by_half paper k creep) in
+    let item = turned_item (turn page) paper (creeping t by_half paper k creep) in
     let cell = creeping_half t by_half k creep in
     let on = (slot_lies f by_half k creep (Some page) less halved has).is_on in
     let at = (slot_in_half turn f by_half k creep (Some page) less halved has).1 p of in
-    on_sheet room (stands (turned_paper turn paper) item p) has.sheet_is
-    (inside room cell (stands (turned_paper turn paper) item p) has.sheet_is (record { left = on.left; right = on.right; bottom = on.bottom; top = on.top })
-    (subst (λ n. LiesInCell cell n (stands (turned_paper turn paper) item p)) (ap (λ l. kept_length l (kept_length l 0)) none) at))
+    on_sheet room (stands (turned_paper (turn page) paper) item p) has.sheet_is
+    (inside room cell (stands (turned_paper (turn page) paper) item p) has.sheet_is (record { left = on.left; right = on.right; bottom = on.bottom; top = on.top })
+    (subst (λ n. LiesInCell cell n (stands (turned_paper (turn page) paper) item p)) (ap (λ l. kept_length l (kept_length l 0)) none) at))
 
 slot_is_whole : (f : Filling) (by_half : Bool) (k creep : ℕ) (entry : Option ℕ) → k < 2 → AreHalves f.setting → EntryCreeps f creep entry → SlotIsWholeSo (side_turn by_half) (creeping_slot f by_half k creep entry)
 unfolding SlotIsWholeSo
@@ -101,7 +101,7 @@ slot_is_whole f by_half k creep (Some page) less halved has =
 -- ---- all sides
 
 -- what holds of each side of a booklet, with its pages turned
-on_sides : (P : ℕ → MadeSheet → Type 0) (m : Bool) (turn : Turn) (f : Filling) (turned_backs : Bool) (creep leaves : ℕ) (row : Row) → AreHalves f.setting
+on_sides : (P : ℕ → MadeSheet → Type 0) (m : Bool) (turn : ℕ → Turn) (f : Filling) (turned_backs : Bool) (creep leaves : ℕ) (row : Row) → AreHalves f.setting
     → ((s : ℕ) → P s (turned_sheet turn (side_of f (is_turned turned_backs s) (creep_on creep leaves s) (grid_entry 2 row s 0) (grid_entry 2 row s 1))))
     → (s : ℕ) (d : MadeSheet) → s < length (map (turned_sheet turn) (swapped (swapped_room_of m f.setting.room) (creeping_sheets f turned_backs creep leaves row)))
     → P s (slice_index_or (map (turned_sheet turn) (swapped (swapped_room_of m f.setting.room) (creeping_sheets f turned_backs creep leaves row))) s d)
@@ -112,7 +112,7 @@ on_sides P m turn f turned_backs creep leaves row halved each =
     subst (λ xs. All (map (turned_sheet turn) xs)) (sym (even_either m f.setting.room halved.even.across (creeping_sheets f turned_backs creep leaves row)))
     (subst All (fused (turned_sheet turn) side (range_with_len 0 sheets)) (numbered_in_turn P (λ s. turned_sheet turn (side s)) sheets (λ s less. each s)))
 
-pub halves_lie : (m : Bool) (turn : Turn) (f : Filling) (turned_backs : Bool) (creep leaves : ℕ) (row : Row) → AreHalves f.setting → AllFitOnLeaves f creep leaves row
+pub halves_lie : (m : Bool) (turn : ℕ → Turn) (f : Filling) (turned_backs : Bool) (creep leaves : ℕ) (row : Row) → AreHalves f.setting → AllFitOnLeaves f creep leaves row
     → AreInHalves turn f.setting turned_backs creep leaves (map (turned_sheet turn) (swapped (swapped_room_of m f.setting.room) (creeping_sheets f turned_backs creep leaves row)))
 halves_lie m turn f turned_backs creep leaves row halved fit s k sheet d less within =
     on_sides (λ s x. (k : ℕ) (d : MadeSlot) → k < length x.slots → SlotIsInHalf turn f.setting (is_turned turned_backs s) k (creep_on creep leaves s) (slice_index_or x.slots k d)) m turn f turned_backs creep leaves row halved
@@ -138,26 +138,26 @@ still_behind Left x y n m l k T a b wide high one other a0 a1 b0 b1 = omega (ari
 still_behind Half x y n m l k T a b wide high one other a0 a1 b0 b1 = omega (arith, ints, other, high, b1)
 still_behind Right x y n m l k T a b wide high one other a0 a1 b0 b1 = omega (arith, ints, other, wide, a1)
 
-slot_keeps_fold : (turn t : Turn) (before : Bool) (room : Room) (T : ℕ) (slot : MadeSlot) → room.trim ≡ 0 → SlotIsWholeSo t slot → SlotStays before room T slot → SlotKeepsFold before room T (turned_slot turn slot)
+slot_keeps_fold : (turn : ℕ → Turn) (t : Turn) (before : Bool) (room : Room) (T : ℕ) (slot : MadeSlot) → room.trim ≡ 0 → SlotIsWholeSo t slot → SlotStays before room T slot → SlotKeepsFold before room T (turned_slot turn slot)
 unfolding SlotIsWholeSo
 slot_keeps_fold turn t true room T Blank none is h = tt
 slot_keeps_fold turn t false room T Blank none is h = tt
 slot_keeps_fold turn t true room T (Placed page item paper) none is h = λ p of.
-    let b = box turn t paper item is in
-    let u = b.all p (subst (λ l. IsOfPage l (turned_paper turn paper) p) none of) in
+    let b = box (turn page) t paper item is in
+    let u = b.all p (subst (λ l. IsOfPage l (turned_paper (turn page) paper) p) none of) in
     let off : (r : Point) → IsOfPage 0 paper r → IsOfPage room.trim paper r = λ r. subst (λ l. IsOfPage l paper r) (sym none) in
     let P : Point → Type 0 = λ r. (pos 2 *ℤ r.y) ≤ℤ fine T in
     subst (λ (r : Point). (pos 2 *ℤ r.y) ≤ℤ fine (T + 1)) (sym u.is)
     (still_before t b.x b.y b.n b.m b.l b.k T u.a u.b b.wide b.high (subst P b.first.2 (h b.first.0 (off b.first.0 b.first.1))) (subst P b.last.2 (h b.last.0 (off b.last.0 b.last.1))) u.left u.right u.bottom u.top)
 slot_keeps_fold turn t false room T (Placed page item paper) none is h = λ p of.
-    let b = box turn t paper item is in
-    let u = b.all p (subst (λ l. IsOfPage l (turned_paper turn paper) p) none of) in
+    let b = box (turn page) t paper item is in
+    let u = b.all p (subst (λ l. IsOfPage l (turned_paper (turn page) paper) p) none of) in
     let off : (r : Point) → IsOfPage 0 paper r → IsOfPage room.trim paper r = λ r. subst (λ l. IsOfPage l paper r) (sym none) in
     let P : Point → Type 0 = λ r. fine T ≤ℤ (pos 2 *ℤ r.y) in
     subst (λ (r : Point). fine T ≤ℤ ((pos 2 *ℤ r.y) +ℤ fine 1)) (sym u.is)
     (still_behind t b.x b.y b.n b.m b.l b.k T u.a u.b b.wide b.high (subst P b.first.2 (h b.first.0 (off b.first.0 b.first.1))) (subst P b.last.2 (h b.last.0 (off b.last.0 b.last.1))) u.left u.right u.bottom u.top)
 
-leaves_fold : (m : Bool) (turn : Turn) (f : Filling) (turned_backs : Bool) (creep leaves : ℕ) (row : Row) → f.setting.room.trim ≡ 0 → AreHalves f.setting → AllFitOnLeaves f creep leaves row
+leaves_fold : (m : Bool) (turn : ℕ → Turn) (f : Filling) (turned_backs : Bool) (creep leaves : ℕ) (row : Row) → f.setting.room.trim ≡ 0 → AreHalves f.setting → AllFitOnLeaves f creep leaves row
     → KeepFold f.setting turned_backs (map (turned_sheet turn) (swapped (swapped_room_of m f.setting.room) (creeping_sheets f turned_backs creep leaves row)))
 leaves_fold m turn f turned_backs creep leaves row none halved fit =
     let room = f.setting.room in
@@ -177,7 +177,7 @@ leaves_fold m turn f turned_backs creep leaves row none halved fit =
           (slot_is_whole f half k by entry in_k halved (fit s k in_k)) (slot_stays f half k by entry in_k halved (fit s k in_k)))) s sheet less k d within;
     }
 
-pub leaves_keep : (m : Bool) (turn : Turn) (f : Filling) (turned_backs : Bool) (creep leaves : ℕ) (row : Row) → AreHalves f.setting → AllFitOnLeaves f creep leaves row
+pub leaves_keep : (m : Bool) (turn : ℕ → Turn) (f : Filling) (turned_backs : Bool) (creep leaves : ℕ) (row : Row) → AreHalves f.setting → AllFitOnLeaves f creep leaves row
     → KeepLeaves f.setting turned_backs creep leaves (map (turned_sheet turn) (swapped (swapped_room_of m f.setting.room) (creeping_sheets f turned_backs creep leaves row)))
 leaves_keep m turn f turned_backs creep leaves row halved fit none = (
   on_sides (λ s. StandsInRoom (crept_room f.setting.room (creep_on creep leaves s))) m turn f turned_backs creep leaves row halved

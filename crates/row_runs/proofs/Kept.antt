@@ -11,7 +11,6 @@ use Rattle.layouts.specs.Placed.{Room}
 use Rattle.row_sheets.specs.Filled.{behind_in, card_entry, duplex_entry, grid_entry, stack_entry}
 use Rattle.row_sheets.specs.Shapes.{filling}
 use Rattle.row_sheets.specs.Standing.{AllStand}
-use Rattle.pagespec.specs.Items.{turn_of}
 use Rattle.row_runs.specs.declared.sheet_request.Laying.{Laying}
 use Rattle.row_runs.specs.declared.sheet_request.Laying.TheVariants as laying
 use Rattle.row_runs.specs.declared.sheet_request.Scheme.TheVariants as scheme
@@ -21,7 +20,7 @@ use Rattle.row_runs.specs.SwappedMargins.{swapped_room_in, swapped}
 use Rattle.row_runs.specs.Runs.{AreTurned}
 use Rattle.row_runs.specs.Sheets.{FitAsLaid, MayBeLaid, laying_for, leaves_in, row_printed, sewn, sheets_laid}
 use Rattle.row_runs.specs.Standing.{StandAsLaid}
-use Rattle.row_runs.specs.Turning.{turned_sheet}
+use Rattle.row_runs.specs.Turning.{turn_on, turned_sheet}
 use Rattle.row_runs.specs.Written.{AreInTheirCells, KeepTheirRoom, WrittenInCells, WrittenKeepRoom}
 use Rattle.row_runs.proofs.Fit.{evened_may_be}
 use Rattle.row_runs.proofs.InCells.{filled_lie, zines_lie}
@@ -30,7 +29,7 @@ use Rattle.row_runs.proofs.Rooms.{filled_keep}
 
 -- ---- in their cells
 
-lie_as : (m : Bool) (turn : Turn) (l : Laying) (leaves : ℕ) (papers : List Paper) (row : Row) → MayBeLaid l → FitAsLaid l leaves papers row
+lie_as : (m : Bool) (turn : ℕ → Turn) (l : Laying) (leaves : ℕ) (papers : List Paper) (row : Row) → MayBeLaid l → FitAsLaid l leaves papers row
     → AreInTheirCells turn m l leaves (map (turned_sheet turn) (swapped (swapped_room_in m l) (sheets_laid l leaves papers row)))
 lie_as m turn (laying.AsTheyAre blank) leaves papers row may fits = tt
 lie_as m turn (laying.Poster p) leaves papers row may fits = tt
@@ -60,9 +59,9 @@ same_swapped_room m true (laying.BySpec spec sheet page) papers row = refl
 -- what is written is the row, laid, with backs moved and pages turned
 made_is : (j : RowJob) (made : List MadeSheet) → (are : AreTurned j made)
     → (let l = laying_for j.asked j.papers.now are.asked.row in
-    made ≡ map (turned_sheet (turn_of j.turn)) (swapped (swapped_room_in j.swapped l) (sheets_laid l (leaves_in (sewn j.asked) are.asked.row) j.papers.now (row_printed j.asked are.asked.row))))
+    made ≡ map (turned_sheet (turn_on j.turns.now)) (swapped (swapped_room_in j.swapped l) (sheets_laid l (leaves_in (sewn j.asked) are.asked.row) j.papers.now (row_printed j.asked are.asked.row))))
 made_is j made are =
-    let turn = turn_of j.turn in
+    let turn = turn_on j.turns.now in
     are.turned
     ∙ ap₂ (λ (m : Option Room) (xs : List MadeSheet). map (turned_sheet turn) (swapped m xs)) (same_swapped_room j.swapped j.asked.same_scale j.asked.laying j.papers.now (row_printed j.asked are.asked.row)) are.asked.are_laid
 
@@ -75,8 +74,8 @@ written_in_cells j made are =
     let row = are.asked.row in
     let l = laying_for j.asked j.papers.now row in
     let leaves = leaves_in (sewn j.asked) row in
-    subst (AreInTheirCells (turn_of j.turn) j.swapped l leaves) (sym (made_is j made are))
-    (lie_as j.swapped (turn_of j.turn) l leaves j.papers.now (row_printed j.asked row) (may_be j made are) are.asked.fits)
+    subst (AreInTheirCells (turn_on j.turns.now) j.swapped l leaves) (sym (made_is j made are))
+    (lie_as j.swapped (turn_on j.turns.now) l leaves j.papers.now (row_printed j.asked row) (may_be j made are) are.asked.fits)
 
 -- ---- between the margins
 
@@ -108,7 +107,7 @@ in_room_too true (laying.InCells t (scheme.Cards cells)) papers row made h = h
 in_room_too true (laying.InCells t (scheme.Stack cells)) papers row made h = h
 in_room_too true (laying.InCells t scheme.Leaves) papers row made h = h
 
-keep_as : (m : Bool) (turn : Turn) (l : Laying) (leaves : ℕ) (papers : List Paper) (row : Row) → MayBeLaid l → FitAsLaid l leaves papers row → StandInRoom l (sheets_laid l leaves papers row)
+keep_as : (m : Bool) (turn : ℕ → Turn) (l : Laying) (leaves : ℕ) (papers : List Paper) (row : Row) → MayBeLaid l → FitAsLaid l leaves papers row → StandInRoom l (sheets_laid l leaves papers row)
     → KeepTheirRoom m l leaves (map (turned_sheet turn) (swapped (swapped_room_in m l) (sheets_laid l leaves papers row)))
 keep_as m turn (laying.AsTheyAre blank) leaves papers row may fits stand = tt
 keep_as m turn (laying.Poster p) leaves papers row may fits stand = tt
@@ -135,4 +134,4 @@ written_keep_room j made are =
     let printed = row_printed j.asked row in
     let stand : StandInRoom l (sheets_laid l leaves j.papers.now printed) = subst (StandInRoom l) are.asked.are_laid (in_room_too j.asked.same_scale j.asked.laying j.papers.now printed are.laid are.stand) in
     subst (KeepTheirRoom j.swapped l leaves) (sym (made_is j made are))
-    (keep_as j.swapped (turn_of j.turn) l leaves j.papers.now printed (may_be j made are) are.asked.fits stand)
+    (keep_as j.swapped (turn_on j.turns.now) l leaves j.papers.now printed (may_be j made are) are.asked.fits stand)

@@ -15,13 +15,13 @@ use Rattle.rules.specs.Specification.{Item, Measure, Turn, Upright, Left, Half, 
 use Rattle.lengths.specs.Ranges.{FitsNumber}
 use Rattle.layouts.specs.Placed.{Room}
 use Rattle.rules.specs.Made.{MadeSheet, MadeSlot}
-use Rattle.pagespec.specs.Items.{turn_of}
+use Rattle.pagespec.specs.declared.item.Turn.{Turn as PageTurn}
 use Rattle.sheet_plan.specs.OfSheets.{slots_at}
 use Rattle.sheet_plan.specs.declared.error.MadeError.TheVariants as plan
 use Rattle.sheet_plan.proofs.Accepted.{too_many_sheets}
 use Rattle.row_runs.specs.SwappedMargins.{swapped_room_on}
 use Rattle.row_runs.specs.Reaching.{IsNotReached, are_reached, are_reached_from, is_changed, is_writable_offset, is_slot_reached}
-use Rattle.row_runs.specs.Turning.{turn_sum, turned_corner, shifted, scaled_length, turned_item}
+use Rattle.row_runs.specs.Turning.{turn_on, turn_sum, turned_corner, shifted, scaled_length, turned_item}
 use Rattle.row_runs.specs.Numbers.{are_numbers_reached}
 use Rattle.row_runs.specs.Runs.{RefusesRun, are_laid_in_reach, have_numbers_in_reach, swapped_room_for, page_count}
 use Rattle.row_runs.specs.Sheets.{AreAsked}
@@ -29,7 +29,7 @@ use Rattle.row_runs.specs.declared.error.SheetError.{SheetError}
 use Rattle.row_runs.specs.declared.error.SheetError.TheVariants as error
 use Rattle.row_runs.specs.declared.run.RowJob.{RowJob}
 use Rattle.row_runs.proofs.Turned.{turned_refused}
-use Rattle.row_runs.proofs.Turns.{item_at, item_is, no_farther, nowhere, point}
+use Rattle.row_runs.proofs.Turns.{item_at, item_is, no_farther, none_on, nowhere, point}
 
 -- ---- one offset
 
@@ -41,41 +41,33 @@ is_far_if m never = false_from_ne_true (is_writable_offset m) (λ is. never (leb
 
 -- ---- what isn't changed
 
-pub unchanged_turn : (t : Turn) (m : Option Room) → is_changed t m ≡ false → t ≡ Upright
-unchanged_turn Upright m e = refl
-unchanged_turn Left m e = absurd (true≢false e)
-unchanged_turn Half m e = absurd (true≢false e)
-unchanged_turn Right m e = absurd (true≢false e)
+pub unchanged_turn : (t : List PageTurn) (m : Option Room) (page : ℕ) → is_changed t m ≡ false → turn_on t page ≡ Upright
+unchanged_turn [] m page e = none_on page
+unchanged_turn (turn ∷ t) m page e = absurd (true≢false e)
 
-pub unchanged_room : (t : Turn) (m : Option Room) → is_changed t m ≡ false → m ≡ None
-unchanged_room Upright None e = refl
-unchanged_room Upright (Some room) e = absurd (true≢false e)
-unchanged_room Left m e = absurd (true≢false e)
-unchanged_room Half m e = absurd (true≢false e)
-unchanged_room Right m e = absurd (true≢false e)
+pub unchanged_room : (t : List PageTurn) (m : Option Room) → is_changed t m ≡ false → m ≡ None
+unchanged_room [] None e = refl
+unchanged_room [] (Some room) e = absurd (true≢false e)
+unchanged_room (turn ∷ t) m e = absurd (true≢false e)
 
-one_or_none : (b : Bool) → is_changed Upright (if b then None else None) ≡ false
+one_or_none : (b : Bool) → is_changed [] (if b then None else None) ≡ false
 one_or_none true = refl
 one_or_none false = refl
 
 -- on no sheet
-pub unchanged_on : (t : Turn) (m : Option Room) (s : ℕ) → is_changed t m ≡ false → is_changed t (swapped_room_on m s) ≡ false
-unchanged_on Upright None s e = one_or_none (s % 2 == 1)
-unchanged_on Upright (Some room) s e = absurd (true≢false e)
-unchanged_on Left m s e = absurd (true≢false e)
-unchanged_on Half m s e = absurd (true≢false e)
-unchanged_on Right m s e = absurd (true≢false e)
+pub unchanged_on : (t : List PageTurn) (m : Option Room) (s : ℕ) → is_changed t m ≡ false → is_changed t (swapped_room_on m s) ≡ false
+unchanged_on [] None s e = one_or_none (s % 2 == 1)
+unchanged_on [] (Some room) s e = absurd (true≢false e)
+unchanged_on (turn ∷ t) m s e = absurd (true≢false e)
 
 pub changed_if : (c b : Bool) → b ≡ false → (c ≡ false → b ≡ true) → c ≡ true
 changed_if true b is never = refl
 changed_if false b is never = absurd (true≢false (sym (never refl) ∙ is))
 
 -- what is moved on backs alone is changed if pages are turned too
-pub changed_more : (t : Turn) (m : Option Room) → is_changed Upright m ≡ true → is_changed t m ≡ true
-changed_more Upright m e = e
-changed_more Left m e = refl
-changed_more Half m e = refl
-changed_more Right m e = refl
+pub changed_more : (t : List PageTurn) (m : Option Room) → is_changed [] m ≡ true → is_changed t m ≡ true
+changed_more [] m e = e
+changed_more (turn ∷ t) m e = refl
 
 -- ---- one item
 
@@ -162,10 +154,10 @@ one_of_all p (suc i) (y ∷ xs) x at is = one_of_all p i xs x at (right_of (p y)
 
 -- ---- all sheets
 
-abbrev slots_reached : Turn → Option Room → (s : ℕ) → List MadeSlot → Bool
+abbrev slots_reached : (ℕ → Turn) → Option Room → (s : ℕ) → List MadeSlot → Bool
 slots_reached t m s slots = list_all (is_slot_reached t (swapped_room_on m s)) slots
 
-more_reached : (t : Turn) (m : Option Room) (s i : ℕ) (made : List MadeSheet) → i < length made → are_reached_from t m s (take i made) ≡ true
+more_reached : (t : ℕ → Turn) (m : Option Room) (s i : ℕ) (made : List MadeSheet) → i < length made → are_reached_from t m s (take i made) ≡ true
     → slots_reached t m (s + i) (slots_at made i) ≡ true → are_reached_from t m s (take (suc i) made) ≡ true
 more_reached t m s i [] less is too = absurd (omega (arith, less))
 more_reached t m s zero (x ∷ made) less is too =
@@ -178,7 +170,7 @@ more_reached t m s (suc i) (x ∷ made) less is too =
     and_true first (are_reached_from t m (s + 1) (take (suc i) made)) (left_of first rest is)
     (more_reached t m (s + 1) i made (omega (arith, less)) (right_of first rest is) (subst (λ n. slots_reached t m n (slots_at made i) ≡ true) next too))
 
-pub sheet_reached : (t : Turn) (m : Option Room) (i : ℕ) (made : List MadeSheet) → i < length made → are_reached t m (take i made) ≡ true
+pub sheet_reached : (t : ℕ → Turn) (m : Option Room) (i : ℕ) (made : List MadeSheet) → i < length made → are_reached t m (take i made) ≡ true
     → slots_reached t m i (slots_at made i) ≡ true → are_reached t m (take (i + 1) made) ≡ true
 sheet_reached t m i made less is too =
     let next : suc i ≡ i + 1 = omega arith in
@@ -186,7 +178,7 @@ sheet_reached t m i made less is too =
     subst (λ n. are_reached t m (take n made) ≡ true) next
     (more_reached t m 0 i made less is (subst (λ n. slots_reached t m n (slots_at made i) ≡ true) place too))
 
-one_not_reached : (t : Turn) (m : Option Room) (s i : ℕ) (made : List MadeSheet) → i < length made → slots_reached t m (s + i) (slots_at made i) ≡ false
+one_not_reached : (t : ℕ → Turn) (m : Option Room) (s i : ℕ) (made : List MadeSheet) → i < length made → slots_reached t m (s + i) (slots_at made i) ≡ false
     → are_reached_from t m s made ≡ false
 one_not_reached t m s i [] less never = absurd (omega (arith, less))
 one_not_reached t m s zero (x ∷ made) less never =
@@ -197,13 +189,13 @@ one_not_reached t m s (suc i) (x ∷ made) less never =
     and_false (slots_reached t m s x.slots) (are_reached_from t m (s + 1) made)
     (one_not_reached t m (s + 1) i made (omega (arith, less)) (subst (λ n. slots_reached t m n (slots_at made i) ≡ false) next never))
 
-pub not_reached : (t : Turn) (m : Option Room) (i : ℕ) (made : List MadeSheet) → i < length made → slots_reached t m i (slots_at made i) ≡ false
+pub not_reached : (t : ℕ → Turn) (m : Option Room) (i : ℕ) (made : List MadeSheet) → i < length made → slots_reached t m i (slots_at made i) ≡ false
     → are_reached t m made ≡ false
 not_reached t m i made less never =
     let place : i ≡ 0 + i = omega arith in
     one_not_reached t m 0 i made less (subst (λ n. slots_reached t m n (slots_at made i) ≡ false) place never)
 
-one_reached : (t : Turn) (m : Option Room) (s i : ℕ) (made : List MadeSheet) → i < length made → are_reached_from t m s made ≡ true
+one_reached : (t : ℕ → Turn) (m : Option Room) (s i : ℕ) (made : List MadeSheet) → i < length made → are_reached_from t m s made ≡ true
     → slots_reached t m (s + i) (slots_at made i) ≡ true
 one_reached t m s i [] less is = absurd (omega (arith, less))
 one_reached t m s zero (x ∷ made) less is =
@@ -214,7 +206,7 @@ one_reached t m s (suc i) (x ∷ made) less is =
     subst (λ n. slots_reached t m n (slots_at made i) ≡ true) next
     (one_reached t m (s + 1) i made (omega (arith, less)) (right_of (slots_reached t m s x.slots) (are_reached_from t m (s + 1) made) is))
 
-pub reached_at : (t : Turn) (m : Option Room) (i : ℕ) (made : List MadeSheet) → i < length made → are_reached t m made ≡ true
+pub reached_at : (t : ℕ → Turn) (m : Option Room) (i : ℕ) (made : List MadeSheet) → i < length made → are_reached t m made ≡ true
     → slots_reached t m i (slots_at made i) ≡ true
 reached_at t m i made less is =
     let place : 0 + i ≡ i = omega arith in
@@ -224,9 +216,9 @@ reached_at t m i made less is =
 
 -- of the sheets that are laid
 laid_too_far : (j : RowJob) (laid : List MadeSheet) (e : SheetError) → page_count j ≤ most_pages → AreAsked (page_count j) j.papers.now j.asked laid
-    → IsNotReached (turn_of j.turn) (swapped_room_for j) laid e → RefusesRun j e
+    → IsNotReached j.turns.now (swapped_room_for j) laid e → RefusesRun j e
 laid_too_far j laid (error.Sheets plan.TooManySheets) few asked h =
-    (laid, asked, turned_refused (turn_of j.turn) (swapped_room_for j) (page_count j) laid plan.TooManySheets (too_many_sheets (page_count j) laid few h))
+    (laid, asked, turned_refused (turn_on j.turns.now) (swapped_room_for j) (page_count j) laid plan.TooManySheets (too_many_sheets (page_count j) laid few h))
 laid_too_far j laid (error.Sheets plan.TooManyPages) few asked h = absurd h
 laid_too_far j laid (error.Sheets (plan.SlotsOutOfRange sheet)) few asked h = absurd h
 laid_too_far j laid (error.Sheets plan.TooManyPlaces) few asked h = absurd h
@@ -240,15 +232,15 @@ laid_too_far j laid error.NoMemory few asked h = absurd h
 
 -- the same by the numbers that a run counts
 pub reach_refused : (j : RowJob) (n : ℕ) (m : Option Room) (laid : List MadeSheet) (e : SheetError) → n ≡ page_count j → m ≡ swapped_room_for j → n ≤ most_pages
-    → AreAsked n j.papers.now j.asked laid → IsNotReached (turn_of j.turn) m laid e → RefusesRun j e
+    → AreAsked n j.papers.now j.asked laid → IsNotReached j.turns.now m laid e → RefusesRun j e
 reach_refused j n m laid e count swap few asked h =
     laid_too_far j laid e (subst (λ k. k ≤ most_pages) count few) (subst (λ k. AreAsked k j.papers.now j.asked laid) count asked)
-    (subst (λ r. IsNotReached (turn_of j.turn) r laid e) swap h)
+    (subst (λ r. IsNotReached j.turns.now r laid e) swap h)
 
 -- ---- numbers
 
 -- few sheets are refused only if they are changed
-pub far_is_changed : (t : Turn) (m : Option Room) (made : List MadeSheet) (e : SheetError) → length made ≤ most_sheets → IsNotReached t m made e → is_changed t m ≡ true
+pub far_is_changed : (t : List PageTurn) (m : Option Room) (made : List MadeSheet) (e : SheetError) → length made ≤ most_sheets → IsNotReached t m made e → is_changed t m ≡ true
 far_is_changed t m made (error.Sheets plan.TooManySheets) few h = absurd (omega (arith, few, h))
 far_is_changed t m made (error.Sheets plan.TooManyPages) few h = absurd h
 far_is_changed t m made (error.Sheets (plan.SlotsOutOfRange sheet)) few h = absurd h
@@ -264,7 +256,7 @@ far_is_changed t m made error.NoMemory few h = absurd h
 -- what a refusal of the numbers says of a run
 pub numbers_refused : (j : RowJob) (n : ℕ) (m : Option Room) (laid : List MadeSheet) (e : SheetError) → n ≡ page_count j → m ≡ swapped_room_for j
     → AreAsked n j.papers.now j.asked laid
-    → (e ≡ error.NoMemory) ⊎ ((e ≡ error.OutOfReach) × (is_changed Upright m ≡ true) × (are_numbers_reached n j.papers.now j.asked m j.marks.numbers ≡ false)) → RefusesRun j e
+    → (e ≡ error.NoMemory) ⊎ ((e ≡ error.OutOfReach) × (is_changed [] m ≡ true) × (are_numbers_reached n j.papers.now j.asked m j.marks.numbers ≡ false)) → RefusesRun j e
 numbers_refused j n m laid e count swap asked (inl none) =
     let same = subst (λ k. AreAsked k j.papers.now j.asked laid) count asked in
     subst (RefusesRun j) (sym none) (subst IsOk (sym same.is_chosen) refl)
@@ -273,7 +265,7 @@ numbers_refused j n m laid e count swap asked (inr far) =
     let never = subst (λ k. are_numbers_reached (page_count j) j.papers.now j.asked k j.marks.numbers ≡ false) swap
     (subst (λ k. are_numbers_reached k j.papers.now j.asked m j.marks.numbers ≡ false) count far.2) in
     subst (RefusesRun j) (sym far.0) (
-      changed_more (turn_of j.turn) (swapped_room_for j) (subst (λ k. is_changed Upright k ≡ true) swap far.1),
+      changed_more j.turns.now (swapped_room_for j) (subst (λ k. is_changed [] k ≡ true) swap far.1),
       laid,
       same,
       and_false (are_laid_in_reach j laid) (have_numbers_in_reach j) never,

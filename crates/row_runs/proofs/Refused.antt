@@ -7,7 +7,7 @@ use Rattle.row_runs.specs.declared.run.RowJob.{RowJob}
 use Rattle.row_runs.specs.Errors.{of_made_plan}
 use Rattle.row_runs.specs.Runs.{AreTurned, RefusesRun, swapped_room_for, page_count}
 use Rattle.rules.specs.Made.{MadeSheet}
-use Rattle.pagespec.specs.Items.{turn_of}
+use Rattle.row_runs.specs.Turning.{turn_on}
 use Rattle.sheet_plan.specs.MadeRefusals.{RefusesMade}
 use Rattle.sheet_plan.specs.declared.error.MadeError.{MadeError}
 use Rattle.sheet_plan.specs.declared.error.MadeError.TheVariants as plan
@@ -15,7 +15,7 @@ use Rattle.row_runs.proofs.Turned.{turned_refused}
 use Rattle.row_runs.specs.Sheets.{RefusesAsked}
 
 of_asked : (j : RowJob) (e : SheetError) → RefusesAsked (page_count j) j.papers.now j.asked e → RefusesRun j e
-of_asked j (error.Sheets e) h = (h.0, h.1, turned_refused (turn_of j.turn) (swapped_room_for j) (page_count j) h.0 e h.3)
+of_asked j (error.Sheets e) h = (h.0, h.1, turned_refused (turn_on j.turns.now) (swapped_room_for j) (page_count j) h.0 e h.3)
 of_asked j error.OutOfReach h = absurd h
 of_asked j other h = h
 

@@ -91,7 +91,7 @@ same_paper true room s = of_either (s % 2 == 1)
 same_paper false room s = refl
 
 -- a slot that lies in its cell is inside
-slot_inside : (turn : Turn) (t : Setting) (room : Room) (c : ℕ) (slot : MadeSlot) → IsPaper room.paper → t.room.trim ≡ 0 → ((page : Paper) → is_whole t page ≡ false)
+slot_inside : (turn : ℕ → Turn) (t : Setting) (room : Room) (c : ℕ) (slot : MadeSlot) → IsPaper room.paper → t.room.trim ≡ 0 → ((page : Paper) → is_whole t page ≡ false)
     → CellIsOn room (cell_at room t.grid (row_of t.order t.grid c) (column_of t.order t.grid c)) → SlotIsInCell turn t room c slot → SlotIsInside room slot
 slot_inside turn t room c Blank on none not is lies = tt
 slot_inside turn t room c (Placed page item paper) on none not is lies = λ p of.
@@ -102,10 +102,10 @@ slot_inside turn t room c (Placed page item paper) on none not is lies = λ p of
     zero_of : (l n : ℕ) → l ≡ 0 → kept_length l n ≡ n
     zero_of l n e = ap (λ k. kept_length k n) e
 
-    past : kept_length t.room.trim (past_cell t (turned_paper turn paper)) ≡ 0
-    past = zero_of t.room.trim _ none ∙ cond-false (is_whole t (turned_paper turn paper)) 1 (kept_length t.room.trim 0) (not (turned_paper turn paper)) ∙ zero_of t.room.trim 0 none
+    past : kept_length t.room.trim (past_cell t (turned_paper (turn page) paper)) ≡ 0
+    past = zero_of t.room.trim _ none ∙ cond-false (is_whole t (turned_paper (turn page) paper)) 1 (kept_length t.room.trim 0) (not (turned_paper (turn page) paper)) ∙ zero_of t.room.trim 0 none
 
-side_inside : (m : Bool) (turn : Turn) (f : Filling) (s c : ℕ) (entry : Option ℕ) → c < size f.setting.grid → f.setting.room.trim ≡ 0 → ((page : Paper) → is_whole f.setting page ≡ false) → EntryFits f entry
+side_inside : (m : Bool) (turn : ℕ → Turn) (f : Filling) (s c : ℕ) (entry : Option ℕ) → c < size f.setting.grid → f.setting.room.trim ≡ 0 → ((page : Paper) → is_whole f.setting page ≡ false) → EntryFits f entry
     → SlotIsInside (side_room m f.setting.room s) (turned_slot turn (moved_slot (swapped_room_on (swapped_room_of m f.setting.room) s) (slot_in_cell f c entry)))
 side_inside m turn f s c None within none not has = tt
 side_inside m turn f s c (Some page) within none not has =
@@ -164,51 +164,51 @@ first_up Left x y x' y' n m l k n' m' l' k' gap a b a' b' wide high wide' high' 
 first_up Half x y x' y' n m l k n' m' l' k' gap a b a' b' wide high wide' high' h i a0 a1 b0 b1 c0 c1 d0 d1 = omega (arith, ints, h, high', b0, d1)
 first_up Right x y x' y' n m l k n' m' l' k' gap a b a' b' wide high wide' high' h i a0 a1 b0 b1 c0 c1 d0 d1 = omega (arith, ints, h, wide', a0, c1)
 
-stays_across : (turn t : Turn) (room : Room) (page page' : Paper) (one other : Item) → room.trim ≡ 0 → Box t page one turn → Box t page' other turn → ComesFirst across room page one page' other
-    → ComesFirst across room (turned_paper turn page) (turned_item turn page one) (turned_paper turn page') (turned_item turn page' other)
-stays_across turn t room page page' one other none b b' h p q of of' =
+stays_across : (turn turn' t : Turn) (room : Room) (page page' : Paper) (one other : Item) → room.trim ≡ 0 → Box t page one turn → Box t page' other turn' → ComesFirst across room page one page' other
+    → ComesFirst across room (turned_paper turn page) (turned_item turn page one) (turned_paper turn' page') (turned_item turn' page' other)
+stays_across turn turn' t room page page' one other none b b' h p q of of' =
     let on : (o : Paper) (r : Point) → IsOfPage room.trim o r → IsOfPage 0 o r = λ o r. subst (λ l. IsOfPage l o r) none in
     let off : (o : Paper) (r : Point) → IsOfPage 0 o r → IsOfPage room.trim o r = λ o r. subst (λ l. IsOfPage l o r) (sym none) in
     let u = b.all p (on (turned_paper turn page) p of) in
-    let v = b'.all q (on (turned_paper turn page') q of') in
+    let v = b'.all q (on (turned_paper turn' page') q of') in
     let le : Point → Point → Type 0 = λ r s. (r.x +ℤ fine room.gutter_across) ≤ℤ s.x in
     let before = subst (λ r. le r (from_start t b'.x b'.y (point (pos b'.n) (pos b'.m)))) b.first.2 (subst (le (stands page one b.first.0)) b'.last.2 (h b.first.0 b'.last.0 (off page b.first.0 b.first.1) (off page' b'.last.0 b'.last.1))) in
     let after = subst (λ r. le r (from_start t b'.x b'.y (point (pos 0) (pos 0)))) b.last.2 (subst (le (stands page one b.last.0)) b'.first.2 (h b.last.0 b'.first.0 (off page b.last.0 b.last.1) (off page' b'.first.0 b'.first.1))) in
-    subst (λ r. le r (stands (turned_paper turn page') (turned_item turn page' other) q)) (sym u.is)
+    subst (λ r. le r (stands (turned_paper turn' page') (turned_item turn' page' other) q)) (sym u.is)
     (subst (le (from_start t b.x b.y (point u.a u.b))) (sym v.is)
     (first_across t b.x b.y b'.x b'.y b.n b.m b.l b.k b'.n b'.m b'.l b'.k room.gutter_across u.a u.b v.a v.b b.wide b.high b'.wide b'.high before after u.left u.right u.bottom u.top v.left v.right v.bottom v.top))
 
-stays_up : (turn t : Turn) (room : Room) (page page' : Paper) (one other : Item) → room.trim ≡ 0 → Box t page one turn → Box t page' other turn → ComesFirst upward room page one page' other
-    → ComesFirst upward room (turned_paper turn page) (turned_item turn page one) (turned_paper turn page') (turned_item turn page' other)
-stays_up turn t room page page' one other none b b' h p q of of' =
+stays_up : (turn turn' t : Turn) (room : Room) (page page' : Paper) (one other : Item) → room.trim ≡ 0 → Box t page one turn → Box t page' other turn' → ComesFirst upward room page one page' other
+    → ComesFirst upward room (turned_paper turn page) (turned_item turn page one) (turned_paper turn' page') (turned_item turn' page' other)
+stays_up turn turn' t room page page' one other none b b' h p q of of' =
     let on : (o : Paper) (r : Point) → IsOfPage room.trim o r → IsOfPage 0 o r = λ o r. subst (λ l. IsOfPage l o r) none in
     let off : (o : Paper) (r : Point) → IsOfPage 0 o r → IsOfPage room.trim o r = λ o r. subst (λ l. IsOfPage l o r) (sym none) in
     let u = b.all p (on (turned_paper turn page) p of) in
-    let v = b'.all q (on (turned_paper turn page') q of') in
+    let v = b'.all q (on (turned_paper turn' page') q of') in
     let le : Point → Point → Type 0 = λ r s. (r.y +ℤ fine room.gutter_up) ≤ℤ s.y in
     let before = subst (λ r. le r (from_start t b'.x b'.y (point (pos b'.n) (pos b'.m)))) b.first.2 (subst (le (stands page one b.first.0)) b'.last.2 (h b.first.0 b'.last.0 (off page b.first.0 b.first.1) (off page' b'.last.0 b'.last.1))) in
     let after = subst (λ r. le r (from_start t b'.x b'.y (point (pos 0) (pos 0)))) b.last.2 (subst (le (stands page one b.last.0)) b'.first.2 (h b.last.0 b'.first.0 (off page b.last.0 b.last.1) (off page' b'.first.0 b'.first.1))) in
-    subst (λ r. le r (stands (turned_paper turn page') (turned_item turn page' other) q)) (sym u.is)
+    subst (λ r. le r (stands (turned_paper turn' page') (turned_item turn' page' other) q)) (sym u.is)
     (subst (le (from_start t b.x b.y (point u.a u.b))) (sym v.is)
     (first_up t b.x b.y b'.x b'.y b.n b.m b.l b.k b'.n b'.m b'.l b'.k room.gutter_up u.a u.b v.a v.b b.wide b.high b'.wide b'.high before after u.left u.right u.bottom u.top v.left v.right v.bottom v.top))
 
-still_apart : (turn t : Turn) (room : Room) (page page' : Paper) (one other : Item) → room.trim ≡ 0 → Box t page one turn → Box t page' other turn → AreApart room page one page' other
-    → AreApart room (turned_paper turn page) (turned_item turn page one) (turned_paper turn page') (turned_item turn page' other)
-still_apart turn t room page page' one other none b b' (inl (inl h)) = inl (inl (stays_across turn t room page page' one other none b b' h))
-still_apart turn t room page page' one other none b b' (inl (inr h)) = inl (inr (stays_across turn t room page' page other one none b' b h))
-still_apart turn t room page page' one other none b b' (inr (inl h)) = inr (inl (stays_up turn t room page page' one other none b b' h))
-still_apart turn t room page page' one other none b b' (inr (inr h)) = inr (inr (stays_up turn t room page' page other one none b' b h))
+still_apart : (turn turn' t : Turn) (room : Room) (page page' : Paper) (one other : Item) → room.trim ≡ 0 → Box t page one turn → Box t page' other turn' → AreApart room page one page' other
+    → AreApart room (turned_paper turn page) (turned_item turn page one) (turned_paper turn' page') (turned_item turn' page' other)
+still_apart turn turn' t room page page' one other none b b' (inl (inl h)) = inl (inl (stays_across turn turn' t room page page' one other none b b' h))
+still_apart turn turn' t room page page' one other none b b' (inl (inr h)) = inl (inr (stays_across turn' turn t room page' page other one none b' b h))
+still_apart turn turn' t room page page' one other none b b' (inr (inl h)) = inr (inl (stays_up turn turn' t room page page' one other none b b' h))
+still_apart turn turn' t room page page' one other none b b' (inr (inr h)) = inr (inr (stays_up turn' turn t room page' page other one none b' b h))
 
 unfoldable pub SlotIsWhole : Turn → MadeSlot → Type 0
 SlotIsWhole t Blank = ⊤
 SlotIsWhole t (Placed page item paper) = IsMovedByWhole t paper item
 
-slots_apart : (turn t : Turn) (room : Room) (a b : MadeSlot) → room.trim ≡ 0 → SlotIsWhole t a → SlotIsWhole t b → SlotsAreApart room a b → SlotsAreApart room (turned_slot turn a) (turned_slot turn b)
+slots_apart : (turn : ℕ → Turn) (t : Turn) (room : Room) (a b : MadeSlot) → room.trim ≡ 0 → SlotIsWhole t a → SlotIsWhole t b → SlotsAreApart room a b → SlotsAreApart room (turned_slot turn a) (turned_slot turn b)
 unfolding SlotIsWhole
 slots_apart turn t room Blank b none is is' h = tt
 slots_apart turn t room (Placed page item paper) Blank none is is' h = tt
 slots_apart turn t room (Placed page item paper) (Placed page' item' paper') none is is' h =
-    still_apart turn t room paper paper' item item' none (box turn t paper item is) (box turn t paper' item' is') h
+    still_apart (turn page) (turn page') t room paper paper' item item' none (box (turn page) t paper item is) (box (turn page') t paper' item' is') h
 
 -- a page in its cell, also on a back
 slot_is_whole : (m : Option Room) (f : Filling) (c : ℕ) (entry : Option ℕ) → ((page : Paper) → is_whole f.setting page ≡ false) → EntryFits f entry → SlotIsWhole (turn_in f.setting.grid) (moved_slot m (slot_in_cell f c entry))
@@ -254,7 +254,7 @@ front_or_back false room s sheet points h = unmoved_stands (s % 2 == 1)
     unmoved_stands true = side_stands false room sheet points h
     unmoved_stands false = side_stands false room sheet points h
 
-pub all_apart : (turn t : Turn) (room : Room) (slots : List MadeSlot) → room.trim ≡ 0 → All (SlotIsWhole t) slots → AllPairs (SlotsAreApart room) slots → AllPairs (SlotsAreApart room) (map (turned_slot turn) slots)
+pub all_apart : (turn : ℕ → Turn) (t : Turn) (room : Room) (slots : List MadeSlot) → room.trim ≡ 0 → All (SlotIsWhole t) slots → AllPairs (SlotsAreApart room) slots → AllPairs (SlotsAreApart room) (map (turned_slot turn) slots)
 all_apart turn t room slots none are apart i j d before less =
     let f = turned_slot turn in
     let second : j < length slots = subst (λ n. j < n) (length-map slots f) less in
@@ -265,7 +265,7 @@ all_apart turn t room slots none are apart i j d before less =
     (subst (SlotsAreApart room (f a)) (sym (get_or-map f slots j Blank d second))
     (slots_apart turn t room a b none (are i Blank first) (are j Blank second) (apart i j Blank before second)))
 
-pub filled_keep : (m : Bool) (turn : Turn) (f : Filling) (sheets cells : ℕ) (entry : (s c : ℕ) → Option ℕ) → cells ≤ size f.setting.grid → ((s c : ℕ) → EntryFits f (entry s c)) → AllStand f.setting.room (filled f sheets cells entry)
+pub filled_keep : (m : Bool) (turn : ℕ → Turn) (f : Filling) (sheets cells : ℕ) (entry : (s c : ℕ) → Option ℕ) → cells ≤ size f.setting.grid → ((s c : ℕ) → EntryFits f (entry s c)) → AllStand f.setting.room (filled f sheets cells entry)
     → KeepRoom m f.setting (map (turned_sheet turn) (swapped (swapped_room_of m f.setting.room) (filled f sheets cells entry)))
 filled_keep m turn f sheets cells entry enough fits stand none not s d less =
     let room = f.setting.room in

@@ -99,7 +99,7 @@ any_same : (pages : ℕ) (f : MadeSlot → MadeSlot) → ((slot : MadeSlot) → 
 any_same pages f same [] = refl
 any_same pages f same (slot ∷ slots) = rw (same slot, any_same pages f same slots) refl
 
-turned_lacks : (t : Turn) (pages : ℕ) (slot : MadeSlot) → lacks_page pages (turned_slot t slot) ≡ lacks_page pages slot
+turned_lacks : (t : ℕ → Turn) (pages : ℕ) (slot : MadeSlot) → lacks_page pages (turned_slot t slot) ≡ lacks_page pages slot
 turned_lacks t pages Blank = refl
 turned_lacks t pages (Placed page item paper) = refl
 
@@ -107,17 +107,17 @@ moved_lacks : (m : Option Room) (pages : ℕ) (slot : MadeSlot) → lacks_page p
 moved_lacks m pages Blank = refl
 moved_lacks m pages (Placed page item paper) = refl
 
-is_alike : (t : Turn) (m : Option Room) (sheet : MadeSheet) → IsAlike (turned_sheet t (moved_sheet m sheet)) sheet
+is_alike : (t : ℕ → Turn) (m : Option Room) (sheet : MadeSheet) → IsAlike (turned_sheet t (moved_sheet m sheet)) sheet
 is_alike t m sheet = record {
   many = length-map (map (moved_slot m) sheet.slots) (turned_slot t) ∙ length-map sheet.slots (moved_slot m);
   lacks = λ pages. any_same pages (turned_slot t) (turned_lacks t pages) (map (moved_slot m) sheet.slots)
       ∙ any_same pages (moved_slot m) (moved_lacks m pages) sheet.slots;
 }
 
-are_alike : (t : Turn) (m : Option Room) (s : ℕ) (all : List MadeSheet) → Alike (map (turned_sheet t) (swapped_from m s all)) all
+are_alike : (t : ℕ → Turn) (m : Option Room) (s : ℕ) (all : List MadeSheet) → Alike (map (turned_sheet t) (swapped_from m s all)) all
 are_alike t m s [] = tt
 are_alike t m s (sheet ∷ all) = (is_alike t (swapped_room_on m s) sheet, are_alike t m (s + 1) all)
 
-pub turned_refused : (t : Turn) (m : Option Room) (pages : ℕ) (all : List MadeSheet) (e : MadeError) → RefusesMade pages all e
+pub turned_refused : (t : ℕ → Turn) (m : Option Room) (pages : ℕ) (all : List MadeSheet) (e : MadeError) → RefusesMade pages all e
     → RefusesMade pages (map (turned_sheet t) (swapped m all)) e
 turned_refused t m pages all e h = refused_too pages _ all e (are_alike t m 0 all) h

@@ -1,16 +1,18 @@
 -- Turned pages: turns add up, and each point stands where it should.
-use Rattle.std.proofs.Common.{arith, ◌≡◌, ◌∙◌, ℕ, zero, suc, ◌+◌, ◌*◌, ◌/◌, ap, ap₂, refl, sym, subst, Bool, List, [], ◌∷◌, Some, map, take, ◌++◌}
-use Rattle.std.specs.Prelude.{ℤ, pos, neg_ℤ, ◌+ℤ◌, ◌-ℤ◌, ◌*ℤ◌, slice_get}
+use Rattle.std.proofs.Common.{arith, ◌≡◌, ◌∙◌, ℕ, zero, suc, ◌+◌, ◌*◌, ◌/◌, ap, ap₂, refl, sym, subst, Bool, true, length, List, [], ◌∷◌, Some, map, take, ◌++◌}
+use Rattle.std.specs.Prelude.{◌==◌, ℤ, pos, neg_ℤ, ◌+ℤ◌, ◌-ℤ◌, ◌*ℤ◌, slice_get}
 use Rattle.std.proofs.Math.IntN.{suc_ℤ-*ℤ, zero-*ℤ, pos-*ℤ-pos}
+use Rattle.std.proofs.lemmas.Bool.{eqb-true}
 use Rattle.std.proofs.lemmas.Int.{ints}
 use Rattle.std.proofs.lemmas.Option.{none-some, same_Some}
 use Rattle.rules.specs.Papers.{Paper, Pt}
 use Rattle.rules.specs.Placement.{Point, moved, turned}
 use Rattle.rules.specs.Specification.{Item, Measure, Turn, Upright, Left, Half, Right}
 use Rattle.rules.specs.Made.{MadeSlot, Blank, Placed, MadeSheet}
+use Rattle.pagespec.specs.declared.item.Turn.{Turn as PageTurn}
 use Rattle.sheet_plan.specs.OfSheets.{slots_at}
 use Rattle.layouts.specs.Placed.{fine, finer, multiplied}
-use Rattle.row_runs.specs.Turning.{IsDrawnTurned, IsLittle, TurnedStands, TurnsAddUp, turn_sum, turned_corner, excess, shifted, quarter_left, scaled_length, on_turned, turned_item, turned_paper, turned_sheet, turned_slot}
+use Rattle.row_runs.specs.Turning.{IsDrawnTurned, IsLittle, TurnedStands, TurnsAddUp, turn_sum, turned_corner, excess, shifted, quarter_left, scaled_length, on_turned, turn_on, turned_item, turned_paper, turned_sheet, turned_slot, all_by}
 
 abbrev pub point : ℤ → ℤ → Point
 point x y = record { x = x; y = y }
@@ -70,7 +72,7 @@ four_turns Left = refl
 four_turns Half = refl
 four_turns Right = refl
 
-pub unturned : (slot : MadeSlot) → turned_slot Upright slot ≡ slot
+pub unturned : (slot : MadeSlot) → turned_slot (all_by Upright) slot ≡ slot
 unturned Blank = refl
 unturned (Placed page item paper) =
     let at = nowhere item.turn in
@@ -212,19 +214,28 @@ turned_stands turn page item w h s wide high scaled across up =
 
 -- ---- sheets that were turned so far
 
--- nothing is turned
-pub unturned_sheets : (made : List MadeSheet) → map (turned_sheet Upright) made ≡ made
-unturned_sheets [] = refl
-unturned_sheets (sheet ∷ made) = ap₂ (λ (s : MadeSheet) (all : List MadeSheet). s ∷ all)
-    (ap (λ (slots : List MadeSlot). record { paper = sheet.paper; slots = slots }) (unturned_slots sheet.slots)) (unturned_sheets made)
-  where
-    unturned_slots : (slots : List MadeSlot) → map (turned_slot Upright) slots ≡ slots
-    unturned_slots [] = refl
-    unturned_slots (slot ∷ slots) = ap₂ (λ (s : MadeSlot) (all : List MadeSlot). s ∷ all) (unturned slot) (unturned_slots slots)
+-- no page is turned
+unturned_by : (turns : ℕ → Turn) → ((page : ℕ) → turns page ≡ Upright) → (slot : MadeSlot) → turned_slot turns slot ≡ slot
+unturned_by turns none Blank = refl
+unturned_by turns none (Placed page item paper) =
+    ap (λ t. Placed page (turned_item t paper item) (turned_paper t paper)) (none page) ∙ unturned (Placed page item paper)
 
-pub unturned_papers : (papers : List Paper) → map (turned_paper Upright) papers ≡ papers
-unturned_papers [] = refl
-unturned_papers (paper ∷ papers) = ap (λ (ps : List Paper). paper ∷ ps) (unturned_papers papers)
+unturned_slots : (turns : ℕ → Turn) → ((page : ℕ) → turns page ≡ Upright) → (slots : List MadeSlot) → map (turned_slot turns) slots ≡ slots
+unturned_slots turns none [] = refl
+unturned_slots turns none (slot ∷ slots) = ap₂ (λ (s : MadeSlot) (all : List MadeSlot). s ∷ all) (unturned_by turns none slot) (unturned_slots turns none slots)
+
+pub unturned_sheets : (turns : ℕ → Turn) → ((page : ℕ) → turns page ≡ Upright) → (made : List MadeSheet) → map (turned_sheet turns) made ≡ made
+unturned_sheets turns none [] = refl
+unturned_sheets turns none (sheet ∷ made) = ap₂ (λ (s : MadeSheet) (all : List MadeSheet). s ∷ all)
+    (ap (λ (slots : List MadeSlot). record { paper = sheet.paper; slots = slots }) (unturned_slots turns none sheet.slots)) (unturned_sheets turns none made)
+
+-- as if no turns are listed
+pub none_on : (page : ℕ) → turn_on [] page ≡ Upright
+none_on page = refl
+
+pub none_listed : (turns : List PageTurn) → (length turns == 0) ≡ true → (page : ℕ) → turn_on turns page ≡ Upright
+none_listed [] e page = none_on page
+none_listed (turn ∷ turns) e page = let none = eqb-true (length (turn ∷ turns)) 0 e in absurd (omega (arith, none))
 
 -- one more
 pub one_more : {X Y : Type 0} (f : X → Y) (old new : List Y) (i : ℕ) (xs : List X) (x : X) (y : Y) → slice_get xs i ≡ Some x

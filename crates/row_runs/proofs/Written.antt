@@ -20,7 +20,7 @@ use Rattle.row_runs.specs.SwappedMargins.{IsInPoints, swapped_room_in, swapped, 
 use Rattle.row_runs.specs.Runs.{swapped_room_for, page_count}
 use Rattle.row_runs.specs.Sheets.{MayBeLaid, laying_for, leaves_in, row_printed, sewn, sheets_laid}
 use Rattle.row_runs.specs.Standing.{StandAsLaid}
-use Rattle.row_runs.specs.Turning.{turned_sheet}
+use Rattle.row_runs.specs.Turning.{turn_on}
 use Rattle.row_runs.specs.InPlaces.{StandInPlaces}
 use Rattle.row_runs.specs.Written.{StandAsWritten, StandOnSides, WrittenInPlaces, WrittenStand}
 use Rattle.row_runs.proofs.Backs.{filled_in_points, swapped_stands, unswapped, unmoved_sheet}
@@ -117,24 +117,24 @@ sides_stand true (laying.InCells t (scheme.Stack cells)) laid may points h = on_
 sides_stand true (laying.InCells t scheme.Leaves) laid may points h = on_sides t.room laid points h
 
 pub written_stand : WrittenStand
-written_stand j made are upright =
+written_stand j made are none =
     let a = j.asked in
     let papers = j.papers.now in
     let laid = are.laid in
     let row = are.asked.row in
     let points : InPointsAs a.laying laid = evened_in_points a.same_scale a.laying papers (row_printed a row) laid
     (subst (InPointsAs (laying_for a papers row)) (sym are.asked.are_laid) (laid_in_points (laying_for a papers row) (leaves_in (sewn a) row) papers (row_printed a row))) in
-    let same : made ≡ swapped (swapped_room_for j) laid = are.turned ∙ ap (λ t. map (turned_sheet t) (swapped (swapped_room_for j) laid)) upright ∙ unturned_sheets (swapped (swapped_room_for j) laid) in
+    let same : made ≡ swapped (swapped_room_for j) laid = are.turned ∙ unturned_sheets (turn_on j.turns.now) none (swapped (swapped_room_for j) laid) in
     subst (StandAsWritten j.swapped a.laying) (sym same) (sides_stand j.swapped a.laying laid are.may.laid points are.stand)
 
 -- ---- in their places
 
 pub written_in_places : WrittenInPlaces
-written_in_places j made are upright unmoved =
+written_in_places j made are none unmoved =
     let a = j.asked in
     let papers = j.papers.now in
     let laid = are.laid in
     let row = are.asked.row in
-    let same : made ≡ laid = are.turned ∙ ap₂ (λ t m. map (turned_sheet t) (swapped m laid)) upright unmoved ∙ unturned_sheets (swapped None laid) ∙ unswapped 0 laid in
+    let same : made ≡ laid = are.turned ∙ unturned_sheets (turn_on j.turns.now) none (swapped (swapped_room_for j) laid) ∙ ap (λ m. swapped m laid) unmoved ∙ unswapped 0 laid in
     subst (StandInPlaces (laying_for a papers row) papers (row_printed a row)) (sym same)
     (asked_stand_in_places (page_count j) papers a laid are.may are.asked)

@@ -2,7 +2,6 @@
 use Rattle.std.specs.Prelude.{ℕ, ◌+◌, ◌*◌, nat_le, ℤ, pos, Bool, true, ◌&&◌, List, [], ◌∷◌, length, map, Option, Some, None, option_map, Result, Ok, Err}
 use Rattle.rules.specs.Papers.{Paper}
 use Rattle.rules.specs.Run.{most_sheets}
-use Rattle.rules.specs.Specification.{Upright}
 use Rattle.rules.specs.Choice.{RowFault}
 use Rattle.rules.specs.Made.{MadeSheet}
 use Rattle.rules.specs.Rows.{Row}
@@ -13,6 +12,7 @@ use Rattle.dressing.specs.declared.numbers.Numbering.{Numbering}
 use Rattle.sheet_text.specs.declared.numbers.Numbers.{Numbers}
 use Rattle.row_runs.specs.SwappedMargins.{swapped}
 use Rattle.row_runs.specs.Reaching.{are_reached}
+use Rattle.row_runs.specs.Turning.{turn_on}
 use Rattle.row_runs.specs.Sheets.{laying_for, leaves_in, row_chosen, row_printed, sewn, sheets_laid}
 use Rattle.row_runs.specs.declared.sheet_request.SheetRequest.{SheetRequest}
 use Rattle.row_runs.specs.declared.sheet_request.Laying.{Laying}
@@ -66,4 +66,4 @@ numbers_asked pages papers a swap asked = option_map (λ how. record {
 abbrev pub are_numbers_reached : (pages : ℕ) → List Paper → SheetRequest → (swap : Option Room) → Option Numbering → Bool
 are_numbers_reached pages papers a swap None = true
 are_numbers_reached pages papers a swap (Some how) = let places = places_by papers a (row_chosen pages a) in
-    nat_le (length places) most_sheets && are_reached Upright swap places
+    nat_le (length places) most_sheets && are_reached (turn_on []) swap places

@@ -5,8 +5,7 @@ use Rattle.rules.specs.Output.{Border, border_within}
 use Rattle.rules.specs.Made.{MadeSheet}
 use Rattle.rules.specs.MadePlans.{made_plan_of}
 use Rattle.layouts.specs.Placed.{Room}
-use Rattle.pagespec.specs.Items.{turn_of}
-use Rattle.row_runs.specs.Turning.{turned_sheet}
+use Rattle.row_runs.specs.Turning.{turn_on, turned_sheet}
 use Rattle.row_runs.specs.SwappedMargins.{swapped_room_in, swapped}
 use Rattle.row_runs.specs.Reaching.{are_reached, is_changed}
 use Rattle.sheet_plan.specs.MadeRefusals.{RefusesMade}
@@ -33,15 +32,15 @@ swapped_room_for j = swapped_room_in j.swapped j.asked.laying
 
 -- sheets with left and right exchanged on backs, and with their pages turned, as is asked for
 abbrev pub turned_on : RowJob → List MadeSheet → List MadeSheet
-turned_on j laid = map (turned_sheet (turn_of j.turn)) (swapped (swapped_room_for j) laid)
+turned_on j laid = map (turned_sheet (turn_on j.turns.now)) (swapped (swapped_room_for j) laid)
 
 -- each page that is laid so can be written once it is moved and turned
 abbrev pub are_laid_in_reach : RowJob → (laid : List MadeSheet) → Bool
-are_laid_in_reach j laid = are_reached (turn_of j.turn) (swapped_room_for j) laid
+are_laid_in_reach j laid = are_reached (turn_on j.turns.now) (swapped_room_for j) laid
 
 -- pages are turned, or moved on backs: as they are laid, each has its place within reach
 abbrev pub are_changed : RowJob → Bool
-are_changed j = is_changed (turn_of j.turn) (swapped_room_for j)
+are_changed j = is_changed j.turns.now (swapped_room_for j)
 
 -- each number of a page is within reach once it is moved
 abbrev pub have_numbers_in_reach : RowJob → Bool

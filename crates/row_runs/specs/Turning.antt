@@ -1,10 +1,13 @@
 -- Pages that are turned before they are placed: they are laid as pages of the papers that they have then. All here is this
 -- project's own rules.
-use Rattle.std.specs.Prelude.{◌≡◌, ℕ, ◌+◌, ◌*◌, ◌/◌, ℤ, pos, ◌+ℤ◌, ◌-ℤ◌, ◌*ℤ◌, ◌≤ℤ◌, nat_abs, map}
+use Rattle.std.specs.Prelude.{◌≡◌, ℕ, ◌+◌, ◌*◌, ◌/◌, ℤ, pos, ◌+ℤ◌, ◌-ℤ◌, ◌*ℤ◌, ◌≤ℤ◌, nat_abs, List, map, slice_get, unwrap_or}
 use Rattle.rules.specs.Papers.{Paper, Pt}
 use Rattle.rules.specs.Placement.{Point, moved, turned}
 use Rattle.rules.specs.Specification.{Item, Measure, Turn, Upright, Left, Half, Right}
 use Rattle.rules.specs.Made.{MadeSlot, Blank, Placed, MadeSheet}
+use Rattle.pagespec.specs.Items.{turn_of}
+use Rattle.pagespec.specs.declared.item.Turn.{Turn as PageTurn}
+use Rattle.pagespec.specs.declared.item.Turn.TheVariants as by
 use Rattle.layouts.specs.Placed.{fine, stands}
 
 -- a quarter turn more to the left
@@ -56,22 +59,30 @@ turned_item turn paper item =
       y = shifted by.y item.y;
     }
 
--- a page has its own paper again, by which it is clipped
-abbrev pub turned_slot : Turn → MadeSlot → MadeSlot
-turned_slot turn Blank = Blank
-turned_slot turn (Placed page item paper) = Placed page (turned_item turn paper item) (turned_paper turn paper)
+-- the turn of a page of which the turns of the document's pages are listed; one that isn't in the list stays as it is
+abbrev pub turn_on : List PageTurn → (page : ℕ) → Turn
+turn_on turns page = turn_of (unwrap_or (slice_get turns page) by.None)
 
-abbrev pub turned_sheet : Turn → MadeSheet → MadeSheet
-turned_sheet turn sheet = record { paper = sheet.paper; slots = map (turned_slot turn) sheet.slots }
+-- each page has its turn, and its own paper again, by which it is clipped
+abbrev pub turned_slot : (turns : ℕ → Turn) → MadeSlot → MadeSlot
+turned_slot turns Blank = Blank
+turned_slot turns (Placed page item paper) = Placed page (turned_item (turns page) paper item) (turned_paper (turns page) paper)
+
+abbrev pub turned_sheet : (turns : ℕ → Turn) → MadeSheet → MadeSheet
+turned_sheet turns sheet = record { paper = sheet.paper; slots = map (turned_slot turns) sheet.slots }
+
+-- all pages have this turn
+abbrev pub all_by : Turn → (page : ℕ) → Turn
+all_by turn page = turn
 
 -- ---- laws
 
 -- no turn changes nothing; two quarter turns are half a turn, three are one to the right, and four are none
 pub record TurnsOf (slot : MadeSlot) : Type 0 where
-  pub none : turned_slot Upright slot ≡ slot
-  pub two : turned_slot Left (turned_slot Left slot) ≡ turned_slot Half slot
-  pub three : turned_slot Left (turned_slot Half slot) ≡ turned_slot Right slot
-  pub four : turned_slot Left (turned_slot Right slot) ≡ slot
+  pub none : turned_slot (all_by Upright) slot ≡ slot
+  pub two : turned_slot (all_by Left) (turned_slot (all_by Left) slot) ≡ turned_slot (all_by Half) slot
+  pub three : turned_slot (all_by Left) (turned_slot (all_by Half) slot) ≡ turned_slot (all_by Right) slot
+  pub four : turned_slot (all_by Left) (turned_slot (all_by Right) slot) ≡ slot
 
 abbrev pub TurnsAddUp : Type 0
 TurnsAddUp = (slot : MadeSlot) → TurnsOf slot

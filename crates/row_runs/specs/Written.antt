@@ -15,7 +15,6 @@ use Rattle.row_sheets.specs.Creep.{creep_on}
 use Rattle.row_sheets.specs.Filled.{is_turned}
 use Rattle.row_sheets.specs.Halves.{StandCrept, creeping_half, is_before_fold, side_turn}
 use Rattle.row_sheets.specs.Standing.{StandsInRoom, fold_on}
-use Rattle.pagespec.specs.Items.{turn_of}
 use Rattle.row_runs.specs.SwappedMargins.{swapped, room_on}
 use Rattle.rows.specs.Sewing.{signing_of}
 use Rattle.rows.specs.declared.sewing.Signing.{Signing}
@@ -26,7 +25,7 @@ use Rattle.row_runs.specs.Runs.{AreTurned, swapped_room_for}
 use Rattle.row_runs.specs.Sheets.{laying_for, leaves_in, row_printed, sewn}
 use Rattle.row_runs.specs.Standing.{StandAsLaid}
 use Rattle.row_sheets.specs.Zine.{AreReadFolded, past_row, zine_turn}
-use Rattle.row_runs.specs.Turning.{turn_sum, turned_item, turned_paper, turned_slot}
+use Rattle.row_runs.specs.Turning.{turn_sum, turn_on, turned_item, turned_paper, turned_slot, all_by}
 use Rattle.row_runs.specs.declared.sheet_request.Laying.{Laying}
 use Rattle.row_runs.specs.declared.sheet_request.Laying.TheVariants as laying
 use Rattle.row_runs.specs.declared.sheet_request.Scheme.TheVariants as scheme
@@ -40,7 +39,11 @@ NothingIsMoved = (made : List MadeSheet) → swapped None made ≡ made
 
 -- a page that isn't turned stays as it is: a law
 abbrev pub UprightIsUnturned : Type 0
-UprightIsUnturned = (slot : MadeSlot) → turned_slot Upright slot ≡ slot
+UprightIsUnturned = (slot : MadeSlot) → turned_slot (all_by Upright) slot ≡ slot
+
+-- no page of a run is turned
+abbrev pub NoneIsTurned : RowJob → Type 0
+NoneIsTurned j = (page : ℕ) → turn_on j.turns.now page ≡ Upright
 
 -- ---- as they are laid
 
@@ -60,13 +63,13 @@ StandAsWritten false l made = StandAsLaid l made
 
 -- the sheets that are written are inside and apart if no page is turned, as in `impose nup 4 --margin inner=1cm`: a law
 abbrev pub WrittenStand : Type 0
-WrittenStand = (j : RowJob) (made : List MadeSheet) → AreTurned j made → turn_of j.turn ≡ Upright
+WrittenStand = (j : RowJob) (made : List MadeSheet) → AreTurned j made → NoneIsTurned j
     → StandAsWritten j.swapped j.asked.laying made
 
 -- the sheets that are written are in order, stacks and zines can be cut, and posters show their pages, if no page is
 -- turned and no margins are exchanged: a law
 abbrev pub WrittenInPlaces : Type 0
-WrittenInPlaces = (j : RowJob) (made : List MadeSheet) → (are : AreTurned j made) → turn_of j.turn ≡ Upright → swapped_room_for j ≡ None
+WrittenInPlaces = (j : RowJob) (made : List MadeSheet) → (are : AreTurned j made) → NoneIsTurned j → swapped_room_for j ≡ None
     → StandInPlaces (laying_for j.asked j.papers.now are.asked.row) j.papers.now (row_printed j.asked are.asked.row) made
 
 -- ---- in order, also turned
@@ -108,49 +111,49 @@ side_room true room s = room_on room s
 side_room false room s = room
 
 -- the page of slot c of a sheet with this room lies in that cell; it has its own paper
-abbrev pub SlotIsInCell : Turn → Setting → Room → (c : ℕ) → MadeSlot → Type 0
-SlotIsInCell turn t room c Blank = ⊤
-SlotIsInCell turn t room c (Placed page item paper) = IsInCell room paper (cell_at room t.grid (row_of t.order t.grid c) (column_of t.order t.grid c))
-    (kept_length t.room.trim (past_cell t (turned_paper turn paper))) item
+abbrev pub SlotIsInCell : (turns : ℕ → Turn) → Setting → Room → (c : ℕ) → MadeSlot → Type 0
+SlotIsInCell turns t room c Blank = ⊤
+SlotIsInCell turns t room c (Placed page item paper) = IsInCell room paper (cell_at room t.grid (row_of t.order t.grid c) (column_of t.order t.grid c))
+    (kept_length t.room.trim (past_cell t (turned_paper (turns page) paper))) item
 
 -- each page of these sheets lies in its cell
-abbrev pub AreInCells : Turn → (exchanged : Bool) → Setting → List MadeSheet → Type 0
-AreInCells turn exchanged t made = (s c : ℕ) (sheet : MadeSheet) (d : MadeSlot) → s < length made → c < length (slice_index_or made s sheet).slots
-    → SlotIsInCell turn t (side_room exchanged t.room s) c (slice_index_or (slice_index_or made s sheet).slots c d)
+abbrev pub AreInCells : (turns : ℕ → Turn) → (exchanged : Bool) → Setting → List MadeSheet → Type 0
+AreInCells turns exchanged t made = (s c : ℕ) (sheet : MadeSheet) (d : MadeSlot) → s < length made → c < length (slice_index_or made s sheet).slots
+    → SlotIsInCell turns t (side_room exchanged t.room s) c (slice_index_or (slice_index_or made s sheet).slots c d)
 
 -- a page lies in its cell of a zine, where pages of the first row are upside down
-abbrev pub SlotIsInZine : Turn → Setting → (c : ℕ) → MadeSlot → Type 0
-SlotIsInZine turn t c Blank = ⊤
-SlotIsInZine turn t c (Placed page item paper) = (item.turn ≡ turn_sum turn (zine_turn t c))
+abbrev pub SlotIsInZine : (turns : ℕ → Turn) → Setting → (c : ℕ) → MadeSlot → Type 0
+SlotIsInZine turns t c Blank = ⊤
+SlotIsInZine turns t c (Placed page item paper) = (item.turn ≡ turn_sum (turns page) (zine_turn t c))
     × IsInCell t.room paper (cell_at t.room t.grid (row_of t.order t.grid c) (column_of t.order t.grid c)) (past_row c) item
 
-abbrev pub AreInZines : Turn → Setting → List MadeSheet → Type 0
-AreInZines turn t made = All (λ sheet. (c : ℕ) (d : MadeSlot) → c < length sheet.slots → SlotIsInZine turn t c (slice_index_or sheet.slots c d)) made
+abbrev pub AreInZines : (turns : ℕ → Turn) → Setting → List MadeSheet → Type 0
+AreInZines turns t made = All (λ sheet. (c : ℕ) (d : MadeSlot) → c < length sheet.slots → SlotIsInZine turns t c (slice_index_or sheet.slots c d)) made
 
 -- a page lies in its half of a side of a booklet, which creeps with its leaf
-abbrev pub SlotIsInHalf : Turn → Setting → (by_half : Bool) → (k creep : ℕ) → MadeSlot → Type 0
-SlotIsInHalf turn t by_half k creep Blank = ⊤
-SlotIsInHalf turn t by_half k creep (Placed page item paper) = (item.turn ≡ turn_sum turn (side_turn by_half))
+abbrev pub SlotIsInHalf : (turns : ℕ → Turn) → Setting → (by_half : Bool) → (k creep : ℕ) → MadeSlot → Type 0
+SlotIsInHalf turns t by_half k creep Blank = ⊤
+SlotIsInHalf turns t by_half k creep (Placed page item paper) = (item.turn ≡ turn_sum (turns page) (side_turn by_half))
     × IsInCell t.room paper (creeping_half t by_half k creep) (kept_length t.room.trim (kept_length t.room.trim 0)) item
 
-abbrev pub AreInHalves : Turn → Setting → (turned_backs : Bool) → (creep leaves : ℕ) → List MadeSheet → Type 0
-AreInHalves turn t turned_backs creep leaves made = (s k : ℕ) (sheet : MadeSheet) (d : MadeSlot) → s < length made → k < length (slice_index_or made s sheet).slots
-    → SlotIsInHalf turn t (is_turned turned_backs s) k (creep_on creep leaves s) (slice_index_or (slice_index_or made s sheet).slots k d)
+abbrev pub AreInHalves : (turns : ℕ → Turn) → Setting → (turned_backs : Bool) → (creep leaves : ℕ) → List MadeSheet → Type 0
+AreInHalves turns t turned_backs creep leaves made = (s k : ℕ) (sheet : MadeSheet) (d : MadeSlot) → s < length made → k < length (slice_index_or made s sheet).slots
+    → SlotIsInHalf turns t (is_turned turned_backs s) k (creep_on creep leaves s) (slice_index_or (slice_index_or made s sheet).slots k d)
 
 -- on sheets of a laying, in signatures of so many leaves, whose pages are turned and whose backs are moved
-abbrev pub AreInTheirCells : Turn → (exchanged : Bool) → Laying → (leaves : ℕ) → List MadeSheet → Type 0
-AreInTheirCells turn exchanged (laying.InCells t (scheme.Grid cells)) leaves made = AreInCells turn exchanged t made
-AreInTheirCells turn exchanged (laying.InCells t (scheme.Cards cells)) leaves made = AreInCells turn exchanged t made
-AreInTheirCells turn exchanged (laying.InCells t (scheme.Stack cells)) leaves made = AreInCells turn exchanged t made
-AreInTheirCells turn exchanged (laying.InCells t scheme.Leaves) leaves made = AreInCells turn exchanged t made
-AreInTheirCells turn exchanged (laying.InCells t (scheme.Booklet turned_backs creep)) leaves made = AreInHalves turn t turned_backs creep leaves made
-AreInTheirCells turn exchanged (laying.InCells t scheme.Zine) leaves made = AreInZines turn t made
-AreInTheirCells turn exchanged other leaves made = ⊤
+abbrev pub AreInTheirCells : (turns : ℕ → Turn) → (exchanged : Bool) → Laying → (leaves : ℕ) → List MadeSheet → Type 0
+AreInTheirCells turns exchanged (laying.InCells t (scheme.Grid cells)) leaves made = AreInCells turns exchanged t made
+AreInTheirCells turns exchanged (laying.InCells t (scheme.Cards cells)) leaves made = AreInCells turns exchanged t made
+AreInTheirCells turns exchanged (laying.InCells t (scheme.Stack cells)) leaves made = AreInCells turns exchanged t made
+AreInTheirCells turns exchanged (laying.InCells t scheme.Leaves) leaves made = AreInCells turns exchanged t made
+AreInTheirCells turns exchanged (laying.InCells t (scheme.Booklet turned_backs creep)) leaves made = AreInHalves turns t turned_backs creep leaves made
+AreInTheirCells turns exchanged (laying.InCells t scheme.Zine) leaves made = AreInZines turns t made
+AreInTheirCells turns exchanged other leaves made = ⊤
 
 -- the pages of the sheets that are written lie in their cells, as by `impose booklet --turn left`: a law
 abbrev pub WrittenInCells : Type 0
 WrittenInCells = (j : RowJob) (made : List MadeSheet) → (are : AreTurned j made)
-    → AreInTheirCells (turn_of j.turn) j.swapped (laying_for j.asked j.papers.now are.asked.row) (leaves_in (sewn j.asked) are.asked.row) made
+    → AreInTheirCells (turn_on j.turns.now) j.swapped (laying_for j.asked j.papers.now are.asked.row) (leaves_in (sewn j.asked) are.asked.row) made
 
 -- ---- between the margins and apart, also turned
 

@@ -25,4 +25,4 @@ pub use error::{SheetError, plan_error};
 pub use look::{row_plan, row_preview};
 pub use run::RowJob;
 pub use sheet_request::{Laying, Scheme, SheetRequest, make_sheets};
-pub use turning::{turned_paper, turned_papers};
+pub use turning::turned_paper;

@@ -89,8 +89,8 @@ fn planned_sheets(alloc: Global, job: &RowJob<'_, '_>) -> Result<MadeSheets, She
     let count = job.document.pages();
     let sheets = make_sheets(alloc, count, job.papers, &job.asked)?;
     let swap = swapped_room_in(job.swapped, &job.asked.laying);
-    check_reach(job.turn, &swap, &sheets)?;
-    let Ok(sheets) = turned_sheets(alloc, job.turn, &swap, sheets) else {
+    check_reach(job.turns, &swap, &sheets)?;
+    let Ok(sheets) = turned_sheets(alloc, job.turns, &swap, sheets) else {
         return Err(SheetError::NoMemory);
     };
     match check_plan(alloc, count, &sheets) {

@@ -1,8 +1,7 @@
 //! The page numbers that are drawn on sheets.
-ghost use Rattle.std.specs.Prelude.{◌≡◌, ◌≤◌, ◌<◌, ◌⊎◌, ℕ, IfErr, IfOk, Option, Some, false, length, map, slice_get, true};
+ghost use Rattle.std.specs.Prelude.{◌≡◌, ◌≤◌, ◌<◌, ◌⊎◌, ℕ, [], IfErr, IfOk, Option, Some, false, length, map, slice_get, true};
 ghost use Rattle.rules.specs.Choice.{most_entries};
 ghost use Rattle.rules.specs.Run.{most_sheets};
-ghost use Rattle.rules.specs.Specification.{Upright};
 ghost use Rattle.row_runs.specs.Numbers.{are_numbers_reached, below_middle as below_of, place_named, numbers_asked, paper_in as paper_of_entry, places_by};
 ghost use Rattle.row_runs.specs.Numbers.{named_places_from, sheet_paper as sheet_paper_of};
 ghost use Rattle.row_runs.specs.Reaching.{is_changed};
@@ -17,7 +16,6 @@ use crate::swapped_margins::swapped_sheets;
 use dressing::Numbering;
 use layouts::{Room, cell_size, grains};
 use lengths::{Grains, Paper};
-use pagespec::Turn;
 use sheet_plan::MadeSheets;
 use sheet_text::Numbers;
 use std::alloc::{AllocError, Global};
@@ -38,7 +36,7 @@ pub(crate) fn numbers_on(
     requires few { length (places_by papers.now asked.now (row_chosen pages asked.now)) ≤ most_sheets }
     ensures made { IfOk result (λ numbers. numbers ≡ numbers_asked pages papers.now asked.now swap.now how) }
     ensures refused { IfErr result (λ error. (error ≡ SheetError.NoMemory)
-        ⊎ ((error ≡ SheetError.OutOfReach) × (is_changed Upright swap.now ≡ true)
+        ⊎ ((error ≡ SheetError.OutOfReach) × (is_changed [] swap.now ≡ true)
         × (are_numbers_reached pages papers.now asked.now swap.now how ≡ false))) }
 {
     let Some(how) = how else {
@@ -47,7 +45,7 @@ pub(crate) fn numbers_on(
     let Ok(places) = places_of(alloc, pages, papers, asked) else {
         return Err(SheetError::NoMemory);
     };
-    let Ok(()) = check_reach(Turn::None, swap, &places) else {
+    let Ok(()) = check_reach(&[], swap, &places) else {
         return Err(SheetError::OutOfReach);
     };
     let Ok(places) = swapped_sheets(alloc, swap, places) else {

@@ -24,8 +24,8 @@ use std::alloc::Global;
 pub struct RowJob<'j, 'd> {
     /// The document, which has been read.
     pub document: &'j Document<'d>,
-    /// The turn of each page before it is placed.
-    pub turn: Turn,
+    /// The turn of each page before it is placed, in the order of the pages. A page that has no entry isn't turned.
+    pub turns: &'j [Turn],
     /// The paper of each page after it is turned, in the order of the pages. A page that has no entry has the paper of the sheets.
     pub papers: &'j [Paper],
     /// The pages that are chosen, their signatures, and how they are laid on sheets.
@@ -54,13 +54,13 @@ impl<'j, 'd> RowJob<'j, 'd> {
         let count = self.document.pages();
         let sheets = make_sheets(alloc, count, self.papers, &self.asked)?;
         let swap = swapped_room_in(self.swapped, &self.asked.laying);
-        check_reach(self.turn, &swap, &sheets)?;
+        check_reach(self.turns, &swap, &sheets)?;
         let Ok(strokes) = strokes_of(alloc, self.marks, &self.asked.laying) else {
             return Err(SheetError::NoMemory);
         };
         let numbering = self.marks.numbers;
         let numbers = numbers_on(alloc, count, self.papers, &self.asked, &swap, numbering)?;
-        let Ok(sheets) = turned_sheets(alloc, self.turn, &swap, sheets) else {
+        let Ok(sheets) = turned_sheets(alloc, self.turns, &swap, sheets) else {
             return Err(SheetError::NoMemory);
         };
         match dress_of(alloc, &sheets, strokes.as_slice(), numbers) {

@@ -1,15 +1,15 @@
 //! Exchanges left and right margins on backs. Leaves are printed on both sides, so sheets are fronts and backs in turn.
-ghost use Rattle.std.specs.Prelude.{◌≡◌, ◌^◌, ◌≤◌, IfOk, IfSome, is_some, length, nat_abs, true};
+ghost use Rattle.std.specs.Prelude.{◌≡◌, ◌^◌, ◌≤◌, [], IfOk, IfSome, is_some, length, nat_abs, true};
 ghost use Rattle.rules.specs.Run.{most_sheets};
-ghost use Rattle.rules.specs.Specification.{Upright};
 ghost use Rattle.pagespec.specs.Items.{item_of};
 ghost use Rattle.row_runs.specs.SwappedMargins as meaning;
 ghost use Rattle.row_runs.specs.Reaching.{are_reached, is_moved_near};
+ghost use Rattle.row_runs.specs.Turning.{turn_on};
 
 use crate::sheet_request::Laying;
 use crate::turning::{shifted, turned_sheets};
 use layouts::Room;
-use pagespec::{Item, Turn};
+use pagespec::Item;
 use sheet_plan::MadeSheets;
 use std::alloc::{AllocError, Global};
 
@@ -30,10 +30,10 @@ pub(crate) fn swapped_sheets(
     sheets: MadeSheets,
 ) -> Result<MadeSheets, AllocError>
     requires few { length sheets ≤ most_sheets }
-    requires reached { are_reached Upright swap.now sheets ≡ true }
+    requires reached { are_reached (turn_on []) swap.now sheets ≡ true }
     ensures { IfOk result (λ made. made ≡ meaning.swapped swap.now sheets) }
 {
-    turned_sheets(alloc, Turn::None, swap, sheets)
+    turned_sheets(alloc, &[], swap, sheets)
 }
 
 /// The room whose left and right margins are exchanged on this sheet (counted from 0). None on sheets with even numbers, since only sheets with odd

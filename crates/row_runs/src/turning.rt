@@ -28,63 +28,49 @@ pub fn turned_paper(turn: Turn, paper: &Paper) -> Paper
     }
 }
 
-/// The papers of pages after this turn, in the same order. The only error is refused memory.
-pub fn turned_papers(
-    alloc: Global,
-    turn: Turn,
-    papers: Vec<Paper>,
-) -> Result<Vec<Paper>, AllocError>
-    ensures { IfOk result (λ turned. turned.items ≡ map (meaning.turned_paper (turn_of turn)) papers.items) }
+/// The turn of this page. A page that has no entry in `turns` isn't turned.
+fn turn_on(turns: &[Turn], page: u32) -> Turn
+    ensures { turn_of result ≡ meaning.turn_on turns.now page }
 {
-    match turn {
-        Turn::None => Ok(papers),
-        _ => all_papers(alloc, turn, papers.as_slice()),
+    match turns.get(page as usize) {
+        Some(turn) => *turn,
+        None => Turn::None,
     }
 }
 
-fn all_papers(alloc: Global, turn: Turn, papers: &[Paper]) -> Result<Vec<Paper>, AllocError>
-    ensures { IfOk result (λ turned. turned.items ≡ map (meaning.turned_paper (turn_of turn)) papers.now) }
-{
-    let mut turned = Vec::new(alloc);
-    for paper in papers {
-        turned.push(turned_paper(turn, paper))?;
-    }
-    Ok(turned)
-}
-
-/// These sheets, with all pages turned. The sheets must have been laid for pages with the turned papers. If `swap` is given, its left and right
+/// These sheets, with each page turned. The sheets must have been laid for pages with the turned papers. If `swap` is given, its left and right
 /// margins are exchanged on backs, and pages there are shifted before they are turned.
 pub(crate) fn turned_sheets(
     alloc: Global,
-    turn: Turn,
+    turns: &[Turn],
     swap: &Option<Room>,
     sheets: MadeSheets,
 ) -> Result<MadeSheets, AllocError>
     requires few { length sheets ≤ most_sheets }
-    requires reached { reaching.are_reached (turn_of turn) swap.now sheets ≡ true }
-    ensures { IfOk result (λ turned. turned ≡ map (meaning.turned_sheet (turn_of turn)) (swapped swap.now sheets)) }
+    requires reached { reaching.are_reached (meaning.turn_on turns.now) swap.now sheets ≡ true }
+    ensures { IfOk result (λ turned. turned ≡ map (meaning.turned_sheet (meaning.turn_on turns.now)) (swapped swap.now sheets)) }
 {
-    match (turn, swap) {
-        (Turn::None, None) => Ok(sheets),
-        _ => all_sheets(alloc, turn, swap, &sheets),
+    match swap {
+        None if turns.is_empty() => Ok(sheets),
+        _ => all_sheets(alloc, turns, swap, &sheets),
     }
 }
 
 fn all_sheets(
     alloc: Global,
-    turn: Turn,
+    turns: &[Turn],
     swap: &Option<Room>,
     sheets: &MadeSheets,
 ) -> Result<MadeSheets, AllocError>
     requires few { length sheets.now ≤ most_sheets }
-    requires reached { reaching.are_reached (turn_of turn) swap.now sheets.now ≡ true }
-    ensures { IfOk result (λ turned. turned ≡ map (meaning.turned_sheet (turn_of turn)) (swapped swap.now sheets.now)) }
+    requires reached { reaching.are_reached (meaning.turn_on turns.now) swap.now sheets.now ≡ true }
+    ensures { IfOk result (λ turned. turned ≡ map (meaning.turned_sheet (meaning.turn_on turns.now)) (swapped swap.now sheets.now)) }
 {
     let mut turned = MadeSheets::new(alloc);
     let mut slots = Vec::new(alloc);
     for sheet in 0..sheets.len() as u32 {
         let side = swapped_room_on(swap, sheet);
-        turn_slots(&mut slots, turn, &side, sheets, sheet)?;
+        turn_slots(&mut slots, turns, &side, sheets, sheet)?;
         turned.push(sheets.paper(sheet), slots.as_slice())?;
     }
     Ok(turned)
@@ -93,34 +79,34 @@ fn all_sheets(
 /// Replaces the content of `slots` by the slots of this sheet, with pages shifted and turned.
 fn turn_slots(
     slots: &mut Vec<MadeSlot>,
-    turn: Turn,
+    turns: &[Turn],
     swap: &Option<Room>,
     sheets: &MadeSheets,
     sheet: u32,
 ) -> Result<(), AllocError>
     requires sheet { sheet < length sheets.now }
-    requires reached { list_all (reaching.is_slot_reached (turn_of turn) swap.now) (slots_at sheets.now sheet) ≡ true }
+    requires reached { list_all (reaching.is_slot_reached (meaning.turn_on turns.now) swap.now) (slots_at sheets.now sheet) ≡ true }
     ensures { OnOk result (map slot_of slots.new.items
-        ≡ map (λ slot. meaning.turned_slot (turn_of turn) (moved_slot swap.now slot)) (slots_at sheets.now sheet)) }
+        ≡ map (λ slot. meaning.turned_slot (meaning.turn_on turns.now) (moved_slot swap.now slot)) (slots_at sheets.now sheet)) }
 {
     slots.clear();
     for slot in 0..sheets.slots(sheet) {
-        slots.push(turned_slot(turn, swap, sheets.placed(sheet, slot)))?;
+        slots.push(turned_slot(turns, swap, sheets.placed(sheet, slot)))?;
     }
     Ok(())
 }
 
-fn turned_slot(turn: Turn, swap: &Option<Room>, slot: Option<PlacedSlot<'_>>) -> MadeSlot
-    requires { reaching.is_slot_reached (turn_of turn) swap.now (placed_of slot) ≡ true }
-    ensures { slot_of result ≡ meaning.turned_slot (turn_of turn) (moved_slot swap.now (placed_of slot.entry)) }
+fn turned_slot(turns: &[Turn], swap: &Option<Room>, slot: Option<PlacedSlot<'_>>) -> MadeSlot
+    requires { reaching.is_slot_reached (meaning.turn_on turns.now) swap.now (placed_of slot) ≡ true }
+    ensures { slot_of result ≡ meaning.turned_slot (meaning.turn_on turns.now) (moved_slot swap.now (placed_of slot.entry)) }
 {
     match slot {
         None => MadeSlot::Blank,
-        Some(placed) => match changed_item(turn, swap, placed.paper, placed.item) {
+        Some(placed) => match changed_item(turns, swap, placed) {
             Some(item) => MadeSlot::Placed {
                 page: placed.page,
                 item,
-                paper: turned_paper(turn, placed.paper),
+                paper: turned_paper(turn_on(turns, placed.page), placed.paper),
             },
             None => unreachable!(),
         },
@@ -129,18 +115,18 @@ fn turned_slot(turn: Turn, swap: &Option<Room>, slot: Option<PlacedSlot<'_>>) ->
 
 /// The item for a page that is first shifted and then turned. None if an offset would be 100,000 points or more.
 pub(crate) fn changed_item(
-    turn: Turn,
+    turns: &[Turn],
     swap: &Option<Room>,
-    paper: &Paper,
-    item: &Item,
+    placed: PlacedSlot<'_>,
 ) -> Option<Item>
-    ensures value { IfSome result (λ changed.
-        item_of changed ≡ meaning.turned_item (turn_of turn) paper.now (moved_of swap.now (item_of item.now))) }
-    ensures reached { is_some result ≡ reaching.is_item_reached (turn_of turn) swap.now paper.now (item_of item.now) }
-    ensures unchanged { reaching.is_changed (turn_of turn) swap.now ≡ false → is_some result ≡ true }
+    ensures value { IfSome result (λ changed. item_of changed
+        ≡ meaning.turned_item (meaning.turn_on turns.now placed.entry.page) placed.entry.paper.now (moved_of swap.now (item_of placed.entry.item.now))) }
+    ensures reached { is_some result
+        ≡ reaching.is_item_reached (meaning.turn_on turns.now placed.entry.page) swap.now placed.entry.paper.now (item_of placed.entry.item.now) }
+    ensures unchanged { reaching.is_changed turns.now swap.now ≡ false → is_some result ≡ true }
 {
-    let moved = moved_item(swap, item)?;
-    turned_item(turn, paper, &moved)
+    let moved = moved_item(swap, placed.item)?;
+    turned_item(turn_on(turns, placed.page), placed.paper, &moved)
 }
 
 /// The item that places a page with this turn where `item` would place a page of the turned paper. None if an offset would be 100,000 points or more.

@@ -253,18 +253,11 @@ fn refused_text(alloc: Global, option: OptionId, text: &str) -> Result<String, A
 
 /// The words by which the message calls a refused value of this option, and the message's advice on what to give.
 fn value_refusal(option: OptionId) -> (&'static str, &'static str) {
+    if let Some(advice) = length_advice(option) {
+        return ("bad length", advice);
+    }
     match option {
         OptionId::Paper | OptionId::Sheet => ("size", "a side is zero, negative or too long"),
-        OptionId::Border => ("bad length", "give it as 1pt, .5mm or .02in"),
-        OptionId::Margin => (
-            "bad length",
-            "give it as 5mm, SIDES,ENDS, TOP,RIGHT,BOTTOM,LEFT, left=2cm,top=1cm or inner=2cm; units are cm, mm, in and pt",
-        ),
-        OptionId::Gap => (
-            "bad length",
-            "give it as 5mm, or 5mm,1cm; units are cm, mm, in and pt",
-        ),
-        OptionId::Numbers => ("bad length", "give it as 10pt or 4mm, from .1pt to 72pt"),
         OptionId::Signature => (
             "bad signature",
             "give a multiple of four, as 16, up to 1000000, or auto",
@@ -273,7 +266,10 @@ fn value_refusal(option: OptionId) -> (&'static str, &'static str) {
             "unknown order",
             "give right-down, down-right, left-down or down-left",
         ),
-        OptionId::Turn => ("unknown turn", "give left (by 90 degrees), right or half"),
+        OptionId::Turn => (
+            "unknown turn",
+            "give left (by 90 degrees), right, half or wide",
+        ),
         OptionId::Turned => ("unknown side", "give left or right"),
         OptionId::Scale => ("bad scale", "give a number as 0.7"),
         OptionId::NumbersFrom => (
@@ -286,12 +282,22 @@ fn value_refusal(option: OptionId) -> (&'static str, &'static str) {
         ),
         OptionId::BookletMarks => ("unknown marks", "give fold, cut or fold,cut"),
         OptionId::CutMarks => ("unknown marks", "give cut"),
-        OptionId::Trim => (
-            "bad length",
-            "give one length for all edges, such as 5mm, .2in or 14pt",
-        ),
-        OptionId::Creep | OptionId::Overlap => ("bad length", "give it as 5mm, .2in or 14pt"),
         _ => ("bad value", "see impose --help"),
+    }
+}
+
+/// The message's advice on what length to give for this option. None if the option's value isn't a length.
+fn length_advice(option: OptionId) -> Option<&'static str> {
+    match option {
+        OptionId::Border => Some("give it as 1pt, .5mm or .02in"),
+        OptionId::Margin => Some(
+            "give it as 5mm, SIDES,ENDS, TOP,RIGHT,BOTTOM,LEFT, left=2cm,top=1cm or inner=2cm; units are cm, mm, in and pt",
+        ),
+        OptionId::Gap => Some("give it as 5mm, or 5mm,1cm; units are cm, mm, in and pt"),
+        OptionId::Numbers => Some("give it as 10pt or 4mm, from .1pt to 72pt"),
+        OptionId::Trim => Some("give one length for all edges, such as 5mm, .2in or 14pt"),
+        OptionId::Creep | OptionId::Overlap => Some("give it as 5mm, .2in or 14pt"),
+        _ => None,
     }
 }
 

@@ -1,11 +1,11 @@
-use Rattle.std.proofs.Common.{◌≡◌, ◌∙◌, ap}
+use Rattle.std.proofs.Common.{◌≡◌, ◌∙◌, ap, map}
 use Rattle.rules.specs.Parts.{bytes_of}
 use Rattle.std.specs.Prelude.{None}
 use Rattle.rules.specs.Choice.{imposed_row}
 use Rattle.impose_words.specs.Choices.{choice_in}
 use Rattle.impose_cli.specs.Taken.{row_or_none}
-use Rattle.impose_cli.specs.RowTasks.{row_paper}
-use Rattle.impose_cli.proofs.Rows.{are_placed, as_many, counts_taken, is_counted}
+use Rattle.impose_cli.specs.RowTasks.{cells_paper, row_paper}
+use Rattle.impose_cli.proofs.Rows.{are_counted, as_many, counts_taken, is_counted}
 use Rattle.impose_cli.proofs.row_task.papers_in.Goals as goal
 
 pub returns-clause-papers : goal.returns-clause-papers
@@ -15,15 +15,14 @@ returns-clause-papers c =
     let one : c.in_ok-page_paper.page_paper ≡ (row_paper c.args.request.now (bytes_of c.args.document.now) c.args.document.now).0 =
     is_counted c.args.request.now c.args.document.now c.in_ok-row.row.items c.in_ok-own.own.items c.in_ok-taken.taken.items c.paper_of_row-found.result c.in_ok-page_paper.page_paper c.in_ok-own.ensures row taken
     (rw c.text.ensures.text at (rw c.as_slice-3.ensures.value at c.paper_of_row-found.ensures)) (rw c.as_slice-4.ensures.value at c.in_ok-page_paper.ensures) in
-    are_placed c.args.request.now c.args.document.now c.in_ok-row.row.items c.in_ok-own.own.items c.in_ok-taken.taken.items c.in_ok-counted.counted.items
-    c.in_ok-papers.papers.items c.in_ok-page_paper.page_paper c.in_ok-own.ensures
-    row taken one
-    (rw c.as_slice-5.ensures.value at (rw c.as_slice-6.ensures.value at c.in_ok-counted.ensures)) c.in_ok-papers.ensures
+    c.in_ok-turns.ensures.papers ∙ ap (map (cells_paper c.args.request.now))
+    (are_counted c.args.request.now c.args.document.now c.in_ok-row.row.items c.in_ok-own.own.items c.in_ok-taken.taken.items c.in_ok-counted.counted.items
+    c.in_ok-page_paper.page_paper c.in_ok-own.ensures row taken one (rw c.as_slice-5.ensures.value at (rw c.as_slice-6.ensures.value at c.in_ok-counted.ensures)))
 
 pub returns-clause-count : goal.returns-clause-count
 returns-clause-count c =
-    as_many c.args.request.now c.args.document.now c.in_ok-page_paper.page_paper _ c.in_ok-own.own.items c.in_ok-counted.counted.items c.in_ok-papers.papers.items _
-    c.pages-3.ensures.count c.in_ok-own.ensures (rw c.as_slice-6.ensures.value at c.in_ok-counted.ensures) c.in_ok-papers.ensures
+    as_many c.args.request.now c.args.document.now c.in_ok-page_paper.page_paper _ c.in_ok-own.own.items c.in_ok-counted.counted.items c.in_ok-turns.papers.items _
+    c.pages-3.ensures.count c.in_ok-own.ensures (rw c.as_slice-6.ensures.value at c.in_ok-counted.ensures) c.in_ok-turns.ensures.papers
 
 pub returns-clause-taken : goal.returns-clause-taken
 returns-clause-taken c =

@@ -1,7 +1,7 @@
 use Rattle.std.proofs.Common.{inl, inr, refl}
 use Rattle.impose_messages.specs.Faults.{without_memory}
 use Rattle.layouts.proofs.Fitting.{handed_on}
-use Rattle.impose_cli.proofs.Rows.{accepted_has_pages, are_papers, are_parts, has_behind, has_reach, has_taken, is_row_paper}
+use Rattle.impose_cli.proofs.Rows.{accepted_has_pages, are_papers, are_parts, has_behind, has_reach, has_taken, has_turns, is_row_paper}
 use Rattle.impose_cli.proofs.row_task.papers_of.Goals as goal
 
 pub returns-in-Err-clause-refused : goal.returns-in-Err-clause-refused
@@ -9,6 +9,9 @@ returns-in-Err-clause-refused c = inl (c.in-Err.error, c.refused_document.ensure
 
 pub returns-clause-found : goal.returns-clause-found
 returns-clause-found c = are_papers c.args.request.now c.args.input.now _ _ _ c.in-Ok.ensures.answer c.in_ok-found.ensures.papers c.in_ok-found.ensures.cut
+
+pub returns-clause-turns : goal.returns-clause-turns
+returns-clause-turns c = has_turns c.args.request.now c.args.input.now _ _ c.in-Ok.ensures.answer c.in_ok-found.ensures.turns
 
 pub returns-clause-paper : goal.returns-clause-paper
 returns-clause-paper c = is_row_paper c.args.request.now c.args.input.now _ _ c.in-Ok.ensures.answer c.in_ok-found.ensures.paper

@@ -28,6 +28,7 @@ returns-in_err-signing-clause-refused c =
 
 pub returns-clause-is_task : goal.returns-clause-is_task
 returns-clause-is_task c = record {
+  turns = rw c.as_slice.ensures.value at c.in_ok-found.ensures.turns;
   papers = rw c.as_slice.ensures.value at c.in_ok-found.ensures.found;
   reach = rw c.as_slice.ensures.value at c.in_ok-found.ensures.reach;
   page_paper = rw c.as_slice.ensures.value at c.in_ok-found.ensures.paper;

@@ -2,11 +2,10 @@ use Rattle.std.proofs.Common.{◌≡◌, ◌∙◌, ap, map, subst, sym, true}
 use Rattle.layouts.proofs.Fitting.{handed_on}
 use Rattle.row_runs.specs.Runs.{AreTurned, RefusesRun}
 use Rattle.sheet_plan.specs.MadeRefusals.{RefusesMade}
-use Rattle.pagespec.specs.Items.{turn_of}
 use Rattle.row_runs.specs.SwappedMargins.{swapped}
 use Rattle.row_runs.specs.Reaching.{are_reached}
 use Rattle.row_runs.specs.Sheets.{AreAsked}
-use Rattle.row_runs.specs.Turning.{turned_sheet}
+use Rattle.row_runs.specs.Turning.{turn_on, turned_sheet}
 use Rattle.row_runs.proofs.Reach.{reach_refused}
 use Rattle.row_runs.proofs.Refused.{run_refused, sheets_refused}
 use Rattle.row_runs.proofs.look.planned_sheets.Goals as goal
@@ -30,8 +29,8 @@ returns-in-Err-clause-refused c =
       laid = c.in_ok-sheets.sheets;
       asked = subst (λ n. AreAsked n j.papers.now j.asked c.in_ok-sheets.sheets) c.pages-count.ensures.count c.in_ok-sheets.ensures.made;
       stand = c.in_ok-sheets.ensures.stands;
-      reached = subst (λ m. are_reached (turn_of j.turn) m c.in_ok-sheets.sheets ≡ true) c.swapped_room_in-swap.ensures c.in_ok-check_reach.ensures.reached;
-      turned = c.in-Ok.ensures ∙ ap (λ m. map (turned_sheet (turn_of j.turn)) (swapped m c.in_ok-sheets.sheets)) c.swapped_room_in-swap.ensures;
+      reached = subst (λ m. are_reached (turn_on j.turns.now) m c.in_ok-sheets.sheets ≡ true) c.swapped_room_in-swap.ensures c.in_ok-check_reach.ensures.reached;
+      turned = c.in-Ok.ensures ∙ ap (λ m. map (turned_sheet (turn_on j.turns.now)) (swapped m c.in_ok-sheets.sheets)) c.swapped_room_in-swap.ensures;
     } in
     subst (RefusesRun j) (sym c.plan_error.ensures)
     (sheets_refused j c.in-Ok.sheets c.in-Err.error are

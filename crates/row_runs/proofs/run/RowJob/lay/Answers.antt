@@ -1,14 +1,13 @@
 use Rattle.std.proofs.Common.{◌≡◌, ◌∙◌, ap, ap₂, subst, List, map, ℕ, Option, true}
 use Rattle.papers.specs.Told.{telling}
 use Rattle.layouts.specs.Placed.{Room}
-use Rattle.pagespec.specs.Items.{turn_of}
 use Rattle.sheet_text.specs.declared.numbers.Numbers.{Numbers}
 use Rattle.dressing.specs.Numbered.{drawn_on}
 use Rattle.dressing.specs.declared.strokes.Stroke.{Stroke}
 use Rattle.row_runs.specs.SwappedMargins.{swapped}
 use Rattle.row_runs.specs.Numbers.{numbers_asked}
 use Rattle.row_runs.specs.Reaching.{are_reached}
-use Rattle.row_runs.specs.Turning.{turned_sheet}
+use Rattle.row_runs.specs.Turning.{turn_on, turned_sheet}
 use Rattle.layouts.proofs.Fitting.{handed_on}
 use Rattle.row_runs.specs.Runs.{RefusesRun}
 use Rattle.row_runs.proofs.AsMany.{places_few}
@@ -43,9 +42,9 @@ returns-in-Ok-dress_of-clause-turned c = record {
   laid = c.in_ok-sheets.sheets;
   asked = rw c.pages-count.ensures.count at c.in_ok-sheets.ensures.made;
   stand = c.in_ok-sheets.ensures.stands;
-  reached = subst (λ m. are_reached (turn_of c.args.self.now.turn) m c.in_ok-sheets.sheets ≡ true) c.swapped_room_in-swap.ensures c.in_ok-check_reach.ensures.reached;
+  reached = subst (λ m. are_reached (turn_on c.args.self.now.turns.now) m c.in_ok-sheets.sheets ≡ true) c.swapped_room_in-swap.ensures c.in_ok-check_reach.ensures.reached;
   turned = c.in-Ok-turned_sheets.ensures
-      ∙ ap (λ m. map (turned_sheet (turn_of c.args.self.now.turn)) (swapped m c.in_ok-sheets.sheets)) c.swapped_room_in-swap.ensures;
+      ∙ ap (λ m. map (turned_sheet (turn_on c.args.self.now.turns.now)) (swapped m c.in_ok-sheets.sheets)) c.swapped_room_in-swap.ensures;
 }
 
 pub returns-in-Ok-dress_of-clause-dressed : goal.returns-in-Ok-dress_of-clause-dressed
