@@ -3,6 +3,7 @@
 from __future__ import annotations
 
 import os
+import re
 import resource
 import shlex
 import shutil
@@ -16,7 +17,7 @@ from functools import cached_property
 from pathlib import Path
 from typing import IO
 
-from . import making
+from . import images, making
 from .making import Made
 
 ROOT = Path(__file__).resolve().parent.parent.parent
@@ -46,7 +47,7 @@ class Case:
 
     @property
     def words(self) -> list[str]:
-        return [word.replace("\\n", "\n") for word in shlex.split(self.command)[1:]]
+        return [unescaped(word) for word in shlex.split(self.command)[1:]]
 
     def setting(self, name: str) -> list[str] | None:
         return next((line[1:] for line in self.settings if line[0] == name), None)
@@ -83,7 +84,7 @@ class Document:
     @cached_property
     def data(self) -> bytes:
         if self.image:
-            return making.image(self.lines, self.image)
+            return images.image(self.lines, self.image)
         return self.path.read_bytes() if self.path else self.made.data
 
 
@@ -103,6 +104,11 @@ class Run:
     @property
     def out(self) -> Path:
         return self.folder / self.case.words[-1]
+
+
+def unescaped(word: str) -> str:
+    """A word in which \\n is the end of a line, and \\xe4 a byte that isn't UTF-8."""
+    return re.sub(r"\\x(..)", lambda byte: chr(0xDC00 + int(byte[1], 16)), word.replace("\\n", "\n"))
 
 
 def blocks(text: str) -> Iterator[tuple[int, str, list[str]]]:
@@ -146,7 +152,7 @@ def prepared(case: Case, folder: Path) -> None:
         (folder / word).write_bytes(case.documents[word].data)
     for kind, *rest in case.settings:
         if kind == "file":
-            (folder / rest[0]).write_bytes(case.documents[rest[1]].data)
+            (folder / unescaped(rest[0])).write_bytes(case.documents[rest[1]].data)
         elif kind == "text":
             (folder / rest[0]).write_bytes(rest[1].encode().decode("unicode_escape").encode("latin-1"))
         elif kind == "link":
@@ -174,8 +180,11 @@ def runner(case: Case, folder: Path) -> list[str]:
     if case.setting("user") and os.getuid() == 0:
         words = ["setpriv", "--reuid", "65534", "--regid", "65534", "--clear-groups"]
     if room := case.setting("room"):
+        # Without /proc, a new file has a name from the start.
+        nameless = "mount -t tmpfs none /proc; " if "named" in room else ""
         script = (
-            f'mount -t tmpfs -o size={room[0]} none "$0"; cp -a kept.pdf "$0"/; "$@"; s=$?; cp -a "$0"/* .; exit $s'
+            f'mount -t tmpfs -o size={room[0]} none "$0"; mv kept.pdf "$0"/; {nameless}"$@"; s=$?'
+            '; cp -a "$0"/. .; exit $s'
         )
         words = ["unshare", "-rm", "sh", "-c", script, str(folder / "small")]
         (folder / "small").mkdir()

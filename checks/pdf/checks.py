@@ -377,6 +377,19 @@ def _labels(output: Output, _rest: str, below: list[str]) -> Iterator[str]:
     yield from differs("labels", reading.labels(output.pdf), below)
 
 
+@check("actions")
+def _actions(output: Output, _rest: str, below: list[str]) -> Iterator[str]:
+    """What each link does, one action after another, as `URI, GoTo 3`."""
+    yield from differs("actions", reading.actions(output.pdf), below)
+
+
+@check("plain")
+def _plain(output: Output, _rest: str, _below: list[str]) -> Iterator[str]:
+    """OUTFILE isn't encrypted."""
+    if output.pdf.is_encrypted:
+        yield "it is encrypted"
+
+
 @check("has")
 def _has(output: Output, rest: str, _below: list[str]) -> Iterator[str]:
     """`has /KEY/KEY [VALUE]`: an entry of the catalog."""

@@ -8,17 +8,18 @@ from __future__ import annotations
 
 import io
 import shlex
+import zlib
 from collections.abc import Callable
 from dataclasses import dataclass, field
 from typing import Any
 
 import pikepdf
 from pikepdf import Array, Dictionary, Name, Pdf, String
-from PIL import Image
 
 Box = tuple[float, float, float, float]
 Colour = tuple[int, int, int]
 PAGES_OF_A_ROUND = 60
+FLAGS = ("unbalanced", "shared", "blended", "filled", "empty", "in-rows", "from-upper-right")
 
 
 def numbers(text: str) -> list[float]:
@@ -105,9 +106,15 @@ def drawing(shape: Shape, seed: int, page: int, words: str) -> bytes:
 
 
 def in_parts(content: bytes, count: int) -> list[bytes]:
-    """A content in parts, each from the end of a line on."""
-    lines = content.splitlines(keepends=True)
-    return [*lines[: count - 1], b"".join(lines[count - 1 :])]
+    """A content in parts, cut at ends of lines, which no part has."""
+    lines = content.splitlines()
+    return [*lines[: count - 1], b"\n".join(lines[count - 1 :])]
+
+
+def in_rows(content: bytes, width: int) -> bytes:
+    """A content in rows for a /Predictor, filled up with blanks: each byte is told by how far it is above the last."""
+    rows = (content[at : at + width].ljust(width) for at in range(0, len(content), width))
+    return b"".join(bytes([1, *((byte - last) % 256 for last, byte in zip(b"\0" + row, row))]) for row in rows)
 
 
 class Maker:
@@ -118,6 +125,7 @@ class Maker:
         self.font = self.pdf.make_indirect(Dictionary(Type=Name.Font, Subtype=Name.Type1, BaseFont=Name.Helvetica))
         self.is_inherited, self.items, self.closed = False, list[tuple[int, Any]](), list[Any]()
         self.saving: list[list[str]] = []
+        self.repeated: list[int] = []
 
     def line(self, text: str) -> None:
         word, *rest = shlex.split(text)
@@ -127,12 +135,12 @@ class Maker:
     # Pages.
 
     def do_page(self, size: str, *words: str) -> None:
-        """`page WxH` with at, crop, trim, rotate, unit, times, streams, text; unbalanced, shared, blended or filled."""
+        """`page WxH` with at, crop, trim, rotate, unit, times, streams, text; also FLAGS."""
         pairs, flags = {}, set()
         rest = list(words)
         while rest:
             word = rest.pop(0)
-            if word in ("unbalanced", "shared", "blended", "filled"):
+            if word in FLAGS:
                 flags.add(word)
             else:
                 pairs[word] = rest.pop(0)
@@ -153,7 +161,7 @@ class Maker:
         self.shapes.append(shape)
         content = drawing(shape, self.seed, number, pairs.get("text", f"p{number + 1}"))
         resources = Dictionary(Font=Dictionary(F=self.font))
-        page = Dictionary(Type=Name.Page, MediaBox=Array(shape.media), Resources=resources)
+        page = Dictionary(Type=Name.Page, Resources=resources)
         if "blended" in flags:
             # A page is an isolated group: Difference has nothing below to differ from, so the square is (0, 153, 255).
             resources.ExtGState = Dictionary(D=Dictionary(BM=Name.Difference))
@@ -166,8 +174,11 @@ class Maker:
         parts = [content]
         if "streams" in pairs:
             parts = in_parts(content, int(pairs["streams"]))
+        # A box is named by any two corners that lie across from each other (ISO 32000, 7.9.5).
+        order = (2, 3, 0, 1) if "from-upper-right" in flags else (0, 1, 2, 3)
+        page.MediaBox = Array([shape.media[k] for k in order])
         if shape.crop:
-            page.CropBox = Array(shape.crop)
+            page.CropBox = Array([shape.crop[k] for k in order])
         if "trim" in pairs:
             page.TrimBox = Array(numbers(pairs["trim"]))
         if shape.turn:
@@ -177,10 +188,18 @@ class Maker:
         if "shared" in flags:
             page.Contents = self.pdf.pages[-1].obj.Contents
             self.shapes[-1] = shape
-        else:
+        elif "in-rows" in flags:
+            rows = Dictionary(Predictor=12, Columns=20)
+            data = zlib.compress(in_rows(content, 20))
+            page.Contents = self.pdf.make_stream(data, Filter=Name.FlateDecode, DecodeParms=rows)
+        elif "empty" not in flags:
             streams = [self.pdf.make_stream(part) for part in parts]
             page.Contents = Array(streams) if len(streams) > 1 else streams[0]
         self.pdf.pages.append(pikepdf.Page(self.pdf.make_indirect(page)))
+
+    def do_again(self, number: str) -> None:
+        """A page stands in the tree of pages once more, at its end."""
+        self.repeated.append(int(number) - 1)
 
     def do_inherited(self) -> None:
         """Boxes, turn and resources of the first page stand in the node above all pages."""
@@ -201,7 +220,7 @@ class Maker:
         return Array([self.page(number), Name("/" + kind), *parts])
 
     def do_link(self, number: str, box: str, *target: str) -> None:
-        """`link PAGE L,B,R,T to PAGE KIND [VALUES]`, `goto ..`, `name NAME`, `old-name NAME` or `uri ADDRESS`."""
+        """`link PAGE L,B,R,T to PAGE KIND [VALUES]`, `goto ..`, `name NAME`, `old-name NAME`, `uri ADDRESS [PAGE ..]`."""
         left, bottom, right, top = numbers(box)
         link = Dictionary(Type=Name.Annot, Subtype=Name.Link, Rect=Array(numbers(box)), Border=Array([0, 0, 0]))
         link.QuadPoints = Array([left, top, right, top, left, bottom, right, bottom])
@@ -215,10 +234,19 @@ class Maker:
         elif how == "name":
             link.Dest = String(rest[0])
         elif how == "old-name":
-            link.Dest = Name("/" + rest[0])
+            link.Dest = self.named(rest[0])
         else:
-            link.A = Dictionary(S=Name.URI, URI=String(rest[0]))
+            link.A = self.pdf.make_indirect(Dictionary(S=Name.URI, URI=String(rest[0])))
+            if rest[1:] == ["again"]:
+                link.A.Next = Array([link.A, link.A])
+            elif rest[1:]:
+                link.A.Next = Dictionary(S=Name.GoTo, D=self.target(*rest[1:]))
         self.annotate(number, link)
+
+    @staticmethod
+    def named(name: str) -> Any:
+        """A name in Latin-1."""
+        return pikepdf.Object.parse(b"/" + b"".join(b"#%02x" % byte for byte in name.encode("latin-1")))
 
     def do_name(self, name: str, *target: str) -> None:
         """`name NAME PAGE KIND [VALUES]`: a destination in the tree of names."""
@@ -230,10 +258,18 @@ class Maker:
         names.Dests = tree
         self.pdf.Root.Names = names
 
+    def do_names_in_levels(self) -> None:
+        """The tree of the names above has a node for each, two levels below its root."""
+        names, add = list(self.pdf.Root.Names.Dests.Names), self.pdf.make_indirect
+        pairs = [names[at : at + 2] for at in range(0, len(names), 2)]
+        leaves = [add(Dictionary(Names=Array(pair), Limits=Array([pair[0], pair[0]]))) for pair in pairs]
+        middle = add(Dictionary(Kids=Array(leaves), Limits=Array([names[0], names[-2]])))
+        self.pdf.Root.Names.Dests = add(Dictionary(Kids=Array([middle])))
+
     def do_old_name(self, name: str, *target: str) -> None:
         """The same in the catalog's dictionary of destinations."""
         known = self.pdf.Root.get("/Dests", Dictionary())
-        known["/" + name] = self.target(*target)
+        known[self.named(name)] = self.target(*target)
         self.pdf.Root.Dests = known
 
     def do_outline(self, level: str, title: str, *target: str) -> None:
@@ -263,6 +299,25 @@ class Maker:
         look = self.look(f"1 .4 0 rg 0 0 {right - left} {top - bottom} re f", right - left, top - bottom)
         made = self.annotate(number, Dictionary(Type=Name.Annot, Subtype=Name.Stamp, Rect=Array(numbers(box))))
         made.F, made.Contents, made.AP = int(flags), String(text), Dictionary(N=look)
+
+    def do_turned_note(self, number: str, box: str) -> None:
+        """A note whose look is drawn on its side, and turned upright by its matrix."""
+        self.do_note(number, box, "turned")
+        left, bottom, right, top = numbers(box)
+        width, height = right - left, top - bottom
+        look = self.look(f"1 .4 0 rg 0 0 {height} {width} re f", height, width)
+        look.Matrix = Array([0, 1, -1, 0, width, 0])
+        self.page(number).Annots[-1].AP = Dictionary(N=look)
+
+    def do_box(self, number: str, box: str, state: str) -> None:
+        """A box that is ticked, or in any other state: (0, 153, 0) in that one, (255, 0, 0) in two others."""
+        self.do_note(number, box, "box")
+        left, bottom, right, top = numbers(box)
+        looks, size = Dictionary(), (right - left, top - bottom)
+        for name, colour in (("A", "1 0 0"), (state, "0 .6 0"), ("z", "1 0 0")):
+            looks[self.named(name)] = self.look(f"{colour} rg 0 0 {size[0]} {size[1]} re f", *size)
+        made = self.page(number).Annots[-1]
+        made.AP, made.AS, made.Subtype, made.FT = Dictionary(N=looks), self.named(state), Name.Widget, Name.Btn
 
     def do_field(self, number: str, box: str, name: str, value: str) -> None:
         """A field of a form, with its value as its look."""
@@ -298,16 +353,10 @@ class Maker:
 
     def do_layer(self, number: str, name: str, state: str = "on") -> None:
         """A layer, on or off, with a word in it: its name."""
-        group = self.pdf.make_indirect(Dictionary(Type=Name.OCG, Name=String(name)))
-        known = self.pdf.Root.get("/OCProperties", Dictionary(OCGs=Array(), D=Dictionary(Order=Array(), OFF=Array())))
-        known.OCGs.append(group)
-        known.D.Order.append(group)
-        if state == "off":
-            known.D.OFF.append(group)
-        self.pdf.Root.OCProperties = known
+        group = self.layer(name, state)
         page = self.page(number)
         properties = page.Resources.get("/Properties", Dictionary())
-        key = f"/L{len(known.OCGs)}"
+        key = f"/L{len(self.pdf.Root.OCProperties.OCGs)}"
         properties[key] = group
         page.Resources.Properties = properties
         content = (
@@ -315,6 +364,32 @@ class Maker:
             + f"/OC {key} BDC 0 0 1 rg 300 300 50 50 re f BT /F 20 Tf 300 400 Td ({name}) Tj ET EMC\n".encode()
         )
         page.Contents.write(content)
+
+    def do_note_of_layer(self, number: str, box: str, name: str, state: str) -> None:
+        """A note in a layer. Such notes share one look."""
+        self.do_note(number, box, name)
+        *before, made = self.page(number).Annots
+        made.OC = self.layer(name, state)
+        made.AP = (before or [made])[0].AP
+
+    def do_shown_if_listed(self) -> None:
+        """Of the layers above, those that are on are listed, and any other is off."""
+        layers = self.pdf.Root.OCProperties
+        hidden = [group.objgen for group in layers.D.OFF]
+        layers.D.ON = Array([group for group in layers.OCGs if group.objgen not in hidden])
+        layers.D.BaseState = Name.OFF
+        del layers.D.OFF
+
+    def layer(self, name: str, state: str) -> Any:
+        """A new layer."""
+        group = self.pdf.make_indirect(Dictionary(Type=Name.OCG, Name=String(name)))
+        known = self.pdf.Root.get("/OCProperties", Dictionary(OCGs=Array(), D=Dictionary(Order=Array(), OFF=Array())))
+        known.OCGs.append(group)
+        known.D.Order.append(group)
+        if state == "off":
+            known.D.OFF.append(group)
+        self.pdf.Root.OCProperties = known
+        return group
 
     def do_attachment(self, name: str, text: str) -> None:
         self.pdf.attachments[name] = pikepdf.AttachedFileSpec(self.pdf, text.encode(), filename=name)
@@ -383,6 +458,10 @@ class Maker:
         self.outlines()
         if self.is_inherited:
             self.inherit()
+        for number in self.repeated:
+            self.shapes.append(self.shapes[number])
+            self.pdf.Root.Pages.Kids.append(self.pdf.Root.Pages.Kids[number])
+            self.pdf.Root.Pages.Count += 1
         return Made(self.saved(), self.seed, self.shapes)
 
     def saved(self) -> bytes:
@@ -414,22 +493,3 @@ def made(lines: list[str], seed: int) -> Made:
     for line in lines:
         maker.line(line)
     return maker.made()
-
-
-def image(lines: list[str], name: str) -> bytes:
-    """A JPEG or PNG, by its name, as size, dpi, turned (of a photograph), colour, alpha and mode (of Pillow) say."""
-    values = dict(line.split() for line in lines)
-    width, height = (int(side) for side in values["size"].split("x"))
-    red, green, blue = (int(part) for part in values["colour"].split(","))
-    picture, out, how = Image.new("RGB", (width, height), (red, green, blue)), io.BytesIO(), dict[str, Any]()
-    if "dpi" in values:
-        how["dpi"] = (int(values["dpi"]), int(values["dpi"]))
-    if "turned" in values:
-        exif = Image.Exif()
-        exif[0x112] = int(values["turned"])
-        how["exif"] = exif
-    if "alpha" in values:
-        picture.putalpha(int(values["alpha"]))
-    picture = picture.convert(values.get("mode", picture.mode))
-    picture.save(out, "PNG" if name.endswith(".png") else "JPEG", **how)
-    return out.getvalue()

@@ -41,8 +41,7 @@ class Names:
         self.numbers = {page.obj.objgen: at for at, page in enumerate(pdf.pages)}
         self.known: dict[bytes, Any] = {}
         self.in_tree: list[bytes] = []
-        for name, place in pdf.Root.get("/Dests", Dictionary()).items():
-            self.known[name[1:].encode()] = place
+        self.old = pdf.Root.get("/Dests", Dictionary())
         self.read(pdf.Root.get("/Names", Dictionary()).get("/Dests", Dictionary()), 0)
 
     def read(self, node: Any, depth: int) -> None:
@@ -62,7 +61,7 @@ class Names:
         if isinstance(place, String):
             place = self.known.get(bytes(place))
         elif isinstance(place, Name):
-            place = self.known.get(str(place)[1:].encode())
+            place = self.old.get(place)
         if isinstance(place, Dictionary):
             place = place.get("/D")
         if not isinstance(place, Array) or not len(place):
@@ -115,6 +114,21 @@ def outlines(pdf: Pdf) -> list[tuple[int, str, Goal | str | None]]:
             item = item.get("/Next")
 
     return list(below(pdf.Root.get("/Outlines", Dictionary()), 1))
+
+
+def actions(pdf: Pdf) -> list[str]:
+    """The actions of each link, in the order in which they are done; of one that leads to a page also its number."""
+    names = Names(pdf)
+
+    def done(action: Any) -> Iterator[str]:
+        goal = names.goal(action.get("/D"))
+        yield str(action.S)[1:] + (f" {goal.page + 1}" if goal else "")
+        following: Any = action.get("/Next", Array())
+        for each in list(following) if isinstance(following, Array) else [following]:
+            yield from done(each)
+
+    found = (one.get("/A") for page in pdf.pages for one in page.obj.get("/Annots", []))
+    return [", ".join(done(action)) for action in found if action is not None]
 
 
 def opening(pdf: Pdf) -> Goal | str | None:

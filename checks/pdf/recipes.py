@@ -10,7 +10,7 @@ import subprocess
 import tempfile
 from pathlib import Path
 
-from . import checks, making, reading
+from . import checks, images, reading
 from .cases import ROOT, Case, Document, Programs, ran, tidied
 
 # What the documents of the recipes are.
@@ -83,7 +83,7 @@ def typed(case: Case, programs: Programs, folder: Path) -> list[str]:
             (folder / name).write_bytes(document.data)
     if "*.jpg" in case.command:
         for name in ("a.jpg", "b.jpg"):
-            (folder / name).write_bytes(making.image(["size 192x96", "colour 255,0,0"], name))
+            (folder / name).write_bytes(images.image(["size 192x96", "colour 255,0,0"], name))
     tools = folder / "bin"
     tools.mkdir()
     (tools / "impose-pdf").symlink_to(programs.impose_pdf)
