@@ -9,7 +9,7 @@ from impose_pdf.pages import UPRIGHT, Shape, array, numerals
 from impose_pdf.plan import Matrix
 from impose_pdf.words import refusal
 
-Note = tuple[Any, Matrix]  # a form, and its place on the page
+Note = tuple[Any, Matrix, Any]  # a form, its place on the page, and the layer that it is in, or None
 
 
 def streams_of(page: Any) -> list[Any]:
@@ -37,7 +37,8 @@ class Forms:
         streams, group = streams_of(page), page.get("/Group")
         resources = resources if isinstance(resources, Dictionary) else Dictionary()
         group = isolated(group) if isinstance(group, Dictionary) else None
-        parts = *(stream.objgen for stream in streams), *((form.objgen, matrix) for form, matrix in notes)
+        over = ((form.objgen, matrix, layer and layer.unparse()) for form, matrix, layer in notes)
+        parts = *(stream.objgen for stream in streams), *over
         key = (*parts, resources.unparse(), group and group.unparse(), shape.box, shape.matrix)
         if key not in self.made:
             form = self.form(self.contents(streams, number), resources, shape)
@@ -74,7 +75,13 @@ class Forms:
 
     def noted(self, page: Any, notes: list[Note], shape: Shape) -> Any:
         """A form of a page with notes over it."""
-        forms = {"/Page": page, **{f"/Note{k}": form for k, (form, _) in enumerate(notes)}}
-        drawn = "".join(f"q {numerals(*matrix)} cm /Note{k} Do Q\n" for k, (_, matrix) in enumerate(notes))
-        content = self.pdf.make_stream(f"/Page Do\n{drawn}".encode())
-        return self.form(content, Dictionary(XObject=Dictionary(forms)), shape)
+        forms, layers, drawn = {"/Page": page}, dict[str, Any](), "/Page Do\n"
+        for k, (form, matrix, layer) in enumerate(notes):
+            forms[f"/Note{k}"] = form
+            one = f"q {numerals(*matrix)} cm /Note{k} Do Q\n"
+            if layer is not None:
+                layers[f"/Layer{k}"] = layer
+                one = f"/OC /Layer{k} BDC {one}EMC\n"
+            drawn += one
+        resources = Dictionary(XObject=Dictionary(forms), Properties=Dictionary(layers))
+        return self.form(self.pdf.make_stream(drawn.encode()), resources, shape)

@@ -20,23 +20,23 @@ def split(page: Any) -> tuple[list[Any], list[Any]]:
 
 
 def drawn(notes: list[Any]) -> list[Note]:
-    """What is printed of annotations: the form of each, and the matrix that puts it into its rectangle."""
+    """What is printed of annotations: the form of each, the matrix that puts it into its rectangle, and its layer."""
     made = []
     for note in notes:
         form, rectangle = appearance(note), box_of(note.get("/Rect"))
         box = box_of(form.get("/BBox")) if form is not None else None
         if form is None or rectangle is None or box is None:
             continue
-        matrix = numbers(form.get("/Matrix"))
-        a, b, c, d, e, f = matrix if len(matrix) == 6 else UPRIGHT
+        own = numbers(form.get("/Matrix"))
+        a, b, c, d, e, f = own if len(own) == 6 else UPRIGHT
         left, bottom, right, top = bounds(box, (a, b, c, d, e, f))
         if left == right or bottom == top:
             continue
         across, up = (rectangle[2] - rectangle[0]) / (right - left), (rectangle[3] - rectangle[1]) / (top - bottom)
         form.Type, form.Subtype = Name.XObject, Name.Form
-        if "/OC" in note and "/OC" not in form:
-            form.OC = note.OC
-        made.append((form, (across, 0.0, 0.0, up, rectangle[0] - across * left, rectangle[1] - up * bottom)))
+        matrix = across, 0.0, 0.0, up, rectangle[0] - across * left, rectangle[1] - up * bottom
+        layer = note.get("/OC")
+        made.append((form, matrix, layer if isinstance(layer, Dictionary) else None))
     return made
 
 
