@@ -8,7 +8,7 @@ from typing import Any
 
 from pikepdf import Array, Dictionary, Name, Object, Pdf, String
 
-from impose_pdf.pages import Box, Shape, array, bounds, moved, name_of, numbers, numerals
+from impose_pdf.pages import Box, Shape, array, bounds, keys_of, moved, name_of, numbers, numerals
 from impose_pdf.plan import Matrix
 from impose_pdf.trees import free, named
 
@@ -48,7 +48,7 @@ class Ways:
         self.first: dict[int, tuple[Any, Matrix]] = {}  # the first sheet of a page, and the matrix to it
         self.renamed: dict[bytes, bytes] = {}  # names that lead to a sheet, and what they are called there
         self.dests: dict[bytes, Any] = {}  # where they lead, by their new names
-        self.old_style: dict[str, Any] = {}  # the same for names that are no strings
+        self.old_style: Any = Dictionary()  # names that are no strings, and where they led
         self.changed: set[tuple[int, int]] = set()  # links that are used themselves, at their first place
 
     def brought(self, thing: Any) -> Any:
@@ -68,7 +68,7 @@ class Ways:
         if isinstance(dest, String):
             new = self.renamed.get(bytes(dest))
             return None if new is None else String(new)
-        return self.old_style.get(name_of(dest))
+        return self.lead_value(self.old_style.get(dest)) if isinstance(dest, Name) else None
 
     def led(self, page: int, words: list[bytes]) -> Any:
         """The destination on the first sheet of a page, by the words after the page in an old one."""
@@ -97,8 +97,12 @@ class Ways:
                     self.renamed[bytes(name)] = chosen = free(bytes(name), taken)
                     self.dests[chosen] = new
         if isinstance(dests := root.get("/Dests"), Dictionary):
-            led = {key: self.lead_value(dest) for key, dest in dests.items()}
-            self.old_style = {key: new for key, new in led.items() if new is not None}
+            self.old_style = dests
+
+    def led_names(self) -> Any:
+        """Where names that are no strings lead."""
+        led = ((key, self.lead_value(self.old_style[key])) for key in keys_of(self.old_style))
+        return Dictionary({key: new for key, new in led if new is not None})
 
     def lead_value(self, dest: Any) -> Any:
         """Where the value of a name leads: a destination, or a dictionary that has one."""

@@ -52,7 +52,7 @@ class Making:
                 "/ViewerPreferences": preferences(self.pdf.Root.get("/ViewerPreferences"), flip),
                 "/Outlines": self.outlines(),
                 "/Names": self.names(),
-                "/Dests": Dictionary(self.sources[0].ways.old_style) if self.sources[0].ways.old_style else None,
+                "/Dests": self.sources[0].ways.led_names() or None,
                 "/OpenAction": self.opening(),
             }
         )

@@ -48,5 +48,6 @@ def appearance(note: Any) -> Any:
     flags = int(number_of(note.get("/F"), 0))
     normal = looks.get("/N")
     if isinstance(normal, Dictionary):
-        normal = normal.get(name_of(note.get("/AS")) or "/Off")
+        state = note.get("/AS")
+        normal = normal.get(state if isinstance(state, Name) else Name.Off)
     return normal if isinstance(normal, Stream) and flags & PRINTED and not flags & HIDDEN else None

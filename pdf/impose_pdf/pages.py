@@ -70,8 +70,11 @@ def box_of(values: Any) -> Box | None:
 
 
 def name_of(value: Any) -> str:
-    """A name of a dictionary's, or nothing for what isn't one."""
-    return str(value) if isinstance(value, Name) else ""
+    """A name of a dictionary's, or nothing for what isn't one, or isn't in UTF-8, as all of PDF's own are."""
+    try:
+        return str(value) if isinstance(value, Name) else ""
+    except UnicodeDecodeError:
+        return ""
 
 
 def number_of(value: Any, default: float) -> float:
@@ -80,6 +83,18 @@ def number_of(value: Any, default: float) -> float:
         return float(value)
     except (TypeError, ValueError):
         return default
+
+
+def keys_of(values: Any) -> Iterator[str]:
+    """The keys of a dictionary, without those that aren't in UTF-8, which pikepdf can't tell."""
+    keys = iter(values.as_dict())
+    while True:
+        try:
+            yield next(keys)
+        except UnicodeDecodeError:
+            continue
+        except StopIteration:
+            return
 
 
 def leaves(root: Any) -> Iterator[tuple[Any, dict[str, Any]]]:
