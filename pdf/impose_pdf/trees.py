@@ -3,7 +3,7 @@
 from collections.abc import Iterator
 from typing import Any
 
-from pikepdf import Array, Dictionary, String
+from pikepdf import Array, Dictionary, Name, String
 
 OF_LAYERS = ("/ON", "/OFF", "/Order", "/RBGroups", "/Locked", "/AS")
 
@@ -45,13 +45,28 @@ def add_layers(root: Any, other: Any) -> None:
         root.OCProperties = other
         return
     extend(layers, "/OCGs", other)
-    if isinstance(state := other.get("/D"), Dictionary):
-        for key in OF_LAYERS:
-            extend(layers.D, key, state)
+    state = other.get("/D") if isinstance(other.get("/D"), Dictionary) else Dictionary()
+    state.ON, state.OFF = states(other, state)
+    for key in OF_LAYERS:
+        extend(layers.D, key, state)
+
+
+def states(layers: Any, state: Any) -> tuple[Any, Any]:
+    """The layers that are on at first, and those that are off. Those that aren't listed have the /BaseState."""
+    is_off = state.get("/BaseState") == Name.OFF
+    listed = {group.objgen for group in arrayed(state, "/ON" if is_off else "/OFF") if isinstance(group, Dictionary)}
+    groups = [group for group in arrayed(layers, "/OCGs") if isinstance(group, Dictionary)]
+    one, other = ([group for group in groups if (group.objgen in listed) == is_listed] for is_listed in (True, False))
+    return (Array(one), Array(other)) if is_off else (Array(other), Array(one))
 
 
 def extend(into: Any, key: str, other: Any) -> None:
     """Appends the array that one dictionary has to that of another."""
-    mine, more = into.get(key), other.get(key)
-    if isinstance(more, Array):
-        into[key] = Array((list(mine) if isinstance(mine, Array) else []) + list(more))
+    if more := arrayed(other, key):
+        into[key] = Array(arrayed(into, key) + more)
+
+
+def arrayed(holder: Any, key: str) -> list[Any]:
+    """The array that a dictionary has, or nothing."""
+    found = holder.get(key)
+    return list(found) if isinstance(found, Array) else []
