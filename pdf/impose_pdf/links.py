@@ -109,9 +109,13 @@ class Ways:
         dest = dest.get("/D") if isinstance(dest, Dictionary) else dest
         return self.lead(dest) if isinstance(dest, Array) else None
 
-    def lead_action(self, action: Any, depth: int = 0) -> Any:
-        """An action that leads to sheets or out of the PDF, or None for one that isn't kept."""
-        kind = name_of(action.get("/S")) if isinstance(action, Dictionary) and depth < DEEPEST else ""
+    def lead_action(self, action: Any, depth: int = 0, done: set[tuple[int, int]] | None = None) -> Any:
+        """An action that leads to sheets or out of the PDF, or None for one that isn't kept, or was done before."""
+        done = set() if done is None else done
+        is_new = isinstance(action, Dictionary) and depth < DEEPEST and action.objgen not in done
+        kind = name_of(action.get("/S")) if is_new else ""
+        if is_new and action.is_indirect:
+            done.add(action.objgen)
         if kind == "/GoTo":
             dest = self.lead(action.get("/D"))
             if dest is None:
@@ -127,7 +131,7 @@ class Ways:
         if "/Next" in action:
             following = action.get("/Next")
             all_following = list(following) if isinstance(following, Array) else [following]
-            led = [self.lead_action(each, depth + 1) for each in all_following]
+            led = [self.lead_action(each, depth + 1, done) for each in all_following]
             if kept := [each for each in led if each is not None]:
                 made.Next = Array(kept)
         return made
