@@ -20,11 +20,11 @@ LEAST, MOST = 1, 100_000  # points: the sides of pages that impose knows
 
 
 def content(name: str) -> bytes | None:
-    """What an INFILE holds that is no plain file; None for a plain one."""
+    """What an INFILE holds that is no plain file, or that pikepdf can't open by its name; None for any other."""
     if name == "-":
         with open(0, "rb", closefd=False) as stream:
             return stream.read()
-    if os.path.isfile(name):
+    if os.path.isfile(name) and name.isprintable():  # as names outside UTF-8 aren't
         return None
     with open(name, "rb") as stream:
         return stream.read()

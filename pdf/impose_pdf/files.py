@@ -74,13 +74,13 @@ def is_foreign(name: str) -> bool:
     """Whether a file is a document or an image that this program didn't write."""
     with open(name, "rb") as stream:
         head = stream.read(1024)
-    if b"%PDF-" not in head:
-        return head.startswith((images.JPEG, images.PNG, b"%!"))
-    try:
-        with Pdf.open(name) as pdf:
-            return str(pdf.docinfo.get("/Producer")) != PRODUCER
-    except PdfError:
-        return True
+        if b"%PDF-" not in head:
+            return head.startswith((images.JPEG, images.PNG, b"%!"))
+        try:
+            with Pdf.open(stream) as pdf:
+                return str(pdf.docinfo.get("/Producer")) != PRODUCER
+        except PdfError:
+            return True
 
 
 class Outfile:
