@@ -319,8 +319,8 @@ class Maker:
         made = self.page(number).Annots[-1]
         made.AP, made.AS, made.Subtype, made.FT = Dictionary(N=looks), self.named(state), Name.Widget, Name.Btn
 
-    def do_field(self, number: str, box: str, name: str, value: str) -> None:
-        """A field of a form, with its value as its look."""
+    def do_field(self, number: str, box: str, name: str, value: str, how: str = "") -> None:
+        """A field of a form, with its value as its look, or `without-look`, which readers make by the value."""
         left, bottom, right, top = numbers(box)
         look = self.look(f"/Tx BMC q BT /F 12 Tf 2 4 Td ({value}) Tj ET Q EMC", right - left, top - bottom)
         look.Resources = Dictionary(Font=Dictionary(F=self.font))
@@ -343,6 +343,9 @@ class Maker:
             Dictionary(Fields=Array(), DR=Dictionary(Font=Dictionary(F=self.font)), DA=String("/F 12 Tf 0 g")),
         )
         form.Fields.append(made)
+        if how == "without-look":
+            del made.AP
+            form.NeedAppearances = True
         self.pdf.Root.AcroForm = form
 
     def look(self, content: str, width: float, height: float) -> Any:
