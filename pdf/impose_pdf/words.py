@@ -112,6 +112,8 @@ def read(words: list[str]) -> Request:
                 request.words.append(following)
                 value = following
             request.options[name] = value
+            if word.startswith("-q"):
+                request.options["--quiet"] = ""  # also in -qp a4
     if request.command in WITH_WORD and operands:
         # Behind the options, since it may begin with a dash.
         request.words += ["--", operands.pop(0)] if operands[0].startswith("-") else [operands.pop(0)]
