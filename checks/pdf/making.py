@@ -243,8 +243,7 @@ class Maker:
                 link.A.Next = Dictionary(S=Name.GoTo, D=self.target(*rest[1:]))
         self.annotate(number, link)
 
-    @staticmethod
-    def named(name: str) -> Any:
+    def named(self, name: str) -> Any:
         """A name in Latin-1."""
         return pikepdf.Object.parse(b"/" + b"".join(b"#%02x" % byte for byte in name.encode("latin-1")))
 
@@ -320,10 +319,12 @@ class Maker:
         made.AP, made.AS, made.Subtype, made.FT = Dictionary(N=looks), self.named(state), Name.Widget, Name.Btn
 
     def do_field(self, number: str, box: str, name: str, value: str, how: str = "") -> None:
-        """A field of a form, with its value as its look, or `without-look`, which readers make by the value."""
+        """A field with its value as its look; `without-look`, which readers make; or in a font of the page's own."""
         left, bottom, right, top = numbers(box)
         look = self.look(f"/Tx BMC q BT /F 12 Tf 2 4 Td ({value}) Tj ET Q EMC", right - left, top - bottom)
         look.Resources = Dictionary(Font=Dictionary(F=self.font))
+        if how == "page-font":
+            del look.Resources
         made = self.annotate(
             number,
             Dictionary(

@@ -78,6 +78,8 @@ class Forms:
         forms, layers, drawn = {"/Page": page}, dict[str, Any](), "/Page Do\n"
         for k, (form, matrix, layer) in enumerate(notes):
             forms[f"/Note{k}"] = form
+            if "/Resources" not in form:  # those of its page hold (ISO 32000, 8.10.1)
+                form.Resources = page.Resources
             one = f"q {numerals(*matrix)} cm /Note{k} Do Q\n"
             if layer is not None:
                 layers[f"/Layer{k}"] = layer
