@@ -79,7 +79,7 @@ def is_foreign(name: str) -> bool:
         try:
             with Pdf.open(stream) as pdf:
                 return str(pdf.docinfo.get("/Producer")) != PRODUCER
-        except PdfError:
+        except (PdfError, AttributeError):  # /Info may be anything
             return True
 
 

@@ -128,6 +128,8 @@ class Making:
         for page, _ in self.sources[0].pages:  # whatever else refers to one keeps nothing of it in the file
             for key in page.keys():
                 del page[key]
+        if not isinstance(self.pdf.trailer.get("/Info", Dictionary()), Dictionary):
+            del self.pdf.trailer.Info
         self.pdf.docinfo.Producer = String(PRODUCER)
         self.pdf.trailer.Size = 0  # without one, qpdf writes none
         for key in self.pdf.trailer.keys() - KEPT_OF_TRAILER:
