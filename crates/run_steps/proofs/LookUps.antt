@@ -1,7 +1,6 @@
 -- The look-ups of a sheet's pages, one by one.
-use Rattle.std.proofs.Common.{◌≡◌, ℕ, zero, suc, ◌+◌, ◌<◌, ◌≤◌, List, [], ◌∷◌, ◌++◌, Option, Some, length, take, drop, refl, sym, ap, ◌∙◌, subst, arith, length-append, append-nil}
-use Rattle.std.specs.Prelude.{None, Result, Ok, Err, IsErrAnd, MatchResult, OnErr, option_map, slice_get}
-use Rattle.std.proofs.lemmas.Option.{none-some, same_Some, slice_get-map}
+use Rattle.std.proofs.Common.{◌≡◌, ℕ, zero, suc, ◌+◌, ◌<◌, ◌≤◌, List, [], ◌∷◌, ◌++◌, Option, Some, length, take, drop, refl, sym, ap, ◌∙◌, subst, arith, length-append}
+use Rattle.std.specs.Prelude.{None, Result, Ok, Err, IsErrAnd, MatchResult, OnErr, slice_get}
 use Rattle.std.proofs.lemmas.List.{take_all}
 use Rattle.rules.specs.Sheets.{Layout, Plan, layout}
 use Rattle.sheet_plan.specs.Plans.{pages_on}
@@ -10,11 +9,7 @@ use Rattle.gather_table.specs.History.{Entry, PageAt, IsLegal, IsComplete, after
 use Rattle.gather_table.specs.Shared.{TableView, SeatView, IsSeat, IsSeatOf, MadeCall, MakesCalls}
 use Rattle.gather_table.proofs.Groups.{pages_of as index_of}
 use Rattle.gather_table.proofs.Calls.{makes_push, begins_makes, same_makes, complete_stays, finds_index}
-use Rattle.rules.specs.Made.{MadeSlot, Blank, Placed}
-use Rattle.rules.specs.MadePlans.{page_of}
-use Rattle.rules.specs.MadeOutput.{made_slot_text}
-use Rattle.sheet_text.specs.Jobs.{JobView, AreOfPlan, slots_of}
-use Rattle.sheet_text.proofs.Slots.{pages_are}
+use Rattle.sheet_text.specs.Jobs.{JobView}
 use Rattle.run_steps.specs.LookUps.{needed, pages_of, look_ups, LooksUp, LooksUpUntil, LooksAt, HasIndex}
 use Rattle.run_steps.specs.declared.imposition.ImposeError.{ImposeError}
 use Rattle.run_steps.specs.declared.imposition.ImposeError.TheVariants.{NoMemory, NotShown}
@@ -26,16 +21,11 @@ with_plan job plan = record job { plan = plan }
 pub same_job : (job : JobView) (plan : Plan) → plan ≡ job.plan → with_plan job plan ≡ job
 same_job job plan is = ap (with_plan job) is
 
--- the page of a slot, as the job has it
-pub page_in : (inside job : JobView) (s k p : ℕ) (o : Option ℕ) → inside ≡ job → slice_get (pages_on inside.plan s) k ≡ Some o → o ≡ Some p → slice_get (pages_on job.plan s) k ≡ Some (Some p)
-page_in inside job s k p o view read is = ap (λ (j : JobView). slice_get (pages_on j.plan s) k) (sym view) ∙ read ∙ ap Some is
-
 -- each page of a sheet that the seat has seen complete has an index
-pub has_index : (inside job : JobView) (table : Layout) (seat : SeatView) (s k p : ℕ) (o : Option ℕ) → inside ≡ job → table ≡ layout job.plan → seat.key ≡ table → IsSeat seat → IsComplete table seat.front s
-    → slice_get (pages_on inside.plan s) k ≡ Some o → o ≡ Some p → HasIndex table seat.front p
-has_index inside job table seat s k p o view same of ok complete read is =
-    index_of table seat.front s k p (subst (λ (l : Layout). IsLegal l seat.front) of ok.legal) complete
-    (ap (λ (l : Layout). slice_get (slots l s) k) same ∙ page_in inside job s k p o view read is)
+pub has_index : (plan : Plan) (table : Layout) (seat : SeatView) (s k p : ℕ) → table ≡ layout plan → seat.key ≡ table → IsSeat seat → IsComplete table seat.front s
+    → slice_get (pages_on plan s) k ≡ Some (Some p) → HasIndex table seat.front p
+has_index plan table seat s k p same of ok complete read =
+    index_of table seat.front s k p (subst (λ (l : Layout). IsLegal l seat.front) of ok.legal) complete (ap (λ (l : Layout). slice_get (slots l s) k) same ∙ read)
 
 -- and a look-up finds it
 pub is_found : (table : Layout) (old new : SeatView) (p : ℕ) (found : Option ℕ) → old.key ≡ table → HasIndex table old.front p → MadeCall old (PageAt p found) new → found ≡ None → ⊥
@@ -43,16 +33,6 @@ is_found table old new p found of has made none =
     let at : (after_history old.key old.front).index p ≡ Some has.0 = subst (λ (l : Layout). (after_history l old.front).index p ≡ Some has.0) (sym of) has.1 in
     let is : found ≡ Some has.0 = finds_index old new p has.0 found made at in
     absurd (cc (is, none))
-
--- a blank slot has no text
-pub slot_blank : (job : JobView) (texts : List (List ℕ)) (s k : ℕ) (it : MadeSlot) (text : List ℕ) → AreOfPlan job.plan job.sheets → slice_get (pages_on job.plan s) k ≡ Some None
-    → slice_get (slots_of job s) k ≡ Some it → text ≡ text ++ made_slot_text job.border texts it
-slot_blank job texts s k it text of read at =
-    by_slot it (same_Some (page_of it) None (sym (ap (option_map page_of) at) ∙ sym (slice_get-map page_of (slots_of job s) k) ∙ ap (λ xs. slice_get xs k) (sym (pages_are job.plan job.sheets s of)) ∙ read))
-  where
-    by_slot : (slot : MadeSlot) → page_of slot ≡ None → text ≡ text ++ made_slot_text job.border texts slot
-    by_slot Blank e = sym (append-nil text)
-    by_slot (Placed p item paper) e = absurd (none-some p (sym e))
 
 -- the seat after some calls
 pub still_seat : (table : TableView) (old new : SeatView) (es : List Entry) → IsSeatOf table old → MakesCalls old es new → IsSeatOf table new

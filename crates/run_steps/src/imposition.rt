@@ -161,15 +161,15 @@ impl<'s, 'r, 't, 'd> Imposition<'s, 'r, 't, 'd> {
             × (slice_get (pages_on self.now.job.now.plan sheet) slot ≡ Some (Some page))) }
     {
         let job = self.job;
-        let Some(page) = job.plan().page_of(sheet, slot) else {
+        let Some(placed) = job.placed(sheet, slot) else {
             return Ok(());
         };
 
         // Reading the share shows that the seat's front is a legal history of the table. In such a history each page of a complete sheet has an
         // index.
         seat.share();
-        let shown = self.find_shelved(seat, page)?;
-        match append_placed(text, openings, job, sheet, slot, shown.body()) {
+        let shown = self.find_shelved(seat, placed.page)?;
+        match append_placed(text, openings, job, &placed, shown.body()) {
             Ok(()) => Ok(()),
             Err(_) => Err(ImposeError::NoMemory),
         }

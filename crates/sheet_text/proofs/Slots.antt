@@ -1,12 +1,12 @@
 -- The slots of a sheet and their texts.
-use Rattle.std.proofs.Common.{ℕ, zero, suc, List, [], ◌∷◌, Option, Some, None, ◌+◌, ◌<◌, ◌++◌, ◌≡◌, ap, sym, refl, ◌∙◌, length, take, arith, append_assoc}
+use Rattle.std.proofs.Common.{ℕ, zero, suc, List, [], ◌∷◌, Option, Some, None, ◌+◌, ◌<◌, ◌++◌, ◌≡◌, ap, sym, refl, ◌∙◌, length, take, arith, append_assoc, append-nil}
 use Rattle.std.specs.Prelude.{slice_get, slice_index_or, map, flat_map, option_map, Ok, IfSome}
 use Rattle.pagespec.specs.Items.{item_of}
 use Rattle.sheet_plan.specs.OfSheets.{placed_of}
 use Rattle.sheet_plan.specs.declared.made.PlacedSlot.{PlacedSlot}
 use Rattle.std.proofs.Math.ListN.{get_or}
 use Rattle.std.proofs.Math.Seq.{take-suc}
-use Rattle.std.proofs.lemmas.Option.{slice_get-map, get_or_from_slice_get, slice_get_within, same_Some, none-some}
+use Rattle.std.proofs.lemmas.Option.{slice_get-map, get_or_from_slice_get, slice_get_within, same_Some}
 use Rattle.std.proofs.lemmas.List.{flat_map_more, length-map}
 use Rattle.rules.specs.Papers.{Paper}
 use Rattle.rules.specs.Specification.{Item}
@@ -33,12 +33,16 @@ pages_are plan sheets s of = ap (λ rows. slice_index_or rows s []) (sym of) ∙
 pub slot_count : (plan : Plan) (sheets : List DressedSheet) (s : ℕ) → AreOfPlan plan sheets → length (pages_on plan s) ≡ length (slice_index_or sheets s no_sheet).slots
 slot_count plan sheets s of = ap length (pages_are plan sheets s of) ∙ length-map (slice_index_or sheets s no_sheet).slots page_of
 
+-- a slot has the page that the plan has there
+pub planned : (plan : Plan) (sheets : List DressedSheet) (s k : ℕ) (found : MadeSlot) → AreOfPlan plan sheets → slice_get (slice_index_or sheets s no_sheet).slots k ≡ Some found
+    → slice_get (pages_on plan s) k ≡ Some (page_of found)
+planned plan sheets s k found of at =
+    ap (λ xs. slice_get xs k) (pages_are plan sheets s of) ∙ slice_get-map page_of (slice_index_or sheets s no_sheet).slots k ∙ ap (option_map page_of) at
+
 -- the page of a slot is one of the plan's
-pub page_there : (plan : Plan) (sheets : List DressedSheet) (s k p : ℕ) (item : Item) (paper : Paper) → IsSound plan → AreOfPlan plan sheets → s < length plan.sheets
+page_there : (plan : Plan) (sheets : List DressedSheet) (s k p : ℕ) (item : Item) (paper : Paper) → IsSound plan → AreOfPlan plan sheets → s < length plan.sheets
     → slice_get (slice_index_or sheets s no_sheet).slots k ≡ Some (Placed p item paper) → p < plan.pages
-page_there plan sheets s k p item paper sound of lt at =
-    sound.paged s k p lt
-    (ap (λ xs. slice_get xs k) (pages_are plan sheets s of) ∙ slice_get-map page_of (slice_index_or sheets s no_sheet).slots k ∙ ap (option_map page_of) at)
+page_there plan sheets s k p item paper sound of lt at = sound.paged s k p lt (planned plan sheets s k (Placed p item paper) of at)
 
 -- what was found of a slot has a page of the plan, if it has one
 pub page_within : (plan : Plan) (sheets : List DressedSheet) (s k n : ℕ) (found : Option PlacedSlot) → IsSound plan → AreOfPlan plan sheets → s < length plan.sheets → plan.pages ≡ n
@@ -69,48 +73,26 @@ same_slot slots k found it read at = same_Some found it (sym read ∙ at)
 joined : (old opened body closed : List ℕ) → ((old ++ opened) ++ body) ++ closed ≡ old ++ (opened ++ body ++ closed)
 joined old opened body closed = ap (λ x. x ++ closed) (append_assoc old opened body) ∙ append_assoc old (opened ++ body) closed
 
--- the text of a slot that has a page
-pub slot_is : (border : Option Border) (texts : List (List ℕ)) (p : ℕ) (item : Item) (paper : Paper) (it : MadeSlot) (old one two three body : List ℕ) → Placed p item paper ≡ it
-    → one ≡ old ++ opening_text (record { paper = paper; border = border }) item → two ≡ one ++ body → three ≡ two ++ closing_text → prepared (slice_index_or texts p []) ≡ Ok body
-    → three ≡ old ++ made_slot_text border texts it
-slot_is border texts p item paper it old one two three body is first second third made =
-    let opened : List ℕ = opening_text (record { paper = paper; border = border }) item in
-    third
-    ∙ ap (λ x. x ++ closing_text) (second ∙ ap (λ x. x ++ body) first)
-    ∙ joined old opened body closing_text
-    ∙ ap (λ b. old ++ (opened ++ b ++ closing_text)) (ap body_text (sym made))
-    ∙ ap (λ slot. old ++ made_slot_text border texts slot) is
-
 -- a body with the texts that open and close it
-pub placed_is : (border : Option Border) (p q : ℕ) (item other : Item) (paper sheet : Paper) (old one two three body : List ℕ) → Placed p item paper ≡ Placed q other sheet
-    → one ≡ old ++ opening_text (record { paper = paper; border = border }) item → two ≡ one ++ body → three ≡ two ++ closing_text
-    → three ≡ old ++ (opening_text (record { paper = sheet; border = border }) other ++ body ++ closing_text)
-placed_is border p q item other paper sheet old one two three body is first second third =
-    third
-    ∙ ap (λ x. x ++ closing_text) (second ∙ ap (λ x. x ++ body) first)
-    ∙ joined old (opening_text (record { paper = paper; border = border }) item) body closing_text
-    ∙ ap (λ slot. old ++ (opened slot ++ body ++ closing_text)) is
-  where
-    opened : MadeSlot → List ℕ
-    opened Blank = []
-    opened (Placed k i r) = opening_text (record { paper = r; border = border }) i
+pub placed_is : (old opened body one two three : List ℕ) → one ≡ old ++ opened → two ≡ one ++ body → three ≡ two ++ closing_text → three ≡ old ++ (opened ++ body ++ closing_text)
+placed_is old opened body one two three first second third =
+    third ∙ ap (λ x. x ++ closing_text) (second ∙ ap (λ x. x ++ body) first) ∙ joined old opened body closing_text
 
 -- a body that was prepared for the page of a slot is the slot's text, opened and closed
-pub slot_shelved : (border : Option Border) (texts : List (List ℕ)) (plan : Plan) (sheets : List DressedSheet) (s k p : ℕ) (it : MadeSlot) (old new raw body : List ℕ) → AreOfPlan plan sheets
-    → slice_get (pages_on plan s) k ≡ Some (Some p) → slice_get (slice_index_or sheets s no_sheet).slots k ≡ Some it
-    → ((q : ℕ) (item : Item) (paper : Paper) → slice_get (slice_index_or sheets s no_sheet).slots k ≡ Some (Placed q item paper) → new ≡ old ++ (opening_text (record { paper = paper; border = border }) item ++ body ++ closing_text))
+pub slot_shelved : (border : Option Border) (texts : List (List ℕ)) (slots : List MadeSlot) (k p : ℕ) (item : Item) (paper : Paper) (it : MadeSlot) (old new raw body : List ℕ)
+    → slice_get slots k ≡ Some (Placed p item paper) → slice_get slots k ≡ Some it
+    → new ≡ old ++ (opening_text (record { paper = paper; border = border }) item ++ body ++ closing_text)
     → raw ≡ slice_index_or texts p [] → prepared raw ≡ Ok body → new ≡ old ++ made_slot_text border texts it
-slot_shelved border texts plan sheets s k p it old new raw body of read at put raw_is made =
-    by_slot it at
-    (same_Some (page_of it) (Some p)
-    (sym (ap (option_map page_of) at) ∙ sym (slice_get-map page_of (slice_index_or sheets s no_sheet).slots k) ∙ ap (λ xs. slice_get xs k) (sym (pages_are plan sheets s of)) ∙ read))
-  where
-    by_slot : (slot : MadeSlot) → slice_get (slice_index_or sheets s no_sheet).slots k ≡ Some slot → page_of slot ≡ Some p → new ≡ old ++ made_slot_text border texts slot
-    by_slot Blank there e = absurd (none-some p e)
-    by_slot (Placed q item paper) there e =
-        put q item paper there
-        ∙ ap (λ b. old ++ (opening_text (record { paper = paper; border = border }) item ++ b ++ closing_text))
-        (ap body_text (sym made) ∙ ap (λ r. body_text (prepared r)) raw_is ∙ ap (λ n. body_text (prepared (slice_index_or texts n []))) (sym (same_Some q p e)))
+slot_shelved border texts slots k p item paper it old new raw body found at put raw_is made =
+    put
+    ∙ ap (λ b. old ++ (opening_text (record { paper = paper; border = border }) item ++ b ++ closing_text))
+    (ap body_text (sym made) ∙ ap (λ r. body_text (prepared r)) raw_is)
+    ∙ ap (λ slot. old ++ made_slot_text border texts slot) (same_slot slots k (Placed p item paper) it found at)
+
+-- a blank slot has no text
+pub slot_blank : (border : Option Border) (texts : List (List ℕ)) (slots : List MadeSlot) (k : ℕ) (it : MadeSlot) (text : List ℕ) → slice_get slots k ≡ Some Blank → slice_get slots k ≡ Some it
+    → text ≡ text ++ made_slot_text border texts it
+slot_blank border texts slots k it text found at = sym (append-nil text) ∙ ap (λ slot. text ++ made_slot_text border texts slot) (same_slot slots k Blank it found at)
 
 -- a turn of the loop over the slots
 pub slots_turn : (job : JobView) (s k end : ℕ) (old before after : List ℕ) → AreOfPlan job.plan job.sheets → end ≡ length (pages_on job.plan s) → k < end

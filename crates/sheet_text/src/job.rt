@@ -6,6 +6,7 @@ ghost use Rattle.rules.specs.Output.{border_within, framed, output, sheet_text};
 ghost use Rattle.rules.specs.Dress.{lines_text};
 ghost use Rattle.rules.specs.Dressed.{dressed_sheets};
 ghost use Rattle.rules.specs.MadeOutput.{made_output};
+ghost use Rattle.rules.specs.MadePlans.{page_of};
 ghost use Rattle.sheet_plan.specs.OfSheets.{made_plan, placed_of};
 ghost use Rattle.sheet_plan.specs.Plans.{pages_on, planned_in, IsSound};
 ghost use Rattle.sheet_text.specs.Dressings.{dress_in};
@@ -178,11 +179,13 @@ impl<'j, 'd> Job<'j, 'd> {
     }
 
     /// The page in this slot of a sheet, with its item and its paper. None if the slot is blank.
-    pub(crate) fn placed(&self, sheet: u32, slot: u16) -> Option<PlacedSlot<'_>>
+    pub fn placed(&self, sheet: u32, slot: u16) -> Option<PlacedSlot<'_>>
         requires sheet { sheet < length self.now.plan.sheets }
         requires slot { slot < length (pages_on self.now.plan sheet) }
         ensures value { slice_get (slots_of self.now sheet) slot ≡ Some (placed_of result) }
+        ensures planned { slice_get (pages_on self.now.plan sheet) slot ≡ Some (page_of (placed_of result)) }
         ensures page { IfSome result (λ placed. placed.page < length (pages self.now.units)) }
+        ensures same_pages { self.now.plan.pages ≡ length (pages self.now.units) }
     {
         match &self.papers {
             SheetPapers::One(paper) => match self.plan.page_of(sheet, slot) {

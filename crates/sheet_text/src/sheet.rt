@@ -2,13 +2,12 @@
 ghost use Rattle.std.specs.Prelude.{◌≡◌, ℕ, ◌+◌, ◌<◌, ◌≤◌, ◌++◌, List, IfOk, OnOk, codes, decimal, length, Some, slice_get};
 ghost use Rattle.rules.specs.Bytes.{line};
 ghost use Rattle.rules.specs.Parts.{pages};
-ghost use Rattle.rules.specs.Made.{MadeSlot, Placed};
+ghost use Rattle.rules.specs.Made.{MadeSlot};
 ghost use Rattle.rules.specs.Dress.{lines_text};
 ghost use Rattle.rules.specs.MadeOutput.{made_slot_text};
-ghost use Rattle.rules.specs.Papers.{Paper};
-ghost use Rattle.rules.specs.Specification.{Item};
 ghost use Rattle.rules.specs.Filters.{prepared};
 ghost use Rattle.rules.specs.Output.{opening_text as opening, closing_text as closing};
+ghost use Rattle.pagespec.specs.Items.{item_of};
 ghost use Rattle.sheet_plan.specs.Plans.{pages_on};
 ghost use Rattle.sheet_text.specs.Jobs.{page_line, sheet_of, slots_of, slots_text, text_of};
 ghost use Rattle.sheet_text.specs.Rooms.{most_room, slot_room};
@@ -17,6 +16,7 @@ use crate::job::Job;
 use crate::openings::Openings;
 use crate::rope::{LEAST_BORROWED, Rope};
 use itoa::Buffer;
+use sheet_plan::PlacedSlot;
 use std::alloc::{AllocError, Global};
 
 /// The text of this sheet (counted from 0). It consists of the `%%Page:` line, the job's lines for the start, the placed page of each slot in order,
@@ -164,26 +164,19 @@ fn append_slot(
     Ok(())
 }
 
-/// Appends the page in this slot: the text before it, this prepared body, and the text after it. The body is borrowed, not copied, if it has 4,096
-/// bytes or more. The slot must not be blank; if it is, the appended text isn't specified. The only error is refused memory.
+/// Appends a placed page: the text before it, this prepared body, and the text after it. The body is borrowed, not copied, if it has 4,096 bytes or
+/// more. The only error is refused memory.
 pub fn append_placed<'r>(
     text: &mut Rope<'r>,
     openings: &mut Openings,
     job: &Job<'_, '_>,
-    sheet: u32,
-    slot: u16,
+    placed: &PlacedSlot<'_>,
     body: &'r [u8],
 ) -> Result<(), AllocError>
-    requires sheet { sheet < length job.now.plan.sheets }
-    requires slot { slot < length (pages_on job.now.plan sheet) }
-    ensures { OnOk result ((p : ℕ) (item : Item) (paper : Paper) →
-        slice_get (slots_of job.now sheet) slot ≡ Some (Placed p item paper) →
-        text.new ≡ text.old ++
-        (opening (record { paper = paper; border = job.now.border }) item ++ body.now ++ closing)) }
+    ensures { OnOk result (text.new ≡ text.old ++
+        (opening (record { paper = placed.now.paper.now; border = job.now.border }) (item_of placed.now.item.now)
+        ++ body.now ++ closing)) }
 {
-    let Some(placed) = job.placed(sheet, slot) else {
-        return Ok(());
-    };
     openings.append(job, placed.item, placed.paper, text)?;
     text.append_borrowed(body)?;
     text.append_closing()?;

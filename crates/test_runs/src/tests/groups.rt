@@ -47,8 +47,11 @@ fn put_together<'r, R: Abort>(
     }
     let mut text = Rope::new(alloc);
     done(rt, begin_sheet(&mut text, job, sheet));
-    let placed = append_placed(&mut text, &mut Openings::new(alloc), job, sheet, 0, body);
-    done(rt, placed);
+    let Some(placed) = job.placed(sheet, 0) else {
+        panic!(rt; "a blank slot");
+    };
+    let appended = append_placed(&mut text, &mut Openings::new(alloc), job, &placed, body);
+    done(rt, appended);
     done(rt, end_sheet(&mut text, job, sheet));
     text
 }

@@ -13,7 +13,7 @@ use Rattle.sheet_text.specs.PapersOf.{sheets_on}
 use Rattle.sheet_text.specs.declared.sheet_papers.SheetPapers.{SheetPapers}
 use Rattle.sheet_text.proofs.Dressed.{counted, slots_are}
 use Rattle.sheet_text.proofs.OnePaper.{slot_at, blank_at}
-use Rattle.sheet_text.proofs.Slots.{slot_count, page_within}
+use Rattle.sheet_text.proofs.Slots.{planned, slot_count, page_within}
 use Rattle.sheet_text.proofs.job.Job.placed.Goals as goal
 
 pub placed-requires-clause-sheet : goal.placed-requires-clause-sheet
@@ -77,6 +77,19 @@ returns-in-Made-clause-page c =
     let sound : IsSound job.plan = subst (λ (j : JobView). IsSound j.plan) c.self.view_is c.self.invariant.2 in
     let all_pages : job.plan.pages ≡ length (pages job.units) = subst (λ (j : JobView). j.plan.pages ≡ length (pages j.units)) c.self.view_is c.self.invariant.0 in
     page_within job.plan job.sheets c.args.sheet c.args.slot _ c.placed.result sound of c.requires.sheet all_pages
+    (ap (λ (sheets : List DressedSheet). slice_get (slice_index_or sheets c.args.sheet no_sheet).slots c.args.slot) (sym is)
+    ∙ ap (λ (slots : List MadeSlot). slice_get slots c.args.slot) (slots_are dress all c.args.sheet)
+    ∙ ap (slice_get (slots_at all c.args.sheet)) (sym c.from.ensures)
+    ∙ c.placed.ensures)
+
+pub returns-in-Made-clause-planned : goal.returns-in-Made-clause-planned
+returns-in-Made-clause-planned c =
+    let dress = dress_in c.in-Made.field-1.now in
+    let all = c.in-Made.sheets.now in
+    let job = c.args.self.now in
+    let is : dressed_sheets dress all ≡ job.sheets = ap (λ (p : SheetPapers). sheets_on p c.self.inside.plan.now) (sym c.in-Made.is) ∙ ap (λ (j : JobView). j.sheets) c.self.view_is in
+    let of : AreOfPlan job.plan job.sheets = subst (λ (j : JobView). AreOfPlan j.plan j.sheets) c.self.view_is c.self.invariant.3 in
+    planned job.plan job.sheets c.args.sheet c.args.slot _ of
     (ap (λ (sheets : List DressedSheet). slice_get (slice_index_or sheets c.args.sheet no_sheet).slots c.args.slot) (sym is)
     ∙ ap (λ (slots : List MadeSlot). slice_get slots c.args.slot) (slots_are dress all c.args.sheet)
     ∙ ap (slice_get (slots_at all c.args.sheet)) (sym c.from.ensures)
