@@ -15,7 +15,7 @@ ghost use Rattle.dsc.specs.declared.errors.DscError.TheVariants.{NoMemory};
 ghost use Rattle.dsc.specs.Filters.{drops_of, is_dropped, filter_on};
 
 use crate::errors::{CutError, DscError};
-use crate::keys::{comment_letter, key_of};
+use crate::keys::{comment_letter, key_of, names_page};
 use crate::lines::is_line_end;
 use crate::units::LineOrBlock;
 use crate::walk::Walk;
@@ -53,7 +53,7 @@ fn drops_in_page(content: &[u8]) -> bool
     ensures { result ≡ drops_in_page content.now }
 {
     match comment_letter(content) {
-        Some(b'P') => content.starts_with(b"%%Page"),
+        Some(b'P') => names_page(content),
         Some(b'B' | b'E') => {
             let key = key_of(content);
             key == b"%%BeginPageSetup".as_slice() || key == b"%%EndPageSetup".as_slice()

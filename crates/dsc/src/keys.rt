@@ -37,6 +37,21 @@ pub(crate) fn comment_letter(content: &[u8]) -> Option<u8>
     }
 }
 
+/// Whether a line with this content begins with `%%Page`.
+pub(crate) fn names_page(content: &[u8]) -> bool
+    ensures { result ≡ starts_with nat_eq content.now (codes "%%Page") }
+{
+    // Each page has such a line, and `starts_with` takes several times as long as a pattern.
+    matches!(content, [b'%', b'%', b'P', b'a', b'g', b'e', ..])
+}
+
+/// Whether a line with this content begins with `%%Page:`.
+fn is_page_line(content: &[u8]) -> bool
+    ensures { result ≡ starts_with nat_eq content.now (codes "%%Page:") }
+{
+    matches!(content, [b'%', b'%', b'P', b'a', b'g', b'e', b':', ..])
+}
+
 /// The meaning of a unit for the parts of a document: whether it begins a page or the trailer, and the depth in
 /// embedded documents after it.
 #[derive(Clone, Copy)]
@@ -56,7 +71,7 @@ fn meaning_of_line(content: &[u8], depth: usize) -> Meaning
 {
     match comment_letter(content) {
         Some(b'P') => Meaning {
-            is_page: depth == 0 && content.starts_with(b"%%Page:"),
+            is_page: depth == 0 && is_page_line(content),
             is_trailer: false,
             depth,
         },

@@ -7,7 +7,7 @@ use Rattle.dsc.proofs.filters.drops_in_page.Goals as goal
 pub returns-in-Some-eq80 : goal.returns-in-Some-eq80
 returns-in-Some-eq80 c =
     let a = c.in-Some-eq80 in
-    c.starts_with.ensures.value ∙ page_letter c.args.content.now (sym c.comment_letter.ensures ∙ a.is ∙ ap Some a.field-0-test)
+    c.names_page.ensures ∙ page_letter c.args.content.now (sym c.comment_letter.ensures ∙ a.is ∙ ap Some a.field-0-test)
 
 pub returns-else-eq : goal.returns-else-eq
 returns-else-eq c =

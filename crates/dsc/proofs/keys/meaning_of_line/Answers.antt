@@ -11,7 +11,7 @@ meaning_of_key-requires-clause-no_page c =
     other_start c.args.content.now (codes "age:") 80 (λ e. another a.field-0 80 (λ same. omega (arith, t, same)) (is ∙ e))
 
 pub returns-then-depth-eq0-clause-page : goal.returns-then-depth-eq0-clause-page
-returns-then-depth-eq0-clause-page c = begins_at_0 c.args.content.now c.args.depth _ c.if-depth-eq0.true c.starts_with.ensures.value
+returns-then-depth-eq0-clause-page c = begins_at_0 c.args.content.now c.args.depth _ c.if-depth-eq0.true c.is_page_line.ensures
 
 pub returns-then-depth-eq0-clause-trailer : goal.returns-then-depth-eq0-clause-trailer
 returns-then-depth-eq0-clause-trailer c =
