@@ -179,14 +179,19 @@ grows_to h layout count number p n le =
     let e : p + (n - p) ≡ n = omega (arith, le) in
     subst (λ m. share_below h layout count number p ≤ share_below h layout count number m) e (grows h layout count number p (n - p))
 
+-- what it owes grows by a page of its own
+pub own_share : (h : Duty → ℕ) (layout : Layout) (count number p : ℕ) → p % count ≡ number
+    → share_below h layout count number (p + 1) ≡ share_below h layout count number p + total h (duties layout p)
+own_share h layout count number p mine =
+    let e : suc p ≡ p + 1 = omega arith in
+    let one : (if p % count == number then total h (duties layout p) else 0) ≡ total h (duties layout p) =
+    ap (λ b. if b then total h (duties layout p) else 0) (eq-eqb (p % count) number mine) in
+    subst (λ m. share_below h layout count number m ≡ share_below h layout count number p + total h (duties layout p)) e (omega (arith, one))
+
 pub next_share : (layout : Layout) (count number p : ℕ) → p % count ≡ number
     → share_below is_place layout count number (p + 1) ≡ share_below is_place layout count number p + length (places_of layout p)
 next_share layout count number p mine =
-    let e : suc p ≡ p + 1 = omega arith in
-    let one : (if p % count == number then total is_place (duties layout p) else 0) ≡ total is_place (duties layout p) =
-    ap (λ b. if b then total is_place (duties layout p) else 0) (eq-eqb (p % count) number mine) in
-    let weighs = page_weighs layout p in
-    subst (λ m. share_below is_place layout count number m ≡ share_below is_place layout count number p + length (places_of layout p)) e (omega (arith, one, weighs))
+    let more = own_share is_place layout count number p mine in let weighs = page_weighs layout p in omega (arith, more, weighs)
 
 -- the sheets of a plan are as many as those of its layout
 pub sheets_same : (plan : Plan) → length (layout plan).sheets ≡ length plan.sheets

@@ -1,12 +1,15 @@
 -- A preparer's own pages follow each other at the distance of the preparers' count.
-use Rattle.std.proofs.Common.{◌≡◌, ◌≢◌, ◌∙◌, ⊎_elim, ℕ, zero, suc, ◌+◌, ◌-◌, ◌*◌, ◌/◌, ◌<◌, ◌≤◌, ◌%◌, ◌==◌, if◌then◌else◌, min, length, false, refl, ap, subst, arith}
+use Rattle.std.proofs.Common.{◌≡◌, ◌≢◌, ◌∙◌, inl, inr, ⊎_elim, ℕ, zero, suc, ◌+◌, ◌-◌, ◌*◌, ◌/◌, ◌<◌, ◌≤◌, ◌%◌, ◌==◌, if◌then◌else◌, min, length, false, refl, sym, ap, subst, arith}
 use Rattle.std.proofs.lemmas.Bool.{ne_eqb, cases_lt}
 use Rattle.std.proofs.lemmas.Nat.{div-add-mod', mod_below, mod-mul-add, same_from_place}
 use Rattle.rules.specs.Sheets.{Plan, Layout, layout}
 use Rattle.rules.specs.Seats.{total}
 use Rattle.sheet_plan.specs.Places.{places_of}
 use Rattle.run_steps.specs.Duty.{Duty, duties, is_place, most_puts, share_below}
-use Rattle.imposer.proofs.ByRight.{next_share, sheets_same}
+use Rattle.handover.specs.Passes.{puts_in}
+use Rattle.imposer.specs.Rooms.{HasRoomFrom, PutsByRight}
+use Rattle.imposer.specs.declared.tokens.Tokens.{Tokens}
+use Rattle.imposer.proofs.ByRight.{next_share, own_share, room_at_first, room_behind, sheets_same}
 
 -- two numbers that leave the same one, when they are divided, aren't less than the divisor apart
 apart : (q r c n j : ℕ) → n < c → 0 < j → j < c → r * c + n ≡ q * c + (n + j) → ⊥
@@ -66,6 +69,53 @@ own_next count number p some own =
     let next : (p / count + 1) * count + p % count ≡ p + count = omega (arith, whole) in
     subst (λ k. k % count ≡ number) next (mod-mul-add (p / count + 1) count (p % count) (mod_below p count some) ∙ own)
 
+-- what it owes for this page and those up to the next of its own
+pub owed_next : (h : Duty → ℕ) (l : Layout) (count number p n : ℕ) → 0 < count → p % count ≡ number → p < n
+    → share_below h l count number (min (p + count) n) ≡ share_below h l count number (p + 1)
+owed_next h l count number p n some own within =
+    let k = min (p + count) n - (p + 1) in
+    let at : p + 1 + k ≡ min (p + count) n = omega (arith, some, within) in
+    subst (λ m. share_below h l count number m ≡ share_below h l count number (p + 1)) at (passed_over h l count number p k some own (omega (arith, some, within)))
+
+-- what it has done, with this page
+pub done_next : (h : Duty → ℕ) (l : Layout) (count number p n old new : ℕ) → 0 < count → p % count ≡ number → p < n
+    → old ≡ share_below h l count number (min p n) → new ≡ old + total h (duties l p) → new ≡ share_below h l count number (min (p + count) n)
+done_next h l count number p n old new some own within was now =
+    let here : min p n ≡ p = omega (arith, within) in
+    let before = subst (λ m. old ≡ share_below h l count number m) here was in
+    let more = own_share h l count number p own in
+    let same = owed_next h l count number p n some own within in
+    omega (arith, now, before, more, same)
+
+-- what it has done past the last page
+pub done_all : (h : Duty → ℕ) (l : Layout) (count number p n old : ℕ) → n ≤ p → old ≡ share_below h l count number (min p n) → old ≡ share_below h l count number n
+done_all h l count number p n old past is = let last : min p n ≡ n = omega (arith, past) in subst (λ m. old ≡ share_below h l count number m) last is
+
+-- the room that it has, where it owes as much
+room_on : (l : Layout) (count number a b : ℕ) (tokens : Tokens) → share_below is_place l count number a ≡ share_below is_place l count number b
+    → HasRoomFrom l count number a tokens → HasRoomFrom l count number b tokens
+room_on l count number a b tokens same room = ⊎_elim
+    (λ (x : share_below is_place l count number l.pages ≤ puts_in tokens.pass.room + share_below is_place l count number a). inl (omega (arith, x, same)))
+    (λ y. inr y)
+    room
+
+-- the room at its first page, and from the next on
+pub room_first : (l : Layout) (count number : ℕ) (tokens : Tokens) → number < count → most_puts l count number ≤ puts_in tokens.pass.room
+    → HasRoomFrom l count number (min number l.pages) tokens
+room_first l count number tokens below enough =
+    let none = none_before is_place l count number (min number l.pages) (omega (arith, below)) (omega arith) in
+    room_on l count number 0 (min number l.pages) tokens (sym none) (room_at_first l count number tokens enough)
+
+pub room_here : (l : Layout) (count number p : ℕ) (tokens : Tokens) → p < l.pages → HasRoomFrom l count number (min p l.pages) tokens → HasRoomFrom l count number p tokens
+room_here l count number p tokens within room =
+    let here : min p l.pages ≡ p = omega (arith, within) in subst (λ m. HasRoomFrom l count number m tokens) here room
+
+pub room_next : (l : Layout) (count number p : ℕ) (old new : Tokens) → 0 < count → p % count ≡ number → p < l.pages
+    → HasRoomFrom l count number (min p l.pages) old → PutsByRight l p old new → HasRoomFrom l count number (min (p + count) l.pages) new
+room_next l count number p old new some own within room puts =
+    room_on l count number (p + 1) (min (p + count) l.pages) new (sym (owed_next is_place l count number p l.pages some own within))
+    (room_behind l count number p old new own (room_here l count number p old within room) puts)
+
 -- the count of its puts, with this page and those up to the next of its own
 pub most_next : (l : Layout) (count number p pages puts next n : ℕ) → 0 < count → p % count ≡ number → p < pages
     → puts ≡ min (share_below is_place l count number (min p pages)) n → next ≡ min (puts + length (places_of l p)) n
@@ -74,10 +124,8 @@ most_next l count number p pages puts next n some own within is after =
     let here : min p pages ≡ p = omega (arith, within) in
     let now = subst (λ m. puts ≡ min (share_below is_place l count number m) n) here is in
     let more = next_share l count number p own in
-    let k = min (p + count) pages - (p + 1) in
-    let at : p + 1 + k ≡ min (p + count) pages = omega (arith, some, within) in
-    let same = passed_over is_place l count number p k some own (omega (arith, some, within)) in
-    subst (λ m. next ≡ min (share_below is_place l count number m) n) at (omega (arith, now, more, after, same))
+    let same = owed_next is_place l count number p pages some own within in
+    omega (arith, now, more, after, same)
 
 -- of all its pages
 pub most_of_all : (plan : Plan) (count number p puts : ℕ) → plan.pages ≤ p

@@ -41,7 +41,7 @@ pub trait Work<H> {
 
     /// Does the work of preparer `number` of `count`, and returns its `H`. The only error is refused memory.
     fn prepare<R: Wait>(&self, rt: &R, held: H, number: u32, count: u32) -> Result<H, AllocError>
-        requires count { 0 < count }
+        requires number { number < count }
         requires held { is_new_preparer self.now count number held }
         ensures back { IfOk result (is_back self.now) }
         ensures prepared { IfOk result (has_prepared self.now count number) };
