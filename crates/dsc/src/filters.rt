@@ -161,8 +161,8 @@ fn copy(copied: &mut Vec<u8>, part: &[u8], room: usize) -> Result<(), AllocError
     copied.extend_from_slice(part)
 }
 
-/// Filters a text. Returns the bytes in `copied`, followed by the bytes of the text that the filter keeps. Fails with
-/// the text's first faulty data block, or if memory is refused.
+/// Filters a text. Returns the bytes in `copied`, followed by the kept bytes of the text. Fails with the text's first
+/// faulty data block, or if memory is refused.
 pub(crate) fn filter<'d>(
     copied: Vec<u8>,
     drops: Drops,
@@ -198,8 +198,8 @@ pub(crate) fn drops_with(lines: &[u8]) -> Drops
     Drops::SetupAndPapers
 }
 
-/// Appends to `front` the bytes of a text that the filter keeps. The text is from a preamble or a trailer and has no
-/// faulty data block. Fails only if memory is refused.
+/// Filters a text of a preamble or a trailer, and appends the kept bytes to `front`. The text has no faulty data block.
+/// Fails only if memory is refused.
 pub(crate) fn filter_header(
     front: Vec<u8>,
     drops: Drops,

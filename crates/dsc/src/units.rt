@@ -17,7 +17,8 @@ pub(crate) struct LineOrBlock<'d> {
     pub is_block: bool,
 }
 
-/// The fault of a data block: its count is missing or isn't a number, or it counts more data than the text has.
+/// The fault of a data block: its count is missing or isn't a number, or the block counts more bytes or lines than
+/// follow its first line.
 #[derive(Debug, Clone, Copy)]
 pub enum UnitError {
     BadCount,

@@ -9,9 +9,9 @@ use papers::{Comment, Cut, Reach};
 pub enum PaperOrigin {
     /// The command line names the paper.
     Named,
-    /// The document gives the paper, in this comment of its header or in its setup.
+    /// The document gives the paper, in this comment or in its setup.
     ByComment(Comment),
-    /// Neither the command line nor the document names a paper, so the pages have the user's default paper.
+    /// The command line names no paper, and none is found in the document, so the pages have the user's default paper.
     ByDefault,
     /// No imposed page has nearly the size of the paper found for the whole document. Sheets are therefore made for the paper of the first imposed
     /// page.

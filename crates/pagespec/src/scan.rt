@@ -202,7 +202,8 @@ pub(crate) fn read_byte(byte: u8, bytes: &[u8]) -> Option<&[u8]>
     }
 }
 
-/// The place at which reading a number fails in a text that doesn't begin with one. It is after the sign and the dot, if the text has them.
+/// The place at which reading a number fails in a text that doesn't begin with one. If the text begins with a sign, a dot, or a sign and a dot, the
+/// place is after them.
 fn stop_in_number(bytes: &[u8]) -> ParseStop
     requires { number_at bytes.now ≡ None }
     ensures { StuckIn IsNumber number_at bytes.now result.left }

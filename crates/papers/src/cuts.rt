@@ -38,7 +38,7 @@ pub fn cut_by(paper: &Paper, own: &[Paper]) -> Option<Cut>
     cut
 }
 
-/// The cut pages found so far, together with page `page`, whose own paper is `paper`.
+/// `cut`, the cut pages found so far, with page `page` added. `paper` is this page's own paper.
 fn with_cut_page(cut: Option<Cut>, page: usize, paper: &Paper) -> Cut
     requires few { IfSome cut (λ c. c.pages < usize.MAX) }
     ensures { result ≡ with_one cut page paper.now }

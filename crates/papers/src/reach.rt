@@ -100,7 +100,7 @@ fn reach_with(pages: &PlacedPages<'_, '_>, other: Option<&[u8]>) -> Option<Reach
     reach
 }
 
-/// The pages found so far, together with page `page` if its edges lie more than one point outside its paper.
+/// `reach`, the pages found so far, with page `page` added if one of `edges` lies more than one point outside `paper`.
 fn with_if_beyond(
     reach: Option<Reach>,
     page: usize,
@@ -118,7 +118,7 @@ fn with_if_beyond(
     }
 }
 
-/// The pages found so far, together with page `page`.
+/// `reach`, the pages found so far, with page `page` added. `paper` and `edges` are kept if no page was found before.
 fn with_reaching_page(reach: Option<Reach>, page: usize, paper: &Paper, edges: Edges) -> Reach
     requires few { IfSome reach (λ r. r.pages < usize.MAX) }
     ensures { result ≡ meaning.with_reaching_page reach (page, paper.now, edges) }

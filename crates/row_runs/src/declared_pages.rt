@@ -47,7 +47,7 @@ fn last_field(lines: &[u8]) -> Option<&[u8]>
     first_field(value_outside(lines)?)
 }
 
-/// The text after the first `%%Pages:` that is in these lines but not in an embedded document. None if there is no such comment.
+/// The rest of the line after the first `%%Pages:` that is in these lines but not in an embedded document. None if there is no such comment.
 fn value_outside(lines: &[u8]) -> Option<&[u8]>
     ensures { option_map (λ value. fields_in value.now) result ≡ meaning.pages_outside 0 (contents lines.now) }
 {
@@ -97,7 +97,7 @@ fn first_field(value: &[u8]) -> Option<&[u8]>
     Some(field)
 }
 
-/// The text after the first `%%Pages:` in these lines. None if there is no such comment.
+/// The rest of the line after the first `%%Pages:` in these lines. None if there is no such comment.
 fn pages_value(lines: &[u8]) -> Option<&[u8]>
     ensures { option_map (λ value. fields_in value.now) result ≡ comment_fields (codes "%%Pages") (contents lines.now) }
 {

@@ -20,14 +20,14 @@ pub fn asked_is_read()
     ensures { AskedIsRead }
 {}
 
-/// If a booklet has blanks before its last page, that page is at the back of the booklet once it is folded.
+/// If the blanks that fill up a booklet are put before its last page, this page is at the back of the folded booklet.
 pub fn last_page_is_last()
     ensures { LastPageIsLast }
 {}
 
-/// On a begun sheet, the cells that were used before stay empty. The cells after them have the entries of the row; if these are cards, the cells have
-/// the entries that they would have on a whole sheet (`used`). Whole sheets of cards are those of a grid whose row has a copy of each entry for each
-/// cell (`cards`).
+/// On a begun sheet, the cells that were used before stay empty, and the row's entries follow in order. For cards, each further cell has the entry
+/// that it would have on a whole sheet (`used`). Whole sheets of cards are those of a grid whose row has a copy of each entry for each cell
+/// (`cards`).
 pub fn begun_leaves_used()
     ensures used { BegunLeavesUsed }
     ensures cards { CardsAreGrid }

@@ -66,7 +66,7 @@ impl Answer {
         }
     }
 
-    /// Appends bytes in quotes, on a line of their own.
+    /// Appends bytes in quotes, with escapes, and a line end.
     pub fn quoted_line(&mut self, bytes: &[u8]) {
         self.quoted(bytes);
         self.text("\n");
@@ -108,20 +108,20 @@ impl Answer {
         self.note(added.is_ok());
     }
 
-    /// Appends a value on a line of its own.
+    /// Appends a value and a line end.
     pub fn line<D: Display + Drop>(&mut self, value: D) {
         self.show(value);
         self.text("\n");
     }
 
-    /// Appends a label and a value, on a line of their own.
+    /// Appends a label, a space, a value and a line end.
     pub fn labelled<D: Display + Drop>(&mut self, label: &str, value: D) {
         self.text(label);
         self.text(" ");
         self.line(value);
     }
 
-    /// Appends two values on a line of their own.
+    /// Appends two values, with a space between them, and a line end.
     pub fn pair<A: Display + Drop, B: Display + Drop>(&mut self, one: A, other: B) {
         self.show(one);
         self.text(" ");
@@ -132,7 +132,7 @@ impl Answer {
         self.text(if is_so { "yes\n" } else { "no\n" });
     }
 
-    /// Appends an error on a line of its own: by its message in the form `Line`, otherwise by its name in the program.
+    /// Appends an error and a line end. The error is shown by its message in the form `Line`, otherwise by its name in the program.
     pub fn refusal<E: Debug + Display + Drop>(&mut self, error: E) {
         self.is_refused = true;
         if self.form == Form::Line {

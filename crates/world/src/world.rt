@@ -37,7 +37,7 @@ pub trait World: Sized + Drop {
     // The calls made so far, the number of failures, and the kind of error of the last failure.
     ghost seen: { Self → WorldView };
 
-    /// Opens the file of this name for reading, or takes standard input. A refusal is counted as a failure of the world.
+    /// Opens the file of this name for reading, or takes standard input if `name` is None. A refusal is counted as a failure of the world.
     fn open(&mut self, name: Option<&str>) -> io::Result<Self::Input>
         requires countable { (seen self.old).failures < u64.MAX }
         ensures given { IfOk result (λ input. Self.Input.remaining input ≡ gives self.old (option_map (λ n. n.now) name.entry)) }
@@ -70,8 +70,8 @@ pub trait World: Sized + Drop {
     fn is_input(&self, input: Option<&str>, file: &str) -> bool
         ensures { IfSome (same self.now (option_map (λ n. n.now) input.entry) file.now) (λ is. result ≡ is) };
 
-    /// Creates the file of this name, or empties it if it exists. None takes standard output. Nothing has been written to the new output. A refusal
-    /// is counted as a failure of the world.
+    /// Creates the file of this name, or empties it if it exists. If `name` is None, the output is standard output. Nothing has been written to the
+    /// new output. A refusal is counted as a failure of the world.
     fn create(self, name: Option<&str>) -> Result<Self::Output, Refused<Self>>
         requires countable { (seen self).failures < u64.MAX }
         ensures created { IfOk result (λ output. Self.Output.seen output ≡ fresh_output (told_if (tells self) (option_map (λ n. n.now) name.entry) [])) }

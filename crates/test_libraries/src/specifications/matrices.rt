@@ -47,7 +47,7 @@ fn matrix(out: &mut Answer, item: &Item, paper: &Paper) {
     out.text("\n");
 }
 
-/// Prints the four numbers of a matrix, in units of 10^-9, and its two lengths, in grains.
+/// Prints the matrix by which the item places a page of this paper: four numbers, in units of 10^-9, and two lengths, in grains.
 fn parts(out: &mut Answer, item: &Item, paper: &Paper) {
     let Matrix { a, b, c, d, tx, ty } = matrix_of(item, paper);
     for number in [a, b, c, d] {

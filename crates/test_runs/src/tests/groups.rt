@@ -32,7 +32,7 @@ fn document_of_pages(alloc: Global, long: &str) -> Result<String, AllocError> {
     )
 }
 
-/// The text of a sheet, put together from its parts. A long body of a page is borrowed, not copied.
+/// The text of a sheet, put together from its parts. The sheet has one slot, with the page whose body is `body`. A long body is borrowed, not copied.
 fn put_together<'r, R: Abort>(
     rt: &R,
     alloc: Global,
