@@ -257,7 +257,7 @@ def closed() -> int:
 
 def told(process: subprocess.Popen[bytes], sent: signal.Signals, asleep: Path) -> None:
     """Sends a signal when impose, for which a sleeper stands, is waited for."""
-    for _ in range(200):
+    for _ in range(600):
         if asleep.exists() or process.poll() is not None:
             break
         time.sleep(0.05)
