@@ -37,8 +37,8 @@ pub fn caret_below(alloc: Global, text: &str, place: usize) -> Result<String, Al
     format!(in alloc; "{above}{below}")
 }
 
-/// The place of a fault in the range that begins at byte `start` of this text. The place is the end of the longest prefix of the range with which a
-/// valid range begins, or `start` if the text can't be split there.
+/// The place of a fault in the range that begins at byte `start` of this text. The place is the end of the range's longest prefix that could still
+/// become a valid range, or `start` if the text can't be split there.
 pub fn range_place(text: &str, start: usize) -> usize {
     let Some((_, range)) = text.split_at_checked(start) else {
         return start;
@@ -67,8 +67,8 @@ fn behind_place(text: &str) -> &str {
     digits.trim_start_matches(|letter: char| letter.is_ascii_digit())
 }
 
-/// Whether `text` begins with a page at which a range can begin. `left` is the text after this page. `blank` and a `_` without a number aren't such
-/// pages.
+/// Whether `text` begins with a page at which a range can begin. `left` is the text after this page, from the minus sign on. `blank` and a `_`
+/// without a number aren't such pages.
 fn is_place(text: &str, left: &str) -> bool {
     left.len() < text.len() && !text.starts_with("blank") && !text.starts_with("_-")
 }

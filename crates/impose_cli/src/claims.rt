@@ -13,8 +13,8 @@ use papers::{Comment, document_paper, first_comment, first_name, is_at_end};
 use row_runs::declared_page_count;
 
 /// Facts that a document states in its comments, for the messages about the document. They are the number of pages that it declares, its paper's name
-/// if no paper of this name is known, and its creator. The name is left out if the command line names a paper for the pages. The creator is given
-/// only if its pages depend on the text before them. No memory is allocated.
+/// if no paper of this name is known, and its creator. The paper's name is left out if the command line names a paper for the pages. The creator is
+/// given only if it is a program whose pages depend on the text before them. No memory is allocated.
 pub(crate) fn claims_of(request: &ImposeRequest, input: &[u8]) -> Claims
     ensures { meaning.IsToldBy request.now input.now result }
 {
@@ -49,7 +49,8 @@ fn unknown_paper<'t>(request: &ImposeRequest, input: &'t [u8]) -> Option<&'t [u8
     }
 }
 
-/// The first name in the header's `%%DocumentPaperSizes:` (DSC 2.1). `None` if there is no such name, or if the document's paper is found by a name.
+/// The first name in the header's `%%DocumentPaperSizes:` (DSC 2.1). `None` if there is no such name, or if the document's paper is found in a
+/// comment that names papers or media.
 fn unknown_name<'t>(usual: &Paper, input: &'t [u8]) -> Option<&'t [u8]>
     ensures { option_map (λ name. name.now) result ≡ meaning.unknown_name usual.now input.now }
 {

@@ -151,8 +151,8 @@ pub(crate) fn laying_for(
     }
 }
 
-/// Checks that the margins leave some of a sheet of `sheet_paper`, whatever the size of the pages. The error is `NoRoom` if they leave nothing. If
-/// `sheet_paper` is `None`, or the layout has no cells, there is nothing to check.
+/// Checks that the margins leave some of a sheet of `sheet_paper`, whatever the size of the pages. The error is `NoRoom` if they leave nothing.
+/// Lengths out of range pass. If `sheet_paper` is `None`, or the layout has no cells, there is nothing to check.
 pub(crate) fn check_sheets(
     layout: &Layout,
     spacing: &Spacing,

@@ -10,8 +10,8 @@ use impose_words::{ImposeRequest, PageChoice, Product};
 use rows::{RowError, read_row};
 use std::alloc::Global;
 
-/// Makes the checks that don't need the document, so that a mistake is found before a byte is read. Refuses, in this order, a drawing over the input,
-/// an option without effect, a layout that isn't possible, and a text that isn't page ranges.
+/// Makes the checks that don't need the document, so that a mistake is found before a byte is read. Refuses, in this order, a drawing with the name
+/// of the input, an option without effect, a layout that isn't possible, and a text that isn't page ranges.
 pub fn check_request(alloc: Global, request: &ImposeRequest) -> Result<(), ImposeFault>
     ensures possible { OnOk result (MayBeRead request.now) }
     ensures refused { IfErr result (RefusesRequest request.now) }

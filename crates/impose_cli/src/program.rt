@@ -193,8 +193,8 @@ fn make<R: Threads + Wait + Sync, W: World>(
     }
 }
 
-/// Reads the file of this name, or standard input if there is no name. Returns its document, with room for the guard before it. The error is `Read`
-/// if the input can't be opened or read, or reports that memory was refused.
+/// Reads the file of this name, or standard input if there is no name. Returns its document, with room for the guard before it. The error is a lack
+/// of memory if memory was refused, otherwise `Read`.
 fn roomy_input<W: World>(
     alloc: Global,
     name: Option<&str>,
@@ -217,8 +217,8 @@ fn roomy_input<W: World>(
 /// The number of bytes before the document that are kept free for the guard. They are enough for sheets of any paper.
 const ROOM: u32 = 2_560;
 
-/// Reads an input of this world, and closes it. Returns its document, with room for the guard before it. The error is `Read` if the input can't be
-/// read, or reports that memory was refused.
+/// Reads an input of this world, and closes it. Returns its document, with room for the guard before it. The error is a lack of memory if memory was
+/// refused, otherwise `Read`.
 fn read_from<W: World>(
     alloc: Global,
     input: W::Input,

@@ -14,8 +14,8 @@ use papers::{PlacedPages, Reach, page_papers, reach_beyond};
 use rows::{RowError, imposed_row};
 use std::alloc::{AllocError, Global};
 
-/// The paper of each page: the one that the page names, or else the one that the document names. If neither names a paper, it is the paper that the
-/// command line names, or else the user's default paper.
+/// The paper of each page: the one that the page's comments give, or else the one that the document's comments or setup give. If none of these gives
+/// a paper, it is the paper that the command line names, or else the user's default paper.
 fn told_own(
     alloc: Global,
     request: &ImposeRequest,
@@ -27,9 +27,9 @@ fn told_own(
     page_papers(alloc, document, None, &usual)
 }
 
-/// The pages of the request's row that reach beyond `papers`, the papers by which they are placed. `own` has the papers that the request finds for
-/// the document's pages. With `cut_apart`, pages that the paper of `--paper` cuts are left out, because they are reported separately. `None` if no
-/// page is left, or if the choice gives no row.
+/// The pages of the request's row that reach more than one point beyond `papers`, the papers by which they are placed. `own` has the papers that the
+/// request finds for the document's pages. With `cut_apart`, pages that the paper of `--paper` cuts are left out, because they are reported
+/// separately. `None` if no page is left, or if the choice gives no row.
 pub(crate) fn reach_of_row(
     alloc: Global,
     request: &ImposeRequest,
@@ -50,9 +50,9 @@ pub(crate) fn reach_of_row(
     }
 }
 
-/// The pages of the request's row that reach beyond `papers`, the papers by which they are placed. `own` has the papers that the pages have without
-/// `--paper`. With `cut_apart`, pages that are cut by their paper in `papers` are left out, because they are reported separately. `None` if no page
-/// is left, or if the choice gives no row.
+/// The pages of the request's row that reach more than one point beyond `papers`, the papers by which they are placed. `own` has the papers that the
+/// pages have without `--paper`. With `cut_apart`, pages that are cut by their paper in `papers` are left out, because they are reported separately.
+/// `None` if no page is left, or if the choice gives no row.
 fn reach_of_pages(
     alloc: Global,
     request: &ImposeRequest,
@@ -93,8 +93,8 @@ fn reach_on_row(
     }))
 }
 
-/// The pages of the request's row that reach beyond this paper, by which all pages are placed. They include pages that the paper cuts. `None` if
-/// there are no such pages, or if the choice gives no row.
+/// The pages of the request's row that reach more than one point beyond this paper, by which all pages are placed. They include pages that the paper
+/// cuts. `None` if there are no such pages, or if the choice gives no row.
 pub(crate) fn reach_over(
     alloc: Global,
     request: &ImposeRequest,

@@ -54,13 +54,13 @@ pub(crate) struct RowTask {
     pub(crate) text: RoomyText,
     pub(crate) page_paper: Paper,
     pub(crate) origin: PaperOrigin,
-    /// The turn of each page. Empty if no page is to be turned.
+    /// The turn of each page. Empty without `--turn`.
     pub(crate) turns: Vec<Turn>,
     /// The papers by which the document's pages are placed, each turned with its page.
     pub(crate) papers: Vec<Paper>,
-    /// The pages that `--paper` cuts.
+    /// The imposed pages that `--paper` cuts. For a specification they are in `reach`.
     pub(crate) cut: Option<Cut>,
-    /// The pages that reach beyond the papers by which they are placed.
+    /// The imposed pages that reach more than one point beyond the papers by which they are placed.
     pub(crate) reach: Option<Reach>,
     /// The number of pages after the document's trailer.
     pub(crate) behind: usize,
@@ -109,17 +109,17 @@ pub(crate) fn row_task(
 struct FoundPapers {
     /// The number of pages.
     pages: u32,
-    /// The paper for which sheets and cells are made.
+    /// The paper for which sheets and cells are made, before any turn.
     page_paper: Paper,
     /// Where `page_paper` is taken from.
     origin: PaperOrigin,
-    /// The turn of each page. Empty if no page is to be turned.
+    /// The turn of each page. Empty without `--turn`.
     turns: Vec<Turn>,
     /// The papers by which the pages are placed, each turned with its page.
     papers: Vec<Paper>,
-    /// The pages that `--paper` cuts.
+    /// The imposed pages that `--paper` cuts. For a specification they are in `reach`.
     cut: Option<Cut>,
-    /// The pages that reach beyond the papers by which they are placed.
+    /// The imposed pages that reach more than one point beyond the papers by which they are placed.
     reach: Option<Reach>,
     /// The number of pages after the trailer.
     behind: usize,
@@ -243,7 +243,7 @@ fn papers_in(
     })
 }
 
-/// The turn of each page of these papers, and the papers after these turns. If no page is to be turned, no turns are listed.
+/// The turn of each page of these papers, and the papers after these turns. For `Turning::All(Turn::None)` no turns are listed.
 #[tactic(auto, using(crate::proofs::Rows::unturned_papers))]
 fn turned_pages(
     alloc: Global,
@@ -277,9 +277,9 @@ fn each_turned(
     Ok((turns, turned))
 }
 
-/// The paper for which sheets and cells are made, and where it is taken from. It is the paper that `paper_of_pages` finds, if a page of the row has
-/// nearly this size, or if the row has no page. Otherwise it is the paper of the row's first page. A specification always takes the paper that
-/// `paper_of_pages` finds.
+/// The paper for which sheets and cells are made, before any turn, and where it is taken from. It is the paper that `paper_of_pages` finds, if a page
+/// of the row has nearly this size, or if the row has no page. Otherwise it is the paper of the row's first page. A specification always takes the
+/// paper that `paper_of_pages` finds.
 fn paper_of_row(request: &ImposeRequest, input: &[u8], taken: &[Paper]) -> (Paper, PaperOrigin)
     ensures { result ≡ paper_for request.now.layout (page_paper_found request.now.page_paper request.now.default_paper input.now) taken.now }
 {
@@ -293,8 +293,8 @@ fn paper_of_row(request: &ImposeRequest, input: &[u8], taken: &[Paper]) -> (Pape
     }
 }
 
-/// The paper that takes the place of `paper`. In a selection, papers of nearly the same size among `taken`, the papers of the row's pages, count as
-/// one. A blank sheet of nearly that size thus gets the same paper as these pages. In other layouts the result is `paper`.
+/// The paper that takes the place of `paper`. In a selection, `paper` counts as one with the papers of nearly its size in `taken`, the papers of the
+/// row's pages. A blank sheet thus gets the same paper as pages of nearly its size. In other layouts the result is `paper`.
 fn counted_paper(
     alloc: Global,
     layout: &Layout,
@@ -419,7 +419,8 @@ fn first_paper(
     }
 }
 
-/// The paper of the sheet for a row's first entry. It is `blank` if the entry is blank, or if the row is empty.
+/// The paper of the sheet for a row's first entry. It is `blank` if the row is empty, if the entry is blank, or if `papers` doesn't have the entry's
+/// page.
 fn paper_of_first(row: &[Option<u32>], papers: &[Paper], blank: &Paper) -> Paper
     ensures { result ≡ first_paper_of (Ok row.now) papers.now blank.now }
 {

@@ -267,7 +267,8 @@ fn write_job<R: Threads + Wait + Sync, W: World>(
     write_asked::<Brand, R, W>(rt, alloc, job, Asked { name, world })
 }
 
-/// Does the work of `write_job`. The parameter `B` lets contracts name the output and the state of the world before the output is created.
+/// Does the work of `write_job`. The parameter `B` lets contracts refer to the output's name, and to the state of the world before the output is
+/// created.
 fn write_asked<B: Before, R: Threads + Wait + Sync, W: World>(
     rt: &R,
     alloc: Global,

@@ -62,7 +62,8 @@ fn counted(count: u32, is_taken: bool) -> u32
     if is_taken { count + 1 } else { count }
 }
 
-/// The papers of the pages in a row, in the order of the row. Blanks have no paper. `own` has the papers of all pages of the document.
+/// The papers of the pages in a row, in the order of the row. Blanks, and pages that `own` doesn't have, are left out. `own` has the papers of all
+/// pages of the document.
 pub(crate) fn papers_on_row(
     alloc: Global,
     row: &[Option<u32>],
@@ -77,7 +78,7 @@ pub(crate) fn papers_on_row(
     Ok(papers)
 }
 
-/// Appends the paper of an entry's page, unless the entry is blank.
+/// Appends the paper of an entry's page, unless the entry is blank or `own` doesn't have the page.
 fn push_paper(papers: &mut Vec<Paper>, own: &[Paper], entry: &Option<u32>) -> Result<(), AllocError>
     ensures { OnOk result (papers.new.items
         ≡ papers.old.items ++ or_without (option_and_then (slice_get own.now) entry.now) []) }

@@ -54,13 +54,13 @@ pub struct Task {
 /// The counts of a document's pages, which are all placed by one paper, and the pages that reach beyond that paper.
 #[derive(Clone, Copy)]
 pub struct CountedPages {
-    /// The number of all pages.
+    /// The number of pages, without those after the trailer.
     pub pages: u32,
     /// The number of pages after the trailer.
     pub behind: usize,
     /// The number of pages that are imposed. A page that is imposed several times counts once.
     pub taken: u32,
-    /// The pages that reach beyond the paper by which they are placed. `None` if no page does.
+    /// The imposed pages that reach more than one point beyond the paper by which they are placed. `None` if no page does.
     pub reach: Option<Reach>,
 }
 
@@ -104,7 +104,7 @@ fn check_spec(alloc: Global, specs: &str) -> Result<(), ImposeFault>
 }
 
 /// Whether a specification can express the request, apart from its layout and creep. The request must not choose or turn pages, skip cells, keep the
-/// last page at the back, or draw marks or numbers. Nor may it ask for one scale or exchange margins on backs.
+/// last page at the back, or draw marks or numbers. Nor may it ask for the same scale for all pages, or exchange margins on backs.
 fn is_said(request: &ImposeRequest) -> bool
     ensures { result ≡ says request.now }
 {
@@ -204,7 +204,7 @@ fn has_specification(layout: &Layout) -> bool
     matches!(layout, Layout::NUp(_) | Layout::Booklet { .. })
 }
 
-/// The document, with the guard if `is_guarded`. `Document::from_parts` can read this text with the parts of the document. The only error is refused
+/// The document, with the guard if `is_guarded`. `Document::from_parts` can read this text with the parts of `input`. The only error is refused
 /// memory.
 pub(crate) fn text_to_impose(
     is_guarded: bool,

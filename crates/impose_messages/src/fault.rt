@@ -33,7 +33,7 @@ pub enum ImposeFault {
         place: usize,
         pages: u32,
     },
-    /// A page or its number would be placed 100,000 points or more away from the sheet's corner, because it is shifted on a back or turned.
+    /// A page would get an offset of 100,000 points or more, because it is shifted on a back or turned.
     OutOfReach,
     /// The sheets made from the row can't be planned.
     Sheets(MadeError),

@@ -43,13 +43,13 @@ pub struct Claims {
 #[derive(Drop)]
 pub struct Finished {
     pub report: Report,
-    /// The paper of the pages.
+    /// The paper of the pages, before any turn.
     pub page_paper: Paper,
     /// Where `page_paper` is taken from.
     pub origin: PaperOrigin,
-    /// The pages that `--paper` cuts. If a specification places the pages, this is `None`, and `reach` includes the cut pages.
+    /// The imposed pages that `--paper` cuts. If a specification places the pages, this is `None`, and `reach` includes the cut pages.
     pub cut: Option<Cut>,
-    /// The pages that reach beyond the papers by which they are placed on sheets. `None` if no page does.
+    /// The imposed pages that reach more than one point beyond the papers by which they are placed on sheets. `None` if no page does.
     pub reach: Option<Reach>,
     /// The number of pages after the document's trailer, which aren't imposed.
     pub behind: usize,

@@ -18,8 +18,8 @@ use suggestions::{is_range, joined_texts, looks_like_file, shown_word, value_tex
 
 const OUT_OF_MEMORY: &str = "out of memory";
 
-/// The message about a fault, without a line end. It is empty for words that the command doesn't take, because `words_text` makes the message about
-/// those. `request` is `None` if the command line was refused. The only error is running out of memory.
+/// The message about a fault, without a line end. It is empty for `RequestFault::Words`, because `words_text` makes the message about it. `request`
+/// is `None` if the command line was refused. The only error is running out of memory.
 pub fn fault_text(
     alloc: Global,
     fault: &ImposeFault,
@@ -151,8 +151,8 @@ fn idle_message(option: IdleOption) -> &'static str {
     }
 }
 
-/// The message about an output file that holds another program's document. If INFILE is most likely a second page range, it says that ranges are one
-/// word. Otherwise it says how to write the sheets.
+/// The message about an output file that holds another program's document. If INFILE is most likely a second page range, the message says that ranges
+/// are one word. Otherwise it says how to write the sheets.
 fn over_document_text(alloc: Global, context: &Context<'_>) -> Result<String, AllocError> {
     let name = file_name(alloc, context.written, "standard output")?;
     if has_second_range(context) {
@@ -225,8 +225,8 @@ fn with_cause(alloc: Global, text: &str, cause: &Option<io::Error>) -> Result<St
     }
 }
 
-/// The message about a command line that is refused, without a line end. It is empty for words that the command doesn't take, because `words_text`
-/// makes the message about those.
+/// The message about a command line that is refused, without a line end. It is empty for `RequestFault::Words`, because `words_text` makes the
+/// message about it.
 pub fn command_text(alloc: Global, fault: &RequestFault) -> Result<String, AllocError> {
     let message = match fault {
         RequestFault::Words(_) => "",

@@ -16,7 +16,7 @@ use lengths::{Grains, Paper};
 use papers::{Comment, Cut, Edges, Reach};
 
 /// Appends the report: the counts, the size of the pages' paper, where that paper is taken from, and the size of the sheets if it differs from that
-/// of the pages' paper.
+/// of the pages' paper. Both sizes are those before any turn.
 pub(crate) fn push_report(said: &mut ReportText, done: &Finished, request: &ImposeRequest)
     requires room { length said.old + 693 ≤ most_said }
     ensures text { said.new ≡ said.old ++ report_text done.now request.now }

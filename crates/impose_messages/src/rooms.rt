@@ -9,7 +9,7 @@ use layouts::{HUNDRED_THOUSANDTH, Room, extent, grains, in_grains};
 use lengths::{Grains, Paper, print_points};
 use std::alloc::{AllocError, Global};
 
-/// The message about margins and gaps that leave no room for pages. It gives the lengths of the margins, the size that they leave, and the size of
+/// The message about margins and gaps that leave no room for pages. It gives the sums of opposite margins, the size that they leave, and the size of
 /// the sheet. It also gives the lengths of the gaps if the margins leave some room. All lengths are in points. The only error is running out of
 /// memory.
 pub(crate) fn no_room_text(alloc: Global, room: &Room) -> Result<String, AllocError>

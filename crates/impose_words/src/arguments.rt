@@ -204,7 +204,7 @@ const DUPLEX: [Argument; 1] = [Argument::Flag(
     "Arrange the pages for sheets that are printed on both sides",
 )];
 
-/// The options of `nup` that concern cells, apart from the number of cells. The sheets of `nup` have an edge at which they are bound.
+/// The options of `nup` that concern cells, apart from `--skip`. The sheets of `nup` have an edge at which they are bound.
 const BOUND_CELLS: [Argument; 11] = [
     ORDER,
     TURNED,
@@ -219,7 +219,7 @@ const BOUND_CELLS: [Argument; 11] = [
     RTL,
 ];
 
-/// The options of `cards` and `stack` that concern cells, apart from the number of cells.
+/// The options that concern cells and that both `cards` and `stack` have.
 const CELLS: [Argument; 11] = [
     ORDER,
     TURNED,
@@ -438,7 +438,7 @@ fn with_groups<'a>(
     Ok(command)
 }
 
-/// The arguments of a group, in the order in which the help lists them.
+/// The arguments of a group, in the order in which the command gets them.
 fn arguments_in(group: Group) -> &'static [Argument]
     ensures { map rule_in result.now ≡ rules_in group }
 {

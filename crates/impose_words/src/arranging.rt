@@ -55,8 +55,8 @@ fn exactly(columns: u32, rows: u32) -> Option<Cells>
     }
 }
 
-/// The tiles of a poster that the text names: by their columns and rows, or `auto` for at least one tile. `None` for any other text, and for 0 or more
-/// than 1,024 tiles.
+/// The tiles that the text names for a poster: columns and rows with an `x` between them, or `auto`, which gives `Cells::AtLeast(1)`. `None` for any
+/// other text, and for 0 or more than 1,024 tiles.
 pub fn tiles_named(text: &str) -> Option<Cells>
     ensures { result ≡ meaning.tiles_named text.now }
 {
@@ -104,7 +104,8 @@ pub fn run_named(text: &str) -> Option<(FillOrder, bool)>
     }
 }
 
-/// The turn of pages that the text names: `left`, `right`, `half` or `wide`. `None` for another text.
+/// The turns of pages that the text names: `left`, `right` or `half` for all pages, or `wide` for pages that are wider than high. `None` for another
+/// text.
 pub(crate) fn turn_named(text: &str) -> Option<Turning>
     ensures { result ≡ meaning.turn_named text.now }
 {
@@ -178,7 +179,7 @@ const SMALLEST_NUMBERS: i128 = 12_700_000_000;
 /// The largest size of page numbers, in grains: 72 points.
 const LARGEST_NUMBERS: i128 = 9_144_000_000_000;
 
-/// The size of page numbers that the text names. `None` unless it is a length from a tenth of a point to 72 points.
+/// The size of page numbers that the text names. `None` unless the text is a length from a tenth of a point to 72 points.
 pub(crate) fn number_size_named(text: &str) -> Option<Grains>
     ensures { result ≡ meaning.number_size_named text.now }
 {

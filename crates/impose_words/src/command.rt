@@ -45,14 +45,15 @@ use std::alloc::Global;
 ///
 /// The sizes: an unknown paper after `--paper`, then after `--sheet`; a border that isn't a length, or is negative; an unknown turn.
 ///
-/// The layout: a missing argument; cells that a sheet can't have; a signature that leaves can't have; a value of `--skip` that isn't a number below
-/// the number of a sheet's cells.
+/// The layout: a missing argument; a number or grid that the command doesn't take; a signature that leaves can't have; a value of `--skip` that isn't
+/// a number below the number of a sheet's cells.
 ///
 /// The spacing: margins or gaps in none of the forms of these options; a trim, creep or overlap that isn't a length.
 ///
-/// The order and scale: an unknown order; an unknown side after `--turned`; no number after `--scale`.
+/// The order and scale: an unknown order; an unknown side after `--turned`; a scale that isn't a number.
 ///
-/// The marks: marks that the layout doesn't have; no size after `--numbers`; no number after `--numbers-from`, or this option without `--numbers`.
+/// The marks: marks that the layout doesn't have; a value of `--numbers` that isn't a length from a tenth of a point to 72 points; a value of
+/// `--numbers-from` that isn't a whole number, or this option without `--numbers`.
 ///
 /// The pages and files: both `--odd` and `--even`; an OUTFILE other than `-` that begins with a minus sign; two of `--print-spec`, `--plan` and
 /// `--preview`; a file after `--preview`, other than `-`, whose name doesn't end in `.svg`.
@@ -217,7 +218,7 @@ fn border_of(found: &ArgMatches<'_>) -> Option<Option<Grains>>
     }
 }
 
-/// The requested turn of pages, which is none without `--turn`. `None` if the option's value names no turn.
+/// The pages to turn and their turn, as `--turn` names them. Without the option no page is turned. `None` if the option's value is refused.
 fn turn_of(found: &ArgMatches<'_>) -> Option<Turning>
     ensures { result ≡ turn_found (rows_of (found_of found.now)) }
 {
@@ -259,7 +260,7 @@ fn layout_of(alloc: Global, name: &str, found: &ArgMatches<'_>) -> Result<Layout
     }
 }
 
-/// The layout of a command whose first argument names cells.
+/// The layout of a command whose first argument names cells or, for a poster, sheets.
 fn cells_layout(
     alloc: Global,
     command: CellCommand,
@@ -287,9 +288,8 @@ fn cells_layout(
     })
 }
 
-/// The cells that the text after a command names. For notes the text is a number of pages. For a poster it is the columns and rows of sheets, or
-/// `auto`.
-/// `None` if the text names no cells that a sheet can have.
+/// The cells that the first argument of this command names. For notes the argument is a number of pages. For a poster it is columns and rows of
+/// sheets, or `auto`. `None` if the command doesn't take the argument.
 fn cells_in(command: CellCommand, text: &str) -> Option<Cells>
     ensures { result ≡ cells_of_command command text.now }
 {
@@ -405,7 +405,7 @@ fn skip_among(found: &ArgMatches<'_>, cells: u64) -> Option<u32>
 }
 
 /// The requested margins, gaps, trim, creep and overlap, the order in which cells are filled, and the scale of pages. A layout that takes none of
-/// these gets `Spacing::none()`. The error is the first option that has an invalid value.
+/// these has them as in `Spacing::none()`. The number of skipped cells is `skipped`. The error is the first option that has an invalid value.
 fn spacing_of(layout: &Layout, skipped: u32, found: &ArgMatches<'_>) -> Result<Spacing, OptionId>
     ensures read { IfOk result (SpacesBy (keeps_room layout.now) (rows_of (found_of found.now))) }
     ensures skipped { IfOk result (λ spacing. spacing.skipped ≡ skipped) }
@@ -484,7 +484,8 @@ fn length_of(found: &ArgMatches<'_>, option: OptionId) -> Option<Grains>
     }
 }
 
-/// The order in which cells are filled. With `--rtl`, any order runs from right to left. The error is the first option that has an invalid value.
+/// The order in which cells are filled, and the side to which a sheet is turned to read its pages. With `--rtl`, any order runs from right to left.
+/// The error is the first option that has an invalid value.
 fn order_of(found: &ArgMatches<'_>) -> Result<Order, OptionId>
     ensures read { IfOk result (λ order. order_found (rows_of (found_of found.now)) ≡ Some order) }
     ensures refused { IfErr result (λ option. wrong_order (rows_of (found_of found.now)) ≡ Some (NoValue option)) }
@@ -533,7 +534,8 @@ fn scale_of(found: &ArgMatches<'_>) -> Option<Option<Number>>
     }
 }
 
-/// The requested marks and page numbers. A layout that can't have them has none. The error is the first option that has an invalid value.
+/// The requested marks and page numbers that the layout can have, and the ruled lines that sheets with cells for notes always have. The error is the
+/// first option that has an invalid value.
 fn marks_of(layout: &Layout, found: &ArgMatches<'_>) -> Result<Marks, OptionId>
     ensures read { IfOk result (λ marks. marks_found layout.now (rows_of (found_of found.now)) ≡ Some marks) }
     ensures refused { IfErr result (λ option. wrong_marks layout.now (rows_of (found_of found.now)) ≡ Some (NoValue option)) }
@@ -543,8 +545,8 @@ fn marks_of(layout: &Layout, found: &ArgMatches<'_>) -> Result<Marks, OptionId>
     Ok(Marks { numbers, ..lines })
 }
 
-/// The requested fold and cut marks, or the ruled lines that sheets with cells for notes always have. The error is the option that has an invalid
-/// value.
+/// The requested fold and cut marks that the layout can have, or the ruled lines that sheets with cells for notes always have. The error is the
+/// option that has an invalid value.
 fn lines_of(layout: &Layout, found: &ArgMatches<'_>) -> Result<Marks, OptionId>
     ensures read { IfOk result (λ marks. lines_found layout.now (rows_of (found_of found.now)) ≡ Some marks) }
     ensures refused { IfErr result (λ option. wrong_lines layout.now (rows_of (found_of found.now)) ≡ Some (NoValue option)) }
@@ -565,7 +567,7 @@ fn lines_of(layout: &Layout, found: &ArgMatches<'_>) -> Result<Marks, OptionId>
 }
 
 /// The requested page numbers: their size, and the number of the first page. `None` without `--numbers`, and for a layout that can't have page
-/// numbers. The error is the first option that has an invalid value.
+/// numbers. The error is the first option that has an invalid value, or `--numbers-from` without `--numbers`.
 fn numbering_option(layout: &Layout, found: &ArgMatches<'_>) -> Result<Option<Numbering>, OptionId>
     ensures read { IfOk result (λ numbers. numbers_found layout.now (rows_of (found_of found.now)) ≡ Some numbers) }
     ensures refused { IfErr result (λ option.

@@ -11,7 +11,7 @@ use lengths::Grains;
 pub struct Margins {
     /// The margins along the four edges of the sheet.
     pub free: Free,
-    /// The margin along the edge at which leaves are bound, if it is named.
+    /// The margin along the edge at which leaves are bound. `None` if this edge isn't named.
     pub inner: Option<Grains>,
 }
 

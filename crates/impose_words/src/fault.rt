@@ -2,8 +2,8 @@
 use clap::Error as WordsError;
 use std::alloc::AllocError;
 
-/// A subcommand whose first argument names the cells of a sheet. The argument of `notes` counts only the cells of pages, each of which has a cell for
-/// notes beside it. The argument of `poster` names sheets, not cells.
+/// A subcommand whose first argument names the cells of a sheet or, for `poster`, the sheets of a poster. The argument of `notes` counts only the
+/// cells of pages, each of which has a cell for notes beside it.
 #[derive(Clone, Copy, Debug, PartialEq, Eq)]
 pub enum CellCommand {
     NUp,
@@ -93,7 +93,7 @@ pub enum RequestFault {
     NoText,
     /// Clap accepts the command line, but it lacks a subcommand or one of the subcommand's arguments.
     Lacking,
-    /// The argument or option doesn't take this text as its value.
+    /// The argument or option doesn't take this text as its value, or the option is `--numbers-from` without `--numbers`.
     BadValue(OptionId, String),
     /// Both `--odd` and `--even` are given.
     OddAndEven,

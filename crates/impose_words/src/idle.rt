@@ -13,7 +13,7 @@ pub enum IdleOption {
     Outfile,
     /// `--sheet`, although the layout leaves each page on a sheet of the page's own size.
     Sheet,
-    /// Cut marks, although the margins have no room for them.
+    /// Cut marks that would all be in the margins, although the margins have no room for them.
     CutMarks,
     /// A margin at the inner edge, although sheets of this layout have no inner edge.
     Inner,

@@ -32,7 +32,8 @@ pub enum Layout {
     Notes {
         pages: u32,
     },
-    /// Each page spread over this grid of sheets, or over the grid of the fewest sheets that hold the page at its scale.
+    /// Each page spread over this grid of sheets, or over the grid of the fewest sheets that hold a page of the document's paper at the requested
+    /// scale.
     Poster(Cells),
     /// Two pages on each side of a leaf. The leaves are folded and sewn in the signatures that `signing` gives. With `long_edge`, backs are turned
     /// for printers that flip on the long edge.
@@ -89,7 +90,8 @@ impl Layout {
     }
 }
 
-/// The margins and gaps of sheets, the creep of leaves, the order in which cells are filled, and the scale of pages.
+/// The margins and gaps of sheets, the creep of leaves, the overlap of posters, the order in which cells are filled, the cells that are used already,
+/// and the scale of pages.
 #[derive(Clone, Copy)]
 pub struct Spacing {
     /// The margins along the edges of sheets, the gaps between cells, and the trim of pages.
@@ -101,9 +103,9 @@ pub struct Spacing {
     pub creep: Grains,
     /// The width of the strip of a page that is on both of two neighbouring sheets of a poster.
     pub overlap: Grains,
-    /// The order in which pages fill the cells. If it runs from right to left, a booklet is bound at the right.
+    /// The order in which pages fill the cells. If it runs from right to left, a booklet or zine is bound at the right.
     pub order: Order,
-    /// The scale of the pages. `None` for pages that are as large as possible.
+    /// The scale of the pages. `None` for pages that are as large as possible. On a poster of the fewest sheets, `None` is the scale 1.
     pub scale: Option<Number>,
     /// Whether all pages have one scale, the least of the scales that they would have otherwise.
     pub same_scale: bool,

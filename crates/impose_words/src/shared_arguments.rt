@@ -1,4 +1,4 @@
-//! Arguments that several subcommands have.
+//! Arguments that several subcommands have, and forms of `--margin` and `--sheet` that one subcommand has.
 use crate::arguments::Argument;
 
 pub(crate) const ORDER: Argument = Argument::Valued(
@@ -50,7 +50,7 @@ pub(crate) const MARGIN: Argument = Argument::Valued(
     "Leave margins along the edges of a sheet: 5mm, SIDES,ENDS, TOP,RIGHT,BOTTOM,LEFT or left=2cm",
 );
 
-/// The option `--margin` for folded sheets, whose margins are equal on opposite edges.
+/// The option `--margin` for zines, whose margins are equal on opposite edges.
 pub(crate) const OPPOSITE_MARGIN: Argument = Argument::Valued(
     "margin",
     "LENGTHS",

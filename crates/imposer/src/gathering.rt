@@ -303,7 +303,7 @@ fn out_of_memory<'d>(written: u64) -> Gathered<'d>
 }
 
 /// The result once all workers have ended. If their results were lost (`ended` is None), the error is `NoMemory`. Otherwise the remaining output is
-/// written.
+/// written, unless writing has been halted.
 fn finish<'d, S: Sink>(
     alloc: Global,
     job: &Job<'_, 'd>,

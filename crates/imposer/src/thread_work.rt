@@ -8,7 +8,7 @@ use std::thread::Promise;
 
 /// The work of preparers, on an object that all threads share (`Self`). An `H` holds the tokens with which a worker makes its calls. The worker
 /// returns its `H` when its work ends. An `H` has shares. The caller begins with several shares, gives one to each worker, and has all of them back
-/// once all workers are joined.
+/// once all workers are joined, unless memory or a thread was refused.
 ///
 /// The code that starts and joins threads sees no lifetime in `H` or `Self`. With a lifetime, the promise of a thread couldn't be proved.
 pub trait Work<H> {

@@ -116,7 +116,7 @@ impl Window {
         self.lifted.store(true, SeqCst);
     }
 
-    /// Yields the processor once, or sleeps for at most 400 microseconds. Nothing wakes a sleeping thread earlier.
+    /// Spins briefly, yields the processor once, or sleeps for at most 400 microseconds. Nothing wakes a sleeping thread earlier.
     pub(crate) fn rest<R: Wait>(&self, rt: &R, idling: &mut Idling) {
         if self.step == 1 && !idling.backoff.is_completed() {
             idling.backoff.snooze();
@@ -135,8 +135,8 @@ impl Window {
     }
 }
 
-/// The way in which a thread waits for work. If sheets are large, it first yields the processor a few times, and then takes short naps, until it has
-/// found work. If sheets are small, it takes a nap at once, and each nap is twice as long as the one before, up to the longest.
+/// The way in which a thread waits for work. If sheets are large, it first spins and yields the processor a few times, and then takes short naps,
+/// until it has found work. If sheets are small, it takes a nap at once, and each nap is twice as long as the one before, up to the longest.
 #[derive(Drop)]
 pub(crate) struct Idling {
     backoff: Backoff,
@@ -147,7 +147,7 @@ pub(crate) struct Idling {
 }
 
 impl Idling {
-    /// Notes that work was found. A thread that yields before its naps yields again when it next waits.
+    /// Notes that work was found. A thread that spins and yields before its naps does so again when it next waits.
     pub(crate) fn end(&self) {
         self.backoff.reset();
     }

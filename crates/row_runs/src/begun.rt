@@ -19,8 +19,8 @@ pub enum Begun {
     Cards { cells: u64, used: u32 },
 }
 
-/// The row as it is laid. If `signing` is given, the row is put into signatures. Otherwise it gets the blanks at its start, and the copies for cards,
-/// that `begun` asks for. Fails with `AllocError` if memory is refused, or if there would be more than 4,000,000 copies.
+/// The row as it is laid. If `signing` is given, the row is put into signatures. Otherwise it is the row that `begun_row` gives. Fails with
+/// `AllocError` if memory is refused, or if there would be more than 4,000,000 copies.
 pub(crate) fn laid_row(
     alloc: Global,
     row: Vec<Option<u32>>,
@@ -38,8 +38,8 @@ pub(crate) fn laid_row(
     }
 }
 
-/// The row with the blanks at its start, and the copies for cards, that `begun` asks for. Fails with `AllocError` if memory is refused, or if there
-/// would be more than 4,000,000 copies.
+/// The row after a blank for each cell that is already used. For cards, each entry is copied, and the blanks replace the first copies. Fails with
+/// `AllocError` if memory is refused, or if there would be more than 4,000,000 copies.
 fn begun_row(
     alloc: Global,
     row: Vec<Option<u32>>,
@@ -83,7 +83,7 @@ fn without_first(used: u32, entries: &[Option<u32>]) -> &[Option<u32>]
     }
 }
 
-/// Each entry of the row `cells` times. Fails with `AllocError` if memory is refused, or if there would be more than 4,000,000 entries.
+/// Each entry of the row `cells` times. Fails with `AllocError` if memory is refused, or if `cells` or the number of copies is above 4,000,000.
 fn copies_of(alloc: Global, cells: u64, row: &[Option<u32>]) -> Result<Vec<Option<u32>>, AllocError>
     ensures { IfOk result (λ copies. copies.items ≡ flat_map (replicate cells) row.now) }
 {

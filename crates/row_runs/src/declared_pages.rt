@@ -22,7 +22,7 @@ pub fn declared_page_count(text: &[u8]) -> Option<usize>
 }
 
 /// The number of pages that `field`, the first field of the header's `%%Pages:`, declares. If the field is `(atend)`, the number is read from the
-/// first `%%Pages:` after the last `%%Trailer` line. None if there is no number.
+/// first `%%Pages:` that follows the last `%%Trailer` line and isn't in an embedded document. None if there is no number.
 fn count_by(field: &[u8], text: &[u8]) -> Option<usize>
     ensures { result ≡ meaning.count_by field.now (meaning.last_lines text.now) }
 {

@@ -23,10 +23,10 @@ pub enum SheetError {
     /// The sheets can't be planned. Refused memory is reported as `SheetError::NoMemory`.
     #[error(transparent)]
     Sheets(MadeError),
-    /// A page or its number would be placed 100,000 points or more away from the sheet's corner, because it is shifted on a back or turned.
+    /// A page would get an offset of 100,000 points or more, because it is shifted on a back or turned.
     #[error("a page would be placed 100,000 points or more away")]
     OutOfReach,
-    /// Memory was refused.
+    /// Memory was refused, or cards on a begun sheet would have more than 4,000,000 copies.
     #[error("out of memory")]
     NoMemory,
 }

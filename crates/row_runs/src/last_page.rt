@@ -9,8 +9,9 @@ use std::alloc::AllocError;
 
 const MOST_ENTRIES: usize = 1_000_000;
 
-/// The row, with the blanks that fill up its last signature inserted before the row's last entry. So the last page is at the back of the booklet. The
-/// row is unchanged if it has no signatures or fills them. It never gets more than 1,000,000 entries. The only error is refused memory.
+/// The row, with the blanks that fill up its last signature inserted before the row's last entry, which is then at the back of the booklet. Blanks
+/// that would make more than 1,000,000 entries are left out. The row is unchanged if it has no signatures or fills them. The only error is refused
+/// memory.
 pub(crate) fn last_at_back(
     row: Vec<Option<u32>>,
     signing: Option<Signing>,

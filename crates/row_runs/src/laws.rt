@@ -9,8 +9,8 @@ ghost use Rattle.row_runs.specs.NumbersLie.{NumbersInCells, NumbersInHalves};
 ghost use Rattle.row_runs.specs.Written.{NothingIsMoved, TurnedStaysInCell, UprightIsUnturned, WrittenAreRead, WrittenInCells, WrittenInPlaces, WrittenIsBound, WrittenKeepRoom, WrittenStand};
 
 /// On sheets as they are laid, pages are fitted into their cells, in reading order. Stacks and leaves are in the order of the row once their sheets
-/// are cut and piled, and zines once their sheets are folded and cut. The fold marks of a booklet are on its fold. Each point of a page that is made
-/// into a poster is on at least one of the page's sheets.
+/// are cut and piled, and zines once their sheets are folded and cut. The fold marks of a booklet whose halves have room for pages are on its fold.
+/// Each point of a page that is made into a poster is on at least one of the page's sheets.
 pub fn asked_stand_in_places()
     ensures { AskedStandInPlaces }
 {}
@@ -20,7 +20,8 @@ pub fn asked_is_read()
     ensures { AskedIsRead }
 {}
 
-/// If the blanks that fill up a booklet are put before its last page, this page is at the back of the folded booklet.
+/// Suppose that a row has at most 1,000,000 entries once blanks fill up its last signature. If these blanks are put before the row's last entry, this
+/// entry is at the back of the folded booklet.
 pub fn last_page_is_last()
     ensures { LastPageIsLast }
 {}
@@ -45,7 +46,7 @@ pub fn turned_stands()
 {}
 
 /// If pages lie between the margins of a sheet and apart from each other, they still do so after left and right margins are exchanged on backs
-/// (`stands`). This law needs offsets in points, which fitted pages have (`points`).
+/// (`stands`). This law needs offsets in points, which pages on a grid have (`points`).
 pub fn swapped_stands()
     ensures stands { SwappedStands }
     ensures points { FittedAreInPoints }
@@ -57,15 +58,17 @@ pub fn written_as_laid()
     ensures turned { UprightIsUnturned }
 {}
 
-/// A page that lies in a cell still lies there when it is turned. If pages are trimmed, it may reach 10^-5 of a point past the cell.
+/// A page that lies in a cell still lies there when it is turned, if its offset is a whole multiple of 10^-5 of a point. If pages are trimmed, it may
+/// reach 10^-5 of a point past the cell.
 pub fn turned_stays_in_cell()
     ensures { TurnedStaysInCell }
 {}
 
 /// The places of pages on the sheets that are written. If no page is turned, pages lie between the margins of their side, and apart from each other
 /// or off a booklet's fold (`stand`). If no margins are exchanged either, these sheets have the places that `asked_stand_in_places` states
-/// (`places`). Whether turned or not, each page lies in its cell (`cells`), and pages that aren't trimmed lie between the margins and apart from each
-/// other (`room`). Cells, stacks and zines (`read`) and booklets (`bound`) are read in the order of the row.
+/// (`places`). Whether turned or not, each page lies in its cell but for rounding (`cells`). If nothing is trimmed and no page is a whole sheet,
+/// pages lie between the margins and apart from each other, except on zines (`room`). Cells, stacks and zines (`read`) and booklets (`bound`) are
+/// read in the order of the row.
 pub fn written_keeps_place()
     ensures stand { WrittenStand }
     ensures places { WrittenInPlaces }

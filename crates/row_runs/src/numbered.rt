@@ -21,8 +21,8 @@ use sheet_text::Numbers;
 use std::alloc::{AllocError, Global};
 
 /// The page numbers for the sheets of this request, if numbers are requested (`how`). `pages` is the number of pages of the document. If `swap` is
-/// given, its left and right margins are exchanged on backs, and numbers there are shifted like their pages. The error is `OutOfReach` if a shifted
-/// number would be 100,000 points or more away from the sheet's corner, and `NoMemory` if memory is refused.
+/// given, its left and right margins are exchanged on backs, and numbers there are shifted like their pages. The error is `OutOfReach` if a page that
+/// is shifted but not turned would get an offset of 100,000 points or more, and `NoMemory` for any other refusal.
 pub(crate) fn numbers_on(
     alloc: Global,
     pages: u32,

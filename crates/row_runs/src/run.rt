@@ -26,7 +26,8 @@ pub struct RowJob<'j, 'd> {
     pub document: &'j Document<'d>,
     /// The turn of each page before it is placed, in the order of the pages. A page that has no entry isn't turned.
     pub turns: &'j [Turn],
-    /// The paper of each page after it is turned, in the order of the pages. A page that has no entry has the paper of the sheets.
+    /// The paper of each page after it is turned, in the order of the pages. A page that has no entry has the paper of the sheets or, if pages are
+    /// left as they are, of blanks. `Laying::BySpec` has a paper of its own for all pages.
     pub papers: &'j [Paper],
     /// The pages that are chosen, their signatures, and how they are laid on sheets.
     pub asked: SheetRequest<'j>,

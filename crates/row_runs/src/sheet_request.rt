@@ -88,7 +88,8 @@ pub enum Scheme {
     Leaves,
     /// Each side of a leaf has two entries of a row in signatures. Backs are rotated by 180 degrees for printers that flip a sheet on its long edge
     /// (`turned_backs`). In each signature, pages are moved towards the fold: on the innermost leaf by `creep`, in 10^-5 of a point, and on the
-    /// outermost leaf not at all. From leaf to leaf the distance grows in equal steps.
+    /// outermost leaf not at all. The only leaf of a signature counts as outermost. From leaf to leaf the distance grows in equal steps, rounded
+    /// down.
     Booklet { turned_backs: bool, creep: u64 },
     /// A sheet is folded and cut into a booklet. It has eight entries on one side, in two rows of four cells. Pages of the upper row are rotated by
     /// 180 degrees.
@@ -134,7 +135,7 @@ impl SheetRequest<'_> {
 }
 
 /// The sheets that are requested of a document with this number of pages. `papers` has the paper of each page, in order. A page that has no entry
-/// there has the paper of the sheets.
+/// there has the paper of the sheets or, if pages are left as they are, of blanks. `Laying::BySpec` has a paper of its own for all pages.
 ///
 /// The first fault is reported. A fault of the row comes first, and then the first page that fits no cell or can't be made into a poster. A limit of
 /// a plan that cards, a poster or a specification would exceed comes last. After a refusal no sheets are made.

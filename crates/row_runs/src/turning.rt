@@ -113,7 +113,7 @@ fn turned_slot(turns: &[Turn], swap: &Option<Room>, slot: Option<PlacedSlot<'_>>
     }
 }
 
-/// The item for a page that is first shifted and then turned. None if an offset would be 100,000 points or more.
+/// The item for a page that is first shifted and then turned. None if an offset would be 100,000 or more in its own unit.
 pub(crate) fn changed_item(
     turns: &[Turn],
     swap: &Option<Room>,
@@ -129,7 +129,8 @@ pub(crate) fn changed_item(
     turned_item(turn_on(turns, placed.page), placed.paper, &moved)
 }
 
-/// The item that places a page with this turn where `item` would place a page of the turned paper. None if an offset would be 100,000 points or more.
+/// The item that places a page with this turn where `item` would place a page of the turned paper. None if an offset would be 100,000 or more in its
+/// own unit.
 fn turned_item(turn: Turn, paper: &Paper, item: &Item) -> Option<Item>
     ensures value { IfSome result (λ turned. item_of turned ≡ meaning.turned_item (turn_of turn) paper.now (item_of item.now)) }
     ensures near { is_some result ≡ reaching.is_turned_near (turn_of turn) paper.now (item_of item.now) }
@@ -170,7 +171,7 @@ fn quarter_left(turn: Turn) -> Turn
     }
 }
 
-/// The point of the turned paper at which the lower left corner of a page of this width and height lies, in the unit of these lengths.
+/// The point of a turned paper of this width and height at which the page's lower left corner lies, in the unit of these lengths.
 fn turned_corner(turn: Turn, width: i64, height: i64) -> (i64, i64)
     requires width { nat_abs width ≤ 10 ^ 17 }
     requires height { nat_abs height ≤ 10 ^ 17 }

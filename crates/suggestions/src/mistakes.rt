@@ -17,8 +17,8 @@ use std::alloc::{AllocError, Global};
 use strsim::osa_distance;
 
 /// The message about a command line with words that the command doesn't take. `words` is the whole command line, with the program's name first. The
-/// message is clap's text, in which a tip on the refused word, if one is known, takes the place of clap's own tips. Hidden characters are escaped,
-/// and long words are cut. The only error is running out of memory.
+/// message is clap's text without clap's own tips, and with a tip on the mistake if one is known. Hidden characters are escaped, and long words are
+/// cut. The only error is running out of memory.
 pub fn words_text(alloc: Global, error: &Error, words: &[String]) -> Result<String, AllocError>
     ensures { IfOk result (λ said. IsLines (string_bytes said)) }
 {

@@ -301,7 +301,7 @@ fn length_advice(option: OptionId) -> Option<&'static str> {
     }
 }
 
-/// The message about page ranges after `-p`. This is psselect's option for page ranges, but here it names a paper.
+/// The message about page ranges after `-p` or `--paper`. `-p` is psselect's option for page ranges, but here it names a paper.
 fn ranges_text(alloc: Global, text: &str) -> Result<String, AllocError>
     ensures { IfOk result (λ said. IsMessageOn text.now (string_bytes said)) }
 {

@@ -58,7 +58,7 @@ impl Answer {
         self.note(added.is_ok());
     }
 
-    /// Appends bytes in quotes, with escapes.
+    /// Appends bytes in quotes, with escapes. Bytes that aren't UTF-8 are replaced.
     pub fn quoted(&mut self, bytes: &[u8]) {
         match String::from_utf8_lossy(self.alloc, bytes) {
             Ok(text) => self.show(format_args!("{text:?}")),
@@ -66,7 +66,7 @@ impl Answer {
         }
     }
 
-    /// Appends bytes in quotes, with escapes, and a line end.
+    /// Appends bytes as `quoted` does, and a line end.
     pub fn quoted_line(&mut self, bytes: &[u8]) {
         self.quoted(bytes);
         self.text("\n");

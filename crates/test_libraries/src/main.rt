@@ -1,5 +1,5 @@
-//! Calls the library function that the words of the command line name, such as `paper a4`, and prints the answer. A word that names a file stands for
-//! the document in that file. Without words, the program prints nothing.
+//! Calls the library function that the words of the command line name, such as `paper_by_name a4`, and prints the answer. A word that names a file
+//! stands for the document in that file. Without words, the program prints nothing.
 #![tactic(auto)]
 
 mod answer;

@@ -11,8 +11,8 @@ use crate::world::{Refused, World};
 use std::io;
 use std::marker::{Brand, PhantomData};
 
-/// The state of a world, as a contract sees it, before an output of this name is created. This is a ghost parameter that the proof of each call
-/// chooses; the trait has no code.
+/// The state of a world before an output is created, as contracts see it, and the output's name. This is a ghost parameter that the proof of each
+/// call chooses; the trait has no code.
 pub trait Before {
     ghost seen: { WorldView };
 
@@ -39,8 +39,8 @@ pub struct Denied<W> {
     pub times: u64,
 }
 
-/// An output that is created only when its first byte is to be written. Until then it keeps the world that is to create it. If the world refuses,
-/// this write and all later writes fail with the same error, and the world isn't asked again.
+/// An output that is created only when its first byte is to be written. Until then it keeps the world that is to create it. If the world refuses, the
+/// first write and all later ones fail with the same error, and the world isn't asked again.
 #[derive(Drop)]
 pub struct Late<'n, W: World, B: Before> {
     name: Option<&'n str>,

@@ -83,8 +83,8 @@ fn choice_of(words: &[String]) -> Choice<'_> {
     choice
 }
 
-/// Prints the number of sides that `Signing::Auto` gives the signatures of a row. The word after the command's name is the number of the row's
-/// entries. `None` if it isn't a number.
+/// Prints the number of sides that `Signing::Auto` gives the signatures of a row, or that no row has this number of entries. The word after the
+/// command's name is the number of the row's entries. `None` if this word isn't a number.
 pub fn sides_for(out: &mut Answer, words: &[String]) -> Option<()> {
     let entries = count(words, 1)?;
     if 0 < entries && entries < TOO_MANY {

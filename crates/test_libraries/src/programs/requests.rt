@@ -10,7 +10,7 @@ pub fn requested(out: &mut Answer, words: &[String]) {
     }
 }
 
-/// Prints the specification, the workers and the paper, and a line for each other option that is given.
+/// Prints the specification, the workers and the paper, and a line for each other option and each file that is given.
 fn show(out: &mut Answer, request: &Request) {
     let options = &request.options;
     out.line(format_args!("spec '{}'", request.spec));

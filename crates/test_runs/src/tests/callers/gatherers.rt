@@ -28,7 +28,8 @@ fn show_delivered(delivered: &Delivered<'_>, answer: &mut Vec<u8>) -> Result<(),
     )
 }
 
-/// Appends the answer to a delivery, or the reason why it failed.
+/// Appends the answer to a delivery. For a page without a receipt, appends `NoMemory` and the page's number or, if the shelf was full, the page's
+/// index.
 fn show_delivery(
     delivery: Result<Delivered<'_>, DeliverError<'_>>,
     answer: &mut Vec<u8>,
