@@ -46,7 +46,8 @@ pub fn lines_are_beside()
     ensures { LinesAreBeside }
 {}
 
-/// If a page is centred in its cell, its number is centred at the foot of the cell.
+/// Suppose that a page is centred in its cell, and that its number is drawn with `Numbers::below` equal to half the height of the cell. Then the
+/// number is centred at the foot of the cell.
 pub fn numbers_are_at_foot()
     ensures { NumbersAreAtFoot }
 {}

@@ -53,7 +53,7 @@ fn note_line(room: &Room, grid: Grid, row: u32, k: u32) -> Stroke
 }
 
 /// A line across a cell, at this depth below the cell's top, in 10^-5 of a point. The top is that of the sheet as it is held so that its pages are
-/// upright.
+/// upright. `turned` says whether they are turned to the left on the sheet as it lies.
 fn line_below(turned: bool, cell: &Cell, depth: u64) -> Stroke
     requires { depth ≤ 11 * 10 ^ 15 }
     ensures { result ≡ below_of turned cell.now depth }

@@ -8,7 +8,8 @@ use crate::lines::{content_end, line_end_after};
 
 /// The number of bytes of the header comments, which are the first line and the comments directly after it. They end
 /// with `%%EndComments`, or before a line that begins a later part (`%%Begin`.., `%%Page:`, `%%Trailer`, `%%EOF`) or
-/// isn't a comment. Their form and their end at `%%EndComments` are defined in DSC 3.0, General Header Comments.
+/// isn't a header comment (`is_header`). Their form and their end at `%%EndComments` are defined in DSC 3.0, General
+/// Header Comments.
 pub fn header_len(text: &[u8]) -> usize
     ensures value { result ≡ header_len text.now }
     ensures within { result ≤ length text.now }

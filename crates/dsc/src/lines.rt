@@ -5,8 +5,8 @@ ghost use Rattle.rules.specs.Units.{is_end, line_len, lines_len, end_len, conten
 
 use memchr::memchr2_iter;
 
-/// The number of bytes in a block. Lines are counted block by block, as long as a block has no CR. The number of lines
-/// that end in a block fits in a `u8`, so the compiler can count many bytes at once.
+/// The number of bytes in a block. Lines are counted block by block up to the first block that has a CR. The number of
+/// lines that end in a block fits in a `u8`, so the compiler can count many bytes at once.
 const BLOCK: usize = 240;
 
 /// Whether the byte is CR or LF.

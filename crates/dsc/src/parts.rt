@@ -3,9 +3,9 @@ ghost use Rattle.std.specs.Prelude.{◌≡◌, ℕ, ◌+◌, ◌<◌, ◌≤◌,
 ghost use Rattle.rules.specs.Run.{most_input_bytes};
 ghost use Rattle.dsc.specs.Later.{later, later_found};
 
-/// The bytes at which the pages of a document, their prepared bodies and the trailer begin. `Document::from_parts`
-/// uses them to make a document of another text, which may differ only before the first page. That text isn't cut
-/// again.
+/// The bytes at which the pages of a document, their prepared bodies and the trailer begin. `Document::from_parts` uses
+/// them to make a document of another text, which may differ from the first text only before the first page. The other
+/// text isn't cut again.
 #[derive(Drop)]
 pub struct Parts {
     /// The number of bytes of the document.

@@ -42,7 +42,7 @@ fn closed_len(text: &[u8]) -> Option<usize>
 }
 
 /// The number of parentheses that are open after this byte; `opened` is the number before it. `is_escaped` says whether
-/// a backslash precedes the byte, which then opens and closes none.
+/// a backslash escapes the byte, which then opens and closes none.
 fn open_after(opened: usize, is_escaped: bool, byte: u8) -> usize
     requires few { opened < usize.MAX }
     ensures value { result ≡ meaning.open_after opened is_escaped byte }

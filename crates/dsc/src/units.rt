@@ -9,7 +9,8 @@ use crate::keys::comment_letter;
 use crate::lines::{content_end, line_end_after, lines_end};
 
 /// A unit: a line with its line end, or a data block. A data block consists of the line that begins it and the data
-/// after that line. `content` is the line, or the first line of the block, without its line end.
+/// after that line. `content` is the line, or the first line of the block, without its line end. A `Walk` passes
+/// several lines that don't begin with two percent signs as one unit, with an empty `content`.
 #[derive(Clone, Copy)]
 pub(crate) struct LineOrBlock<'d> {
     pub content: &'d [u8],

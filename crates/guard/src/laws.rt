@@ -10,13 +10,13 @@ pub fn lines_stay()
     ensures { LinesStay }
 {}
 
-/// For any paper of the sheet, the guard changes only the preamble of a document. Unless the document becomes too long,
-/// it is still accepted.
+/// For any paper of the sheet, or none, the guard changes only the preamble of a document. Unless the document becomes
+/// too long, it is still accepted.
 pub fn guard_stays()
     ensures { GuardStays }
 {}
 
-/// No line of the guard is longer than the 255 bytes that DSC allows, for any paper of the sheet.
+/// No line of the guard is longer than the 255 bytes that DSC allows, for any paper of the sheet or none.
 pub fn guard_is_short()
     ensures { GuardIsShort }
 {}

@@ -58,7 +58,8 @@ const ROOM: usize = 2_560;
 
 /// A copy of the text with the guard inserted after its header comments (see `header_len`). If these lack a line end,
 /// LF is added to them. If `sheet_paper` is a paper, the guard first sets the device's page size to it, provided that
-/// the interpreter has `setpagedevice`. The text needn't be a document. Fails only if memory is refused.
+/// the interpreter has `setpagedevice`. A guard that runs after another one does nothing. The text needn't be a
+/// document. Fails only if memory is refused.
 pub fn guarded(
     alloc: Global,
     text: &[u8],
@@ -94,9 +95,9 @@ pub fn put_guard(text: &mut Vec<u8>, sheet_paper: Option<&Paper>) -> Result<(), 
 }
 
 /// Inserts the guard into the text that begins at the byte `start` of `bytes`. Returns the index of the byte at which
-/// the guarded text begins. If the bytes before `start` are enough for the guard, the header comments are moved
-/// towards the front. Otherwise the text after the header comments is moved. If memory is refused, the call fails, and
-/// the bytes are unchanged.
+/// the guarded text begins. If the bytes before `start` are enough for the guard, and for a line end that the header
+/// comments may lack, these comments are moved towards the front. Otherwise the text after the header comments is
+/// moved. If memory is refused, the call fails, and the bytes are unchanged.
 pub fn put_guard_before(
     bytes: &mut Vec<u8>,
     start: usize,

@@ -8,7 +8,7 @@ ghost use Rattle.handover.specs.Rule.{PassesStandTogether};
 use crate::rule::{HandoverHistory, PassKnowledge};
 use crossbeam_queue::protocol::Protocol;
 
-/// Sheets are taken in the order in which they were put. No sheet is lost or taken twice.
+/// Sheets are taken in the order in which they were put. No sheet is lost, or taken more often than it was put.
 pub fn first_put_is_first_taken()
     ensures { FirstPutIsFirstTaken }
 {}

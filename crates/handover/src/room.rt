@@ -29,7 +29,7 @@ pub(crate) fn room_after_put(room: Option<u32>) -> Option<u32>
     }
 }
 
-/// The room that a pass keeps if it gives away room for `give` puts.
+/// The room that a pass keeps if it gives away room for `give` puts. `None` stays `None`.
 pub(crate) fn room_kept(give: u32, room: Option<u32>) -> Option<u32>
     requires { give ≤ puts_in room }
     ensures { result ≡ room_kept give room }
@@ -40,7 +40,8 @@ pub(crate) fn room_kept(give: u32, room: Option<u32>) -> Option<u32>
     }
 }
 
-/// The room of a pass that gets room for `give` puts from a pass with the room `room`.
+/// The room of a pass that gets room for `give` puts from a pass with the room `room`. It is `None` if `room` is
+/// `None`.
 pub(crate) fn room_given(give: u32, room: Option<u32>) -> Option<u32>
     ensures { result ≡ room_given give room }
 {

@@ -243,7 +243,7 @@ pub(crate) fn scale_found(
     Ok(scale as u64)
 }
 
-/// The requested scale, in 10^-9, or the largest one if none is requested.
+/// The requested scale, in 10^-9; a negative scale counts as 0. The result is `largest` if no scale is requested.
 fn scale_asked(asked: Option<Number>, largest: u128) -> u128
     ensures { result ≡ scale_for asked largest }
 {
@@ -299,7 +299,8 @@ pub fn is_of_size(page: &Paper, sheet: &Paper) -> bool
     width == sheet_width && height == sheet_height
 }
 
-/// Whether the fold between two pages is parallel to the shorter edge of the sheet.
+/// Whether the fold between two pages is parallel to the shorter edge of the sheet: the sheet isn't wider than high, and two pages side by side on it
+/// aren't larger upright than turned.
 pub(crate) fn is_fold_short(page: &Paper, room: &Room) -> bool
     requires { IsTrue (are_shown page.now room.now) }
     ensures { result ≡ folds_short page.now room.now }

@@ -113,8 +113,8 @@ fn place_as_held(order: &Order, grid: Grid, k: u32) -> (u32, u32)
 }
 
 impl GridLayout {
-    /// The lower left corner of the page in this row and column, without its trim. It is given by its distances from the left and the lower edge of
-    /// the sheet, in 10^-5 of a point.
+    /// The place of the page's own lower left corner, without its trim, if the page is in this row and column. It is given by its distances from the
+    /// left and the lower edge of the sheet, in 10^-5 of a point. If pages are turned, this corner of a page is at the lower right on the sheet.
     fn corner(&self, row: u32, column: u32) -> (u64, u64)
         requires place { HasPlace self.now.page self.now.room self.now.grid self.now.scale }
         requires in_rows { row < self.now.grid.rows }

@@ -11,27 +11,28 @@ pub fn stands_where_put()
     ensures { StandsWherePut }
 {}
 
-/// Each page in a cell, without its trim, lies within the margins of the sheet.
+/// Each page that fits into its cell lies, without its trim, within the margins of the sheet.
 pub fn pages_are_inside()
     ensures { GridIsInside }
 {}
 
-/// Pages are in the requested order, along rows or columns, as one reads the sheet.
+/// Pages that fit into their cells are in the requested order, along rows or columns, as one reads the sheet.
 pub fn pages_are_in_order()
     ensures { GridIsInOrder }
 {}
 
-/// Two pages in cells, without their trim, are at least the gap apart, even if they have different papers and scales.
+/// Two pages that fit into their cells are, without their trim, at least the gap apart, even if they have different papers and scales.
 pub fn pages_are_apart()
     ensures { GridIsApart }
 {}
 
-/// Each page lies in its cell. If pages are trimmed, the part of a page inside its trim may reach past the cell by at most 10^-5 of a point.
+/// A page whose scale is at most the largest for its cell lies in this cell. If pages are trimmed, the part of a page inside its trim may reach past
+/// the cell by at most 10^-5 of a point.
 pub fn pages_are_in_cells()
     ensures { GridIsInCell }
 {}
 
-/// Each page is in the middle of its cell, to within 10^-5 of a point.
+/// Each page that fits into its cell is in the middle of the cell, to within 10^-5 of a point.
 pub fn pages_are_in_middle()
     ensures { GridIsInMiddle }
 {}
@@ -58,7 +59,8 @@ pub fn best_is_large()
     ensures { BestIsLarge }
 {}
 
-/// If opposite margins are equal, each page on a sheet that is rotated by 180 degrees, without its trim, lies within the margins.
+/// If opposite margins are equal, each page that fits into its cell lies, without its trim, within the margins of a sheet that is rotated by 180
+/// degrees.
 pub fn back_is_inside()
     ensures { BackIsInside }
 {}
@@ -69,7 +71,8 @@ pub fn back_is_half_turn()
     ensures { BackIsHalfTurn }
 {}
 
-/// On a leaf with equal opposite margins, the pages, without their trim, don't cross the fold, because they keep half of the gap away from it.
+/// On a leaf with equal opposite margins, pages that fit into its halves don't cross the fold, because without their trim they keep half of the gap
+/// away from it.
 pub fn leaf_keeps_fold()
     ensures { LeafKeepsFold }
 {}

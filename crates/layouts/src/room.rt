@@ -124,7 +124,7 @@ impl Room {
     }
 
     /// The margins, the gap and the trim in both directions, with the sheet held so that its pages are upright. Those across come first, then those
-    /// down.
+    /// down. `turned` says whether the pages are turned to the left on the sheet as it lies.
     pub fn as_read(&self, turned: bool) -> (Along, Along)
         ensures across { result.0 ≡ across_of turned self.now }
         ensures down { result.1 ≡ down_of turned self.now }

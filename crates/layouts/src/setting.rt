@@ -34,7 +34,7 @@ pub struct Setting {
 }
 
 impl Setting {
-    /// The setting for an arrangement. The grid is chosen for pages of the paper in `papers`. Fails with the error of `arrange` if such pages can't
+    /// The setting for an arrangement. The grid is chosen for pages of the paper `papers.page`. Fails with the error of `arrange` if such pages can't
     /// be arranged.
     pub fn of(papers: &Papers, arrangement: &Arrangement) -> Result<Setting, ArrangementError>
         ensures page { IsPaper papers.now.page }
@@ -75,7 +75,7 @@ impl Setting {
     }
 
     /// The setting for a booklet, with the two halves of a sheet as its cells. The fold is in the same place for pages of every paper. Fails with the
-    /// error of `bind` if pages of the paper in `papers` don't fit into the halves.
+    /// error of `bind` if pages of the paper `papers.page` can't be bound.
     pub fn of_binding(papers: &Papers, binding: &Binding) -> Result<Setting, ArrangementError>
         ensures page { IsPaper papers.now.page }
         ensures sheet { IsPaper papers.now.sheet }

@@ -213,13 +213,14 @@ pub fn values_are_placeless_there()
 {}
 
 /// If sheets have several papers, the lines at the start of each sheet call `setpagedevice` with the size of the
-/// sheet's own paper.
+/// sheet's own paper. The sheet must not itself be placed as a page.
 pub fn device_size_is_set()
     ensures { DeviceSizeIsSet }
 {}
 
-/// Take any output of impose for a document with the guard. A machine that runs it prints, sheet by sheet, the pictures
-/// that the document's pages paint by themselves, each in its place. The strokes of a sheet come after its pages.
+/// Take any output of impose, but without page numbers, for a document with the guard. A machine that runs it prints,
+/// sheet by sheet, the pictures that the document's pages paint by themselves, each in its place. The strokes of a
+/// sheet come after its pages.
 pub fn dressed_document_is_shown()
     ensures { DressedDocumentIsShown }
 {}
@@ -230,8 +231,9 @@ pub fn open_dressed_document_is_shown()
     ensures { OpenDressedDocumentIsShown }
 {}
 
-/// Take any output of impose for a document without the guard. A machine that runs it prints, sheet by sheet, the
-/// pictures that the document's own pages print, each in its place. The strokes of a sheet come after its pages.
+/// Take any output of impose, but without page numbers, for a document without the guard. A machine that runs it
+/// prints, sheet by sheet, the pictures that the document's own pages print, each in its place. The strokes of a sheet
+/// come after its pages.
 pub fn dressed_sheets_show_the_pages()
     ensures { DressedSheetsShowThePages }
 {}

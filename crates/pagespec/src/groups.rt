@@ -16,15 +16,15 @@ pub(crate) struct ParsedGroups {
     pub lengths: Vec<usize>,
 }
 
-/// Why reading stopped before the end of a text.
+/// Why the groups of a text couldn't be read.
 #[derive(Clone, Copy)]
 pub(crate) enum Stop {
     Stuck(ParseStop),
     NoMemory,
 }
 
-/// Reads all groups of a specification from the text after its modulo. If there is only one item, its page number may be left out. Fails with the
-/// place where reading stops if the text doesn't follow the grammar, or if memory is refused.
+/// Reads all groups of a specification from the text after its modulo. If there is only one item, its page number may be left out. If the text
+/// doesn't follow the grammar, the error has the place where reading stops. Without enough memory the error is `NoMemory`.
 pub(crate) fn read_all_groups(alloc: Global, bytes: &[u8]) -> Result<ParsedGroups, Stop>
     ensures { MatchResult result (ParsesTo (all_groups_at bytes.now)) (IsStop AreGroups all_groups_at bytes.now) }
 {
@@ -48,8 +48,8 @@ fn later_stop(one: ParseStop, other: ParseStop) -> ParseStop
     }
 }
 
-/// Reads the groups of a text. Fails with the place where reading stops if the text doesn't begin with groups or goes on after them, or if memory is
-/// refused.
+/// Reads the groups of a text. If the text doesn't begin with groups, or goes on after them, the error has the place where reading stops. Without
+/// enough memory the error is `NoMemory`.
 fn read_groups_to_end(alloc: Global, bytes: &[u8]) -> Result<ParsedGroups, Stop>
     ensures { MatchResult result (ParsesTo (whole_groups_at bytes.now)) (IsStop AreWholeGroups whole_groups_at bytes.now) }
 {
@@ -96,8 +96,8 @@ fn read_bare_item(bytes: &[u8]) -> Result<ParsedItem, ParseStop>
     })
 }
 
-/// Reads the groups at the start of a text, and also returns the text after them. Fails with the place where reading stops if there are no groups, or
-/// if memory is refused.
+/// Reads the groups at the start of a text, and also returns the text after them. If there is no group at the start or after a comma, the error has
+/// the place where reading stops. Without enough memory the error is `NoMemory`.
 fn read_groups(alloc: Global, bytes: &[u8]) -> Result<(ParsedGroups, Rest<'_>), Stop>
     ensures { MatchResult result (λ x. GroupsRead bytes.now x.0 x.1.text.now
         × StuckAfter AreWholeGroups groups_at bytes.now x.1.text.now x.1.stuck.left)
@@ -120,8 +120,8 @@ fn read_groups(alloc: Global, bytes: &[u8]) -> Result<(ParsedGroups, Rest<'_>), 
     Err(Stop::Stuck(ParseStop { left: 0 }))
 }
 
-/// Reads the group at the start of a text and appends its items to `items`. Returns the number of these items, and the text after the group. Fails
-/// with the place where reading stops if there is no group, or if memory is refused.
+/// Reads the group at the start of a text and appends its items to `items`. Returns the number of these items, and the text after the group. If there
+/// is no item at the start or after a plus sign, the error has the place where reading stops. Without enough memory the error is `NoMemory`.
 fn read_group<'t>(bytes: &'t [u8], items: &mut Vec<ParsedItem>) -> Result<(usize, Rest<'t>), Stop>
     ensures { MatchResult result (λ x. GroupRead bytes.now items.old.items items.new.items x.0 x.1.text.now
         × StuckAfter IsGroup group_at bytes.now x.1.text.now x.1.stuck.left)
@@ -138,8 +138,8 @@ fn read_group<'t>(bytes: &'t [u8], items: &mut Vec<ParsedItem>) -> Result<(usize
     Err(Stop::Stuck(ParseStop { left: 0 }))
 }
 
-/// Reads the item at the start of a text and appends it to `items`. Returns the text after the item. Fails with the place where reading stops if
-/// there is no item, or if memory is refused.
+/// Reads the item at the start of a text and appends it to `items`. Returns the text after the item. If there is no item, the error has the place
+/// where reading stops. Without enough memory the error is `NoMemory`.
 fn append_item<'t>(bytes: &'t [u8], items: &mut Vec<ParsedItem>) -> Result<Rest<'t>, Stop>
     ensures { MatchResult result (λ x. ItemAppended bytes.now items.old.items items.new.items x.text.now
         × StuckAfter IsItem item_at bytes.now x.text.now x.stuck.left)

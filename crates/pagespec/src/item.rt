@@ -31,7 +31,7 @@ pub enum Turn {
 pub struct Item {
     /// The page's number in its block, counted from 0.
     pub page: u32,
-    /// Whether the block is counted from the end, which is written as a minus before the page number.
+    /// Whether blocks are counted from the end of the pages. This is written as a minus before the page number.
     pub from_end: bool,
     pub turn: Turn,
     /// The scale, which is greater than zero. It is 1 if none is written.

@@ -23,7 +23,7 @@ const MOST_BYTES: usize = 65_536;
 /// number may be left out and is then 0. Leading zeros of a number have no effect.
 ///
 /// Each check covers the whole text. The first check that fails, in the order of `SpecError`, is reported, with the first item or group at fault. The
-/// checks don't read the text again.
+/// checks don't read the text again. Without enough memory the error is `NoMemory`.
 pub fn read_spec(alloc: Global, text: &str) -> Result<Spec, SpecError>
     ensures taken { IfOk result (λ spec. Takes most_slots text.now spec) }
     ensures refused { IfErr result (IsRefusal text.now) }

@@ -51,7 +51,8 @@ const PAPERS: [(&str, u32, u32); 34] = [
 const GRAINS_OF_POINT: i128 = 127_000_000_000;
 
 /// The paper with this name, which must be one of `name_list`. Capitals, blanks, minuses and underscores make no difference, and `din`, `iso` or `us`
-/// may come first. `landscape` or `quer` at the end exchanges width and height. None for any other name.
+/// may come first. A final `landscape` or `quer`, in upper or lower case, exchanges width and height; nothing may follow it, not even a blank. None
+/// for any other name.
 pub fn paper_by_name(name: &[u8]) -> Option<Paper>
     ensures { result ≡ paper_named name.now }
 {

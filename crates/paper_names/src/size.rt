@@ -86,7 +86,8 @@ fn x_at(text: &[u8]) -> usize
         .count()
 }
 
-/// The side after the `x`, `X`, `*` or `×` at the start of a text. None if there is no such sign, or no side after it.
+/// The side after the `x`, `X`, `*` or `×` with which this text begins, unless it is empty. None if the text is empty, if it has only the first byte
+/// of a `×`, or if no side follows.
 fn side_behind(text: &[u8]) -> Option<Side>
     ensures { option_map (λ s. (s.number, option_map length_unit s.unit)) result
         ≡ option_and_then meaning.side_of (meaning.behind_cross text.now) }
@@ -115,8 +116,8 @@ fn behind_second(text: &[u8]) -> Option<&[u8]>
     if *second == 0x97 { Some(rest) } else { None }
 }
 
-/// The side that a text gives: a number, which may have blanks before it and a unit after it. None for any other text, or if the integer part of the
-/// number is over 99,999.
+/// The side that a text gives: a number, which may have blanks before it and a unit after it. Blanks, minuses and underscores after the number have
+/// no effect. None for any other text, or if the integer part of the number is over 99,999.
 fn side_of(text: &[u8]) -> Option<Side>
     ensures { option_map (λ s. (s.number, option_map length_unit s.unit)) result ≡ meaning.side_of text.now }
 {

@@ -9,9 +9,9 @@ pub fn telling_is_tame()
     ensures { TellingIsTame }
 {}
 
-/// Suppose that, when a sheet begins, the page size is that of some sheet's paper. If the sheet reports its paper, the
-/// last of the lines that do so sets the page size of the sheet's own paper. If it doesn't, both papers have the same
-/// printed size.
+/// Suppose that, when a sheet begins, the page size is that of some sheet's paper. If the sheet reports its own paper,
+/// the last of the lines that do so sets the page size of this paper. If it doesn't, its own paper has the same printed
+/// size as the paper that was set.
 pub fn size_is_set()
     ensures { SizeIsSet }
 {}

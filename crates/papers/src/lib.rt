@@ -1,4 +1,5 @@
-//! Finds the papers that a document and its pages name, and makes nearly equal papers equal.
+//! Finds the papers that a document and its pages name, makes nearly equal papers equal, and finds the pages that reach
+//! beyond their papers.
 #![tactic(auto)]
 
 mod boxes;

@@ -27,7 +27,8 @@ pub enum Comment {
     DocumentPaperSizes,
     /// The first `%%BoundingBox:`.
     BoundingBox,
-    /// No comment, but the setup: the first `/PageSize [width height]` before the first page.
+    /// No comment, but the setup: among the lines before the first page, the first that asks for a paper with
+    /// `/PageSize [width height]`.
     Setup,
 }
 
@@ -68,8 +69,8 @@ pub(crate) fn document_told(text: &[u8], usual: &Paper) -> Option<(Paper, Commen
     }
 }
 
-/// The paper of the first known name in `%%DocumentPaperSizes:`, turned on its side if the document's box has its sides
-/// exchanged. If no name is known, the paper that this box gives.
+/// The paper of the first known name in `%%DocumentPaperSizes:`. It is turned on its side if the document's box begins
+/// at 0 0 and has the sides of this paper exchanged. If no name is known, the paper that the box gives, if any.
 fn named_or_boxed(header: &[u8], text: &[u8], usual: &Paper) -> Option<(Paper, Comment)>
     ensures { result ≡ meaning.or_named usual.now (meaning.contents header.now) (meaning.trailer_lines (units_of text.now)) None }
 {
@@ -177,7 +178,7 @@ pub(crate) fn box_of<'t>(header: &'t [u8], text: &'t [u8]) -> Option<&'t [u8]>
 }
 
 /// The value of a box: `value`, which is from the header, or the value of the trailer's first `%%BoundingBox:` if
-/// `value` is `(atend)`.
+/// `value` is `(atend)`. None if the trailer lacks the comment that is then needed.
 #[tactic(auto, using(crate::proofs::Contents::trailer_box_is))]
 fn box_or_last<'t>(value: &'t [u8], text: &'t [u8]) -> Option<&'t [u8]>
     ensures { option_map (λ v. fields_in v.now) result

@@ -137,8 +137,8 @@ fn with_reaching_page(reach: Option<Reach>, page: usize, paper: &Paper, edges: E
     }
 }
 
-/// The edges to which a page reaches: those of its box or, if the page is cut, those of its own paper. None if the page
-/// isn't taken, if it is cut and left out, or if it isn't cut and has no box.
+/// The edges to which a page reaches: those of its box or, if the page is cut, those of its own paper. `other` is the
+/// document's box. None if the page isn't taken, if it is cut and left out, or if it isn't cut and has no box.
 fn extent_at(
     pages: &PlacedPages<'_, '_>,
     other: Option<&[u8]>,
@@ -181,8 +181,8 @@ fn own_at(own: &[Paper], page: usize, other: &Paper) -> Paper
     }
 }
 
-/// The edges of the box of this page. Pages are counted from 0. None if the page has no box, or if there is no such
-/// page.
+/// The edges of the box of this page, as `page_box` finds them if `other` is the document's box. Pages are counted from
+/// 0. None if the page has no box, or if there is no such page.
 fn box_at(document: &Document<'_>, other: Option<&[u8]>, page: usize) -> Option<Edges>
     ensures { result
         ≡ get_or (meaning.boxes_or (option_map (λ v. fields_in v.now) other.entry) document.now) page None }

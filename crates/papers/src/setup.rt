@@ -9,8 +9,7 @@ use crate::fields::{leading_blanks, points_of};
 use dsc::{comment_value, first_content, line_end_after, next_field};
 use lengths::Paper;
 
-/// The paper of a document whose comments name none: the paper that a line before the first page asks for, or `home` if
-/// no line does.
+/// The paper of a document whose comments name none: the one that `set_size` finds, or `home` if it finds none.
 pub(crate) fn usual_in(text: &[u8], home: &Paper) -> Paper
     ensures { result ≡ meaning.usual_in home.now text.now }
 {

@@ -188,13 +188,14 @@ pub fn outer_is_kept()
 {}
 
 /// With the guard, `initclip` clips to the outline of the page, to the outlines of all pages in which this page is
-/// placed, and to nothing else.
+/// placed, and to nothing else. Each element of the current path must be one that `pathforall` lists, and must have
+/// been made under the current transformation.
 pub fn clip_is_the_pages()
     ensures { ClipIsThePages }
 {}
 
 /// With the guard, `initgraphics` sets the transformation with which the page began, and clips to the same outlines as
-/// `initclip`.
+/// `initclip`. It empties the path, and keeps no setting but the font.
 pub fn graphics_are_the_pages()
     ensures { GraphicsAreThePages }
 {}
@@ -204,8 +205,8 @@ pub fn save_saves()
     ensures { SaveSaves }
 {}
 
-/// If a dictionary has a `showpage` of its own, the guard replaces this `showpage` where a page begins. The new
-/// procedure looks up the `showpage` of userdict.
+/// Suppose that the topmost dictionary on the stack that has a `showpage` is writable and isn't userdict. Then the
+/// guard replaces this `showpage` where a page begins. The new procedure looks up the `showpage` of userdict.
 pub fn asks_userdict()
     ensures { AsksUserdict }
 {}
@@ -229,7 +230,8 @@ pub fn shelter_commutes()
 {}
 
 /// For a page by itself, the guard's `initgraphics`, `initclip`, `initmatrix` and `defaultmatrix` have the effect that
-/// the operators of these names have for a page that isn't placed. The guard's `initclip` also makes a matrix.
+/// the operators of these names have for a page that isn't placed. The guard's `initclip` also makes a matrix, and
+/// needs a path as in `clip_is_the_pages`.
 pub fn by_itself_as_the_operators()
     ensures { ByItselfAsTheOperators }
 {}
@@ -348,7 +350,8 @@ pub fn stays_taking_sheets()
     ensures { StaysTakingSheets }
 {}
 
-/// If a sheet of another document is placed as a page, it paints its own picture, in its place.
+/// If a sheet of another document is placed as a page, it paints its own picture, in its place. Each page on that sheet
+/// must paint its own picture within the placed sheet.
 pub fn sheet_is_placed()
     ensures { SheetIsPlaced }
 {}

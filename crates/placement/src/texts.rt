@@ -280,7 +280,7 @@ fn append_corner(
     append_coordinate(b" ", y, out)
 }
 
-/// Appends a text and, after it, a number with all of its decimals.
+/// Appends a text and, after it, a number as `print_scale` prints it.
 #[tactic(auto, using(crate::proofs::Keeping::keeps_more))]
 fn append_scale(text: &[u8], scale: Number, out: &mut Vec<u8>) -> Result<(), AllocError>
     ensures appended { OnOk result (out.new.items ≡ out.old.items ++ (text.now ++ scale_text scale)) }

@@ -33,8 +33,8 @@ pub(crate) fn number_of_sheets(sheets: &MadeSheets) -> Result<u32, AllocError>
     }
 }
 
-/// Appends the name of this sheet (counted from 0): the number of the sheet, or the number of its leaf and the side. The name counts sheets and
-/// leaves from 1.
+/// Appends the name of this sheet (counted from 0): the number of the sheet or, if sheets are printed on both sides, the number of its leaf and the
+/// side. The name counts sheets and leaves from 1.
 pub(crate) fn append_sheet_name(
     sides: Sides,
     sheet: u32,

@@ -48,8 +48,8 @@ fn check_cell(
     Ok(())
 }
 
-/// Checks that each page of the row can be placed in its half of a leaf that creeps. A page whose paper isn't in `papers` has the paper of the sheet.
-/// Fails with the error of the first page that can't be placed.
+/// Checks that each page of the row can be placed in its half of a leaf that creeps, and doesn't cross the fold there. A page whose paper isn't in
+/// `papers` has the paper of the sheet. Fails with the error of the first page that can't be placed or would cross the fold.
 pub(crate) fn check_halves(
     setting: &Setting,
     papers: &[Paper],

@@ -40,10 +40,11 @@ struct LeafSide {
     creep: u64,
 }
 
-/// The sides of a booklet's leaves, with each front followed by its back. The row is in signature order, and each side has two of its entries. For
-/// printers that flip a sheet on its long edge, the backs are rotated by 180 degrees. Each page is moved towards the fold by the creep of its leaf. A
-/// page whose paper isn't in `papers` has the paper of the sheet. Fails with the error of the first page that can't be placed in its half or would
-/// cross the fold. Without enough memory the error is `NoMemory`.
+/// The sides of a booklet's leaves, with each front followed by its back. The cells of the setting must be the two halves of a sheet, and opposite
+/// margins must be equal. The row is in signature order, and each side has two of its entries. If `turned_backs` is true, the backs are rotated by
+/// 180 degrees, for printers that flip a sheet on its long edge. Each page is moved towards the fold by the creep of its leaf. A page whose paper
+/// isn't in `papers` has the paper of the sheet. Fails with the error of the first page that can't be placed in its half or would cross the fold.
+/// Without enough memory the error is `NoMemory`.
 pub fn creeping_booklet_sheets(
     alloc: Global,
     setting: &Setting,
@@ -122,7 +123,8 @@ fn sides_of_leaves(
     Ok(made)
 }
 
-/// Whether side `s` is rotated by 180 degrees. Sides are counted from 0, with each front followed by its back.
+/// Whether side `s` is rotated by 180 degrees: it is a back, and `turned_backs` is true. Sides are counted from 0, with each front followed by its
+/// back.
 fn is_half_turned(turned_backs: bool, s: u32) -> bool
     ensures { result ≡ is_turned_on turned_backs s }
 {
@@ -184,8 +186,8 @@ fn creeping_slot(
     Ok(MadeSlot::Placed { page, item, paper })
 }
 
-/// The item that places a page of this paper in a half of a side, moved towards the fold by `creep`, in 10^-5 of a point. Fails if the page can't be
-/// placed in its half, and with `CreepOverFold` if it would cross the fold.
+/// The item that places a page of this paper in a half of a side, moved towards the fold by `creep`, in 10^-5 of a point. `by_half` says whether the
+/// side is rotated by 180 degrees. Fails if the page can't be placed in its half, and with `CreepOverFold` if it would cross the fold.
 pub(crate) fn creeping_item(
     setting: &Setting,
     paper: &Paper,
@@ -205,7 +207,8 @@ pub(crate) fn creeping_item(
     Ok(moved_up(item, by))
 }
 
-/// The item that places a page of this paper in a half of a leaf that doesn't creep. Fails if the page can't be placed there.
+/// The item that places a page of this paper in a half of a side whose leaf doesn't creep. `by_half` says whether the side is rotated by 180 degrees.
+/// Fails if the page can't be placed there.
 fn half_item(
     setting: &Setting,
     paper: &Paper,
@@ -254,7 +257,8 @@ fn has_creep_room(slack: u128, gap: u64, creep: u64) -> bool
     2 * u128::from(creep).saturating_sub(slack) <= u128::from(gap)
 }
 
-/// The distance by which a page is moved up to come nearer to the fold, in 10^-5 of a point. It is negative if the fold is below the page.
+/// The distance by which the page in this cell is moved up to come nearer to the fold, in 10^-5 of a point. It is negative if the fold is below the
+/// page. `by_half` says whether the side is rotated by 180 degrees.
 fn towards_fold(right_to_left: bool, by_half: bool, cell: u32, creep: u64) -> i64
     requires { creep < 10_000_000_000 }
     ensures value { result ≡ up_to_fold right_to_left by_half cell creep }

@@ -120,9 +120,9 @@ pub fn leaf_sheets(
     }
 }
 
-/// The sheets of zines. Each sheet has eight entries on one side, is folded three times and is cut once. Pages in the first row of cells are rotated
-/// by 180 degrees. A page whose paper isn't in `papers` has the paper of the sheet. Fails with the error of the first page that can't be placed, or
-/// else with `NoMemory`.
+/// The sheets of zines. Each sheet has eight entries on one side, is folded three times and is cut once. The setting must have two rows of four
+/// cells, with gaps, equal opposite margins and no trim. Pages in the first row of cells are rotated by 180 degrees. A page whose paper isn't in
+/// `papers` has the paper of the sheet. Fails with the error of the first page that can't be placed, or else with `NoMemory`.
 pub fn zine_sheets(
     alloc: Global,
     setting: &Setting,

@@ -19,7 +19,8 @@ pub fn by_spec_on_all()
     ensures { BySpecOnAll }
 {}
 
-/// The entries in the cells of a grid, cell by cell and sheet by sheet, are the entries of the row, followed by blanks.
+/// The entries in the cells of any number of sheets of a grid, cell by cell and sheet by sheet, are the entries of the row from the first on. Cells
+/// after the end of the row are blank.
 pub fn grid_runs_on()
     ensures { GridRunsOn }
 {}
@@ -65,28 +66,30 @@ pub fn behind_is_mirror()
     ensures { BehindIsMirror }
 {}
 
-/// Each placed page, without its trim, lies within the margins of its sheet, whatever the paper of the page.
+/// If no page is refused, each placed page, without its trim, lies within the margins of its sheet, whatever the paper of the page.
 pub fn filled_is_inside()
     ensures { FilledIsInside }
 {}
 
-/// Two placed pages of a sheet, without their trim, are at least the gap apart, whatever their papers.
+/// If no page is refused, two placed pages of a sheet, without their trim, are at least the gap apart, whatever their papers.
 pub fn filled_is_apart()
     ensures { FilledIsApart }
 {}
 
-/// Each page that is placed on a sheet of two cells or more, without its trim, lies within the sheet's margins. If the sheet is rotated by 180
-/// degrees, its opposite margins have to be equal.
+/// If no page is refused, each page that is placed on a sheet of two cells or more, without its trim, lies within the sheet's margins. If the sheet
+/// is rotated by 180 degrees, its opposite margins have to be equal.
 pub fn sides_are_inside()
     ensures { SidesAreInside }
 {}
 
-/// Two pages that are placed on a sheet, without their trim, are at least the gap apart, even if the sheet is rotated by 180 degrees.
+/// If no page is refused, two pages that are placed on a sheet, without their trim, are at least the gap apart, even if the sheet is rotated by 180
+/// degrees.
 pub fn sides_are_apart()
     ensures { SidesAreApart }
 {}
 
-/// On the sides of a booklet's leaves, the pages, without their trim, don't cross the fold, which is the same line for pages of every paper.
+/// If no page is refused, the pages on the sides of a booklet's leaves, without their trim, don't cross the fold, which is the same line for pages of
+/// every paper.
 pub fn booklet_keeps_fold()
     ensures { BookletKeepsFold }
 {}
@@ -107,7 +110,8 @@ pub fn creep_grows()
     ensures { CreepGrows }
 {}
 
-/// If opposite margins are equal and there is room for the creep, the pages of a leaf, without their trim, don't cross the leaf's fold.
+/// Suppose that opposite margins are equal, and that the pages of a leaf fit into its halves and have room for the creep. Then the pages, without
+/// their trim, don't cross the leaf's fold.
 pub fn creep_keeps_sides()
     ensures { CreepKeepsSides }
 {}
@@ -133,7 +137,7 @@ pub fn booklet_is_read()
     ensures { BookletIsRead }
 {}
 
-/// Each point of a page is shown on some tile of its poster.
+/// If the tiles of a poster are longer and wider than their overlap, each point of the poster's page is shown on some tile.
 pub fn poster_covers()
     ensures { PosterCovers }
 {}
@@ -149,12 +153,13 @@ pub fn poster_is_large()
     ensures { PosterIsLarge }
 {}
 
-/// The page of a poster with a requested scale has this scale on each of its tiles.
+/// If a poster with a requested scale isn't refused, its page has this scale on each of its tiles.
 pub fn poster_has_scale()
     ensures { PosterHasScale }
 {}
 
-/// The grid that is found for a scale holds the page at this scale. A grid with fewer columns or fewer rows doesn't.
+/// Suppose that tiles are longer and wider than their overlap. Then the grid that is found for a scale holds the page at this scale, unless more than
+/// 1,024 columns or rows are needed. A grid with fewer columns or fewer rows doesn't hold the page.
 pub fn fewest_hold()
     ensures { FewestHold }
 {}
@@ -199,19 +204,20 @@ pub fn booklet_is_specified()
     ensures { BookletIsSpecified }
 {}
 
-/// If all pages have one paper, the specification that is printed for a grid makes the grid's sheets when it is read again.
+/// If all pages have one paper, the specification that is printed for a grid of all pages makes the grid's sheets when it is read again.
 pub fn printed_is_imposed()
     ensures { PrintedIsImposed }
 {}
 
 /// Suppose that all pages have one paper, the leaves don't creep, and the sheets are flipped on the short edge. Then the specification that is
-/// printed for a booklet makes the booklet's sheets when it is read again.
+/// printed for a booklet of all pages makes the booklet's sheets when it is read again.
 pub fn printed_booklet_is_imposed()
     ensures { PrintedBookletIsImposed }
 {}
 
-/// Suppose that all pages have one paper, the leaves don't creep, and the backs are rotated. Then the specification that is printed for a booklet
-/// makes the booklet's sheets when it is read again. Only the page numbers in the items differ, and the text of a sheet doesn't depend on them.
+/// Suppose that all pages have one paper, the leaves don't creep, and the backs are rotated. Then the specification that is printed for a booklet of
+/// all pages makes the booklet's sheets when it is read again. Only the page numbers in the items differ, and the text of a sheet doesn't depend on
+/// them.
 pub fn printed_backs_are_imposed()
     ensures { PrintedBacksAreImposed }
 {}

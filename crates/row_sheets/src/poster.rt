@@ -28,13 +28,14 @@ pub struct Poster {
     pub edge: u64,
     /// The overlap of neighbouring sheets, in 10^-5 of a point.
     pub overlap: u64,
-    /// The scale of the page. `None` for a page as large as the sheets allow.
+    /// The scale of the page. If it is None, the page is as large as the sheets allow.
     pub scale: Option<Number>,
 }
 
 impl Poster {
-    /// This poster with the fewest columns and the fewest rows that hold a page of this paper at the poster's scale, or at its full size without a
-    /// scale. More than 1,024 columns or rows count as 1,025.
+    /// This poster with the fewest columns and the fewest rows that hold a page of this paper at the poster's scale. If the poster has no scale, the
+    /// result has the scale 1. More than 1,024 columns or rows count as 1,025. There is one column if a tile isn't wider than the overlap, and one
+    /// row if it isn't higher.
     pub fn on_fewest_sheets(self, page_paper: &Paper) -> Poster
         ensures { result ≡ on_fewest page_paper.now self }
     {
@@ -48,7 +49,8 @@ impl Poster {
         }
     }
 
-    /// The fewest tiles that are at least `needed` long together, along sides of sheets that are `side` grains long. More than 1,024 count as 1,025.
+    /// The fewest tiles that are at least `needed` long together, along sides of sheets that are `side` grains long. `needed` is in 10^-5 of a point.
+    /// More than 1,024 tiles count as 1,025. The result is 1 if a tile isn't longer than the overlap.
     fn fewest_along(&self, side: u64, needed: u128) -> u32
         ensures { result ≡ fewest_tiles side self.now.edge self.now.overlap needed }
     {
@@ -82,7 +84,7 @@ fn positive(number: Number) -> u128
     }
 }
 
-/// The requested scale, in 10^-9, or the largest one if none is requested.
+/// The requested scale, in 10^-9; a negative scale counts as 0. The result is `largest` if no scale is requested.
 fn scale_asked(asked: Option<Number>, largest: u128) -> u128
     ensures { result ≡ scale_for asked largest }
 {
@@ -104,7 +106,7 @@ pub enum PosterError {
     /// The part of a sheet between its margins has a side that isn't longer than the overlap.
     #[error("the margins leave no more of a sheet than the overlap")]
     NothingButOverlap,
-    /// The scale of the page would be 0, or above 99,999.
+    /// The scale of the page would be 0 or negative, or above 99,999.
     #[error("the page would be too small or too large: its scale must be from 0.000000001 to 99999")]
     ScaleOutOfRange,
     /// The page doesn't fit the sheets at the requested scale.
@@ -139,7 +141,7 @@ pub fn check_poster(poster: &Poster, page_paper: &Paper) -> Result<(), PosterErr
 }
 
 /// The sheets of a poster of one page, row by row from the top, each row from the left. The page has the poster's scale, or is as large as the sheets
-/// allow. It lies in the middle of all sheets together.
+/// allow. It lies in the middle of all sheets together. Fails with the error of `check_poster`, or with `NoMemory`.
 pub fn poster_sheets(
     alloc: Global,
     poster: &Poster,
@@ -155,7 +157,7 @@ pub fn poster_sheets(
     Ok(made)
 }
 
-/// Adds the sheets of the poster of a page.
+/// Adds the sheets of the poster of a page. Fails with the error of `poster_sheets`. After `NoMemory`, some of the sheets may have been added.
 pub(crate) fn push_poster(
     poster: &Poster,
     page_paper: &Paper,

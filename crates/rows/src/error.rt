@@ -5,7 +5,7 @@ use thiserror::Error;
 /// pages are looked up, then the entries are counted. The value of a fault is the byte of the text at which its range begins, counted from 0.
 #[derive(Clone, Copy, Debug, PartialEq, Eq, Error)]
 pub enum RowError {
-    /// The text at this index, up to the next comma, isn't a range.
+    /// The text from this index to the next comma, or to the end, isn't a range.
     #[error("pages: no range at byte {0}")]
     NotARange(usize),
     /// The document doesn't have the first or the last page of this range.

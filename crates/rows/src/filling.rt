@@ -6,8 +6,8 @@ ghost use Rattle.rows.specs.Found.{row_found, entries_found, entries_if, pages_f
 use crate::cutting::split_at_byte;
 use crate::found_ranges::{ResolvedRange, read_range};
 
-/// Appends the entries of all ranges of a text. Parts of the text that aren't ranges are passed over. The caller has to show that the row has room
-/// for the entries.
+/// Appends the entries of all ranges of a text. Parts of the text that aren't ranges, and ranges whose first or last page isn't in the document, are
+/// passed over. The caller has to show that the row has room for the entries.
 pub(crate) fn append_ranges(row: &mut Vec<Option<u32>>, pages: u32, text: &[u8])
     requires { vec_len row.old + length (row_found pages text.now) ≤ vec_capacity row.old }
     ensures appended { row.new.items ≡ row.old.items ++ row_found pages text.now }

@@ -1,5 +1,5 @@
-//! Rows. A row says which pages are imposed, and in which order. It is a list of pages, counted from 0, and of blanks, which are None. A new row is
-//! made by choosing part of a row, by reversing a row, or by putting a row into signatures.
+//! Rows. A row says which pages are imposed, and in which order. It is a list of pages, counted from 0, and of blanks, which are None. A row is read
+//! from a text of ranges, or has all pages of a document. It may be cut down to its odd or its even places, reversed, or put into signatures.
 #![tactic(auto)]
 
 mod choices;

@@ -143,7 +143,7 @@ pub fn ranges_of_all()
     ensures { RangesOfAll }
 {}
 
-/// If a specification puts two successive entries of a row on each sheet, its sheets are the printed faces of leaves.
+/// If a specification puts the next two entries of a row, in order, on each sheet, its sheets are the printed faces of leaves.
 pub fn sheets_are_faces()
     ensures { SheetsAreFaces }
 {}

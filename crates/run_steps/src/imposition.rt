@@ -115,7 +115,8 @@ impl<'s, 'r, 't, 'd> Imposition<'s, 'r, 't, 'd> {
         Ok(())
     }
 
-    /// Looks up the page of each slot of a sheet, in order, and appends the text of each slot.
+    /// Looks up the page of each slot of a sheet, in order, and appends the text of each slot. Fails with the error of the first slot for which
+    /// `append_shelved` fails.
     fn append_shelved_slots(
         &self,
         text: &mut Rope<'r>,
@@ -141,7 +142,8 @@ impl<'s, 'r, 't, 'd> Imposition<'s, 'r, 't, 'd> {
         Ok(())
     }
 
-    /// Looks up the page in this slot, and appends the text of the slot. A blank slot has no text.
+    /// Looks up the page in this slot, and appends the text of the slot. A blank slot has no text. Fails with the error of `find_shelved`, or with
+    /// `NoMemory`.
     fn append_shelved(
         &self,
         text: &mut Rope<'r>,
@@ -175,7 +177,8 @@ impl<'s, 'r, 't, 'd> Imposition<'s, 'r, 't, 'd> {
         }
     }
 
-    /// Looks up the index of a page in the table, and finds the page on the shelf. The page must have an index.
+    /// Looks up the index of a page in the table, and finds the page on the shelf. The page must have an index. Fails with `NotShown` if the shelf
+    /// has no entry at this index, or an entry that isn't this page of the document.
     fn find_shelved(&self, seat: &mut Seat, page: u32) -> Result<&'r Prepared<'d>, ImposeError>
         requires seat { IsSeatOf self.now.table.now seat.old }
         requires in_table { page < self.now.table.now.layout.pages }

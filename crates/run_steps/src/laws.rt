@@ -21,7 +21,7 @@ pub fn gathers_all()
     ensures { GathersAll }
 {}
 
-/// Once a run has gathered all its pages, any caller that looks up a page of a sheet finds it, always at the same index.
+/// Once a run has gathered all its pages, any caller that has seen this finds each page of a sheet, always at the same index.
 pub fn gathered_are_found()
     ensures { GatheredAreFound }
 {}

@@ -12,7 +12,7 @@ use pagespec::{Item, Measure, Turn};
 use std::alloc::{AllocError, Global};
 use std::marker::Model;
 
-/// The number of placings at the start of the list with which `find_placing` compares a placing, after the one at index `near`.
+/// The number of placings at the start of the list with which `find_placing` compares a placing. It compares the one at index `near` before them.
 const FEW: u32 = 64;
 
 /// The item of a blank slot. It places nothing.

@@ -66,7 +66,8 @@ impl<'s> Model for Plan<'s> {
 }
 
 impl<'s> Plan<'s> {
-    /// Plans the sheets of a specification. The limits are tested in the order of `PlanError`, before any memory is requested.
+    /// Plans the sheets of a specification. Fails with the first limit that the sheets exceed, in the order of `PlanError`, or with `NoMemory`. The
+    /// limits are tested before any memory is requested.
     pub fn new(alloc: Global, spec: &'s Spec, pages: u32) -> Result<Plan<'s>, PlanError>
         ensures planned { IfOk result (λ plan. plan ≡ planned spec.now pages) }
         ensures accepted { OnOk result (plan_of spec.now pages ≡ Ok (sheets spec.now pages)) }
@@ -76,7 +77,7 @@ impl<'s> Plan<'s> {
     }
 
     /// Plans the sheets of a specification for pages in signatures. Each signature has `sides` sides, a positive multiple of four up to 1,000,000.
-    /// The limit of pages is tested on the length of the row, in which the last signature is filled up with blanks.
+    /// Fails as `new` does, but the limit of pages is tested on the length of the row, in which the last signature is filled up with blanks.
     pub fn with_signatures(
         alloc: Global,
         spec: &'s Spec,
@@ -99,8 +100,8 @@ impl<'s> Plan<'s> {
         )
     }
 
-    /// Plans sheets that a caller made, for this number of pages. The faults are looked for in the order of `MadeError`, before any memory is
-    /// requested.
+    /// Plans sheets that a caller made, for this number of pages. Fails with the first fault of the sheets, in the order of `MadeError`, or with
+    /// `NoMemory`. The faults are looked for before any memory is requested.
     pub fn of_sheets(
         alloc: Global,
         pages: u32,

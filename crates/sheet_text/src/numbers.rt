@@ -116,7 +116,7 @@ fn degrees(turn: Turn) -> &'static [u8]
 }
 
 /// Appends the point at which the page's number is drawn, the operator `moveto`, and the parenthesis before the number. The point is in points from
-/// the lower left corner of the placed page.
+/// the lower left corner of the placed page. `below` is that of `Numbers`.
 fn append_foot(
     below: Option<Grains>,
     placed: &PlacedSlot<'_>,
@@ -131,7 +131,7 @@ fn append_foot(
     Ok(())
 }
 
-/// The height of a number above the lower edge of its page, in grains. It is negative if the number is below that edge.
+/// The height of a number above the lower edge of its page, in grains. It is negative if the number is below that edge. `below` is that of `Numbers`.
 fn rise(below: Option<Grains>, placed: &PlacedSlot<'_>) -> i128
     ensures value { result ≡ rise_of below placed.now.paper.now (item_of placed.now.item.now) }
     ensures in_range { nat_abs result ≤ 2 * 10 ^ 23 }

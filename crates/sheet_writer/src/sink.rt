@@ -121,8 +121,8 @@ impl<T: io::Write> Sink for WriteSink<T> {
     }
 }
 
-/// A sink that keeps its bytes in a vector. It has room for `room` bytes in all, and takes at most `per_call` bytes in one call. It refuses a call if
-/// it could take no byte, or if `calls` calls have succeeded before.
+/// A sink that keeps its bytes in a vector. It has room for `room` bytes in all, and takes at most `per_call` bytes in one call. `calls` is the
+/// number of further calls that may succeed. A call is refused if this number is 0, or if the sink could take no byte.
 #[derive(Drop)]
 pub struct MemorySink {
     bytes: Vec<u8>,
