@@ -173,7 +173,7 @@ pub(crate) fn check_sheets(
     }
 }
 
-/// The margins and gaps of a layout that has cells. `None` for a layout without cells.
+/// The margins, gaps and trim of a layout that has cells. `None` for a layout without cells.
 fn kept_free(layout: &Layout, spacing: &Spacing) -> Option<Free>
     ensures { result ≡ kept_free_in layout.now spacing.now }
 {

@@ -127,7 +127,7 @@ struct FoundPapers {
     taken: u32,
 }
 
-/// The papers of a document's pages, and the document's parts. The only errors are a document that is refused, and refused memory.
+/// The papers of a document's pages, other facts about these pages, and the document's parts. Fails only if the document or memory is refused.
 fn papers_of(
     alloc: Global,
     request: &ImposeRequest,
@@ -153,8 +153,8 @@ fn papers_of(
     Ok((found, document.into_parts()))
 }
 
-/// Whether `paper` has the size of all papers by which the document's pages are placed, and of the paper for which sheets and cells are made. The
-/// only errors are a document that is refused, and refused memory.
+/// Whether `paper` has the size of all papers by which the document's pages are placed, and of the paper for which sheets and cells are made. Fails
+/// only if the document or memory is refused.
 pub(crate) fn has_one_paper(
     alloc: Global,
     request: &ImposeRequest,

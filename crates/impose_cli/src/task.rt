@@ -235,8 +235,7 @@ pub(crate) fn paper_of_pages(request: &ImposeRequest, input: &[u8]) -> (Paper, P
     }
 }
 
-/// The counts of a document's pages, which are all placed by this paper, and the document's parts. The only errors are a document that is refused,
-/// and refused memory.
+/// The counts of a document's pages, which are all placed by this paper, and the document's parts. Fails only if the document or memory is refused.
 pub(crate) fn pages_of(
     alloc: Global,
     request: &ImposeRequest,

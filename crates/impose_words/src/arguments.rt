@@ -33,8 +33,8 @@ Examples:
   impose booklet --pages 3-14 in.ps out.ps
   impose-pdf booklet in.pdf out.pdf   a booklet of a PDF";
 
-/// An argument of a subcommand. Its texts are its name, the name that the help gives its value if it takes one, and its help. A hidden option has no
-/// help text. The name of an option is the text after `--`. An option with a short form has the letter of that form before these texts.
+/// An argument of a subcommand. Its texts are its name, the name of its value in the help, and its help. An option without a value lacks the second
+/// text, and a hidden option lacks the help. The name of an option is the text after `--`. The letter of a short form comes before these texts.
 #[derive(Clone, Copy)]
 pub(crate) enum Argument {
     /// A required word.

@@ -148,8 +148,8 @@ fn edges_named(text: &str) -> Option<Edges>
     Some(edges)
 }
 
-/// These edges, and one more edge that the text names with its margin, such as `left=2cm`. `None` for another text, and for an edge that already has
-/// a margin.
+/// These edges, and one more edge that the text names with its margin, such as `left=2cm`. The margin needs a unit, unless it is 0 and the text isn't
+/// part of a list (`is_listed`). `None` for another text, and for an edge that already has a margin.
 fn edge_in(edges: Edges, text: &str, is_listed: bool) -> Option<Edges>
     ensures { result ≡ meaning.edge_in is_listed (Some edges) text.now }
 {

@@ -76,8 +76,8 @@ fn one_item(alloc: Global, item: ParsedItem) -> Result<ParsedGroups, Stop>
     }
 }
 
-/// Reads a text that is a single item without a page number. The page number is then 0. Fails with the place where reading stops if the text isn't
-/// such an item; an empty text isn't one.
+/// Reads a text that is a single item without a page number. The page number is then 0. If the text isn't such an item, the error is the place where
+/// reading stops. An empty text isn't such an item.
 fn read_bare_item(bytes: &[u8]) -> Result<ParsedItem, ParseStop>
     ensures { MatchResult result (BareRead bytes.now) (λ stuck. StuckIn IsBareItem bare_at bytes.now stuck.left) }
 {

@@ -81,7 +81,7 @@ pub(crate) struct ParsedItem {
     pub modifiers: Modifiers,
 }
 
-/// Reads the item at the start of a text, and also returns the text after it. Fails with the place where reading stops if there is no page number.
+/// Reads the item at the start of a text, and also returns the text after it. If there is no page number, the error is the place where reading stops.
 pub(crate) fn read_item(bytes: &[u8]) -> Result<(ParsedItem, Rest<'_>), ParseStop>
     ensures { MatchResult result (λ x. ItemRead bytes.now x.0 x.1.text.now
         × StuckAfter IsItem item_at bytes.now x.1.text.now x.1.stuck.left)

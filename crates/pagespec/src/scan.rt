@@ -38,7 +38,7 @@ pub(crate) enum Modifier {
     TooLarge,
 }
 
-/// The modifier at the start of a text, and the text after it. Fails with the place where reading stops if there is no modifier.
+/// The modifier at the start of a text, and the text after it. If there is no modifier, the error is the place where reading stops.
 pub(crate) fn read_modifier(bytes: &[u8]) -> Result<(Modifier, &[u8]), ParseStop>
     ensures { MatchResult result (λ x. ModifierRead bytes.now x.0 x.1.now)
         (λ stuck. StuckIn IsModifier modifier_at bytes.now stuck.left) }
@@ -75,7 +75,7 @@ fn quarters_of(letter: u8) -> u8
     }
 }
 
-/// Reads a scale after its `@`. Fails with the place where reading stops if there is no number.
+/// Reads a scale after its `@`. If there is no number, the error is the place where reading stops.
 fn read_scale(bytes: &[u8]) -> Result<(Modifier, &[u8]), ParseStop>
     ensures { MatchResult result
         (λ x. (m : WrittenModifier) × (scale_at bytes.now ≡ Some (m, x.1.now)) × StandsFor x.0 m)
@@ -88,7 +88,7 @@ fn read_scale(bytes: &[u8]) -> Result<(Modifier, &[u8]), ParseStop>
     }
 }
 
-/// Reads an offset after its opening parenthesis. Fails with the place where reading stops if the offset isn't complete.
+/// Reads an offset after its opening parenthesis. If the offset isn't complete, the error is the place where reading stops.
 fn read_offset(bytes: &[u8]) -> Result<(Modifier, &[u8]), ParseStop>
     ensures { MatchResult result
         (λ x. (m : WrittenModifier) × (offset_at bytes.now ≡ Some (m, x.1.now)) × StandsFor x.0 m)
@@ -122,8 +122,8 @@ fn offset_of(x: Option<Measure>, y: Option<Measure>) -> Modifier
     }
 }
 
-/// Reads a number and its unit, which is points if none is written. The measure is None if the integer part of the number is over 99,999. Fails with
-/// the place where reading stops if there is no number.
+/// Reads a number and its unit, which is points if none is written. The measure is None if the integer part of the number is over 99,999. If there is
+/// no number, the error is the place where reading stops.
 fn read_measure(bytes: &[u8]) -> Result<(Option<Measure>, Rest<'_>), ParseStop>
     ensures { MatchResult result (λ x. MeasureRead bytes.now x.0 x.1.text.now
         × StuckAfter IsMeasure measure_at bytes.now x.1.text.now x.1.stuck.left)

@@ -37,7 +37,7 @@ pub struct RowJob<'j, 'd> {
     pub border: Option<Grains>,
     /// The distance, in grains, at which the border lies inside the edges of its page.
     pub inset: Grains,
-    /// The marks, the lines for notes and the page numbers that are drawn on each sheet, after its pages.
+    /// The marks, the lines for notes and the page numbers that are requested. Those that the laying takes are drawn on each sheet, after its pages.
     pub marks: Marks,
 }
 

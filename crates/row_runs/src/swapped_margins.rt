@@ -44,8 +44,8 @@ pub(crate) fn swapped_room_on(swap: &Option<Room>, sheet: u32) -> Option<Room>
     if sheet % 2 == 1 { *swap } else { None }
 }
 
-/// The item that places a page after the left and right margins of this room are exchanged. Without a room the item doesn't change. None if the
-/// offset would be 100,000 or more in its own unit.
+/// The item that places a page after the left and right margins of this room are exchanged. Without a room the item doesn't change. None if the size
+/// of the offset would be 100,000 or more in its own unit.
 pub(crate) fn moved_item(swap: &Option<Room>, item: &Item) -> Option<Item>
     ensures value { IfSome result (λ moved. item_of moved ≡ meaning.moved_item swap.now (item_of item.now)) }
     ensures near { is_some result ≡ is_moved_near swap.now (item_of item.now) }

@@ -113,7 +113,8 @@ fn turned_slot(turns: &[Turn], swap: &Option<Room>, slot: Option<PlacedSlot<'_>>
     }
 }
 
-/// The item for a page that is first shifted and then turned. None if an offset would be 100,000 or more in its own unit.
+/// The item for a page that is first shifted, as the exchange of margins requires (`swap`), and then turned. None if the size of an offset would be
+/// 100,000 or more in its own unit.
 pub(crate) fn changed_item(
     turns: &[Turn],
     swap: &Option<Room>,
@@ -129,8 +130,8 @@ pub(crate) fn changed_item(
     turned_item(turn_on(turns, placed.page), placed.paper, &moved)
 }
 
-/// The item that places a page with this turn where `item` would place a page of the turned paper. None if an offset would be 100,000 or more in its
-/// own unit.
+/// The item that places a page with this turn where `item` would place a page of the turned paper. None if the size of an offset would be 100,000 or
+/// more in its own unit.
 fn turned_item(turn: Turn, paper: &Paper, item: &Item) -> Option<Item>
     ensures value { IfSome result (λ turned. item_of turned ≡ meaning.turned_item (turn_of turn) paper.now (item_of item.now)) }
     ensures near { is_some result ≡ reaching.is_turned_near (turn_of turn) paper.now (item_of item.now) }

@@ -11,7 +11,7 @@ use placement::opening_within;
 use std::alloc::{AllocError, Global};
 use std::marker::Model;
 
-/// The largest number of texts that are kept.
+/// The largest number of texts that `Openings` keeps.
 const MOST_KEPT: usize = 64;
 
 /// The texts that come before placed pages, kept for reuse. Most jobs place all their pages by a few items, so at most 64 texts are kept. A contract

@@ -52,8 +52,8 @@ pub fn by_specification(out: &mut Answer, words: &[String]) -> Option<()> {
     Some(())
 }
 
-/// The papers of `pages` pages. The named papers are taken in their order, beginning again with the first after the last. `None` if a name isn't that
-/// of a paper.
+/// The papers of `pages` pages: the named papers in their order, repeated as often as needed. `None` if a name that is used isn't that of a paper, or
+/// if memory is refused.
 fn papers_in_turn(alloc: Global, pages: u32, names: &str) -> Option<Vec<Paper>> {
     let turns = names.split_whitespace().count().max(1);
     let mut papers = Vec::new(alloc);
