@@ -19,8 +19,7 @@ pub fn run(out: &mut Answer, words: &[String]) -> Option<()> {
         "filled_with" => filled(out, words.get(1..)?, &[a4(), paper(words, 1)?]),
         "fitted" => fitted(out, words),
         "scale" => scale(out, words),
-        "poster" => poster(out, words),
-        "check_poster" => checked(out, words),
+        "poster" | "check_poster" => poster(out, words),
         "posters" => posters(out, words),
         _ => None,
     }
@@ -125,17 +124,18 @@ fn told(words: &[String]) -> Option<Poster> {
 }
 
 fn poster(out: &mut Answer, words: &[String]) -> Option<()> {
-    match poster_sheets(out.alloc, &told(words)?, &paper(words, 1)?, 0) {
-        Ok(made) => offsets(out, &made),
-        Err(error) => out.refusal(error),
-    }
-    Some(())
-}
-
-fn checked(out: &mut Answer, words: &[String]) -> Option<()> {
-    match check_poster(&told(words)?, &paper(words, 1)?) {
-        Ok(()) => out.verdict(true),
-        Err(error) => out.refusal(error),
+    let poster = told(words)?;
+    let page = paper(words, 1)?;
+    if word(words, 0)? == "check_poster" {
+        match check_poster(&poster, &page) {
+            Ok(()) => out.verdict(true),
+            Err(error) => out.refusal(error),
+        }
+    } else {
+        match poster_sheets(out.alloc, &poster, &page, 0) {
+            Ok(made) => offsets(out, &made),
+            Err(error) => out.refusal(error),
+        }
     }
     Some(())
 }
