@@ -63,12 +63,6 @@ pub first_told : (name : List ℕ) (lines : List (List ℕ)) (value : List ℕ) 
     → comment_values name lines ≡ value ∷ more → comment_fields name lines ≡ Some (fields_in value)
 first_told name lines value more e = ap (option_map fields_in) (first_said name lines value more e)
 
--- the fields of what was found
-pub fields_found : {A : Type 0} (f : A → List ℕ) (found : Option A) (value : Option (List ℕ))
-    → option_map f found ≡ value → option_map (λ v. fields_in (f v)) found ≡ option_map fields_in value
-fields_found f None value e = ap (option_map fields_in) e
-fields_found f (Some v) value e = ap (option_map fields_in) e
-
 -- the box of the trailer is that of its lines
 box_in_lines : (us : List NestedUnit) → box_among us ≡ comment_fields (codes "%%BoundingBox") (map (λ u. u.unit.content) (filter is_outermost_line us))
 box_in_lines [] = refl

@@ -1,14 +1,10 @@
 //! Finds the pages that a paper cuts, because their own papers are larger.
-ghost use Rattle.std.specs.Prelude.{◌≡◌, ◌<◌, ◌-ℤ◌, nat_abs, IfSome, IsTrue};
-ghost use Rattle.rules.specs.Papers.{is_side};
-ghost use Rattle.papers.specs.Own.{covers as covers_it, counts_as_one as is_near_to};
+ghost use Rattle.std.specs.Prelude.{◌≡◌, ◌<◌, IfSome};
+ghost use Rattle.papers.specs.Own.{covers as covers_it};
 ghost use Rattle.papers.specs.Cuts.{cut_of, is_cut as is_cut_by, with_cut_page as with_one};
 
-use crate::smallest_cover;
+use crate::two_papers::{is_near, smallest_cover};
 use lengths::Paper;
-
-/// The greatest difference, in grains, between two sides that count as equal: 15 points.
-const NEARNESS: u128 = 15 * 127_000_000_000;
 
 /// The pages of a document that a paper cuts.
 #[derive(Clone, Copy)]
@@ -71,21 +67,4 @@ fn covers(paper: &Paper, other: &Paper) -> bool
     ensures { result ≡ covers_it paper.now other.now }
 {
     other.width().get() <= paper.width().get() && other.height().get() <= paper.height().get()
-}
-
-/// Whether two papers count as equal: their widths differ by at most 15 points, and so do their heights.
-pub(crate) fn is_near(paper: &Paper, other: &Paper) -> bool
-    ensures { result ≡ is_near_to paper.now other.now }
-{
-    difference(paper.width().get(), other.width().get()) <= NEARNESS
-        && difference(paper.height().get(), other.height().get()) <= NEARNESS
-}
-
-/// The difference of two sides, in grains.
-fn difference(one: i128, other: i128) -> u128
-    requires one { IsTrue (is_side one) }
-    requires other { IsTrue (is_side other) }
-    ensures { result ≡ nat_abs (one -ℤ other) }
-{
-    (one - other).unsigned_abs()
 }

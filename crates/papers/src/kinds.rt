@@ -4,8 +4,7 @@ ghost use Rattle.papers.specs.AsOne.{merge_near_sizes as counted_as_one, first_i
 ghost use Rattle.papers.specs.AsOne.{apart_from, is_larger as is_larger_than, kind_of as kind_made, kinds as kinds_with, largest_of};
 ghost use Rattle.papers.specs.AsOne.{kind_paper as paper_in};
 
-use crate::cuts::is_near;
-use crate::smallest_cover;
+use crate::two_papers::{is_near, smallest_cover};
 use lengths::Paper;
 use std::alloc::{AllocError, Global};
 

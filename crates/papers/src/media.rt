@@ -1,6 +1,5 @@
 //! Finds the paper that a document is made for, from its comments or its setup.
-ghost use Rattle.std.specs.Prelude.{◌≡◌, ◌++◌, ◌∷◌, [], ◌&&◌, IsTrue, option_and_then, option_map, codes, None};
-ghost use Rattle.rules.specs.Papers.{is_side};
+ghost use Rattle.std.specs.Prelude.{◌≡◌, ◌++◌, ◌∷◌, [], option_and_then, option_map, codes, None};
 ghost use Rattle.rules.specs.Bytes.{colon};
 ghost use Rattle.dsc.specs.Fields.{fields_in};
 ghost use Rattle.dsc.specs.Units.{units_of};
@@ -10,13 +9,10 @@ use crate::boxes::{box_paper, paper_of_box, paper_with_sides};
 use crate::comments::{continuation, first_comment};
 use crate::fields::{name_and_rest, name_in, points_of};
 use crate::setup::set_size;
+use crate::two_papers::is_near;
 use dsc::{header_len, next_field, trailer_box};
-use lengths::{Grains, Paper};
+use lengths::Paper;
 use paper_names::paper_by_name;
-
-/// The greatest difference, in grains, between two sides that count as equal: 15 points. Programs round the sizes of
-/// one paper differently.
-const NEARNESS: u128 = 15 * 127_000_000_000;
 
 /// The comment, or the setup, that gives a document's paper.
 #[derive(Clone, Copy, Debug, PartialEq, Eq)]
@@ -77,19 +73,11 @@ fn named_or_boxed(header: &[u8], text: &[u8], usual: &Paper) -> Option<(Paper, C
     let value = box_of(header, text);
     match named_in(header) {
         Some(paper) => Some((
-            lying_as(corner_paper(value), paper),
+            lying_as(value.and_then(box_paper), paper),
             Comment::DocumentPaperSizes,
         )),
         None => Some((paper_of_box(usual, value?)?, Comment::BoundingBox)),
     }
-}
-
-/// The paper of a box that begins at 0 0. None if there is no box, if it begins elsewhere, or if its sides can't be
-/// those of a paper.
-fn corner_paper(value: Option<&[u8]>) -> Option<Paper>
-    ensures { result ≡ option_and_then meaning.box_paper (option_map (λ v. fields_in v.now) value.entry) }
-{
-    box_paper(value?)
 }
 
 /// `paper`, turned on its side if `told`, the paper of a box, has the sides of `paper` exchanged, to within 15 points.
@@ -97,25 +85,9 @@ fn lying_as(told: Option<Paper>, paper: Paper) -> Paper
     ensures { result ≡ meaning.lying_as told paper }
 {
     match told {
-        Some(told) if has_exchanged_sides(&told, &paper) => paper.turned(),
+        Some(told) if is_near(&told, &paper.turned()) => paper.turned(),
         _ => paper,
     }
-}
-
-/// Whether one paper has the sides of the other exchanged, to within 15 points.
-fn has_exchanged_sides(told: &Paper, paper: &Paper) -> bool
-    ensures { result ≡ (meaning.are_near told.now.width paper.now.height && meaning.are_near told.now.height paper.now.width) }
-{
-    are_near(told.width(), paper.height()) && are_near(told.height(), paper.width())
-}
-
-/// Whether two sides count as equal: they differ by at most 15 points.
-fn are_near(one: Grains, other: Grains) -> bool
-    requires one { IsTrue (is_side one) }
-    requires other { IsTrue (is_side other) }
-    ensures { result ≡ meaning.are_near one other }
-{
-    (one.get() - other.get()).unsigned_abs() <= NEARNESS
 }
 
 /// The paper of the first known name in the first `%%DocumentPaperSizes:` and the `%%+` lines that continue it. None if
@@ -125,10 +97,7 @@ fn named_in(header: &[u8]) -> Option<Paper>
         (meaning.comment_values (codes "%%DocumentPaperSizes") (meaning.contents header.now)) }
 {
     let (value, others) = first_comment(header, b"%%DocumentPaperSizes", b"%%DocumentPaperSizes:")?;
-    match first_named(value) {
-        Some(paper) => Some(paper),
-        None => named_behind(others),
-    }
+    first_named(value).or_else(|| named_behind(others))
 }
 
 /// The paper of the first known name in the `%%+` lines at the start of the text. None if they have no known name.
@@ -165,25 +134,17 @@ fn media_in(header: &[u8]) -> Option<Paper>
     ensures { result ≡ option_and_then meaning.media_paper
         (meaning.comment_value (codes "%%DocumentMedia") (meaning.contents header.now)) }
 {
-    media_paper(comment_text(header, b"%%DocumentMedia", b"%%DocumentMedia:")?)
+    media_paper(first_value(header, b"%%DocumentMedia", b"%%DocumentMedia:")?)
 }
 
 /// The value of the header's first `%%BoundingBox:`, or that of the trailer's first one if the value in the header is
 /// `(atend)`. None if there is no such comment.
+#[tactic(auto, using(crate::proofs::Contents::trailer_box_is))]
 pub(crate) fn box_of<'t>(header: &'t [u8], text: &'t [u8]) -> Option<&'t [u8]>
     ensures { option_map (λ value. fields_in value.now) result
         ≡ meaning.box_of (meaning.contents header.now) (meaning.trailer_lines (units_of text.now)) }
 {
-    box_or_last(value_of(header, b"%%BoundingBox", b"%%BoundingBox:")?, text)
-}
-
-/// The value of a box: `value`, which is from the header, or the value of the trailer's first `%%BoundingBox:` if
-/// `value` is `(atend)`. None if the trailer lacks the comment that is then needed.
-#[tactic(auto, using(crate::proofs::Contents::trailer_box_is))]
-fn box_or_last<'t>(value: &'t [u8], text: &'t [u8]) -> Option<&'t [u8]>
-    ensures { option_map (λ v. fields_in v.now) result
-        ≡ meaning.box_or_last (meaning.trailer_lines (units_of text.now)) (fields_in value.now) }
-{
+    let value = first_value(header, b"%%BoundingBox", b"%%BoundingBox:")?;
     if is_at_end(value) {
         trailer_box(text)
     } else {
@@ -195,35 +156,19 @@ fn box_or_last<'t>(value: &'t [u8], text: &'t [u8]) -> Option<&'t [u8]>
 pub fn is_at_end(value: &[u8]) -> bool
     ensures { result ≡ meaning.is_at_end (fields_in value.now) }
 {
-    match next_field(value) {
-        Some((field, _)) => field == b"(atend)".as_slice(),
-        None => false,
-    }
+    matches!(next_field(value), Some((b"(atend)", _)))
 }
 
 /// The value of the header's first comment with this key: the text after its colon. None if there is no such comment.
-#[tactic(auto, using(crate::proofs::Contents::none_said, crate::proofs::Contents::first_said))]
-fn comment_text<'t>(header: &'t [u8], key: &[u8], with_colon: &[u8]) -> Option<&'t [u8]>
+#[tactic(auto, using(crate::proofs::Contents::none_said, crate::proofs::Contents::first_said, crate::proofs::Contents::none_told, crate::proofs::Contents::first_told))]
+fn first_value<'t>(header: &'t [u8], key: &[u8], with_colon: &[u8]) -> Option<&'t [u8]>
     requires { with_colon.now ≡ key.now ++ colon ∷ [] }
-    ensures { option_map (λ value. value.now) result ≡ meaning.comment_value key.now (meaning.contents header.now) }
-{
-    match first_comment(header, key, with_colon) {
-        Some((value, _)) => Some(value),
-        None => None,
-    }
-}
-
-/// The value that `comment_text` finds. The contract of this function gives the fields of the value.
-#[tactic(auto, using(crate::proofs::Contents::none_told, crate::proofs::Contents::first_told))]
-fn value_of<'t>(header: &'t [u8], key: &[u8], with_colon: &[u8]) -> Option<&'t [u8]>
-    requires { with_colon.now ≡ key.now ++ colon ∷ [] }
-    ensures { option_map (λ value. fields_in value.now) result
+    ensures value { option_map (λ value. value.now) result ≡ meaning.comment_value key.now (meaning.contents header.now) }
+    ensures fields { option_map (λ value. fields_in value.now) result
         ≡ meaning.comment_fields key.now (meaning.contents header.now) }
 {
-    match first_comment(header, key, with_colon) {
-        Some((value, _)) => Some(value),
-        None => None,
-    }
+    let (value, _) = first_comment(header, key, with_colon)?;
+    Some(value)
 }
 
 /// The paper of a medium. The value has the medium's name, its width and its height in points; further fields aren't

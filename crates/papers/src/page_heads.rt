@@ -24,15 +24,17 @@ fn first_line_len(text: &[u8]) -> usize
     ensures { result ≡ length (content_of text.now) }
 {
     text.iter()
-        .take_while(|b| !(**b == b'\r' || **b == b'\n'))
+        .take_while(|b| !matches!(**b, b'\r' | b'\n'))
         .count()
 }
 
 /// The value of the first comment with this key, among the comments at the start of the text. None if there is no such
 /// comment.
-fn text_in_head<'t>(text: &'t [u8], key: &[u8], with_colon: &[u8]) -> Option<&'t [u8]>
+pub(crate) fn value_in_head<'t>(text: &'t [u8], key: &[u8], with_colon: &[u8]) -> Option<&'t [u8]>
     requires { with_colon.now ≡ key.now ++ colon ∷ [] }
-    ensures { option_map (λ value. value.now) result ≡ comment_value key.now (head_of (length text.now) text.now) }
+    ensures value { option_map (λ value. value.now) result ≡ comment_value key.now (head_of (length text.now) text.now) }
+    ensures fields { option_map (λ value. fields_in value.now) result
+        ≡ comment_fields key.now (head_of (length text.now) text.now) }
 {
     let mut rest = text;
     while rest.starts_with(b"%") {
@@ -49,21 +51,12 @@ fn text_in_head<'t>(text: &'t [u8], key: &[u8], with_colon: &[u8]) -> Option<&'t
     None
 }
 
-/// The value that `text_in_head` finds. The contract of this function gives the fields of the value.
-pub(crate) fn value_in_head<'t>(text: &'t [u8], key: &[u8], with_colon: &[u8]) -> Option<&'t [u8]>
-    requires { with_colon.now ≡ key.now ++ colon ∷ [] }
-    ensures { option_map (λ value. fields_in value.now) result
-        ≡ comment_fields key.now (head_of (length text.now) text.now) }
-{
-    text_in_head(text, key, with_colon)
-}
-
 /// The name of the medium in `%%PageMedia:`, among the comments at the start of the text, as it is written. None if
 /// there is no such comment, or if it names no medium.
 pub(crate) fn medium_name(text: &[u8]) -> Option<&[u8]>
     ensures { option_map (λ name. name_meant name.now) result ≡ medium_told (head_of (length text.now) text.now) }
 {
-    let (name, _) = name_and_rest(text_in_head(text, b"%%PageMedia", b"%%PageMedia:")?)?;
+    let (name, _) = name_and_rest(value_in_head(text, b"%%PageMedia", b"%%PageMedia:")?)?;
     Some(name)
 }
 

@@ -21,7 +21,7 @@ fn page_box(page: &[u8], other: Option<&[u8]>) -> Option<Edges>
     let head = behind_first_line(page);
     match value_in_head(head, b"%%PageBoundingBox", b"%%PageBoundingBox:") {
         Some(own) => edges_of(own),
-        None => edges_if(unless_medium(head, other)),
+        None => unless_medium(head, other).and_then(edges_of),
     }
 }
 
@@ -35,13 +35,6 @@ fn unless_medium<'t>(head: &[u8], other: Option<&'t [u8]>) -> Option<&'t [u8]>
         Some(_) => None,
         None => other,
     }
-}
-
-/// The edges of this box. None if there is no box, or if one of its edges is missing or isn't a number.
-fn edges_if(value: Option<&[u8]>) -> Option<Edges>
-    ensures { result ≡ option_and_then edges_told (option_map (λ v. fields_in v.now) value.entry) }
-{
-    edges_of(value?)
 }
 
 /// The pages of a document, each with the paper for which it is placed.
@@ -165,20 +158,14 @@ fn extent_at(
 fn is_taken(taken: &[bool], page: usize) -> bool
     ensures { result ≡ get_or taken.now page false }
 {
-    match taken.get(page) {
-        Some(taken) => *taken,
-        None => false,
-    }
+    matches!(taken.get(page), Some(true))
 }
 
 /// This page's own paper, or `other` if there is no such page. Pages are counted from 0.
 fn own_at(own: &[Paper], page: usize, other: &Paper) -> Paper
     ensures { result ≡ get_or own.now page other.now }
 {
-    match own.get(page) {
-        Some(own) => *own,
-        None => *other,
-    }
+    *own.get(page).unwrap_or(other)
 }
 
 /// The edges of the box of this page, as `page_box` finds them if `other` is the document's box. Pages are counted from
