@@ -35,7 +35,7 @@ pub fn paper_of_box(paper: &Paper, value: &[u8]) -> Option<Paper>
 {
     match box_paper(value) {
         Some(own) => Some(own),
-        None => wider_paper(paper, value),
+        None => paper_beyond(paper, &edges_of(value)?),
     }
 }
 
@@ -54,14 +54,6 @@ pub(crate) fn box_paper(value: &[u8]) -> Option<Paper>
     } else {
         None
     }
-}
-
-/// The paper that has the box given by `value` in its middle. None if the value doesn't have four edges, or if
-/// `paper_beyond` gives no paper for them.
-fn wider_paper(paper: &Paper, value: &[u8]) -> Option<Paper>
-    ensures { result ≡ meaning.wider_paper paper.now (fields_in value.now) }
-{
-    paper_beyond(paper, &edges_of(value)?)
 }
 
 /// The paper that has a box with these edges in its middle. None if the box doesn't reach past `paper` by more than 15
@@ -121,28 +113,11 @@ pub(crate) fn edges_of(value: &[u8]) -> Option<Edges>
     let (bottom, rest) = next_field(rest)?;
     let (right, rest) = next_field(rest)?;
     let (top, _) = next_field(rest)?;
-    all_edges(
-        points_of(left),
-        points_of(bottom),
-        points_of(right),
-        points_of(top),
-    )
-}
-
-/// The four edges, or None if one is missing.
-fn all_edges(
-    left: Option<Grains>,
-    bottom: Option<Grains>,
-    right: Option<Grains>,
-    top: Option<Grains>,
-) -> Option<Edges>
-    ensures { result ≡ meaning.edges left bottom right top }
-{
     Some(Edges {
-        left: left?,
-        bottom: bottom?,
-        right: right?,
-        top: top?,
+        left: points_of(left)?,
+        bottom: points_of(bottom)?,
+        right: points_of(right)?,
+        top: points_of(top)?,
     })
 }
 

@@ -56,12 +56,9 @@ fn declared_papers(
 {
     let text = document.text();
     let (header, _) = text.split_at(header_len(text));
-    each_or(
-        alloc,
-        document,
-        header,
-        &document_or(text, &usual_in(text, home)),
-    )
+    let known = KnownMedia::read(alloc, document, header)?;
+    let other = document_or(text, &usual_in(text, home));
+    each_with(alloc, document, &known, &other)
 }
 
 /// The paper that the document's comments give, or `other` if they give none. A box that doesn't begin at 0 0 must
@@ -74,21 +71,6 @@ fn document_or(text: &[u8], other: &Paper) -> Paper
         Some(told) => told.0,
         None => *other,
     }
-}
-
-/// The paper of each page: the one that the page's own comments give, or `other` if they give none. `header` has the
-/// header comments, whose media a page can name.
-fn each_or(
-    alloc: Global,
-    document: &Document<'_>,
-    header: &[u8],
-    other: &Paper,
-) -> Result<Vec<Paper>, AllocError>
-    ensures { IfOk result (λ papers. papers.items
-        ≡ map (λ page. page_or (medium_by (contents header.now)) (page_head page) other.now) (pages document.now)) }
-{
-    let known = KnownMedia::read(alloc, document, header)?;
-    each_with(alloc, document, &known, other)
 }
 
 /// The paper of each page: the one that the page's own comments give, or `other` if they give none. `known` has the
@@ -104,21 +86,10 @@ fn each_with(
 {
     let mut papers = Vec::new(alloc);
     for page in 0..document.pages() {
-        papers.push(page_paper(alloc, known, document.page(page), other)?)?;
+        let told = told_by_page(alloc, known, document.page(page), other)?;
+        papers.push(told.unwrap_or(*other))?;
     }
     Ok(papers)
-}
-
-/// The paper that a page's own comments give, or the document's paper `other` if they give none.
-fn page_paper(
-    alloc: Global,
-    known: &KnownMedia,
-    page: &[u8],
-    other: &Paper,
-) -> Result<Paper, AllocError>
-    ensures { IfOk result (λ paper. paper ≡ page_or (known_paper known.now) (page_head page.now) other.now) }
-{
-    Ok(told_by_page(alloc, known, page, other)?.unwrap_or(*other))
 }
 
 /// The paper that the comments after a page's first line give: that of the known medium in `%%PageMedia:`, or else

@@ -135,11 +135,7 @@ impl KnownMedia {
     fn is_missing(&self, name: &[u8]) -> bool
         ensures { result ≡ is_not_found (found_at self.now name.now) }
     {
-        match self.papers.get(name) {
-            Some(None) => true,
-            Some(Some(_)) => false,
-            None => false,
-        }
+        matches!(self.papers.get(name), Some(None))
     }
 
     /// The paper of the header's first medium with the name for which `written` stands. None if no page names this
@@ -161,8 +157,7 @@ impl KnownMedia {
     {
         match self.papers.get(name) {
             Some(Some(paper)) => *paper,
-            Some(None) => None,
-            None => None,
+            _ => None,
         }
     }
 }
