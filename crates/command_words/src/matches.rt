@@ -25,13 +25,7 @@ pub fn number_of(matches: &ArgMatches<'_>, id: &str) -> Option<u32>
 pub fn is_set(matches: &ArgMatches<'_>, id: &str) -> bool
     ensures { result ≡ has_true (first_of id.now (rows_of (found_of matches.now))) }
 {
-    is_true(text_of(matches, id))
-}
-
-fn is_true(text: Option<&str>) -> bool
-    ensures { result ≡ has_true (option_map (λ s. s.now) text.entry) }
-{
-    match text {
+    match text_of(matches, id) {
         Some(text) => text == "true",
         None => false,
     }
