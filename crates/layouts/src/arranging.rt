@@ -8,7 +8,7 @@ ghost use Rattle.layouts.specs.Fitted.{back_of, fitted, why_no_scale_on, why_not
 ghost use Rattle.layouts.specs.Laws.{IsPaper, IsArranged, IsBound};
 ghost use Rattle.layouts.specs.Grids.{arranged, bound, is_same, is_itself as is_page_itself};
 ghost use Rattle.layouts.specs.Grids.{room_of};
-ghost use Rattle.layouts.specs.Grids.{scale_for, above_zero, leaf_order as leaf_order_of};
+ghost use Rattle.layouts.specs.Grids.{scale_for, leaf_order as leaf_order_of};
 ghost use Rattle.layouts.specs.Refusals.{why_not_arranged, why_not_bound, IsArrangementFault};
 ghost use Rattle.layouts.specs.Refusals.{is_paper_reached, folds_short, why_no_room, why_no_sheet, why_no_scale, is_shown as are_shown};
 
@@ -48,10 +48,8 @@ pub fn arrange(
         Err(error) => return Err(error),
     };
     let count = arrangement.cells.count();
-    match one_side(alloc, &setting, &papers.page, count as u32) {
-        Ok(groups) => Ok(Spec::of_groups(count as u32, groups)),
-        Err(_) => Err(ArrangementError::NoMemory),
-    }
+    let groups = one_side(alloc, &setting, &papers.page, count as u32)?;
+    Ok(Spec::of_groups(count as u32, groups))
 }
 
 /// The specification of a booklet, for a row of pages in signature order. Each side of a sheet has two pages side by side, and the fold is parallel
@@ -72,15 +70,11 @@ pub fn bind(alloc: Global, papers: &Papers, binding: &Binding) -> Result<Spec, A
         Err(error) => return Err(error),
     };
     if binding.long_edge {
-        match leaf(alloc, &setting, &papers.page) {
-            Ok(groups) => Ok(Spec::of_groups(4, groups)),
-            Err(_) => Err(ArrangementError::NoMemory),
-        }
+        let sides = leaf(alloc, &setting, &papers.page)?;
+        Ok(Spec::of_groups(4, sides))
     } else {
-        match one_side(alloc, &setting, &papers.page, 2) {
-            Ok(groups) => Ok(Spec::of_groups(2, groups)),
-            Err(_) => Err(ArrangementError::NoMemory),
-        }
+        let side = one_side(alloc, &setting, &papers.page, 2)?;
+        Ok(Spec::of_groups(2, side))
     }
 }
 
@@ -247,17 +241,7 @@ pub(crate) fn scale_found(
 fn scale_asked(asked: Option<Number>, largest: u128) -> u128
     ensures { result ≡ scale_for asked largest }
 {
-    match asked {
-        None => largest,
-        Some(scale) => positive(scale.billionths()),
-    }
-}
-
-/// A number, or 0 if it is negative.
-fn positive(n: i64) -> u128
-    ensures { result ≡ above_zero n }
-{
-    if n < 0 { 0 } else { n as u128 }
+    asked.map_or(largest, |scale| scale.billionths().max(0) as u128)
 }
 
 /// Whether the trim leaves some of the page.

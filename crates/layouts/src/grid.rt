@@ -31,7 +31,7 @@ impl Model for Grid {
 
 impl Grid {
     /// The grid that has this number of columns, and as few rows as n cells need. `turned` says whether its pages are turned to the left.
-    pub fn of(turned: bool, n: u32, columns: u32) -> Grid
+    pub(crate) fn of(turned: bool, n: u32, columns: u32) -> Grid
         requires some { 0 < columns }
         requires cells { 0 < n }
         requires most { (columns ≤ most_on_sheet) × (n ≤ most_on_sheet) }
@@ -45,7 +45,7 @@ impl Grid {
     }
 
     /// The grid that has this number of columns and rows, as one reads the sheet. `turned` says whether its pages are turned to the left.
-    pub fn formed(reading: Turned, turned: bool, columns: u32, rows: u32) -> Grid
+    pub(crate) fn formed(reading: Turned, turned: bool, columns: u32, rows: u32) -> Grid
         requires { (0 < columns) × (0 < rows) }
         ensures { result ≡ formed_of reading turned columns rows }
     {
@@ -64,7 +64,7 @@ impl Grid {
     }
 
     /// The grid of two cells side by side. `turned` says whether its pages are turned to the left.
-    pub fn beside(turned: bool) -> Grid
+    pub(crate) fn beside(turned: bool) -> Grid
         ensures { result ≡ beside_of turned }
     {
         Grid {

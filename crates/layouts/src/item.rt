@@ -179,7 +179,7 @@ impl GridLayout {
     }
 
     /// The item that places page k, counted from 0, in its cell.
-    pub fn item_in(&self, k: u32) -> Item
+    pub(crate) fn item_in(&self, k: u32) -> Item
         requires place { HasPlace self.now.page self.now.room self.now.grid self.now.scale }
         requires near { IsTrue (are_near self.now.room self.now.scale) }
         requires scale { self.now.scale ≤ greatest_number }
@@ -202,7 +202,7 @@ impl GridLayout {
     }
 
     /// The item that places page n + k of a block where page k would be if the sheet were rotated by 180 degrees.
-    pub fn back_in(&self, n: u32, k: u32) -> Item
+    pub(crate) fn back_in(&self, n: u32, k: u32) -> Item
         requires place { HasPlace self.now.page self.now.room self.now.grid self.now.scale }
         requires near { IsTrue (are_near self.now.room self.now.scale) }
         requires scale { self.now.scale ≤ greatest_number }

@@ -83,7 +83,7 @@ impl Model for Along {
 
 impl Room {
     /// The sheet that has this paper, with these margins, gaps and trim, rounded as `Free` says.
-    pub fn of(sheet: Paper, free: &Free) -> Room
+    pub(crate) fn of(sheet: Paper, free: &Free) -> Room
         requires { IsTrue (may_be_lengths free.now) }
         ensures { result ≡ room_of sheet free.now }
     {
@@ -125,7 +125,7 @@ impl Room {
 
     /// The margins, the gap and the trim in both directions, with the sheet held so that its pages are upright. Those across come first, then those
     /// down. `turned` says whether the pages are turned to the left on the sheet as it lies.
-    pub fn as_read(&self, turned: bool) -> (Along, Along)
+    pub(crate) fn as_read(&self, turned: bool) -> (Along, Along)
         ensures across { result.0 ≡ across_of turned self.now }
         ensures down { result.1 ≡ down_of turned self.now }
     {
@@ -137,14 +137,14 @@ impl Room {
     }
 
     /// Whether there are no margins and no trim.
-    pub fn has_bare_edges(&self) -> bool
+    pub(crate) fn has_bare_edges(&self) -> bool
         ensures { result ≡ have_nothing self.now }
     {
         self.left + self.right + (self.bottom + self.top) == 0 && self.trim == 0
     }
 
     /// Whether opposite margins are equal.
-    pub fn is_even(&self) -> bool
+    pub(crate) fn is_even(&self) -> bool
         ensures { result ≡ are_even self.now }
     {
         self.left == self.right && self.bottom == self.top
