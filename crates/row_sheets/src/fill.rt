@@ -42,6 +42,14 @@ struct Shape {
     cells: u32,
 }
 
+/// A row whose entries fill the cells of sheets, with the setting of the sheets and the papers of the pages.
+#[derive(Clone, Copy)]
+struct RowFilling<'r> {
+    setting: &'r Setting,
+    papers: &'r [Paper],
+    row: &'r [Option<u32>],
+}
+
 /// The sheets of a grid with this number of cells. The row fills them cell by cell and sheet by sheet. A page whose paper isn't in `papers` has the
 /// paper of the sheet. Fails with the error of the first page that can't be placed, or else with `NoMemory`.
 pub fn grid_sheets(
@@ -58,7 +66,12 @@ pub fn grid_sheets(
     ensures fits { OnOk result (AllEntriesFit (filling setting.now papers.now) row.now) }
     ensures refused { IfErr result (IsRefusedFor (filling setting.now papers.now) row.now) }
 {
-    fill_cells(alloc, setting, papers, row, CellKind::Grid, cells)
+    let filling = RowFilling {
+        setting,
+        papers,
+        row,
+    };
+    filling.fill(alloc, CellKind::Grid, cells)
 }
 
 /// The sheets of cards: each entry of the row is in all cells of one sheet. A page whose paper isn't in `papers` has the paper of the sheet. Fails
@@ -77,7 +90,12 @@ pub fn card_sheets(
     ensures fits { OnOk result (AllEntriesFit (filling setting.now papers.now) row.now) }
     ensures refused { IfErr result (IsRefusedFor (filling setting.now papers.now) row.now) }
 {
-    fill_cells(alloc, setting, papers, row, CellKind::Cards, cells)
+    let filling = RowFilling {
+        setting,
+        papers,
+        row,
+    };
+    filling.fill(alloc, CellKind::Cards, cells)
 }
 
 /// The sheets of a stack. If the sheets are cut between the cells and the piles are laid on one another, the pages are in the order of the row. A
@@ -97,7 +115,12 @@ pub fn stack_sheets(
     ensures fits { OnOk result (AllEntriesFit (filling setting.now papers.now) row.now) }
     ensures refused { IfErr result (IsRefusedFor (filling setting.now papers.now) row.now) }
 {
-    fill_cells(alloc, setting, papers, row, CellKind::Stack, cells)
+    let filling = RowFilling {
+        setting,
+        papers,
+        row,
+    };
+    filling.fill(alloc, CellKind::Stack, cells)
 }
 
 /// The sheets of a stack of leaves that are printed on both sides, with each front followed by its back. If the leaves are cut between the cells and
@@ -114,9 +137,14 @@ pub fn leaf_sheets(
     ensures fits { OnOk result (AllEntriesFit (filling setting.now papers.now) row.now) }
     ensures refused { IfErr result (IsRefusedFor (filling setting.now papers.now) row.now) }
 {
+    let filling = RowFilling {
+        setting,
+        papers,
+        row,
+    };
     match u32::try_from(setting.grid.size()) {
-        Ok(cells) => fill_cells(alloc, setting, papers, row, CellKind::Leaves, cells),
-        Err(_) => Err(first_refusal(setting, papers, row)),
+        Ok(cells) => filling.fill(alloc, CellKind::Leaves, cells),
+        Err(_) => Err(filling.first_refusal()),
     }
 }
 
@@ -135,52 +163,143 @@ pub fn zine_sheets(
     ensures fits { OnOk result (AllEntriesFit (filling setting.now papers.now) row.now) }
     ensures refused { IfErr result (IsRefusedFor (filling setting.now papers.now) row.now) }
 {
-    fill_cells(alloc, setting, papers, row, CellKind::Zine, 8)
+    let filling = RowFilling {
+        setting,
+        papers,
+        row,
+    };
+    filling.fill(alloc, CellKind::Zine, 8)
 }
 
-/// The sheets of this kind with this number of cells each, filled with the row. Fails with the error of the first page that can't be placed, or else
-/// with `NoMemory`.
-fn fill_cells(
-    alloc: Global,
-    setting: &Setting,
-    papers: &[Paper],
-    row: &[Option<u32>],
-    kind: CellKind,
-    cells: u32,
-) -> Result<MadeSheets, ArrangementError>
-    requires some { 0 < cells }
-    requires cells { cells ≤ size setting.now.grid }
-    requires all { is_two_sided kind ≡ true → cells ≡ size setting.now.grid }
-    requires folded { is_folded kind ≡ true → AreZineCells setting.now × (cells ≡ 8) }
-    ensures made { IfOk result (λ made. made ≡ sheets_by kind (filling setting.now papers.now) cells row.now) }
-    ensures stands { IfOk result (AllStand (kept_by kind setting.now.room)) }
-    ensures fits { OnOk result (AllEntriesFit (filling setting.now papers.now) row.now) }
-    ensures refused { IfErr result (IsRefusedFor (filling setting.now papers.now) row.now) }
-{
-    let sheets = match sheets_for(kind, cells, row) {
-        Ok(sheets) => sheets,
-        Err(_) => return Err(first_refusal(setting, papers, row)),
-    };
-    let shape = Shape {
-        kind,
-        sheets,
-        cells,
-    };
-    match filled(alloc, setting, papers, row, shape) {
-        Ok(made) => Ok(made),
-        Err(_) => Err(first_refusal(setting, papers, row)),
+impl RowFilling<'_> {
+    /// The sheets of this kind with this number of cells each, filled with the row. Fails with the error of the first page that can't be placed, or
+    /// else with `NoMemory`.
+    fn fill(
+        &self,
+        alloc: Global,
+        kind: CellKind,
+        cells: u32,
+    ) -> Result<MadeSheets, ArrangementError>
+        requires some { 0 < cells }
+        requires cells { cells ≤ size self.now.setting.now.grid }
+        requires all { is_two_sided kind ≡ true → cells ≡ size self.now.setting.now.grid }
+        requires folded { is_folded kind ≡ true → AreZineCells self.now.setting.now × (cells ≡ 8) }
+        ensures made { IfOk result (λ made. made ≡ sheets_by kind (filling self.now.setting.now self.now.papers.now) cells self.now.row.now) }
+        ensures stands { IfOk result (AllStand (kept_by kind self.now.setting.now.room)) }
+        ensures fits { OnOk result (AllEntriesFit (filling self.now.setting.now self.now.papers.now) self.now.row.now) }
+        ensures refused { IfErr result (IsRefusedFor (filling self.now.setting.now self.now.papers.now) self.now.row.now) }
+    {
+        let sheets = match sheets_for(kind, cells, self.row) {
+            Ok(sheets) => sheets,
+            Err(_) => return Err(self.first_refusal()),
+        };
+        let shape = Shape {
+            kind,
+            sheets,
+            cells,
+        };
+        match self.filled(alloc, shape) {
+            Ok(made) => Ok(made),
+            Err(_) => Err(self.first_refusal()),
+        }
     }
-}
 
-/// The reason why the cells can't be filled: the fault of the first page in the row that can't be placed, or a lack of memory if all pages can be
-/// placed.
-fn first_refusal(setting: &Setting, papers: &[Paper], row: &[Option<u32>]) -> ArrangementError
-    requires { 0 < size setting.now.grid }
-    ensures { IsRefusedFor (filling setting.now papers.now) row.now result }
-{
-    match check_cells(setting, papers, row) {
-        Ok(()) => ArrangementError::NoMemory,
-        Err(error) => error,
+    /// The reason why the cells can't be filled: the fault of the first page in the row that can't be placed, or a lack of memory if all pages can be
+    /// placed.
+    fn first_refusal(&self) -> ArrangementError
+        requires { 0 < size self.now.setting.now.grid }
+        ensures { IsRefusedFor (filling self.now.setting.now self.now.papers.now) self.now.row.now result }
+    {
+        match check_cells(self.setting, self.papers, self.row) {
+            Ok(()) => ArrangementError::NoMemory,
+            Err(error) => error,
+        }
+    }
+
+    /// The sheets of this shape, filled with the row. Fails if a page can't be placed, or if memory is refused.
+    fn filled(&self, alloc: Global, shape: Shape) -> Result<MadeSheets, ArrangementError>
+        requires cells { shape.cells ≤ size self.now.setting.now.grid }
+        requires folded { is_folded shape.kind ≡ true → AreZineCells self.now.setting.now × (shape.cells ≡ 8) }
+        ensures made { IfOk result (λ made. made ≡ filled_by shape.kind (filling self.now.setting.now self.now.papers.now) shape.sheets
+            shape.cells (entry_in_cell shape self.now.setting.now self.now.row.now)) }
+        ensures stands { IfOk result (AllStand (kept_by shape.kind self.now.setting.now.room)) }
+        ensures fits { OnOk result ((s c : ℕ) → s < shape.sheets → c < shape.cells
+            → EntryFits (filling self.now.setting.now self.now.papers.now) (entry_in_cell shape self.now.setting.now self.now.row.now s c)) }
+    {
+        let setting = self.setting;
+        let mut made = MadeSheets::new(alloc);
+        let mut slots = Vec::new(alloc);
+        for _ in 0..shape.sheets {
+            self.fill_slots(&mut slots, &made, shape)?;
+            made.push(&setting.room.paper, slots.as_slice())
+                .map_err(|_| ArrangementError::NoMemory)?;
+        }
+        Ok(made)
+    }
+
+    /// Replaces the content of `slots` with the slots of the next sheet. Fails if a page can't be placed, or if memory is refused.
+    fn fill_slots(
+        &self,
+        slots: &mut Vec<MadeSlot>,
+        made: &MadeSheets,
+        shape: Shape,
+    ) -> Result<(), ArrangementError>
+        requires cells { shape.cells ≤ size self.now.setting.now.grid }
+        requires folded { is_folded shape.kind ≡ true → AreZineCells self.now.setting.now × (shape.cells ≡ 8) }
+        requires more { length made.now < shape.sheets }
+        requires made { made.now ≡ filled_by shape.kind (filling self.now.setting.now self.now.papers.now) (length made.now) shape.cells
+            (entry_in_cell shape self.now.setting.now self.now.row.now) }
+        requires fits { (s c : ℕ) → s < length made.now → c < shape.cells
+            → EntryFits (filling self.now.setting.now self.now.papers.now) (entry_in_cell shape self.now.setting.now self.now.row.now s c) }
+        ensures made { OnOk result (map slot_of slots.new.items
+            ≡ map (λ c. slot_made_by shape.kind (filling self.now.setting.now self.now.papers.now) c
+            (entry_in_cell shape self.now.setting.now self.now.row.now (length made.now) c))
+            (range_with_len 0 shape.cells)) }
+        ensures fits { OnOk result ((c : ℕ) → c < shape.cells
+            → EntryFits (filling self.now.setting.now self.now.papers.now)
+            (entry_in_cell shape self.now.setting.now self.now.row.now (length made.now) c)) }
+    {
+        let s = made.len() as u32;
+        slots.clear();
+        for c in 0..shape.cells {
+            let entry = entry_at(self.row, place(shape, self.setting, s, c));
+            let before = placed_before(made, s, c);
+            let slot = self.slot(shape.kind, before, entry, c)?;
+            slots.push(slot).map_err(|_| ArrangementError::NoMemory)?;
+        }
+        Ok(())
+    }
+
+    /// The slot for an entry of the row, in a cell of a sheet of this kind. If `before`, the page in this cell of the previous sheet, has the same
+    /// paper, its item is used again, which saves computing one. Pages in the first row of a zine are rotated by 180 degrees. Fails if the page can't
+    /// be placed.
+    fn slot(
+        &self,
+        kind: CellKind,
+        before: Option<PlacedSlot<'_>>,
+        entry: Option<u32>,
+        cell: u32,
+    ) -> Result<MadeSlot, ArrangementError>
+        requires cell { cell < size self.now.setting.now.grid }
+        requires folded { is_folded kind ≡ true → AreZineCells self.now.setting.now × (cell < 8) }
+        requires before { is_folded kind ≡ false → IsOfCell self.now.setting.now cell (placed_of before) }
+        ensures made { IfOk result (λ slot. slot_of slot ≡ slot_made_by kind (filling self.now.setting.now self.now.papers.now) cell entry) }
+        ensures fits { OnOk result (EntryFits (filling self.now.setting.now self.now.papers.now) entry) }
+    {
+        let Some(page) = entry else {
+            return Ok(MadeSlot::Blank);
+        };
+        let setting = self.setting;
+        let paper = paper_or(self.papers, page, &setting.room.paper);
+        let item = match kind {
+            CellKind::Zine if cell < 4 => setting.back_item(&paper, 7 - cell)?,
+            CellKind::Zine => setting.item(&paper, cell)?,
+            _ => match same_item(before, &paper) {
+                Some(item) => item,
+                None => setting.item(&paper, cell)?,
+            },
+        };
+        Ok(MadeSlot::Placed { page, item, paper })
     }
 }
 
@@ -196,10 +315,7 @@ fn sheets_for(kind: CellKind, cells: u32, row: &[Option<u32>]) -> Result<u32, Ar
         CellKind::Cards => blocks_of(row, 1),
         CellKind::Leaves => {
             let leaves = blocks_of(row, 2 * u64::from(cells))?;
-            match leaves.checked_mul(2) {
-                Some(sheets) => Ok(sheets),
-                None => Err(ArrangementError::NoMemory),
-            }
+            leaves.checked_mul(2).ok_or(ArrangementError::NoMemory)
         }
     }
 }
@@ -212,75 +328,7 @@ pub(crate) fn blocks_of(row: &[Option<u32>], entries: u64) -> Result<u32, Arrang
     ensures many { IfErr result (λ error. u32.MAX < blocks entries (length row.now)) }
 {
     let blocks = (row.len() as u128 + u128::from(entries - 1)) / u128::from(entries);
-    match u32::try_from(blocks) {
-        Ok(blocks) => Ok(blocks),
-        Err(_) => Err(ArrangementError::NoMemory),
-    }
-}
-
-/// The sheets of this shape, filled with the row. Fails if a page can't be placed, or if memory is refused.
-fn filled(
-    alloc: Global,
-    setting: &Setting,
-    papers: &[Paper],
-    row: &[Option<u32>],
-    shape: Shape,
-) -> Result<MadeSheets, ArrangementError>
-    requires cells { shape.cells ≤ size setting.now.grid }
-    requires folded { is_folded shape.kind ≡ true → AreZineCells setting.now × (shape.cells ≡ 8) }
-    ensures made { IfOk result (λ made. made ≡ filled_by shape.kind (filling setting.now papers.now) shape.sheets
-        shape.cells (entry_in_cell shape setting.now row.now)) }
-    ensures stands { IfOk result (AllStand (kept_by shape.kind setting.now.room)) }
-    ensures fits { OnOk result ((s c : ℕ) → s < shape.sheets → c < shape.cells
-        → EntryFits (filling setting.now papers.now) (entry_in_cell shape setting.now row.now s c)) }
-{
-    let mut made = MadeSheets::new(alloc);
-    let mut slots = Vec::new(alloc);
-    for _ in 0..shape.sheets {
-        fill_slots(&mut slots, &made, setting, papers, row, shape)?;
-        match made.push(&setting.room.paper, slots.as_slice()) {
-            Ok(()) => (),
-            Err(_) => return Err(ArrangementError::NoMemory),
-        }
-    }
-    Ok(made)
-}
-
-/// Replaces the content of `slots` with the slots of the next sheet. Fails if a page can't be placed, or if memory is refused.
-fn fill_slots(
-    slots: &mut Vec<MadeSlot>,
-    made: &MadeSheets,
-    setting: &Setting,
-    papers: &[Paper],
-    row: &[Option<u32>],
-    shape: Shape,
-) -> Result<(), ArrangementError>
-    requires cells { shape.cells ≤ size setting.now.grid }
-    requires folded { is_folded shape.kind ≡ true → AreZineCells setting.now × (shape.cells ≡ 8) }
-    requires more { length made.now < shape.sheets }
-    requires made { made.now ≡ filled_by shape.kind (filling setting.now papers.now) (length made.now) shape.cells
-        (entry_in_cell shape setting.now row.now) }
-    requires fits { (s c : ℕ) → s < length made.now → c < shape.cells
-        → EntryFits (filling setting.now papers.now) (entry_in_cell shape setting.now row.now s c) }
-    ensures made { OnOk result (map slot_of slots.new.items
-        ≡ map (λ c. slot_made_by shape.kind (filling setting.now papers.now) c
-        (entry_in_cell shape setting.now row.now (length made.now) c))
-        (range_with_len 0 shape.cells)) }
-    ensures fits { OnOk result ((c : ℕ) → c < shape.cells
-        → EntryFits (filling setting.now papers.now) (entry_in_cell shape setting.now row.now (length made.now) c)) }
-{
-    let s = made.len() as u32;
-    slots.clear();
-    for c in 0..shape.cells {
-        let entry = entry_at(row, place(shape, setting, s, c));
-        let before = placed_before(made, s, c);
-        let slot = slot_by(setting, papers, shape.kind, before, entry, c)?;
-        match slots.push(slot) {
-            Ok(()) => (),
-            Err(_) => return Err(ArrangementError::NoMemory),
-        }
-    }
-    Ok(())
+    u32::try_from(blocks).map_err(|_| ArrangementError::NoMemory)
 }
 
 /// The page in this cell of the previous sheet. None if there is no previous sheet, or if the cell is blank.
@@ -305,79 +353,6 @@ pub(crate) fn same_item(before: Option<PlacedSlot<'_>>, paper: &Paper) -> Option
     } else {
         None
     }
-}
-
-/// The slot for an entry of a row, in a cell of a sheet of this kind. `before` is the page in this cell of the previous sheet, if there is one. Fails
-/// if the page can't be placed.
-fn slot_by(
-    setting: &Setting,
-    papers: &[Paper],
-    kind: CellKind,
-    before: Option<PlacedSlot<'_>>,
-    entry: Option<u32>,
-    cell: u32,
-) -> Result<MadeSlot, ArrangementError>
-    requires cell { cell < size setting.now.grid }
-    requires folded { is_folded kind ≡ true → AreZineCells setting.now × (cell < 8) }
-    requires before { is_folded kind ≡ false → IsOfCell setting.now cell (placed_of before) }
-    ensures made { IfOk result (λ slot. slot_of slot ≡ slot_made_by kind (filling setting.now papers.now) cell entry) }
-    ensures fits { OnOk result (EntryFits (filling setting.now papers.now) entry) }
-{
-    match kind {
-        CellKind::Zine => if cell < 4 {
-            back_slot_in(setting, papers, entry, 7 - cell)
-        } else {
-            slot_in(setting, papers, None, entry, cell)
-        },
-        _ => slot_in(setting, papers, before, entry, cell),
-    }
-}
-
-/// The slot for an entry of a row, in a cell of a sheet that is rotated by 180 degrees. Fails if the page can't be placed.
-fn back_slot_in(
-    setting: &Setting,
-    papers: &[Paper],
-    entry: Option<u32>,
-    cell: u32,
-) -> Result<MadeSlot, ArrangementError>
-    requires cell { cell < size setting.now.grid }
-    requires many { 2 ≤ size setting.now.grid }
-    ensures made { IfOk result (λ slot. slot_of slot ≡ back_slot_of_cell (filling setting.now papers.now) cell entry) }
-    ensures fits { OnOk result (EntryFits (filling setting.now papers.now) entry) }
-{
-    let page = match entry {
-        Some(page) => page,
-        None => return Ok(MadeSlot::Blank),
-    };
-    let paper = paper_or(papers, page, &setting.room.paper);
-    let item = setting.back_item(&paper, cell)?;
-    Ok(MadeSlot::Placed { page, item, paper })
-}
-
-/// The slot for an entry of a row, in a cell. If `before`, the page in this cell of the previous sheet, has the same paper, its item is used again,
-/// which saves computing one. Fails if the page can't be placed.
-fn slot_in(
-    setting: &Setting,
-    papers: &[Paper],
-    before: Option<PlacedSlot<'_>>,
-    entry: Option<u32>,
-    cell: u32,
-) -> Result<MadeSlot, ArrangementError>
-    requires cell { cell < size setting.now.grid }
-    requires before { IsOfCell setting.now cell (placed_of before) }
-    ensures made { IfOk result (λ slot. slot_of slot ≡ slot_of_cell (filling setting.now papers.now) cell entry) }
-    ensures fits { OnOk result (EntryFits (filling setting.now papers.now) entry) }
-{
-    let page = match entry {
-        Some(page) => page,
-        None => return Ok(MadeSlot::Blank),
-    };
-    let paper = paper_or(papers, page, &setting.room.paper);
-    if let Some(item) = same_item(before, &paper) {
-        return Ok(MadeSlot::Placed { page, item, paper });
-    }
-    let item = setting.item(&paper, cell)?;
-    Ok(MadeSlot::Placed { page, item, paper })
 }
 
 /// The index of the row's entry in cell `c` of sheet `s`. All three are counted from 0.

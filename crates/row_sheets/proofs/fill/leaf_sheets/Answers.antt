@@ -9,4 +9,4 @@ pub returns-in-Ok-clause-made : goal.returns-in-Ok-clause-made
 returns-in-Ok-clause-made c =
     let t = c.args.setting.now in
     let all : c.in-Ok.cells ≡ size t.grid = search rules in
-    subst (λ n. IfOk c.fill_cells.result (λ made. made ≡ sheets_by kind.Leaves (filling t c.args.papers.now) n c.args.row.now)) all c.fill_cells.ensures.made
+    subst (λ n. IfOk c.fill.result (λ made. made ≡ sheets_by kind.Leaves (filling t c.args.papers.now) n c.args.row.now)) all c.fill.ensures.made

@@ -8,32 +8,32 @@ use Rattle.row_sheets.specs.Zine.{kept_by}
 use Rattle.row_sheets.proofs.Before.{filled_count}
 use Rattle.row_sheets.proofs.Filling.{sheet, sheet_more, one_more}
 use Rattle.row_sheets.proofs.Zines.{stand_by}
-use Rattle.row_sheets.proofs.fill.filled.Goals as goal
+use Rattle.row_sheets.proofs.fill.RowFilling.filled.Goals as goal
 
 pub fill_slots-requires-clause-made : goal.fill_slots-requires-clause-made
 fill_slots-requires-clause-made c =
-    let t = c.args.setting.now in
-    let f = filling t c.args.papers.now in
-    let many = filled_count c.args.shape.kind f (entry_in_cell c.args.shape t c.args.row.now) c.loop.made c.args.shape.cells c.loop.counter c.loop.invariant.made in
-    subst (λ n. c.loop.made ≡ filled_by c.args.shape.kind f n c.args.shape.cells (entry_in_cell c.args.shape t c.args.row.now)) (sym many) c.loop.invariant.made
+    let t = c.args.self.now.setting.now in
+    let f = filling t c.args.self.now.papers.now in
+    let many = filled_count c.args.shape.kind f (entry_in_cell c.args.shape t c.args.self.now.row.now) c.loop.made c.args.shape.cells c.loop.counter c.loop.invariant.made in
+    subst (λ n. c.loop.made ≡ filled_by c.args.shape.kind f n c.args.shape.cells (entry_in_cell c.args.shape t c.args.self.now.row.now)) (sym many) c.loop.invariant.made
 
 pub fill_slots-requires-clause-more : goal.fill_slots-requires-clause-more
 fill_slots-requires-clause-more c =
-    let t = c.args.setting.now in
-    let many = filled_count c.args.shape.kind (filling t c.args.papers.now) (entry_in_cell c.args.shape t c.args.row.now) c.loop.made c.args.shape.cells c.loop.counter c.loop.invariant.made in
+    let t = c.args.self.now.setting.now in
+    let many = filled_count c.args.shape.kind (filling t c.args.self.now.papers.now) (entry_in_cell c.args.shape t c.args.self.now.row.now) c.loop.made c.args.shape.cells c.loop.counter c.loop.invariant.made in
     omega (arith, many, c.loop-test.true)
 
 pub fill_slots-requires-clause-fits : goal.fill_slots-requires-clause-fits
 fill_slots-requires-clause-fits c = λ s k less in_k.
-    let t = c.args.setting.now in
-    let many = filled_count c.args.shape.kind (filling t c.args.papers.now) (entry_in_cell c.args.shape t c.args.row.now) c.loop.made c.args.shape.cells c.loop.counter c.loop.invariant.made in
+    let t = c.args.self.now.setting.now in
+    let many = filled_count c.args.shape.kind (filling t c.args.self.now.papers.now) (entry_in_cell c.args.shape t c.args.self.now.row.now) c.loop.made c.args.shape.cells c.loop.counter c.loop.invariant.made in
     c.loop.invariant.fits s k (omega (arith, less, many)) in_k
 
 pub loop-preserved : goal.loop-preserved
 loop-preserved c =
-    let t = c.args.setting.now in
-    let f = filling t c.args.papers.now in
-    let row = c.args.row.now in
+    let t = c.args.self.now.setting.now in
+    let f = filling t c.args.self.now.papers.now in
+    let row = c.args.self.now.row.now in
     let cells = c.args.shape.cells in
     let slots = map slot_of c.fill_slots.new.slots.items in
     let many = filled_count c.args.shape.kind f (entry_in_cell c.args.shape t row) c.loop.made cells c.loop.counter c.loop.invariant.made in
@@ -50,9 +50,9 @@ loop-preserved c =
 
 pub returns-clause-stands : goal.returns-clause-stands
 returns-clause-stands c =
-    let t = c.args.setting.now in
+    let t = c.args.self.now.setting.now in
     subst (AllStand (kept_by c.args.shape.kind t.room)) (sym c.loop.invariant.made)
-    (stand_by c.args.shape.kind (filling t c.args.papers.now) c.loop.counter c.args.shape.cells (entry_in_cell c.args.shape t c.args.row.now) c.requires.cells c.requires.folded c.loop.invariant.fits)
+    (stand_by c.args.shape.kind (filling t c.args.self.now.papers.now) c.loop.counter c.args.shape.cells (entry_in_cell c.args.shape t c.args.self.now.row.now) c.requires.cells c.requires.folded c.loop.invariant.fits)
 
 pub returns-clause-fits : goal.returns-clause-fits
 returns-clause-fits c = λ s k in_s in_k. c.loop.invariant.fits s k (omega (arith, in_s)) in_k
