@@ -115,10 +115,8 @@ fn sides_of_leaves(
         let next = entry_at(row, place + 1);
         let before_next = half_before(&made, creep, s, 1);
         let second = creeping_slot(setting, papers, side, before_next, next, 1)?;
-        match made.push(&setting.room.paper, &[first, second]) {
-            Ok(()) => (),
-            Err(_) => return Err(ArrangementError::NoMemory),
-        }
+        made.push(&setting.room.paper, &[first, second])
+            .map_err(|_| ArrangementError::NoMemory)?;
     }
     Ok(made)
 }
@@ -174,15 +172,14 @@ fn creeping_slot(
     ensures fits { OnOk result (EntryCreeps (filling setting.now papers.now) side.creep entry) }
     ensures refused { IfErr result (λ error. why_no_half (filling setting.now papers.now) side.creep entry ≡ Some error) }
 {
-    let page = match entry {
-        Some(page) => page,
-        None => return Ok(MadeSlot::Blank),
+    let Some(page) = entry else {
+        return Ok(MadeSlot::Blank);
     };
     let paper = paper_or(papers, page, &setting.room.paper);
-    if let Some(item) = same_item(before, &paper) {
-        return Ok(MadeSlot::Placed { page, item, paper });
-    }
-    let item = creeping_item(setting, &paper, side.by_half, side.creep, cell)?;
+    let item = match same_item(before, &paper) {
+        Some(item) => item,
+        None => creeping_item(setting, &paper, side.by_half, side.creep, cell)?,
+    };
     Ok(MadeSlot::Placed { page, item, paper })
 }
 
@@ -266,7 +263,7 @@ fn towards_fold(right_to_left: bool, by_half: bool, cell: u32, creep: u64) -> i6
 {
     let creep = creep as i64;
     let is_before = if right_to_left { cell == 1 } else { cell == 0 };
-    let up = if is_before { creep } else { 0 - creep };
+    let up = if is_before { creep } else { -creep };
     if by_half { -up } else { up }
 }
 

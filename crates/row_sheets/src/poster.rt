@@ -177,10 +177,8 @@ pub(crate) fn push_poster(
             item: tile_item(&laid, column, row),
             paper: *page_paper,
         }];
-        match made.push(&poster.sheet, &slots) {
-            Ok(()) => (),
-            Err(_) => return Err(PosterError::NoMemory),
-        }
+        made.push(&poster.sheet, &slots)
+            .map_err(|_| PosterError::NoMemory)?;
     }
     Ok(())
 }

@@ -81,11 +81,8 @@ fn push_blanks(poster: &Poster, made: &mut MadeSheets) -> Result<(), PosterError
     ensures pushed { OnOk result (made.new ≡ made.old ++ blank_tiles poster.now) }
 {
     for n in 0..poster.rows * poster.columns {
-        let slots = [MadeSlot::Blank];
-        match made.push(&poster.sheet, &slots) {
-            Ok(()) => (),
-            Err(_) => return Err(PosterError::NoMemory),
-        }
+        made.push(&poster.sheet, &[MadeSlot::Blank])
+            .map_err(|_| PosterError::NoMemory)?;
     }
     Ok(())
 }

@@ -25,10 +25,8 @@ pub fn at_one_scale(
         least = with_entry(setting, papers, least, *entry)?;
     }
     Ok(Setting {
-        room: setting.room,
-        grid: setting.grid,
-        order: setting.order,
         scale: least,
+        ..*setting
     })
 }
 

@@ -56,11 +56,7 @@ fn push_entry(
 pub(crate) fn paper_or(papers: &[Paper], page: u32, other: &Paper) -> Paper
     ensures { result ≡ paper_of papers.now other.now page }
 {
-    if (page as usize) < papers.len() {
-        papers[page as usize]
-    } else {
-        *other
-    }
+    *papers.get(page as usize).unwrap_or(other)
 }
 
 /// The item that leaves a page as it is.
