@@ -10,7 +10,7 @@ use Rattle.sheet_text.specs.PageNumbers.{foot_text, number_line, slot_lines}
 use Rattle.sheet_text.specs.declared.numbers.Numbers.{Numbers}
 use Rattle.layouts.specs.Placed.{Room}
 use Rattle.layouts.specs.Cells.{Grid}
-use Rattle.dressing.specs.Strokes.{cut_marks, fold_marks, outer_cut_marks}
+use Rattle.dressing.specs.Strokes.{cut_marks, fold_marks, outer_cut_marks, tile_marks}
 use Rattle.dressing.specs.Ruled.{note_lines}
 use Rattle.dressing.specs.Drawn.{mark_lines, strokes_added, stroke_line}
 
@@ -60,6 +60,24 @@ cut_round : map stroke_line (outer_cut_marks small columns)
     ∷ []
 unfolding digits
 cut_round = refl
+
+-- a tile of a poster of two columns that overlap by 4 points is cut at its edges, and its neighbours end 4 points inside
+tile : map stroke_line (tile_marks (room_in (points 100 200) 1_000_000 0) columns 400_000)
+    ≡ codes "newpath 10 0 moveto 10 10 lineto stroke"
+    ∷ codes "newpath 10 200 moveto 10 190 lineto stroke"
+    ∷ codes "newpath 90 0 moveto 90 10 lineto stroke"
+    ∷ codes "newpath 90 200 moveto 90 190 lineto stroke"
+    ∷ codes "newpath 0 10 moveto 10 10 lineto stroke"
+    ∷ codes "newpath 100 10 moveto 90 10 lineto stroke"
+    ∷ codes "newpath 0 190 moveto 10 190 lineto stroke"
+    ∷ codes "newpath 100 190 moveto 90 190 lineto stroke"
+    ∷ codes "newpath 14 0 moveto 14 10 lineto stroke"
+    ∷ codes "newpath 14 200 moveto 14 190 lineto stroke"
+    ∷ codes "newpath 86 0 moveto 86 10 lineto stroke"
+    ∷ codes "newpath 86 200 moveto 86 190 lineto stroke"
+    ∷ []
+unfolding digits
+tile = refl
 
 -- and not at all if the margin has no room for half a gap, or if there is none
 narrow_round : outer_cut_marks (room_in (points 100 200) 1_000_000 2_000_001) columns ≡ []

@@ -1,6 +1,6 @@
 -- Marks go over no cell, and are in the margin.
 use Rattle.std.proofs.Common.{arith, rules, ◌≡◌, ℕ, zero, suc, ◌+◌, ◌-◌, ◌*◌, ◌<◌, ◌≤◌, ◌⊎◌, inl, inr, Bool, true, false, refl, ap, List, [], ◌∷◌, ◌++◌}
-use Rattle.std.specs.Prelude.{ℤ, pos, ◌≤ℤ◌, ◌-ℤ◌, nat_abs, if◌then◌else◌, flat_map, ◌==◌}
+use Rattle.std.specs.Prelude.{ℤ, pos, ◌≤ℤ◌, ◌-ℤ◌, nat_abs, nat_lt, ◌&&◌, if◌then◌else◌, flat_map, ◌==◌}
 use Rattle.std.specs.List.{AllByRecursion, range_with_len}
 use Rattle.std.proofs.Math.Nat.{mul-le-mul_right}
 use Rattle.std.proofs.lemmas.Bool.{cases_lt}
@@ -8,7 +8,7 @@ use Rattle.std.proofs.lemmas.Int.{ints}
 use Rattle.layouts.specs.Placed.{Room}
 use Rattle.layouts.specs.Cells.{Along, Grid, along_height, along_width, cell, high, kept_length, pitch, wide, grains_in, cells_across, cells_up}
 use Rattle.layouts.specs.Laws.{Cell, cell_at}
-use Rattle.dressing.specs.Strokes.{far_end, has_room_round, level_at, level_between, longest, near_end, upright_at, upright_between}
+use Rattle.dressing.specs.Strokes.{far_end, has_room_round, level_at, level_between, level_strokes, longest, near_end, overlaps_above, overlaps_beside, tile_marks, upright_at, upright_between, upright_strokes}
 use Rattle.dressing.specs.Laws.{IsInMargin, IsOutsideCell, MarksAreInMargin, MarksAreOutside, all_marks, PiecesAreLike}
 use Rattle.dressing.specs.declared.strokes.Stroke.{Stroke}
 
@@ -134,22 +134,41 @@ reach edge some = let is = ap grains_in (far_is edge some) in (omega (arith, is)
 far : (side : ℤ) (a e : ℕ) → a ≤ e → (side -ℤ pos e) ≤ℤ (side -ℤ pos a)
 far side a e le = omega (arith, ints, le)
 
-upright_in_margin : (room : Room) (a : ℕ) → 0 < room.bottom → 0 < room.top → (k : ℕ) → AllByRecursion (IsInMargin room) (upright_at room a k)
-upright_in_margin room a some some' k =
+upright_in_margin : (room : Room) → 0 < room.bottom → 0 < room.top → (x : ℤ) → AllByRecursion (IsInMargin room) (upright_strokes room x)
+upright_in_margin room some some' x =
     let low = reach room.bottom some in
     let high = reach room.top some' in
     let e = grains_in room.top in
     let h = room.paper.height in
     (inr (inl (at_most low.0, at_most low.1)), (inr (inr (far h (near_end room.top) e high.0, far h (far_end room.top) e high.1)), tt))
 
-level_in_margin : (room : Room) (u : ℕ) → 0 < room.left → 0 < room.right → (k : ℕ) → AllByRecursion (IsInMargin room) (level_at room u k)
-level_in_margin room u some some' k =
+level_in_margin : (room : Room) → 0 < room.left → 0 < room.right → (y : ℤ) → AllByRecursion (IsInMargin room) (level_strokes room y)
+level_in_margin room some some' y =
     let low = reach room.left some in
     let high = reach room.right some' in
     let e = grains_in room.right in
     let w = room.paper.width in
     (inl (inl (at_most low.0, at_most low.1)), (inl (inr (far w (near_end room.right) e high.0, far w (far_end room.right) e high.1)), tt))
 
+-- what holds of the strokes along each line holds of all marks of a poster's sheet
+holds_of_tile : (P : Stroke → Type 0) (room : Room) (g : Grid) (overlap : ℕ) → ((x : ℤ) → AllByRecursion P (upright_strokes room x)) → ((y : ℤ) → AllByRecursion P (level_strokes room y))
+    → AllByRecursion P (tile_marks room g overlap)
+holds_of_tile P room g overlap across up =
+    let two_across : (x x' : ℤ) → AllByRecursion P (upright_strokes room x ++ upright_strokes room x') =
+    λ x x'. both P (upright_strokes room x) (upright_strokes room x') (across x) (across x') in
+    let two_up : (y y' : ℤ) → AllByRecursion P (level_strokes room y ++ level_strokes room y') =
+    λ y y'. both P (level_strokes room y) (level_strokes room y') (up y) (up y') in
+    both P (outer_of room 1 1) (overlaps_beside room g.columns overlap ++ overlaps_above room g.rows overlap)
+    (if_so P (has_room_round room) (round_of room 1 1)
+    (both P (upright_at room 1 0 ++ upright_at room 1 1) (level_at room 1 0 ++ level_at room 1 1) (two_across _ _) (two_up _ _)))
+    (both P (overlaps_beside room g.columns overlap) (overlaps_above room g.rows overlap)
+    (if_so P (nat_lt 1 g.columns && nat_lt 0 overlap) _ (two_across _ _))
+    (if_so P (nat_lt 1 g.rows && nat_lt 0 overlap) _ (two_up _ _)))
+
 pub marks_are_in_margin : MarksAreInMargin
-marks_are_in_margin room g left right bottom top =
-    holds_of_all (IsInMargin room) room (cells_across g) (cells_up g) (upright_in_margin room (cells_across g) bottom top) (level_in_margin room (cells_up g) left right)
+marks_are_in_margin room g overlap left right bottom top =
+    let across = upright_in_margin room bottom top in
+    let up = level_in_margin room left right in
+    both (IsInMargin room) (all_marks room g) (tile_marks room g overlap)
+    (holds_of_all (IsInMargin room) room (cells_across g) (cells_up g) (λ k. across _) (λ k. up _))
+    (holds_of_tile (IsInMargin room) room g overlap across up)

@@ -10,7 +10,7 @@ use Rattle.layouts.specs.Placed.{Room, IsOfPage, stands}
 use Rattle.layouts.specs.Cells.{Along, Grid, gap_at, grains_in, high, item_in_cell, size, pitch, wide}
 use Rattle.layouts.specs.Laws.{Cell, HasPlace, IsPaper, cell_at}
 use Rattle.layouts.specs.declared.arrangement.Order.{Order}
-use Rattle.dressing.specs.Strokes.{cut_marks, fold_marks, outer_cut_marks}
+use Rattle.dressing.specs.Strokes.{cut_marks, fold_marks, outer_cut_marks, tile_marks}
 use Rattle.dressing.specs.Ruled.{note_cell, note_lines, row_lines}
 use Rattle.dressing.specs.Numbered.{Drawn, drawn_on}
 use Rattle.dressing.specs.declared.strokes.Stroke.{Stroke}
@@ -74,10 +74,10 @@ abbrev pub MarksMissPages : Type 0
 MarksMissPages = (page : Paper) (room : Room) (g : Grid) (o : Order) (s k : ℕ) → IsPaper page → HasPlace page room g s
     → room.trim ≡ 0 → k < size g → AllByRecursion (GoesPast room page (item_in_cell page room g o s k)) (all_marks room g)
 
--- if there is a margin along each edge, all marks are in them
+-- if there is a margin along each edge, all marks are in them, also those of a poster's sheet
 abbrev pub MarksAreInMargin : Type 0
-MarksAreInMargin = (room : Room) (g : Grid) → 0 < room.left → 0 < room.right → 0 < room.bottom → 0 < room.top
-    → AllByRecursion (IsInMargin room) (all_marks room g)
+MarksAreInMargin = (room : Room) (g : Grid) (overlap : ℕ) → 0 < room.left → 0 < room.right → 0 < room.bottom → 0 < room.top
+    → AllByRecursion (IsInMargin room) (all_marks room g ++ tile_marks room g overlap)
 
 -- the whole stroke lies in a cell
 pub record StrokeIsInCell (cell : Cell) (s : Stroke) : Type 0 where

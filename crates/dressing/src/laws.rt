@@ -31,7 +31,7 @@ pub fn marks_miss_pages()
     ensures { MarksMissPages }
 {}
 
-/// If a sheet has margins along all four edges, all marks lie in them.
+/// If a sheet has margins along all four edges, all marks lie in them, those of a poster's sheet too.
 pub fn marks_are_in_margin()
     ensures { MarksAreInMargin }
 {}

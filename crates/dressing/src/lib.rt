@@ -15,5 +15,5 @@ pub use dress::dress_of;
 pub use lines::mark_lines;
 pub use numbers::Numbering;
 pub use ruled::note_lines;
-pub use strokes::{Marks, Stroke, cut_marks, fold_marks, outer_cut_marks};
+pub use strokes::{Marks, Stroke, cut_marks, fold_marks, outer_cut_marks, tile_marks};
 pub use told::reported_papers;

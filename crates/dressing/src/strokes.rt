@@ -4,6 +4,7 @@ ghost use Rattle.dressing.specs.Strokes.{far_end as far_of, near_end as near_of}
 ghost use Rattle.dressing.specs.Strokes.{cut_marks as cut_of, fold_marks as fold_of, has_half_gap as has_room_of, has_room_round as round_has_room};
 ghost use Rattle.dressing.specs.Strokes.{outer_cut_marks as outer_cut_of};
 ghost use Rattle.dressing.specs.Strokes.{level_at, level_between, marks_between, marks_round};
+ghost use Rattle.dressing.specs.Strokes.{level_strokes, overlaps_above, overlaps_beside, tile_marks as tile_marks_of, upright_strokes};
 ghost use Rattle.dressing.specs.Strokes.{upright_at, upright_between};
 
 use crate::numbers::Numbering;
@@ -29,6 +30,13 @@ pub struct Stroke {
 
 /// The greatest length of a mark, in 10^-5 of a point: 18 points.
 const LONGEST: u64 = 1_800_000;
+
+/// The cells of a poster's sheet: one, which is its tile.
+const ONE_CELL: Grid = Grid {
+    rows: 1,
+    columns: 1,
+    turned: false,
+};
 
 /// Marks for cutting a sheet between its cells. If no margin is 0 and each has room for half a gap, there are marks around the outer cells, too.
 pub fn cut_marks(alloc: Global, room: &Room, grid: Grid) -> Result<Vec<Stroke>, AllocError>
@@ -57,6 +65,61 @@ pub fn fold_marks(alloc: Global, room: &Room, grid: Grid) -> Result<Vec<Stroke>,
     let mut folds = Vec::new(alloc);
     push_between(room, grid, &mut folds)?;
     Ok(folds)
+}
+
+/// Marks on each sheet of a poster. The room has the paper and the margins of the sheets and no gaps, so its only cell is the sheet's tile. The marks
+/// are at the edges of the tile, where it is cut, and also an overlap inside these edges, where the tiles of its neighbours end. `tiles` has the
+/// columns and rows of the poster. `overlap` is in 10^-5 of a point, and counts as a side of the tile if it is longer.
+pub fn tile_marks(
+    alloc: Global,
+    room: &Room,
+    tiles: Grid,
+    overlap: u64,
+) -> Result<Vec<Stroke>, AllocError>
+    ensures { IfOk result (λ strokes. strokes.items ≡ tile_marks_of room.now tiles overlap) }
+{
+    let mut strokes = outer_cut_marks(alloc, room, ONE_CELL)?;
+    push_overlaps_beside(room, tiles.columns, overlap, &mut strokes)?;
+    push_overlaps_above(room, tiles.rows, overlap, &mut strokes)?;
+    Ok(strokes)
+}
+
+/// Adds the marks where the tiles at the left and at the right end, if there are several columns of tiles and they overlap.
+fn push_overlaps_beside(
+    room: &Room,
+    columns: u32,
+    overlap: u64,
+    strokes: &mut Vec<Stroke>,
+) -> Result<(), AllocError>
+    ensures { OnOk result (strokes.new.items ≡ strokes.old.items ++ overlaps_beside room.now columns overlap) }
+{
+    if columns > 1 && overlap > 0 {
+        let tile = room.cell(ONE_CELL, 0, 0);
+        let left_ends = in_grains(tile.left + overlap.min(tile.width));
+        let right_ends = in_grains(tile.left + tile.width.saturating_sub(overlap));
+        push_upright_at(room, left_ends, strokes)?;
+        push_upright_at(room, right_ends, strokes)?;
+    }
+    Ok(())
+}
+
+/// Adds the marks where the tiles below and above end, if there are several rows of tiles and they overlap.
+fn push_overlaps_above(
+    room: &Room,
+    rows: u32,
+    overlap: u64,
+    strokes: &mut Vec<Stroke>,
+) -> Result<(), AllocError>
+    ensures { OnOk result (strokes.new.items ≡ strokes.old.items ++ overlaps_above room.now rows overlap) }
+{
+    if rows > 1 && overlap > 0 {
+        let tile = room.cell(ONE_CELL, 0, 0);
+        let lower_ends = in_grains(tile.bottom + overlap.min(tile.height));
+        let upper_ends = in_grains(tile.bottom + tile.height.saturating_sub(overlap));
+        push_level_at(room, lower_ends, strokes)?;
+        push_level_at(room, upper_ends, strokes)?;
+    }
+    Ok(())
 }
 
 /// Adds the marks between neighbouring cells.
@@ -164,6 +227,14 @@ fn push_upright(
     ensures { OnOk result (strokes.new.items ≡ strokes.old.items ++ upright_at room.now parts k) }
 {
     let x = gap_at(&room.along_width(), room.paper.width(), parts, k);
+    push_upright_at(room, x, strokes)?;
+    Ok(())
+}
+
+/// Adds the marks at both ends of the upright line at this distance from the left edge, in grains.
+fn push_upright_at(room: &Room, x: Grains, strokes: &mut Vec<Stroke>) -> Result<(), AllocError>
+    ensures { OnOk result (strokes.new.items ≡ strokes.old.items ++ upright_strokes room.now x) }
+{
     strokes.push(Stroke {
         start: (x, near_end(room.bottom)),
         end: (x, far_end(room.bottom)),
@@ -183,6 +254,14 @@ fn push_level(room: &Room, parts: u32, k: u32, strokes: &mut Vec<Stroke>) -> Res
     ensures { OnOk result (strokes.new.items ≡ strokes.old.items ++ level_at room.now parts k) }
 {
     let y = gap_at(&room.along_height(), room.paper.height(), parts, k);
+    push_level_at(room, y, strokes)?;
+    Ok(())
+}
+
+/// Adds the marks at both ends of the level line at this distance from the lower edge, in grains.
+fn push_level_at(room: &Room, y: Grains, strokes: &mut Vec<Stroke>) -> Result<(), AllocError>
+    ensures { OnOk result (strokes.new.items ≡ strokes.old.items ++ level_strokes room.now y) }
+{
     strokes.push(Stroke {
         start: (near_end(room.left), y),
         end: (far_end(room.left), y),
