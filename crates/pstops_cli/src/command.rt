@@ -5,7 +5,7 @@ ghost use Rattle.imposer.specs.Workers.{AreWorkers};
 ghost use Rattle.rules.specs.Signatures.{most_sides};
 ghost use Rattle.pstops_cli.specs.Command.{Finds, IsChain, RefusesParse, Reads, RefusesValues, RefusesWords, TakesWords};
 ghost use Rattle.pstops_cli.specs.Command.{counted_rule, letter_flag_rule, options_found, word_rule, pstops};
-ghost use Rattle.pstops_cli.specs.Command.{ranged_rule, rules, sides_found, valued_rule, workers_found};
+ghost use Rattle.pstops_cli.specs.Command.{ranged_rule, rules, valued_rule};
 ghost use Rattle.pstops_cli.specs.Values.{AreInRange};
 ghost use Rattle.pstops_cli.specs.Values as meaning;
 ghost use Rattle.pstops_cli.specs.declared.command.CommandFault.TheVariants.{NoMemory};
@@ -123,31 +123,18 @@ fn request_of(alloc: Global, matches: &ArgMatches<'_>) -> Result<Request, Comman
 fn options_of(matches: &ArgMatches<'_>) -> Result<Options, CommandFault>
     ensures { result ≡ options_found (rows_of (found_of matches.now)) }
 {
+    let workers = Workers {
+        preparers: worker_count(matches, "preparers"),
+        imposers: worker_count(matches, "imposers"),
+    };
     options_named(
         text_of(matches, "paper"),
         text_of(matches, "width"),
         text_of(matches, "height"),
         text_of(matches, "border"),
-        sides_option(matches),
-        workers_of(matches),
+        number_of(matches, "sides"),
+        workers,
     )
-}
-
-/// The numbers of threads: of preparers from `-j`, and of imposers from `-k`. Each number is 2 without its option.
-fn workers_of(matches: &ArgMatches<'_>) -> Workers
-    ensures { result ≡ workers_found (rows_of (found_of matches.now)) }
-{
-    Workers {
-        preparers: worker_count(matches, "preparers"),
-        imposers: worker_count(matches, "imposers"),
-    }
-}
-
-/// The number of sides that `-s` gives. `None` without the option.
-fn sides_option(matches: &ArgMatches<'_>) -> Option<u32>
-    ensures { result ≡ sides_found (rows_of (found_of matches.now)) }
-{
-    number_of(matches, "sides")
 }
 
 /// The number of threads that the option `id` gives, or 2 without the option.
