@@ -3,7 +3,6 @@
 #![tactic(auto)]
 
 use pstops_cli::{CommandFault, Fault, fault_line, pstops};
-use std::alloc::Global;
 use std::env;
 use std::env::Env;
 use std::io::ErrorKind;
@@ -18,7 +17,11 @@ fn main(rt: HostRuntime) -> ExitCode {
             let ended = pstops(&rt, alloc, after_name(words.as_slice()), world);
             (ended.status, ended.line)
         }
-        Err(fault) => status_and_line(alloc, fault),
+        Err(fault) => match fault_line(alloc, &Fault::Command(fault)) {
+            Ok(ending) => ending,
+            // There was no memory even for the line.
+            Err(_) => (3, Vec::new(alloc)),
+        },
     };
     ExitCode::from(tell(&mut rt.stderr(), line.as_slice(), status))
 }
@@ -36,13 +39,5 @@ fn after_name(words: &[String]) -> &[String] {
     match words {
         [_, rest @ ..] => rest,
         [] => words,
-    }
-}
-
-fn status_and_line(alloc: Global, fault: CommandFault) -> (u8, Vec<u8>) {
-    match fault_line(alloc, &Fault::Command(fault)) {
-        Ok(ending) => ending,
-        // There was no memory even for the line.
-        Err(_) => (3, Vec::new(alloc)),
     }
 }
