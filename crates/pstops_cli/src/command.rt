@@ -2,10 +2,8 @@
 ghost use Rattle.std.specs.Prelude.{◌≡◌, IfOk, IfErr, codes, is_some, map, true, string_bytes};
 ghost use Rattle.clap.specs.Words.{first_value, found_of, matches_of, one_of, rows_of, rule_of};
 ghost use Rattle.imposer.specs.Workers.{AreWorkers};
-ghost use Rattle.rules.specs.Signatures.{most_sides};
 ghost use Rattle.pstops_cli.specs.Command.{Finds, IsChain, RefusesParse, Reads, RefusesValues, RefusesWords, TakesWords};
-ghost use Rattle.pstops_cli.specs.Command.{counted_rule, letter_flag_rule, options_found, word_rule, pstops};
-ghost use Rattle.pstops_cli.specs.Command.{ranged_rule, rules, valued_rule};
+ghost use Rattle.pstops_cli.specs.Command.{counted_rule, options_found, rules, valued_rule, word_rule, pstops};
 ghost use Rattle.pstops_cli.specs.Values.{AreInRange};
 ghost use Rattle.pstops_cli.specs.Values as meaning;
 ghost use Rattle.pstops_cli.specs.declared.command.CommandFault.TheVariants.{NoMemory};
@@ -164,14 +162,16 @@ fn args<'a>(alloc: Global) -> Result<Vec<Arg<'a>>, AllocError>
         positional_argument(alloc, "specs").required(true),
         positional_argument(alloc, "infile"),
         positional_argument(alloc, "outfile"),
-        letter_flag(alloc, "quiet", 'q'),
+        Arg::new(alloc, "quiet")
+            .short('q')
+            .action(ArgAction::SetTrue),
         valued(alloc, "paper", 'p'),
         valued(alloc, "width", 'w'),
         valued(alloc, "height", 'h'),
         valued(alloc, "border", 'd'),
         worker_option(alloc, "preparers", 'j'),
         worker_option(alloc, "imposers", 'k'),
-        sided(alloc, "sides", 's'),
+        valued(alloc, "sides", 's').value_parser(value_parser!(u32).range(4..=1_000_000)),
     ]?;
     Ok(args)
 }
@@ -180,12 +180,6 @@ fn positional_argument<'a>(alloc: Global, id: &'a str) -> Arg<'a>
     ensures { rule_of result ≡ word_rule id.entry.now }
 {
     Arg::new(alloc, id).action(ArgAction::Set)
-}
-
-fn letter_flag<'a>(alloc: Global, id: &'a str, short: char) -> Arg<'a>
-    ensures { rule_of result ≡ letter_flag_rule id.entry.now short }
-{
-    Arg::new(alloc, id).short(short).action(ArgAction::SetTrue)
 }
 
 /// An option that has this letter and takes a value.
@@ -200,11 +194,4 @@ fn worker_option<'a>(alloc: Global, id: &'a str, short: char) -> Arg<'a>
     ensures { rule_of result ≡ counted_rule id.entry.now short }
 {
     valued(alloc, id, short).value_parser(value_parser!(u32).range(1..=16))
-}
-
-/// An option whose value is a whole number from 4 to 1,000,000.
-fn sided<'a>(alloc: Global, id: &'a str, short: char) -> Arg<'a>
-    ensures { rule_of result ≡ ranged_rule 4 most_sides id.entry.now short }
-{
-    valued(alloc, id, short).value_parser(value_parser!(u32).range(4..=1_000_000))
 }
