@@ -3,18 +3,18 @@ ghost use Rattle.std.specs.Prelude.{IfOk, OnOk, string_bytes};
 ghost use Rattle.suggestions.specs.Shown.{IsLines};
 
 use crate::clap_text::{POINTER, Quoted, USAGE, is_tip_left_out, quoted_words};
+use crate::nearest::{COMMANDS, distance, nearest_command};
 use crate::other_programs::{FOR_COMMANDS, tip_on_other};
-use crate::shown::{is_shown_whole, joined_texts, push_line, shown_word};
+use crate::shown::{is_shown_whole, push_line, shown_word};
 use crate::tips::{
     FOR_BOOKLETS, FOR_POSTERS, FOR_SELECTIONS, FOR_SPECIFICATIONS, MISSING, OF_COMMANDS, SIGNS,
-    tip_in,
+    Tip, tip_in,
 };
 use crate::words::{is_range, looks_like_file};
 use clap::Error;
 use clap::error::ErrorKind;
 use impose_words::size_named;
 use std::alloc::{AllocError, Global};
-use strsim::osa_distance;
 
 /// The message about a command line with words that the command doesn't take. `words` is the whole command line, with the program's name first. The
 /// message is clap's text without clap's own tips, and with a tip on the mistake if one is known. Hidden characters are escaped, and long words are
@@ -59,7 +59,7 @@ fn with_tip(alloc: Global, text: &str, tip: &str, keeps_usage: bool) -> Result<S
     ensures { IfOk result (λ said. IsLines (string_bytes said)) }
 {
     let mut out = String::new(alloc);
-    let tip_line = joined_texts(alloc, &["  tip: ", tip])?;
+    let tip_line = format!(in alloc; "  tip: {tip}")?;
     let mut is_told = tip.is_empty();
     let mut is_behind_blank = false;
     for line in text.lines() {
@@ -97,55 +97,11 @@ fn likeness(alloc: Global, kind: ErrorKind, quoted: Quoted<'_>) -> Result<String
     };
     match like {
         Some(name) if distance(alloc, word, name)?.is_some() => {
-            joined_texts(alloc, &["a similar ", what, " exists: '", name, "'"])
+            format!(in alloc; "a similar {what} exists: '{name}'")
         }
         _ => Ok(String::new(alloc)),
     }
 }
-
-/// The names of the commands.
-const COMMANDS: [&str; 9] = [
-    "nup", "booklet", "zine", "cards", "stack", "notes", "poster", "select", "spec",
-];
-
-/// The command whose name is most similar to the word, if one is similar.
-fn nearest_command(alloc: Global, word: &str) -> Result<Option<&'static str>, AllocError> {
-    let mut nearest = None;
-    let mut least = usize::MAX;
-    for name in COMMANDS {
-        if let Some(distance) = distance(alloc, word, name)? {
-            if distance < least {
-                nearest = Some(name);
-                least = distance;
-            }
-        }
-    }
-    Ok(nearest)
-}
-
-/// The number of letters that are missing, added, replaced or exchanged in a word, compared with a name. A `--` before either isn't compared. The
-/// number is 0 if only the case differs. Otherwise `None` is returned if the number is more than a third of the word's bytes, or if the word is too
-/// long to be compared.
-fn distance(alloc: Global, word: &str, name: &str) -> Result<Option<usize>, AllocError> {
-    let word = word.strip_prefix("--").unwrap_or(word);
-    let name = name.strip_prefix("--").unwrap_or(name);
-    if word.eq_ignore_ascii_case(name) {
-        return Ok(Some(0));
-    }
-    if word.len() > MOST_COMPARED {
-        return Ok(None);
-    }
-    let distance = osa_distance(alloc, word, name)?;
-    if distance <= word.len() / 3 {
-        Ok(Some(distance))
-    } else {
-        Ok(None)
-    }
-}
-
-/// The largest number of bytes of a word that is compared letter by letter with names. A longer word resembles a name only if nothing but the case
-/// differs.
-const MOST_COMPARED: usize = 30;
 
 /// The tip on a mistake of this kind, if one is known that is better than clap's. `word` is the word that clap refuses, and `words` is the command
 /// line.
@@ -156,18 +112,14 @@ fn tip(kind: ErrorKind, word: &str, words: &[String]) -> Option<&'static str> {
     let command = command.as_str();
     match kind {
         ErrorKind::InvalidSubcommand => tip_on_command(word),
-        ErrorKind::UnknownArgument if !is_command(command) => tip_on_command(word),
+        ErrorKind::UnknownArgument if !COMMANDS.contains(&command) => tip_on_command(word),
         ErrorKind::UnknownArgument if word.starts_with("-") => {
             tip_on_option(command, behind, word)
         }
         ErrorKind::UnknownArgument => Some(tip_on_file(command, behind)),
-        ErrorKind::MissingRequiredArgument => tip_in(MISSING.as_slice(), command),
+        ErrorKind::MissingRequiredArgument => tip_in(MISSING, command),
         _ => None,
     }
-}
-
-fn is_command(word: &str) -> bool {
-    COMMANDS.iter().any(|name| *name == word)
 }
 
 /// The tip on a word in the place of the command, if one is known.
@@ -182,7 +134,7 @@ fn tip_on_command(word: &str) -> Option<&'static str> {
     } else if is_command_and_number(word) {
         Some("a blank is between a command and its number, as in: impose nup 2 in.ps out.ps")
     } else {
-        tip_in(FOR_COMMANDS.as_slice(), word)
+        tip_in(FOR_COMMANDS, word)
     }
 }
 
@@ -191,12 +143,9 @@ pub(crate) fn begins_with_digit(word: &str) -> bool {
 }
 
 fn is_command_and_number(word: &str) -> bool {
-    COMMANDS.iter().any(|name| match word.strip_prefix(*name) {
-        Some(rest) => begins_with_digit(rest.trim_start_matches(|sign: char| matches!(
-            sign,
-            '=' | ':' | '-'
-        ))),
-        None => false,
+    COMMANDS.iter().any(|name| {
+        let rest = word.strip_prefix(*name).unwrap_or("");
+        begins_with_digit(rest.trim_start_matches(|sign: char| matches!(sign, '=' | ':' | '-')))
     })
 }
 
@@ -205,8 +154,7 @@ fn tip_on_option(command: &str, behind: &[String], word: &str) -> Option<&'stati
     let (before, whole) = in_place(behind, word);
     let value = whole.strip_prefix("-").unwrap_or("");
     if begins_with_digit(value) || value.starts_with(".") {
-        let on_option = tip_in(SIGNS.as_slice(), before);
-        return on_option.or(tip_in(SIGNS.as_slice(), command));
+        return tip_in(SIGNS, before).or(tip_in(SIGNS, command));
     }
     if behind
         .iter()
@@ -214,13 +162,7 @@ fn tip_on_option(command: &str, behind: &[String], word: &str) -> Option<&'stati
     {
         return Some("an option of several letters begins with two minus signs, as in: --quiet");
     }
-    let own = match command {
-        "booklet" => tip_in(FOR_BOOKLETS.as_slice(), word),
-        "poster" => tip_in(FOR_POSTERS.as_slice(), word),
-        "select" => tip_in(FOR_SELECTIONS.as_slice(), word),
-        "spec" => tip_in(FOR_SPECIFICATIONS.as_slice(), word),
-        _ => None,
-    };
+    let own = tip_in(tips_for(command), word);
     if own.is_some() {
         return own;
     }
@@ -232,8 +174,18 @@ fn tip_on_option(command: &str, behind: &[String], word: &str) -> Option<&'stati
     if looks_like_file(whole) && !whole.contains("=") {
         return Some("a file whose name begins with a minus is written with its folder: ./-in.ps");
     }
-    let others = tip_in(OF_COMMANDS.as_slice(), word);
-    others.or(tip_on_other(word))
+    tip_in(OF_COMMANDS, word).or(tip_on_other(word))
+}
+
+/// The tips on options that are for this command alone.
+fn tips_for(command: &str) -> &'static [Tip] {
+    match command {
+        "booklet" => FOR_BOOKLETS,
+        "poster" => FOR_POSTERS,
+        "select" => FOR_SELECTIONS,
+        "spec" => FOR_SPECIFICATIONS,
+        _ => &[],
+    }
 }
 
 /// Whether a word looks like an option's long name after a single minus sign, such as `-quiet`, in which clap refuses this letter, such as `-u`. A
@@ -253,17 +205,15 @@ fn is_long_name(word: &str, letter: &str) -> bool {
 /// Finds the word of the command line that begins with an option as clap names it, such as `-d1` for `-d` and `--frame=1` for `--frame`. Returns the
 /// word before it and the word itself. Both are empty if no word begins with the option: in `-qd1`, the option `-d` comes after another letter.
 fn in_place<'w>(behind: &'w [String], option: &str) -> (&'w str, &'w str) {
-    let mut before = "";
-    for word in behind {
-        let word = word.as_str();
-        if let Some(rest) = word.strip_prefix(option) {
-            if !option.starts_with("--") || rest.is_empty() || rest.starts_with("=") {
-                return (before, word);
-            }
-        }
-        before = word;
+    let is_option = |word: &String| match word.as_str().strip_prefix(option) {
+        Some(rest) => !option.starts_with("--") || rest.is_empty() || rest.starts_with("="),
+        None => false,
+    };
+    match behind.iter().position(is_option) {
+        Some(0) => ("", behind[0].as_str()),
+        Some(place) => (behind[place - 1].as_str(), behind[place].as_str()),
+        None => ("", ""),
     }
-    ("", "")
 }
 
 /// The tip on a word that follows the two words that clap takes for the names of files.
@@ -293,13 +243,12 @@ fn tip_on_file(command: &str, behind: &[String]) -> &'static str {
 
 /// Whether a word after the command names a paper, but doesn't follow an option that takes a paper.
 fn has_stray_paper(behind: &[String]) -> bool {
-    let mut last = "";
-    for word in behind {
-        let word = word.as_str();
-        if size_named(word).is_some() && !matches!(last, "-p" | "--paper" | "--sheet") {
-            return true;
-        }
-        last = word;
-    }
-    false
+    behind.iter().enumerate().any(|(place, word)| {
+        let before = if place == 0 {
+            ""
+        } else {
+            behind[place - 1].as_str()
+        };
+        size_named(word.as_str()).is_some() && !matches!(before, "-p" | "--paper" | "--sheet")
+    })
 }

@@ -1,396 +1,145 @@
 //! Tips on commands and options of other programs.
-use crate::tips::{Tip, tip_in};
+use crate::tips::{Tip, tip_in, tips};
 
 /// Tips on words in the place of a command. Other programs have commands of these names, or people expect such commands.
-pub(crate) const FOR_COMMANDS: [Tip; 20] = [
-    (&["version"], "the version is printed by: impose --version"),
-    (
-        &["info", "show", "list", "plan", "preview"],
+pub(crate) const FOR_COMMANDS: &[Tip] = tips! {
+    "version" => "the version is printed by: impose --version",
+    "info" | "show" | "list" | "plan" | "preview" =>
         "sheets are listed by --plan, as in: impose nup 2 --plan in.ps",
-    ),
-    (
-        &["insert", "add", "blank"],
+    "insert" | "add" | "blank" =>
         "a blank page is named among the others, as in: impose select 1,blank,2- in.ps out.ps",
-    ),
-    (
-        &["convert", "pdf"],
-        "PDFs are put on sheets by: impose-pdf booklet in.pdf out.pdf",
-    ),
-    (
-        &["tile"],
+    "convert" | "pdf" => "PDFs are put on sheets by: impose-pdf booklet in.pdf out.pdf",
+    "tile" =>
         "several pages are put on a sheet by: impose nup 2 in.ps out.ps; a page over several sheets by: impose poster 2x2 in.ps out.ps",
-    ),
-    (
-        &["rotate", "turn"],
+    "rotate" | "turn" =>
         "pages are turned by --turn, as to the left by: impose select 1- --turn left in.ps out.ps",
-    ),
-    (
-        &["split", "cut"],
+    "split" | "cut" =>
         "some of the pages are taken by: impose select 1-3 in.ps out.ps; each page is put over several sheets by: impose poster 2x1 in.ps out.ps",
-    ),
-    (
-        &["scale", "resize", "psresize"],
+    "scale" | "resize" | "psresize" =>
         "pages are scaled to another paper by: impose nup 1 --sheet a5 in.ps out.ps",
-    ),
-    (
-        &["merge", "join", "concat", "cat"],
+    "merge" | "join" | "concat" | "cat" =>
         "PDFs are joined by: impose-pdf select 1- one.pdf two.pdf out.pdf; PostScript by: gs -q -sDEVICE=ps2write -o both.ps one.ps two.ps",
-    ),
-    (
-        &["crop", "trim"],
-        "the edges of pages are left out by: impose nup 1 --trim 15mm in.ps out.ps",
-    ),
-    (
-        &["label", "labels"],
+    "crop" | "trim" => "the edges of pages are left out by: impose nup 1 --trim 15mm in.ps out.ps",
+    "label" | "labels" =>
         "labels are columns and rows of pages, as in: impose nup 3x8 --scale 1 --sheet a4 in.ps out.ps",
-    ),
-    (
-        &["signature", "signatures"],
+    "signature" | "signatures" =>
         "leaves are folded some at a time by: impose booklet --signature 16 in.ps out.ps",
-    ),
-    (
-        &[
-            "book",
-            "psbook",
-            "pdfbook",
-            "pdfbook2",
-            "brochure",
-            "broschure",
-            "leaflet",
-            "pamphlet",
-            "fold",
-        ],
-        "a booklet is made by: impose booklet in.ps out.ps",
-    ),
-    (
-        &["psnup", "pdfnup", "pdfjam", "combine"],
+    "book" | "psbook" | "pdfbook" | "pdfbook2" | "brochure" | "broschure" | "leaflet"
+    | "pamphlet" | "fold" => "a booklet is made by: impose booklet in.ps out.ps",
+    "psnup" | "pdfnup" | "pdfjam" | "combine" =>
         "several pages are put on a sheet by: impose nup 2 in.ps out.ps",
-    ),
-    (
-        &["psselect", "pages", "page", "extract", "range", "delete"],
+    "psselect" | "pages" | "page" | "extract" | "range" | "delete" =>
         "some of the pages are taken by: impose select 1-3,5- in.ps out.ps",
-    ),
-    (
-        &["pstops"],
-        "a specification comes after spec, as in: impose spec 0,0 in.ps out.ps",
-    ),
-    (
-        &["reverse"],
-        "pages go backwards by: impose select 1- --reverse in.ps out.ps",
-    ),
-    (
-        &["odd", "even"],
+    "pstops" => "a specification comes after spec, as in: impose spec 0,0 in.ps out.ps",
+    "reverse" => "pages go backwards by: impose select 1- --reverse in.ps out.ps",
+    "odd" | "even" =>
         "every second page is taken by: impose select 1- --odd in.ps out.ps, or by --even",
-    ),
-    (
-        &["number", "numbers"],
-        "pages are numbered by: impose select 1- --numbers 10pt in.ps out.ps",
-    ),
-    (
-        &["print", "lp", "lpr", "duplex"],
+    "number" | "numbers" => "pages are numbered by: impose select 1- --numbers 10pt in.ps out.ps",
+    "print" | "lp" | "lpr" | "duplex" =>
         "sheets are printed by: impose booklet in.ps | lp -o sides=two-sided-short-edge",
-    ),
-];
+};
 
 /// The tip on an option of other programs, if one is known.
 pub(crate) fn tip_on_other(word: &str) -> Option<&'static str> {
-    tip_in(OF_OTHERS.as_slice(), word).or(tip_on_further(word))
-}
-
-fn tip_on_further(word: &str) -> Option<&'static str> {
-    tip_in(FURTHER.as_slice(), word)
+    tip_in(OF_OTHERS, word).or(tip_in(FURTHER, word))
 }
 
 /// Tips on options of other programs.
-const OF_OTHERS: [Tip; 24] = [
-    (
-        &["--no-crop", "--no-trim", "--nocrop"],
+const OF_OTHERS: &[Tip] = tips! {
+    "--no-crop" | "--no-trim" | "--nocrop" =>
         "pages are trimmed by --trim alone: leave this option out",
-    ),
-    (
-        &["--no-landscape", "--portrait"],
+    "--no-landscape" | "--portrait" =>
         "a sheet is upright unless its paper is named with -landscape, as in: --sheet a4",
-    ),
-    (
-        &[
-            "--collate",
-            "--printer",
-            "--dpi",
-            "--resolution",
-            "--quality",
-            "--gray",
-            "--grayscale",
-            "--color",
-            "--colour",
-        ],
+    "--collate" | "--printer" | "--dpi" | "--resolution" | "--quality" | "--gray" | "--grayscale"
+    | "--color" | "--colour" =>
         "options of the printer are given to lp, as in: impose booklet in.ps | lp -o sides=two-sided-short-edge",
-    ),
-    (
-        &[
-            "--watermark",
-            "--stamp",
-            "--title",
-            "--header",
-            "--footer",
-            "--text",
-            "--font",
-        ],
+    "--watermark" | "--stamp" | "--title" | "--header" | "--footer" | "--text" | "--font" =>
         "page numbers are the only text that is drawn, as in: impose nup 2 --numbers 10pt in.ps out.ps",
-    ),
-    (
-        &["--lines"],
-        "notes draws lines without an option, as in: impose notes 3 in.ps out.ps",
-    ),
-    (
-        &["--no-guard", "--noguard"],
-        "the guard is left out by --unguarded",
-    ),
-    (
-        &["--rotate", "--angle", "--rotation"],
+    "--lines" => "notes draws lines without an option, as in: impose notes 3 in.ps out.ps",
+    "--no-guard" | "--noguard" => "the guard is left out by --unguarded",
+    "--rotate" | "--angle" | "--rotation" =>
         "pages are turned by --turn, as to the left by: impose select 1- --turn left in.ps out.ps",
-    ),
-    (
-        &["--short-edge"],
+    "--short-edge" =>
         "without an option a booklet is for printers that flip on the short edge: leave it out",
-    ),
-    (
-        &["--copies", "--repeat"],
+    "--copies" | "--repeat" =>
         "each page is on a sheet several times by: impose cards 2 in.ps out.ps; and the document several times after itself by --pages 1-,1-",
-    ),
-    (
-        &["--blank", "--insert"],
-        "a blank page is named among the others, as in: --pages 1,blank,2-",
-    ),
-    (
-        &["--verbose", "-v"],
-        "there is no longer report; --plan prints which page is where",
-    ),
-    (
-        &["--dry-run"],
-        "--plan prints which page is where on each sheet, and imposes nothing",
-    ),
-    (
-        &[
-            "-n",
-            "-N",
-            "--nup",
-            "--up",
-            "--per-page",
-            "--pages-per-sheet",
-        ],
+    "--blank" | "--insert" => "a blank page is named among the others, as in: --pages 1,blank,2-",
+    "--verbose" | "-v" => "there is no longer report; --plan prints which page is where",
+    "--dry-run" => "--plan prints which page is where on each sheet, and imposes nothing",
+    "-n" | "-N" | "--nup" | "--up" | "--per-page" | "--pages-per-sheet" =>
         "the number of pages comes after nup, as in: impose nup 4 in.ps out.ps; --plan prints which page is where",
-    ),
-    (
-        &["--landscape", "--orientation", "-f"],
+    "--landscape" | "--orientation" | "-f" =>
         "a sheet on its side is named so, as in: --sheet a4-landscape",
-    ),
-    (
-        &["-l"],
+    "-l" =>
         "pages that lie on their sides are laid by: impose nup 2 --turned left in.ps out.ps; a sheet on its side is named so, as in: --sheet a4-landscape",
-    ),
-    (
-        &["-r"],
+    "-r" =>
         "pages that lie on their sides are laid by: impose nup 2 --turned right in.ps out.ps; all go backwards by --reverse",
-    ),
-    (
-        &["-R", "--backwards", "--reverse-order"],
+    "-R" | "--backwards" | "--reverse-order" =>
         "pages go backwards by --reverse, as in: impose select 1- --reverse in.ps out.ps",
-    ),
-    (
-        &["-e"],
-        "every second page is taken by --even, as in: impose select 1- --even in.ps out.ps",
-    ),
-    (
-        &["--version"],
-        "the version is printed without a command: impose --version",
-    ),
-    (
-        &["-d", "--frame", "--frames", "--draw", "--line"],
+    "-e" => "every second page is taken by --even, as in: impose select 1- --even in.ps out.ps",
+    "--version" => "the version is printed without a command: impose --version",
+    "-d" | "--frame" | "--frames" | "--draw" | "--line" =>
         "a line round each page is drawn by --border, as in: impose nup 2 --border 1pt in.ps out.ps",
-    ),
-    (
-        &["-s", "--zoom", "--factor"],
+    "-s" | "--zoom" | "--factor" =>
         "the scale of pages is named by --scale, as in: impose nup 2 --scale 0.7 in.ps out.ps",
-    ),
-    (
-        &["-c", "--column", "--column-major"],
+    "-c" | "--column" | "--column-major" =>
         "pages go down the columns by: impose nup 4 --order down-right in.ps out.ps",
-    ),
-    (
-        &["--rows", "--columns", "--cols", "--grid"],
+    "--rows" | "--columns" | "--cols" | "--grid" =>
         "columns and rows are written as one word, as in: impose nup 2x3 in.ps out.ps",
-    ),
-    (
-        &["-m", "-t", "-i", "--margins"],
+    "-m" | "-t" | "-i" | "--margins" =>
         "the edges of sheets are kept free by --margin, as in: impose nup 2 --margin 1cm in.ps out.ps",
-    ),
-];
+};
 
 /// Further tips on options of other programs. One table with all these tips would be too long for the prover.
-const FURTHER: [Tip; 23] = [
-    (
-        &[
-            "--inner-margin",
-            "--outer-margin",
-            "--top-margin",
-            "--bottom-margin",
-            "--left-margin",
-            "--right-margin",
-            "--inner",
-        ],
+const FURTHER: &[Tip] = tips! {
+    "--inner-margin" | "--outer-margin" | "--top-margin" | "--bottom-margin" | "--left-margin"
+    | "--right-margin" | "--inner" =>
         "margins are named by their edges, as in: impose nup 1 --margin inner=2cm,top=1cm in.ps out.ps",
-    ),
-    (
-        &[
-            "-b",
-            "--delta",
-            "--spacing",
-            "--gutter",
-            "--padding",
-            "--space",
-        ],
+    "-b" | "--delta" | "--spacing" | "--gutter" | "--padding" | "--space" =>
         "room between pages is kept by --gap, as in: impose nup 4 --gap 5mm in.ps out.ps",
-    ),
-    (
-        &["-w", "-W", "-H", "--width", "--height"],
+    "-w" | "-W" | "-H" | "--width" | "--height" =>
         "a size is one word, that of the sheets as in: --sheet 210x297mm, and that of the pages after --paper",
-    ),
-    (
-        &[
-            "-P",
-            "--size",
-            "--papersize",
-            "--paper-size",
-            "--pagesize",
-            "--page-size",
-            "--media",
-            "--fitpaper",
-        ],
+    "-P" | "--size" | "--papersize" | "--paper-size" | "--pagesize" | "--page-size" | "--media"
+    | "--fitpaper" =>
         "the paper of the pages comes after --paper, that of the sheets after --sheet, as in: --sheet a4",
-    ),
-    (
-        &[
-            "--a4paper",
-            "--a4",
-            "--a5paper",
-            "--letterpaper",
-            "--letter",
-        ],
+    "--a4paper" | "--a4" | "--a5paper" | "--letterpaper" | "--letter" =>
         "the paper of the sheets comes after --sheet, as in: --sheet a4",
-    ),
-    (
-        &["--offset", "--shift", "--move"],
+    "--offset" | "--shift" | "--move" =>
         "pages are moved by a specification, as in: impose spec '0(5mm,0)' in.ps out.ps",
-    ),
-    (
-        &["--clip", "--crop", "--viewport", "--cut"],
+    "--clip" | "--crop" | "--viewport" | "--cut" =>
         "the edges of pages are left out by --trim, as in: impose nup 2 --trim 15mm in.ps out.ps",
-    ),
-    (
-        &["--bleed", "--bleeds"],
+    "--bleed" | "--bleeds" =>
         "a bleed is part of the page: name its whole size by --paper, and cut some of it off by --trim 3mm",
-    ),
-    (
-        &["--crop-marks", "--cropmarks", "--cut-marks", "--cutmarks"],
+    "--crop-marks" | "--cropmarks" | "--cut-marks" | "--cutmarks" =>
         "marks to cut are drawn by --marks cut, as in: impose cards 8 --gap 4mm --marks cut in.ps out.ps",
-    ),
-    (
-        &["--fold-marks", "--foldmarks", "--fold"],
+    "--fold-marks" | "--foldmarks" | "--fold" =>
         "marks to fold are drawn by: impose booklet --marks fold in.ps out.ps",
-    ),
-    (
-        &[
-            "--right-to-left",
-            "--righttoleft",
-            "--binding",
-            "--binding-side",
-            "--binding-edge",
-        ],
+    "--right-to-left" | "--righttoleft" | "--binding" | "--binding-side" | "--binding-edge" =>
         "pages go from right to left by --rtl, as in: impose booklet --rtl in.ps out.ps",
-    ),
-    (
-        &[
-            "--twoside",
-            "--twosided",
-            "--two-sided",
-            "--double-sided",
-            "--sides",
-        ],
+    "--twoside" | "--twosided" | "--two-sided" | "--double-sided" | "--sides" =>
         "which sides are printed is for the printer to know, as in: impose booklet in.ps | lp -o sides=two-sided-short-edge",
-    ),
-    (
-        &["--tumble", "--long", "--flip-long-edge"],
+    "--tumble" | "--long" | "--flip-long-edge" =>
         "a booklet flips on the short edge; on the long one by: impose booklet --long-edge in.ps out.ps",
-    ),
-    (
-        &[
-            "--fit",
-            "--scaling",
-            "--fit-page",
-            "--fit-to-page",
-            "--shrink",
-            "--scale-to-fit",
-            "--autoscale",
-            "--noautoscale",
-            "--no-scale",
-            "--actual-size",
-        ],
+    "--fit" | "--scaling" | "--fit-page" | "--fit-to-page" | "--shrink" | "--scale-to-fit"
+    | "--autoscale" | "--noautoscale" | "--no-scale" | "--actual-size" =>
         "pages are as large as they fit; in their own size by: impose nup 2 --scale 1 --sheet a3 in.ps out.ps",
-    ),
-    (
-        &["--center", "--centre", "--centered", "--align"],
+    "--center" | "--centre" | "--centered" | "--align" =>
         "pages are in the middle of their cells without an option: leave it out",
-    ),
-    (
-        &["--pagenumbers", "--page-numbers", "--number", "--numbering"],
+    "--pagenumbers" | "--page-numbers" | "--number" | "--numbering" =>
         "pages are numbered by --numbers, as in: impose nup 2 --numbers 10pt in.ps out.ps",
-    ),
-    (
-        &[
-            "--first",
-            "--first-page",
-            "--firstpage",
-            "--last",
-            "--last-page",
-            "--lastpage",
-            "--from",
-            "--to",
-            "--start",
-            "--end",
-            "--page",
-            "--range",
-            "--ranges",
-            "--page-range",
-        ],
+    "--first" | "--first-page" | "--firstpage" | "--last" | "--last-page" | "--lastpage"
+    | "--from" | "--to" | "--start" | "--end" | "--page" | "--range" | "--ranges"
+    | "--page-range" =>
         "pages are named by their numbers, as in: --pages 3-8, and after select without an option",
-    ),
-    (
-        &[
-            "--sheets",
-            "--pages-per-signature",
-            "--signature-size",
-            "--leaves",
-        ],
+    "--sheets" | "--pages-per-signature" | "--signature-size" | "--leaves" =>
         "leaves are folded some at a time by a number of sides, as in: impose booklet --signature 16 in.ps out.ps",
-    ),
-    (
-        &["--booklet", "--book", "--brochure"],
-        "booklet is a command: impose booklet in.ps out.ps",
-    ),
-    (
-        &["--poster", "--poster-size", "--tile", "--tiles"],
+    "--booklet" | "--book" | "--brochure" => "booklet is a command: impose booklet in.ps out.ps",
+    "--poster" | "--poster-size" | "--tile" | "--tiles" =>
         "poster is a command: impose poster 2x2 in.ps out.ps",
-    ),
-    (
-        &["--openright", "--open-right"],
+    "--openright" | "--open-right" =>
         "a blank before the first page opens at the right: --pages blank,1-",
-    ),
-    (
-        &["--cover"],
+    "--cover" =>
         "a cover for other paper is: impose booklet --pages 1-2,_2-_1 in.ps out.ps; the rest is --pages 3-_3",
-    ),
-    (
-        &["--mirror", "--reflect", "--flip", "--flip-other-edge"],
+    "--mirror" | "--reflect" | "--flip" | "--flip-other-edge" =>
         "pages are mirrored by the printer: lp -o mirror out.ps",
-    ),
-];
+};

@@ -3,7 +3,7 @@ ghost use Rattle.std.specs.Prelude.{IfOk, string_bytes};
 ghost use Rattle.suggestions.specs.Shown.{IsMessageOn};
 
 use crate::mistakes::begins_with_digit;
-use crate::nearest::nearest_names;
+use crate::nearest::nearest_papers;
 use crate::shown::{joined_texts, message_on, shown_word};
 use crate::words::{has_file_ending, is_range, looks_like_file};
 use impose_words::{
@@ -373,7 +373,7 @@ fn paper_advice(alloc: Global, text: &str) -> Result<String, AllocError> {
             "the paper too, as a4-landscape, or a4, which is upright",
         );
     }
-    let names = nearest_names(alloc, text)?;
+    let names = nearest_papers(alloc, text)?;
     let others = ", another paper of impose --help, or a size such as 210x297mm";
     joined_texts(alloc, &[names.as_str(), others])
 }
