@@ -1,19 +1,11 @@
 -- Messages out of what is appended, one after another.
-use Rattle.std.proofs.Common.{◌≡◌, ◌∙◌, ◌++◌, ◌∷◌, [], List, ℕ, ap, append_assoc, arith, refl, sym}
+use Rattle.std.proofs.Common.{◌≡◌, ◌∙◌, ◌++◌, ◌∷◌, [], List, ℕ, ap, append_assoc, arith}
 use Rattle.std.specs.Prelude.{OnOk, Result, Ok, Err, flat_map, if◌then◌else◌}
 use Rattle.std.specs.Result.{is_ok}
 use Rattle.std.specs.Char.{encode_utf8}
 use Rattle.std.proofs.lemmas.List.{flat_map_more}
-use Rattle.std.proofs.lemmas.List.Concat.{flat_map-append}
 use Rattle.std.proofs.lemmas.Str.{encode_ascii}
 use Rattle.suggestions.specs.Shown.{IsLines, IsMessageOn, escaped_text, shown_char, shown_line, shown_text}
-
--- texts, each of them shown
-pub gathered : {A : Type 0} (letters : A → List ℕ) (texts : List A) → flat_map (λ t. flat_map shown_char (letters t)) texts ≡ flat_map shown_char (flat_map letters texts)
-gathered letters [] = refl
-gathered letters (t ∷ rest) =
-    ap (λ more. flat_map shown_char (letters t) ++ more) (gathered letters rest)
-    ∙ sym (flat_map-append shown_char (letters t) (flat_map letters rest))
 
 pub on_word : (word before behind first second third : List ℕ) → first ≡ flat_map shown_char before → second ≡ first ++ shown_text word
     → third ≡ second ++ flat_map shown_char behind → IsMessageOn word third

@@ -65,16 +65,6 @@ fn push_escaped(out: &mut String, text: &str) -> Result<(), AllocError>
     Ok(())
 }
 
-/// Appends the texts in order, as messages show them, without cutting them.
-fn push_all_escaped(out: &mut String, texts: &[&str]) -> Result<(), AllocError>
-    ensures { OnOk result (string_bytes out.new ≡ string_bytes out.old ++ flat_map (λ text. meaning.escaped_text text.now) texts.now) }
-{
-    for text in texts {
-        push_escaped(out, *text)?;
-    }
-    Ok(())
-}
-
 /// Appends a line, with hidden characters as escapes, and a line end.
 pub(crate) fn push_line(out: &mut String, line: &str) -> Result<(), AllocError>
     ensures line { OnOk result (string_bytes out.new ≡ string_bytes out.old ++ meaning.shown_line line.now) }
@@ -84,19 +74,19 @@ pub(crate) fn push_line(out: &mut String, line: &str) -> Result<(), AllocError>
     out.push('\n')
 }
 
-/// A message about a word: the texts `before` it, the word as messages show it, and the texts `behind` it. Hidden characters are escaped.
+/// A message about a word: the text `before` it, the word as messages show it, and the text `behind` it. Hidden characters are escaped.
 pub(crate) fn message_on(
     alloc: Global,
-    before: &[&str],
+    before: &str,
     word: &str,
-    behind: &[&str],
+    behind: &str,
 ) -> Result<String, AllocError>
     ensures { IfOk result (λ said. meaning.IsMessageOn word.now (string_bytes said)) }
 {
     let mut said = String::new(alloc);
-    push_all_escaped(&mut said, before)?;
+    push_escaped(&mut said, before)?;
     said.push_str(shown_in_place(word).as_str())?;
-    push_all_escaped(&mut said, behind)?;
+    push_escaped(&mut said, behind)?;
     Ok(said)
 }
 
