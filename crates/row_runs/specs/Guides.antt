@@ -11,7 +11,7 @@ use Rattle.preview.specs.declared.guides.GuideKind.{GuideKind}
 use Rattle.preview.specs.declared.guides.GuideKind.TheVariants.{Margin, Fold, Cut, Note}
 use Rattle.dressing.specs.declared.strokes.Marks.{Marks}
 use Rattle.dressing.specs.declared.strokes.Stroke.{Stroke}
-use Rattle.row_runs.specs.Marked.{ruled_if}
+use Rattle.row_runs.specs.Marked.{ruled_if, tile_room}
 use Rattle.row_runs.specs.declared.sheet_request.Laying.{Laying}
 use Rattle.row_runs.specs.declared.sheet_request.Laying.TheVariants as laying
 use Rattle.row_runs.specs.declared.sheet_request.Scheme.TheVariants as scheme
@@ -61,19 +61,6 @@ lines_between kind room g =
 -- the lines of a setting, of this kind between its cells
 abbrev pub setting_guides : GuideKind → Setting → List Guide
 setting_guides kind setting = margin_lines setting.room ++ lines_between kind setting.room setting.grid
-
--- a sheet of a poster, with its margins
-abbrev pub tile_room : Poster → Room
-tile_room p = record {
-  paper = p.sheet;
-  left = p.edge;
-  right = p.edge;
-  bottom = p.edge;
-  top = p.edge;
-  gutter_across = 0;
-  gutter_up = 0;
-  trim = 0;
-}
 
 -- the lines of a laying: stacks and cards are cut between their cells, booklets and zines are folded; pages as they are, and
 -- those by a specification, have none

@@ -3,16 +3,15 @@ ghost use Rattle.std.specs.Prelude.{◌≡◌, ◌<◌, ◌≤◌, ◌++◌, IfO
 ghost use Rattle.row_runs.specs.Guides.{guides_in, level as level_of, level_line as level_line_of};
 ghost use Rattle.row_runs.specs.Guides.{level_lines, level_margin, lines_between, setting_guides, margin_lines};
 ghost use Rattle.row_runs.specs.Guides.{upright as upright_of, upright_line as upright_line_of, upright_lines, upright_margin};
-ghost use Rattle.row_runs.specs.Guides.{guides_with, note_guide as note_guide_of, note_guides, tile_room as tile_room_of};
+ghost use Rattle.row_runs.specs.Guides.{guides_with, note_guide as note_guide_of, note_guides};
 ghost use Rattle.row_runs.specs.Sheets.{MayBeLaid};
 
-use crate::marked::ruled_if;
+use crate::marked::{ruled_if, tile_room};
 use crate::sheet_request::{Laying, Scheme};
 use dressing::{Marks, Stroke};
 use layouts::{Grid, Room, Setting, from_far, gap_at, in_grains};
 use lengths::{Grains, Paper};
 use preview::{Guide, GuideKind};
-use row_sheets::Poster;
 use std::alloc::{AllocError, Global};
 
 /// The guides of a laying: its margins, the cuts of cards, stacks and leaves, the folds of booklets and zines, and the requested lines for notes of a
@@ -85,23 +84,6 @@ fn note_guide(line: &Stroke) -> Guide
         kind: GuideKind::Note,
         start: line.start,
         end: line.end,
-    }
-}
-
-/// The room of one sheet of a poster: its paper and the poster's margins, without gutters.
-fn tile_room(poster: &Poster) -> Room
-    requires { poster.now.edge ≤ 10_000_000_000 }
-    ensures { result ≡ tile_room_of poster.now }
-{
-    Room {
-        paper: poster.sheet,
-        left: poster.edge,
-        right: poster.edge,
-        bottom: poster.edge,
-        top: poster.edge,
-        gutter_across: 0,
-        gutter_up: 0,
-        trim: 0,
     }
 }
 

@@ -1,19 +1,24 @@
 //! The marks that are drawn on sheets.
-ghost use Rattle.std.specs.Prelude.{◌≡◌, ◌++◌, IfOk};
+ghost use Rattle.std.specs.Prelude.{◌≡◌, ◌≤◌, ◌++◌, IfOk};
 ghost use Rattle.row_runs.specs.Marked.{cut_if as cut_of, fold_if as fold_of, outer_cut_if as outer_cut_of, ruled_if as ruled_of, strokes_in};
+ghost use Rattle.row_runs.specs.Marked.{tile_room as tile_room_of};
+ghost use Rattle.row_runs.specs.Sheets.{MayBeLaid};
 
+use crate::reading::tiles_of;
 use crate::sheet_request::{Laying, Scheme};
-use dressing::{Marks, Stroke, cut_marks, fold_marks, note_lines, outer_cut_marks};
-use layouts::Setting;
+use dressing::{Marks, Stroke, cut_marks, fold_marks, note_lines, outer_cut_marks, tile_marks};
+use layouts::{Room, Setting};
+use row_sheets::Poster;
 use std::alloc::{AllocError, Global};
 
-/// The strokes that are drawn on each sheet of a laying, for the requested marks. Grids, cards, stacks and leaves have cut marks, and booklets have
-/// fold marks and cut marks. Only grids have lines for notes. Zines, posters, specifications and pages that are left as they are have no strokes.
+/// The strokes that are drawn on each sheet of a laying, for the requested marks. Grids, cards, stacks, leaves and posters have cut marks, and
+/// booklets have fold marks and cut marks. Only grids have lines for notes. Zines, specifications and pages that are left as they are have no strokes.
 pub(crate) fn strokes_of(
     alloc: Global,
     marks: Marks,
     laying: &Laying<'_>,
 ) -> Result<Vec<Stroke>, AllocError>
+    requires { MayBeLaid laying.now }
     ensures { IfOk result (λ strokes. strokes.items ≡ strokes_in marks laying.now) }
 {
     match laying {
@@ -23,7 +28,27 @@ pub(crate) fn strokes_of(
             Scheme::Zine => Ok(Vec::new(alloc)),
             _ => cut_if(alloc, marks.cut, setting),
         },
+        Laying::Poster { poster } if marks.cut => {
+            tile_marks(alloc, &tile_room(poster), tiles_of(poster), poster.overlap)
+        }
         _ => Ok(Vec::new(alloc)),
+    }
+}
+
+/// The room of one sheet of a poster: its paper and the poster's margins, without gutters.
+pub(crate) fn tile_room(poster: &Poster) -> Room
+    requires { poster.now.edge ≤ 10_000_000_000 }
+    ensures { result ≡ tile_room_of poster.now }
+{
+    Room {
+        paper: poster.sheet,
+        left: poster.edge,
+        right: poster.edge,
+        bottom: poster.edge,
+        top: poster.edge,
+        gutter_across: 0,
+        gutter_up: 0,
+        trim: 0,
     }
 }
 

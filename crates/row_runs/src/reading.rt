@@ -182,7 +182,7 @@ fn plain_order() -> Order
 }
 
 /// The tiles of a poster. At least one row and one column are given, even for a poster without tiles, which has no sheets.
-fn tiles_of(poster: &Poster) -> Grid
+pub(crate) fn tiles_of(poster: &Poster) -> Grid
     ensures { result ≡ tiles_in poster.now }
 {
     Grid {
