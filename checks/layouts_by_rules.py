@@ -396,7 +396,8 @@ class Poster:
     """14.3: the sides of tiles are rounded down."""
 
     def __init__(self, options: Options, sheet: Paper, paper: Paper) -> None:
-        self.margin, overlap = Room(options).top, ceil(options.overlap)
+        self.room, self.overlap = Room(options), ceil(options.overlap)
+        self.margin, overlap = self.room.top, self.overlap
         self.steps = [floor(side) - 2 * self.margin - overlap for side in sheet]
         if min(self.steps) <= 0:
             raise Refused("room")
@@ -450,7 +451,7 @@ def refuse_words(options: Options) -> None:
             raise Refused("inner and left")
         if "cut" in options.marks:
             raise Refused("inner and cut")
-    is_cut_outside = "cut" in options.marks and (options.layout == "booklet" or options.count == 1)
+    is_cut_outside = "cut" in options.marks and (options.layout in ("booklet", "poster") or options.count == 1)
     if is_cut_outside and not Room(options).cuts_outside:
         raise Refused("no marks")
 
@@ -652,9 +653,10 @@ class Run:
 
     def poster(self) -> Iterator[Sheet]:
         poster = Poster(self.options, self.sheet, self.cells_paper)
+        lines = tile_strokes(poster, self.sheet) if self.options.marks else []
         for entry, own in enumerate(self.own):
             for spot in poster.spots(self.turned(own) if own else self.cells_paper):
-                sheet = Sheet(self.sheet)
+                sheet = Sheet(self.sheet, strokes=lines)
                 if own:
                     self.write(sheet, Slot(entry, Cell(0, 0, 0, 0)), spot)
                 yield sheet
@@ -743,7 +745,17 @@ def strokes(options: Options, grid: Grid) -> list[Box]:
         has_inner = ("fold" if options.layout == "booklet" else "cut") in options.marks
         has_outer = "cut" in options.marks and room.cuts_outside
         for at in (inner if has_inner else []) + ([first - half, last + half] if has_outer else []):
-            found += ends(axis, at, grid)
+            found += ends(axis, at, grid.room, grid.sheet)
+    return found
+
+
+def tile_strokes(poster: Poster, sheet: Paper) -> list[Box]:
+    """Section 15, posters: along the edges of the tile, and along those of its neighbours, of which each is a step away."""
+    found: list[Box] = []
+    for axis, (tiles, step) in enumerate(zip(poster.grid, poster.steps)):
+        own = [poster.margin, poster.margin + step + poster.overlap]
+        theirs = [own[1] - step, own[0] + step] if tiles > 1 and poster.overlap else []
+        found += [line for at in own + theirs for line in ends(axis, Fraction(at), poster.room, sheet)]
     return found
 
 
@@ -753,10 +765,10 @@ def note_lines(cell: Cell) -> Iterator[Box]:
         yield (left + down, low, left + down, high) if cell.is_turned else (left, high - down, right, high - down)
 
 
-def ends(axis: int, at: Fraction, grid: Grid) -> Iterator[Box]:
+def ends(axis: int, at: Fraction, room: Room, sheet: Paper) -> Iterator[Box]:
     """The two strokes of a line across this axis; open: by margins that aren't wider."""
-    top, right, bottom, left = grid.room.named
-    side, long = grid.sheet[1 - axis], 18 * U
+    top, right, bottom, left = room.named
+    side, long = sheet[1 - axis], 18 * U
     for margin, edge, inwards in ((left if axis else bottom, Fraction(0), 1), (right if axis else top, side, -1)):
         inner = edge + inwards * (margin or long)
         outer = inner - inwards * min(margin or long, long)

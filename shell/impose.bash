@@ -21,7 +21,7 @@ _impose_options_of() {
         zine) echo "--same-scale --margin --gap --rtl $row $looks $sheet $all" ;;
         stack) echo "--duplex $cells $sheet $all" ;;
         notes) echo "--same-scale --margin --gap --trim $numbers $row $looks $sheet $all" ;;
-        poster) echo "--scale --overlap --margin $row $looks $sheet $all" ;;
+        poster) echo "--scale --overlap --margin --marks $row $looks $sheet $all" ;;
         select) echo "$numbers $parts $looks $all" ;;
         spec) echo "--signature $row $shown $spec $all" ;;
     esac

@@ -107,9 +107,9 @@ notes_rules =
 abbrev pub notes_app : App
 notes_app = subcommand_app (codes "notes") notes_rules laid_rules
 
--- columns and rows of sheets, the scale of pages, and how far sheets overlap
+-- columns and rows of sheets, the scale of pages, how far sheets overlap, their margin and their marks
 abbrev pub poster_rules : List Rule
-poster_rules = count_rule ∷ option_rule (codes "scale") ∷ option_rule (codes "overlap") ∷ option_rule (codes "margin") ∷ []
+poster_rules = count_rule ∷ option_rule (codes "scale") ∷ option_rule (codes "overlap") ∷ option_rule (codes "margin") ∷ option_rule (codes "marks") ∷ []
 
 abbrev pub poster_app : App
 poster_app = subcommand_app (codes "poster") poster_rules laid_rules

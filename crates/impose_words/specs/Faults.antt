@@ -122,6 +122,7 @@ abbrev pub wrong_lines : Layout → (found : List Row) → Option Wrong
 wrong_lines (layout.NUp cells) found = wrong_among (opt.CutMarks ∷ []) found
 wrong_lines (layout.Cards cells) found = wrong_among (opt.CutMarks ∷ []) found
 wrong_lines (layout.Stack cells duplex) found = wrong_among (opt.CutMarks ∷ []) found
+wrong_lines (layout.Poster cells) found = wrong_among (opt.CutMarks ∷ []) found
 wrong_lines (layout.Booklet signing long_edge) found = wrong_among (opt.BookletMarks ∷ []) found
 wrong_lines other found = None
 

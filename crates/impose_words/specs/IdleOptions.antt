@@ -23,12 +23,13 @@ abbrev pub keeps_papers : Layout → Bool
 keeps_papers layout.Selection = true
 keeps_papers other = false
 
--- a sheet is cut outside its cells alone: it has one cell, or is folded between them
+-- a sheet is cut outside its cells alone: it has one cell or is a tile, or is folded between them
 abbrev pub is_cut_outside : Layout → Bool
 is_cut_outside (layout.NUp cells) = cells_per_sheet cells == 1
 is_cut_outside (layout.Cards cells) = cells_per_sheet cells == 1
 is_cut_outside (layout.Stack cells duplex) = cells_per_sheet cells == 1
 is_cut_outside (layout.Booklet signing long_edge) = true
+is_cut_outside (layout.Poster cells) = true
 is_cut_outside other = false
 
 -- there is a margin, of half the gap at least

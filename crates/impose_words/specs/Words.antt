@@ -171,12 +171,11 @@ order_by (Some run) rtl (Some turned) = Some (record { run = run.0; right_to_lef
 abbrev pub order_found : (found : List Row) → Option Order
 order_found found = order_by (run_found found) (has_flag (codes "rtl") found) (turned_found found)
 
--- a booklet is folded and cut, other sheets with cells are cut alone, and no others have marks; on those for notes lines are
--- drawn
+-- a booklet is folded and cut, other sheets with cells and those of posters are cut alone, and no others have marks; on those
+-- for notes lines are drawn
 abbrev pub lines_found : Layout → (found : List Row) → Option Marks
 lines_found (layout.Booklet signing long_edge) found = asked no_marks booklet_marks_named (given opt.BookletMarks found)
 lines_found (layout.Notes pages) found = Some lines_alone
-lines_found (layout.Poster cells) found = Some no_marks
 lines_found layout.Zine found = Some no_marks
 lines_found layout.Selection found = Some no_marks
 lines_found (layout.Spec specs) found = Some no_marks

@@ -297,7 +297,7 @@ const NOTES: [Argument; 7] = [
     NUMBERS_FROM,
 ];
 
-const POSTER: [Argument; 4] = [
+const POSTER: [Argument; 5] = [
     Argument::Required(
         "count",
         "CxR",
@@ -314,6 +314,7 @@ const POSTER: [Argument; 4] = [
         "Print this length of the page, such as 1cm, on both of two neighbouring sheets",
     ),
     EQUAL_MARGIN,
+    CUT_MARKS,
 ];
 
 const SELECTION: [Argument; 3] = [

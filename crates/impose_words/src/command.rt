@@ -555,9 +555,10 @@ fn lines_of(layout: &Layout, found: &ArgMatches<'_>) -> Result<Marks, OptionId>
         (Layout::Booklet { .. }, Some(text)) => {
             booklet_marks_named(text).ok_or(OptionId::BookletMarks)
         }
-        (Layout::NUp(_) | Layout::Cards(_) | Layout::Stack { .. }, Some(text)) => {
-            cut_marks_named(text).ok_or(OptionId::CutMarks)
-        }
+        (
+            Layout::NUp(_) | Layout::Cards(_) | Layout::Stack { .. } | Layout::Poster(_),
+            Some(text),
+        ) => { cut_marks_named(text).ok_or(OptionId::CutMarks) }
         (Layout::Notes { .. }, _) => Ok(Marks {
             ruled: true,
             ..NO_MARKS

@@ -82,15 +82,16 @@ fn has_two_left(layout: &Layout, spacing: &Spacing) -> bool
     }
 }
 
-/// Whether sheets of this layout can have cut marks, but only outside their cells, because they have one cell or are folded between the cells.
+/// Whether sheets of this layout can have cut marks, but only outside their cells, because they have one cell, are tiles, or are folded
+/// between the cells.
 fn is_cut_outside(layout: &Layout) -> bool
     ensures { result ≡ meaning.is_cut_outside layout.now }
 {
     match layout {
         Layout::NUp(cells) | Layout::Cards(cells) => cells.count() == 1,
         Layout::Stack { cells, .. } => cells.count() == 1,
-        Layout::Booklet { .. } => true,
-        Layout::Notes { .. } | Layout::Poster(_) | Layout::Zine | Layout::Selection => false,
+        Layout::Booklet { .. } | Layout::Poster(_) => true,
+        Layout::Notes { .. } | Layout::Zine | Layout::Selection => false,
         Layout::Spec(_) | Layout::SpecRow { .. } => false,
     }
 }

@@ -103,7 +103,7 @@ pub(crate) const OF_COMMANDS: &[Tip] = tips! {
     "--same-scale" =>
         "pages of posters, selections and specifications have their own scales; others have one by: impose nup 2 --same-scale in.ps out.ps",
     "--marks" =>
-        "zines, notes, posters, selections and specifications have no marks; the others have, as in: impose cards 8 --marks cut in.ps out.ps",
+        "zines, notes, selections and specifications have no marks; the others have, as in: impose cards 8 --marks cut in.ps out.ps",
     "--numbers" | "--numbers-from" =>
         "pages of posters, zines and specifications have no numbers; the others have, as in: impose nup 2 --numbers 10pt in.ps out.ps",
     "--margin" =>
