@@ -8,23 +8,17 @@ use Rattle.impose_words.specs.declared.request.Product.TheVariants as product
 use Rattle.impose_words.specs.declared.request.ImposeRequest.{ImposeRequest}
 
 abbrev pub is_specification : Product → Bool
-is_specification product.Sheets = false
 is_specification product.Specification = true
-is_specification product.Plan = false
-is_specification (product.Picture file) = false
+is_specification other = false
 
 abbrev pub is_plan : Product → Bool
-is_plan product.Sheets = false
-is_plan product.Specification = false
 is_plan product.Plan = true
-is_plan (product.Picture file) = false
+is_plan other = false
 
 -- the file of the picture, if one is made; without a name it is standard output
 abbrev pub picture_in : Product → Option (Option (List ℕ))
-picture_in product.Sheets = None
-picture_in product.Specification = None
-picture_in product.Plan = None
 picture_in (product.Picture file) = Some (option_map string_bytes file)
+picture_in other = None
 
 -- a picture is an SVG, and its file is named so; standard output has no name (RULES, 16, step 3, and 17)
 abbrev pub is_picture_file : Option (List ℕ) → Bool
@@ -33,16 +27,8 @@ is_picture_file (Some name) = ends_with nat_eq name (codes ".svg")
 
 -- the layout lays rows of pages on sheets, of which a plan and a picture can be made
 abbrev pub lays_rows : Layout → Bool
-lays_rows (layout.NUp cells) = true
-lays_rows (layout.Cards cells) = true
-lays_rows (layout.Stack cells duplex) = true
-lays_rows (layout.Booklet signing long_edge) = true
-lays_rows (layout.Notes pages) = true
-lays_rows (layout.Poster cells) = true
-lays_rows layout.Zine = true
-lays_rows layout.Selection = true
 lays_rows (layout.Spec specs) = false
-lays_rows (layout.SpecRow specs signing) = true
+lays_rows other = true
 
 -- the file of the sheets, if what it holds isn't to be replaced whatever it is
 abbrev pub spared : Product → (replaces : Bool) → (outfile : Option (List ℕ)) → Option (List ℕ)

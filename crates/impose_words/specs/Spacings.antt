@@ -18,16 +18,10 @@ use Rattle.impose_words.specs.declared.request.Spacing.{Spacing}
 
 -- the layout keeps room free if it is asked to
 abbrev pub keeps_room : Layout → Bool
-keeps_room (layout.NUp cells) = true
-keeps_room (layout.Cards cells) = true
-keeps_room (layout.Stack cells duplex) = true
-keeps_room (layout.Booklet signing long_edge) = true
-keeps_room (layout.Notes pages) = true
-keeps_room (layout.Poster cells) = true
-keeps_room layout.Zine = true
 keeps_room layout.Selection = false
 keeps_room (layout.Spec specs) = false
 keeps_room (layout.SpecRow specs signing) = false
+keeps_room other = true
 
 -- nothing is asked for: nothing is kept free, one reads along rows from the left, and pages are as large as they can be
 abbrev pub nothing_kept : Spacing

@@ -1,6 +1,8 @@
 //! Reads the values of arguments that concern cells, the pages in cells, and marks.
-ghost use Rattle.std.specs.Prelude.{◌≡◌, ◌*◌};
+ghost use Rattle.std.specs.Prelude.{◌≡◌, option_map};
 ghost use Rattle.impose_words.specs.Arranging as meaning;
+ghost use Rattle.layouts.specs.Refusals.{is_count as allows_count};
+ghost use Rattle.layouts.specs.declared.arrangement.Cells.TheVariants.{AtLeast};
 
 use crate::request::Turning;
 use crate::sizes::length_with_unit;
@@ -16,21 +18,17 @@ pub fn cells_named(text: &str) -> Option<Cells>
 {
     let (number, rest) = read_digits(text.as_bytes())?;
     match rest {
-        [] => at_least(number),
+        [] => is_count(u64::from(number)).then_some(Cells::AtLeast(number)),
         [b'x', rest @ ..] => with_rows(number, rest),
         _ => None,
     }
 }
 
-/// A grid with at least `count` cells. `None` unless `count` is from 1 to 1,024.
-fn at_least(count: u32) -> Option<Cells>
-    ensures { result ≡ meaning.at_least count }
+/// Whether a sheet may have `count` cells: from 1 to 1,024.
+fn is_count(count: u64) -> bool
+    ensures { result ≡ allows_count count }
 {
-    if 1 <= count && u64::from(count) <= MOST_ON_SHEET {
-        Some(Cells::AtLeast(count))
-    } else {
-        None
-    }
+    1 <= count && count <= MOST_ON_SHEET
 }
 
 /// A grid with this number of columns and the number of rows that the text names. `None` if the text isn't a number of rows, or if the grid has 0 or
@@ -38,21 +36,10 @@ fn at_least(count: u32) -> Option<Cells>
 fn with_rows(columns: u32, text: &[u8]) -> Option<Cells>
     ensures { result ≡ meaning.with_rows columns (meaning.digits_at text.now) }
 {
-    match read_digits(text) {
-        Some((rows, [])) => exactly(columns, rows),
-        _ => None,
-    }
-}
-
-fn exactly(columns: u32, rows: u32) -> Option<Cells>
-    ensures { result ≡ meaning.exactly columns rows }
-{
-    let count = u64::from(columns) * u64::from(rows);
-    if 1 <= count && count <= MOST_ON_SHEET {
-        Some(Cells::Exactly { columns, rows })
-    } else {
-        None
-    }
+    let (rows, []) = read_digits(text)? else {
+        return None;
+    };
+    is_count(u64::from(columns) * u64::from(rows)).then_some(Cells::Exactly { columns, rows })
 }
 
 /// The tiles that the text names for a poster: columns and rows with an `x` between them, or `auto`, which gives `Cells::AtLeast(1)`. `None` for any
@@ -63,10 +50,7 @@ pub fn tiles_named(text: &str) -> Option<Cells>
     if text == "auto" {
         return Some(Cells::AtLeast(1));
     }
-    match cells_named(text) {
-        Some(Cells::AtLeast(_)) => None,
-        cells => cells,
-    }
+    cells_named(text).filter(|cells| matches!(cells, Cells::Exactly { .. }))
 }
 
 /// The number of pages that the text names, as `Cells::AtLeast`, for sheets with a cell for notes beside each page. `None` unless the text is a
@@ -74,20 +58,16 @@ pub fn tiles_named(text: &str) -> Option<Cells>
 pub fn parse_note_count(text: &str) -> Option<Cells>
     ensures { result ≡ meaning.noted_alone (meaning.cells_named text.now) }
 {
-    match cells_named(text) {
-        Some(Cells::AtLeast(pages)) => with_notes(pages),
-        _ => None,
-    }
+    note_count_named(text).map(|pages| Cells::AtLeast(pages))
 }
 
-fn with_notes(pages: u32) -> Option<Cells>
-    ensures { result ≡ meaning.with_notes pages }
+/// The number of pages that the text names, for sheets with a cell for notes beside each page. `None` unless the text is a number from 1 to 512.
+pub(crate) fn note_count_named(text: &str) -> Option<u32>
+    ensures { option_map (λ pages. AtLeast pages) result ≡ meaning.noted_alone (meaning.cells_named text.now) }
 {
-    let cells = 2 * u64::from(pages);
-    if 1 <= cells && cells <= MOST_ON_SHEET {
-        Some(Cells::AtLeast(pages))
-    } else {
-        None
+    match cells_named(text)? {
+        Cells::AtLeast(pages) => is_count(2 * u64::from(pages)).then_some(pages),
+        Cells::Exactly { .. } => None,
     }
 }
 
@@ -163,14 +143,10 @@ pub(crate) fn booklet_marks_named(text: &str) -> Option<Marks>
 pub(crate) fn cut_marks_named(text: &str) -> Option<Marks>
     ensures { result ≡ meaning.cut_marks_named text.now }
 {
-    if text == "cut" {
-        Some(Marks {
-            cut: true,
-            ..NO_MARKS
-        })
-    } else {
-        None
-    }
+    (text == "cut").then_some(Marks {
+        cut: true,
+        ..NO_MARKS
+    })
 }
 
 /// The smallest size of page numbers, in grains: a tenth of a point.
@@ -184,9 +160,6 @@ pub(crate) fn number_size_named(text: &str) -> Option<Grains>
     ensures { result ≡ meaning.number_size_named text.now }
 {
     let size = length_with_unit(text)?;
-    if SMALLEST_NUMBERS <= size.get() && size.get() <= LARGEST_NUMBERS {
-        Some(size)
-    } else {
-        None
-    }
+    let is_allowed = SMALLEST_NUMBERS <= size.get() && size.get() <= LARGEST_NUMBERS;
+    is_allowed.then_some(size)
 }

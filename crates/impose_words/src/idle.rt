@@ -76,10 +76,7 @@ fn is_bound(layout: &Layout) -> bool
 fn has_two_left(layout: &Layout, spacing: &Spacing) -> bool
     ensures { result ≡ meaning.has_two_left layout.now spacing.now }
 {
-    match layout {
-        Layout::NUp(_) => spacing.inner.is_some() && spacing.free.left.get() != 0,
-        _ => false,
-    }
+    matches!(layout, Layout::NUp(_)) && spacing.inner.is_some() && spacing.free.left.get() != 0
 }
 
 /// Whether sheets of this layout can have cut marks, but only outside their cells, because they have one cell, are tiles, or are folded
@@ -88,8 +85,9 @@ fn is_cut_outside(layout: &Layout) -> bool
     ensures { result ≡ meaning.is_cut_outside layout.now }
 {
     match layout {
-        Layout::NUp(cells) | Layout::Cards(cells) => cells.count() == 1,
-        Layout::Stack { cells, .. } => cells.count() == 1,
+        Layout::NUp(cells) | Layout::Cards(cells) | Layout::Stack { cells, .. } => {
+            cells.count() == 1
+        }
         Layout::Booklet { .. } | Layout::Poster(_) => true,
         Layout::Notes { .. } | Layout::Zine | Layout::Selection => false,
         Layout::Spec(_) | Layout::SpecRow { .. } => false,

@@ -1,5 +1,5 @@
 //! Requests, which are read from command lines.
-ghost use Rattle.std.specs.Prelude.{◌≡◌, option_map, string_bytes, true};
+ghost use Rattle.std.specs.Prelude.{◌≡◌, option_map, true};
 ghost use Rattle.rows.specs.Choices.{choice_of};
 ghost use Rattle.impose_words.specs.Arranging.{turn_for};
 ghost use Rattle.impose_words.specs.Choices.{choice_in, is_all_pages};
@@ -60,22 +60,20 @@ impl Layout {
     pub fn keeps_room(&self) -> bool
         ensures { result ≡ keeps_room self.now }
     {
-        match self {
-            Layout::NUp(_) | Layout::Cards(_) | Layout::Stack { .. } | Layout::Booklet { .. } =>
-                true,
-            Layout::Notes { .. } | Layout::Poster(_) | Layout::Zine => true,
-            Layout::Selection | Layout::Spec(_) | Layout::SpecRow { .. } => false,
-        }
+        !matches!(
+            self,
+            Layout::Selection | Layout::Spec(_) | Layout::SpecRow { .. }
+        )
     }
 
     /// Whether page numbers can be drawn on the sheets of this layout.
     pub fn has_numbers(&self) -> bool
         ensures { result ≡ has_numbers self.now }
     {
-        match self {
-            Layout::Zine | Layout::Poster(_) | Layout::Spec(_) | Layout::SpecRow { .. } => false,
-            _ => true,
-        }
+        !matches!(
+            self,
+            Layout::Zine | Layout::Poster(_) | Layout::Spec(_) | Layout::SpecRow { .. }
+        )
     }
 
     /// Whether the layout lays a row of pages on sheets. Every layout but `Spec` does; `Spec` places the pages of the document. Only the sheets of a
@@ -83,10 +81,7 @@ impl Layout {
     pub fn lays_rows(&self) -> bool
         ensures { result ≡ lays_rows self.now }
     {
-        match self {
-            Layout::Spec(_) => false,
-            _ => true,
-        }
+        !matches!(self, Layout::Spec(_))
     }
 }
 
@@ -221,13 +216,13 @@ impl Spacing {
 fn at_fold(inner: Option<Grains>, free: Free) -> Free
     ensures { result ≡ free_at_fold inner free }
 {
-    match inner {
-        None => free,
-        Some(inner) => Free {
+    inner.map_or(
+        free,
+        |inner| Free {
             up: fold_gap(free.up, inner),
             ..free
         },
-    }
+    )
 }
 
 /// The gap plus the margin `inner` on each side of it. If the gap or the margin is out of range, the result is -1 grain, which is also out of range.
@@ -245,10 +240,7 @@ fn fold_gap(gap: Grains, inner: Grains) -> Grains
 fn some_gap(gap: Grains) -> Grains
     ensures { result ≡ some_gap_of gap }
 {
-    if gap.get() == 0 {
-        return grains(1);
-    }
-    gap
+    if gap.get() == 0 { grains(1) } else { gap }
 }
 
 /// The pages to impose, and their order.
@@ -286,19 +278,10 @@ impl PageChoice {
         ensures { choice_of result ≡ choice_in self.now }
     {
         Choice {
-            ranges: ranges_of(&self.ranges),
+            ranges: name_of(&self.ranges).map(|ranges| ranges.as_bytes()),
             part: self.part,
             backwards: self.backwards,
         }
-    }
-}
-
-fn ranges_of(ranges: &Option<String>) -> Option<&[u8]>
-    ensures { option_map (λ r. r.now) result ≡ option_map string_bytes ranges.now }
-{
-    match ranges {
-        Some(ranges) => Some(ranges.as_str().as_bytes()),
-        None => None,
     }
 }
 
@@ -380,10 +363,7 @@ impl ImposeRequest {
     pub fn swaps_margins(&self) -> bool
         ensures { result ≡ swaps_margins self.now.layout self.now.spacing }
     {
-        match &self.layout {
-            Layout::NUp(_) => self.spacing.inner.is_some(),
-            _ => false,
-        }
+        matches!(self.layout, Layout::NUp(_)) && self.spacing.inner.is_some()
     }
 
     /// The name of the output file, if the program has to check the file before it replaces it. `None` if `--replace` is given, if the request writes
@@ -391,13 +371,9 @@ impl ImposeRequest {
     pub fn file_to_spare(&self) -> Option<&str>
         ensures { option_map (λ n. n.now) result ≡ file_to_spare self.now }
     {
-        match &self.product {
-            Product::Sheets => if self.replaces {
-                None
-            } else {
-                name_of(&self.outfile)
-            },
-            Product::Specification | Product::Plan | Product::Picture(_) => None,
+        match self.product {
+            Product::Sheets if !self.replaces => name_of(&self.outfile),
+            _ => None,
         }
     }
 }

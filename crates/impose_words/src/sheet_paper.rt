@@ -11,10 +11,8 @@ impl ImposeRequest {
     pub fn sheet_paper_for(&self, page_paper: &Paper) -> Paper
         ensures { result ≡ meaning.sheet_paper_for self.now.layout self.now.sheet_paper page_paper.now }
     {
-        match self.sheet_paper {
-            Some(sheet_paper) => sheet_paper,
-            None => paper_for_pages(&self.layout, page_paper),
-        }
+        self.sheet_paper
+            .unwrap_or(paper_for_pages(&self.layout, page_paper))
     }
 }
 

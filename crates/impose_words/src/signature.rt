@@ -1,7 +1,7 @@
 //! Signatures, as the option `--signature` names them.
 ghost use Rattle.std.specs.Prelude.{◌≡◌};
 ghost use Rattle.command_words.specs.Matches.{u32_of};
-ghost use Rattle.impose_words.specs.Signatures.{of_sides as signing_of_sides, signing_named as signing_by, whole_number};
+ghost use Rattle.impose_words.specs.Signatures.{signing_named as signing_by, whole_number};
 
 use rows::Signing;
 
@@ -11,26 +11,11 @@ pub fn signing_named(text: &str) -> Option<Signing>
     ensures { result ≡ signing_by text.now }
 {
     if text == "auto" {
-        Some(Signing::Auto)
-    } else {
-        of_sides(whole_number(text))
+        return Some(Signing::Auto);
     }
-}
-
-/// Signatures of this number of sides. `None` unless the number is a multiple of four from 4 to 1,000,000.
-fn of_sides(sides: Option<u32>) -> Option<Signing>
-    ensures { result ≡ signing_of_sides sides }
-{
-    match sides {
-        Some(sides) => {
-            if 4 <= sides && sides <= 1_000_000 && sides % 4 == 0 {
-                Some(Signing::OfSides(sides))
-            } else {
-                None
-            }
-        }
-        None => None,
-    }
+    whole_number(text)
+        .filter(|sides| 4 <= *sides && *sides <= 1_000_000 && *sides % 4 == 0)
+        .map(|sides| Signing::OfSides(sides))
 }
 
 /// The whole number that a text of digits gives. `None` for any other text, such as one with a sign, and for a number above 2^32 - 1.

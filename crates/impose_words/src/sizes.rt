@@ -28,10 +28,7 @@ pub fn parse_number(text: &str) -> Option<Number>
 pub fn lacks_unit(text: &str, is_listed: bool) -> bool
     ensures { result ≡ meaning.lacks_unit is_listed text.now }
 {
-    match parse_number(text) {
-        Some(number) => is_listed || number.billionths() != 0,
-        None => false,
-    }
+    parse_number(text).is_some_and(|number| is_listed || number.billionths() != 0)
 }
 
 /// The length that the text names. Each length in a list needs a unit; a length alone needs one unless it is 0. `None` if the text isn't a length, or
