@@ -1,9 +1,9 @@
 -- The parts of a list of lengths or edges, as a loop meets them.
-use Rattle.std.proofs.Common.{◌≡◌, ◌∙◌, ℕ, ℤ, ◌+◌, ◌<◌, ◌≤◌, append-nil, Bool, List, [], ◌∷◌, ◌++◌, Option, Some, None, ap, arith, drop, get_or, length, refl, subst, sym, take}
+use Rattle.std.proofs.Common.{rules, length-append, ◌≡◌, ◌∙◌, ℕ, ℤ, ◌+◌, ◌<◌, ◌≤◌, append-nil, Bool, List, [], ◌∷◌, ◌++◌, Option, Some, None, ap, arith, drop, get_or, length, refl, subst, sym, take}
 use Rattle.std.specs.Prelude.{option_and_then, option_map}
 use Rattle.std.specs.List.{fold}
 use Rattle.std.proofs.lemmas.List.{append_assoc, at_drop_all, at_drop_more}
-use Rattle.impose_words.specs.Edges.{edge_in, lengths_in, margins_by}
+use Rattle.impose_words.specs.Edges.{edge_in, lengths_in, up_to_four}
 use Rattle.impose_words.specs.Sizes.{length_in}
 use Rattle.impose_words.specs.declared.edges.Edges.{Edges}
 
@@ -45,25 +45,23 @@ reads_none listed front texts n text h is =
     at_drop_more (with_more listed front) texts n text h.0
     ∙ ap (λ l. option_map (λ others. front ++ others) (option_and_then (λ x. option_map (λ xs. x ∷ xs) (lengths_in listed (drop (n + 1) texts))) l)) read
 
-five : (front : List ℤ) (x : ℤ) (rest : List ℤ) → length front ≡ 4 → margins_by (front ++ (x ∷ rest)) ≡ None
-five (a ∷ b ∷ c ∷ d ∷ []) x rest h = refl
-five [] x rest h = absurd (omega arith)
-five (a ∷ []) x rest h = absurd (omega arith)
-five (a ∷ b ∷ []) x rest h = absurd (omega arith)
-five (a ∷ b ∷ c ∷ []) x rest h = absurd (omega arith)
-five (a ∷ b ∷ c ∷ d ∷ e ∷ more) x rest h = absurd (omega arith)
+pub few : (lengths : List ℤ) → length lengths ≤ 4 → up_to_four lengths ≡ Some lengths
+few lengths h = search (rules, h)
+
+many : (lengths : List ℤ) → 4 < length lengths → up_to_four lengths ≡ None
+many lengths h = search (rules, h)
 
 five_or_none : (front : List ℤ) (first : Option ℤ) (others : Option (List ℤ)) → length front ≡ 4
-    → option_and_then margins_by (option_map (λ xs. front ++ xs) (option_and_then (λ x. option_map (λ xs. x ∷ xs) others) first)) ≡ None
+    → option_and_then up_to_four (option_map (λ xs. front ++ xs) (option_and_then (λ x. option_map (λ xs. x ∷ xs) others) first)) ≡ None
 five_or_none front None others h = refl
 five_or_none front (Some first) None h = refl
-five_or_none front (Some first) (Some others) h = five front first others h
+five_or_none front (Some first) (Some others) h = many (front ++ (first ∷ others)) (omega (arith, length-append front (first ∷ others), h))
 
--- more than four lengths mean no margins
+-- more than four lengths are too many
 pub too_many : (listed : Bool) (front : List ℤ) (texts : List (List ℕ)) (n : ℕ) (text : List ℕ) → length front ≡ 4
-    → (n < length texts) × (text ≡ get_or texts n text) → option_and_then margins_by (with_more listed front (drop n texts)) ≡ None
+    → (n < length texts) × (text ≡ get_or texts n text) → option_and_then up_to_four (with_more listed front (drop n texts)) ≡ None
 too_many listed front texts n text four h =
-    at_drop_more (λ xs. option_and_then margins_by (with_more listed front xs)) texts n text h.0
+    at_drop_more (λ xs. option_and_then up_to_four (with_more listed front xs)) texts n text h.0
     ∙ five_or_none front (length_in listed (get_or texts n text)) (lengths_in listed (drop (n + 1) texts)) four
 
 -- no text is left

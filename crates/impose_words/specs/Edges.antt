@@ -1,5 +1,5 @@
 -- What is kept free along the edges of a sheet, and between its cells, as people write it.
-use Rattle.std.specs.Prelude.{ℕ, ℤ, pos, ◌==◌, Bool, false, true, nat_lt, if◌then◌else◌, is_some, List, [], ◌∷◌, length, Option, Some, None}
+use Rattle.std.specs.Prelude.{ℕ, ℤ, pos, ◌==◌, Bool, false, true, nat_le, nat_lt, if◌then◌else◌, is_some, List, [], ◌∷◌, length, Option, Some, None}
 use Rattle.std.specs.Prelude.{codes, option_and_then, option_map, unwrap_or}
 use Rattle.std.specs.List.{after_first, before_first, fold, position_or_len, slice_split}
 use Rattle.std.specs.Str.{bytes_eq}
@@ -28,19 +28,29 @@ is_list text = is_some (cut_at comma text)
 abbrev pub parts_of : List ℕ → List (List ℕ)
 parts_of text = slice_split (λ b. b == comma) text
 
+-- the lengths that texts mean, if all mean one
+abbrev pub lengths_in : (listed : Bool) → List (List ℕ) → Option (List ℤ)
+lengths_in listed [] = Some []
+lengths_in listed (text ∷ rest) =
+    option_and_then (λ first. option_map (λ others. first ∷ others) (lengths_in listed rest)) (length_in listed text)
+
+abbrev pub up_to_four : List ℤ → Option (List ℤ)
+up_to_four lengths = if nat_le (length lengths) 4 then Some lengths else None
+
+-- the lengths of a list of up to four
+abbrev pub lengths_named : List ℕ → Option (List ℤ)
+lengths_named text = option_and_then up_to_four (lengths_in (is_list text) (parts_of text))
+
 -- ---- gaps: one length, or two in a list
 
-abbrev pub gaps_of : (across up : Option ℤ) → Option Free
-gaps_of (Some across) (Some up) = Some (record nothing_free { across = across; up = up })
-gaps_of across up = None
-
-abbrev pub gaps_by : Option (List ℕ × List ℕ) → List ℕ → Option Free
-gaps_by None text = gaps_of (length_in false text) (length_in false text)
-gaps_by (Some (across, up)) text = gaps_of (length_in true across) (length_in true up)
+abbrev pub gaps_by : List ℤ → Option Free
+gaps_by (all ∷ []) = Some (record nothing_free { across = all; up = all })
+gaps_by (across ∷ up ∷ []) = Some (record nothing_free { across = across; up = up })
+gaps_by other = None
 
 -- RULES, 13.1
 abbrev pub gaps_named : List ℕ → Option Free
-gaps_named text = gaps_by (cut_at comma text) text
+gaps_named text = option_and_then gaps_by (lengths_named text)
 
 -- ---- margins: lengths
 
@@ -53,15 +63,6 @@ margins_by (all ∷ []) = Some (margins_of all all all all)
 margins_by (sides ∷ ends ∷ []) = Some (margins_of ends sides ends sides)
 margins_by (top ∷ right ∷ bottom ∷ left ∷ []) = Some (margins_of top right bottom left)
 margins_by other = None
-
--- the lengths that texts mean, if all mean one
-abbrev pub lengths_in : (listed : Bool) → List (List ℕ) → Option (List ℤ)
-lengths_in listed [] = Some []
-lengths_in listed (text ∷ rest) =
-    option_and_then (λ first. option_map (λ others. first ∷ others) (lengths_in listed rest)) (length_in listed text)
-
-abbrev pub lengths_named : List ℕ → Option Free
-lengths_named text = option_and_then margins_by (lengths_in (is_list text) (parts_of text))
 
 -- ---- or edges by their names, each once, of which the others have no margin
 
@@ -117,7 +118,7 @@ margins_in f = record { free = f; inner = None }
 -- RULES, 13.1
 abbrev pub margins_named : List ℕ → Option Margins
 margins_named text = if is_some (cut_at equals text) then option_map along_edges (edges_named text)
-    else option_map margins_in (lengths_named text)
+    else option_map margins_in (option_and_then margins_by (lengths_named text))
 
 -- ---- all that is kept free
 

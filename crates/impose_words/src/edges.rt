@@ -1,5 +1,5 @@
 //! Margins and gaps as people write them.
-ghost use Rattle.std.specs.Prelude.{◌≡◌, ◌<◌, Some, option_map};
+ghost use Rattle.std.specs.Prelude.{◌≡◌, ◌<◌, ◌≤◌, IfSome, Some, option_map, take};
 ghost use Rattle.impose_words.specs.Edges as meaning;
 
 use crate::sizes::length_in;
@@ -71,19 +71,21 @@ impl Margins {
 pub fn gaps_named(text: &str) -> Option<Free>
     ensures { result ≡ meaning.gaps_named text.now }
 {
-    match cut_at(text, ',') {
-        None => gaps_of(length_in(text, false), length_in(text, false)),
-        Some((across, up)) => gaps_of(length_in(across, true), length_in(up, true)),
-    }
+    let (lengths, count) = lengths_named(text)?;
+    gaps_by(&lengths[..count])
 }
 
-/// The two gaps. `None` if one of them isn't a length.
-fn gaps_of(across: Option<Grains>, up: Option<Grains>) -> Option<Free>
-    ensures { result ≡ meaning.gaps_of across up }
+fn gaps_by(lengths: &[Grains]) -> Option<Free>
+    ensures { result ≡ meaning.gaps_by lengths.now }
 {
+    let (across, up) = match lengths {
+        [all] => (*all, *all),
+        [across, up] => (*across, *up),
+        _ => return None,
+    };
     Some(Free {
-        across: across?,
-        up: up?,
+        across,
+        up,
         ..Free::none()
     })
 }
@@ -94,16 +96,16 @@ pub fn margins_named(text: &str) -> Option<Margins>
     ensures { result ≡ meaning.margins_named text.now }
 {
     if cut_at(text, '=').is_some() {
-        let edges = edges_named(text)?;
-        Some(edges.margins())
-    } else {
-        Some(Margins::of(lengths_named(text)?))
+        return edges_named(text).map(|edges| edges.margins());
     }
+    let (lengths, count) = lengths_named(text)?;
+    margins_by(&lengths[..count]).map(|free| Margins::of(free))
 }
 
-/// The margins that a list of one, two or four lengths gives. `None` for another list.
-fn lengths_named(text: &str) -> Option<Free>
-    ensures { result ≡ meaning.lengths_named text.now }
+/// The lengths that a list of up to four names, and their number. `None` for another text.
+fn lengths_named(text: &str) -> Option<([Grains; 4], usize)>
+    ensures count { IfSome result (λ l. l.1 ≤ 4) }
+    ensures lengths { option_map (λ l. take l.1 l.0) result ≡ meaning.lengths_named text.now }
 {
     let is_list = cut_at(text, ',').is_some();
     let mut lengths = [Grains::ZERO; 4];
@@ -115,7 +117,7 @@ fn lengths_named(text: &str) -> Option<Free>
         lengths[count] = length_in(part, is_list)?;
         count += 1;
     }
-    margins_by(&lengths[..count])
+    Some((lengths, count))
 }
 
 fn margins_by(lengths: &[Grains]) -> Option<Free>
@@ -191,10 +193,7 @@ fn with_edge(edges: Edges, name: &str, margin: Grains) -> Option<Edges>
 fn once(before: Option<Grains>, margin: Grains) -> Option<Option<Grains>>
     ensures { result ≡ meaning.once before margin }
 {
-    match before {
-        None => Some(Some(margin)),
-        Some(_) => None,
-    }
+    before.is_none().then_some(Some(margin))
 }
 
 /// The text before the first character `at`, and the text after that character. `None` if the text lacks the character.

@@ -1,14 +1,14 @@
 use Rattle.std.proofs.Common.{◌≡◌, ◌∙◌, ℕ, ◌+◌, ◌<◌, Some, None, ap, arith, drop, get_or, length, length-set, length-take, subst, sym, take}
-use Rattle.std.specs.Prelude.{option_and_then}
+use Rattle.std.specs.Prelude.{option_and_then, option_map}
 use Rattle.std.proofs.lemmas.Iterator.Consumers.{YieldsList-at, YieldsList-end, YieldsList-turn}
 use Rattle.std.proofs.lemmas.Iterator.Splits.{YieldsList-from_str_split}
 use Rattle.std.proofs.lemmas.List.{at_drop_all, length_push, take_more_set}
-use Rattle.impose_words.specs.Edges.{comma, lengths_in, margins_by, parts_of}
-use Rattle.impose_words.proofs.Listed.{all_read, reads_more, reads_none, too_many, with_more}
+use Rattle.impose_words.specs.Edges.{comma, lengths_in, parts_of, up_to_four}
+use Rattle.impose_words.proofs.Listed.{all_read, few, reads_more, reads_none, too_many, with_more}
 use Rattle.impose_words.proofs.edges.lengths_named.Goals as goal
 
-pub returns-then-count-eq4 : goal.returns-then-count-eq4
-returns-then-count-eq4 c =
+pub returns-then-count-eq4-clause-lengths : goal.returns-then-count-eq4-clause-lengths
+returns-then-count-eq4-clause-lengths c =
     let split = c.split-part-items.ensures in
     let parts = YieldsList-at c.into_iter-part-iterator.ensures.into_iter_gives (YieldsList-from_str_split comma c.args.text.now (omega arith) split.text split.has_more split.pattern) in
     let turn = YieldsList-turn parts c.loop-part.yielded _ c.loop-part.yielded_by _ _ c.in-Some.part c.in-Some.is c.next.ensures.steps in
@@ -17,10 +17,10 @@ returns-then-count-eq4 c =
     let listed = c.is_some-is_list.result in
     let full : length (take c.loop-part.count c.loop-part.lengths) ≡ 4 = omega (arith, length-take c.loop-part.count c.loop-part.lengths, k.3, c.if-count-eq4.true) in
     let none = too_many listed (take c.loop-part.count c.loop-part.lengths) (parts_of c.args.text.now) c.loop-part.count c.in-Some.part.now full at in
-    sym (ap (λ b. option_and_then margins_by (lengths_in b (parts_of c.args.text.now))) (sym k.0) ∙ ap (option_and_then margins_by) (sym k.4) ∙ none)
+    sym (ap (λ b. option_and_then up_to_four (lengths_in b (parts_of c.args.text.now))) (sym k.0) ∙ ap (option_and_then up_to_four) (sym k.4) ∙ none)
 
-pub returns-in_err-lengths : goal.returns-in_err-lengths
-returns-in_err-lengths c =
+pub returns-in_err-lengths-clause-lengths : goal.returns-in_err-lengths-clause-lengths
+returns-in_err-lengths-clause-lengths c =
     let split = c.split-part-items.ensures in
     let parts = YieldsList-at c.into_iter-part-iterator.ensures.into_iter_gives (YieldsList-from_str_split comma c.args.text.now (omega arith) split.text split.has_more split.pattern) in
     let turn = YieldsList-turn parts c.loop-part.yielded _ c.loop-part.yielded_by _ _ c.in-Some.part c.in-Some.is c.next.ensures.steps in
@@ -28,8 +28,8 @@ returns-in_err-lengths c =
     let at = subst (λ n. (n < length (parts_of c.args.text.now)) × (c.in-Some.part.now ≡ get_or (parts_of c.args.text.now) n c.in-Some.part.now)) (sym k.1) turn in
     let listed = c.is_some-is_list.result in
     let none = reads_none listed (take c.loop-part.count c.loop-part.lengths) (parts_of c.args.text.now) c.loop-part.count c.in-Some.part.now at (sym c.length_in.ensures ∙ c.in_err-lengths.was) in
-    c.from_residual.ensures
-    ∙ sym (ap (λ b. option_and_then margins_by (lengths_in b (parts_of c.args.text.now))) (sym k.0) ∙ ap (option_and_then margins_by) (sym k.4 ∙ none))
+    ap (option_map (λ l. take l.1 l.0)) c.from_residual.ensures
+    ∙ sym (ap (λ b. option_and_then up_to_four (lengths_in b (parts_of c.args.text.now))) (sym k.0) ∙ ap (option_and_then up_to_four) (sym k.4 ∙ none))
 
 pub loop-part-preserved : goal.loop-part-preserved
 loop-part-preserved c =
@@ -51,8 +51,8 @@ loop-part-preserved c =
       ap (λ xs. with_more listed xs (drop (count + 1) all)) (take_more_set c.loop-part.lengths count c.in_ok-lengths.field-0 within) ∙ sym more ∙ k.4,
     )
 
-pub returns : goal.returns
-returns c =
+pub returns-clause-lengths : goal.returns-clause-lengths
+returns-clause-lengths c =
     let split = c.split-part-items.ensures in
     let parts = YieldsList-at c.into_iter-part-iterator.ensures.into_iter_gives (YieldsList-from_str_split comma c.args.text.now (omega arith) split.text split.has_more split.pattern) in
     let end = YieldsList-end parts c.loop-part.yielded _ c.loop-part.yielded_by _ _ c.in-None.is c.next.ensures.steps in
@@ -60,5 +60,5 @@ returns c =
     let all = parts_of c.args.text.now in
     let listed = c.is_some-is_list.result in
     let read = all_read listed (take c.loop-part.count c.loop-part.lengths) all c.loop-part.count (omega (arith, k.1, end.1)) in
-    c.margins_by.ensures
-    ∙ sym (ap (λ b. option_and_then margins_by (lengths_in b all)) (sym k.0) ∙ ap (option_and_then margins_by) (sym k.4 ∙ read))
+    sym (ap (λ b. option_and_then up_to_four (lengths_in b all)) (sym k.0) ∙ ap (option_and_then up_to_four) (sym k.4 ∙ read)
+    ∙ few _ (omega (arith, length-take c.loop-part.count c.loop-part.lengths, k.2, k.3)))
