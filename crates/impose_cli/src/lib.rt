@@ -23,8 +23,8 @@ pub use impose_messages::{
 };
 pub use impose_words::{
     CellCommand, IdleOption, ImposeRequest, Layout, OptionId, PageChoice, Product, ProductOption,
-    RequestFault, Spacing, cells_named, parse_note_count, parse_number, read_command, run_named,
-    signing_named, size_named, tiles_named, turned_named,
+    RequestFault, Spacing, cells_named, parse_number, read_command, run_named, signing_named,
+    size_named, tiles_named, turned_named,
 };
 pub use look::{Overview, look_text};
 pub use precheck::check_request;

@@ -6,12 +6,12 @@ use Rattle.clap.specs.Words.{Row, Text, found_of, rows_of, subcommand_name_of, s
 use Rattle.clap.specs.declared.parser.matches.ArgMatches.{ArgMatches}
 use Rattle.clap.specs.declared.parser.matches.ArgMatches.TheViews.{out-ArgMatches, out-SubCommand}
 use Rattle.rules.specs.Papers.{Paper}
-use Rattle.impose_words.specs.Faults.{NoValue, ParseRefuses, RefusesCommand, RefusesFound, SaysWrong, Wrong, first, wrong_among, wrong_choice, wrong_marks}
+use Rattle.impose_words.specs.Faults.{ParseRefuses, RefusesCommand, RefusesFound, SaysWrong, Wrong, first, wrong_among, wrong_choice, wrong_marks}
 use Rattle.impose_words.specs.Faults.{wrong_lines, wrong_numbers, wrong_order, wrong_sizes, wrong_skip, wrong_spacing}
 use Rattle.impose_words.specs.Words.{ChoosesBy, Entered, Enters, ReadsRequest, ReadsSizes, SpacesBy, file_asked, given, has_flag, is_outfile}
 use Rattle.impose_words.specs.Arranging.{numbering, marks_and_numbers}
 use Rattle.impose_words.specs.Words.{first_found, has_numbers, lines_found, number_size_found, numbers_found}
-use Rattle.impose_words.specs.Words.{gaps_found, length_found, margins_found, marks_found, order_by, order_found, run_found, scale_found, skip_found, turned_found}
+use Rattle.impose_words.specs.Words.{gaps_found, length_found, margins_found, marks_found, order_by, order_found, run_found, skip_found, turned_found}
 use Rattle.layouts.specs.declared.arrangement.Free.{Free}
 use Rattle.impose_words.specs.Edges.{free_with}
 use Rattle.impose_words.specs.declared.edges.Margins.{Margins}
@@ -90,9 +90,6 @@ refuses_words words name found (fault.TwoProducts one other) e h = (name, found,
 pub past : {X : Type 0} {v : Option X} {x : X} (wrong : Wrong) {rest e : Option Wrong} → v ≡ Some x → rest ≡ e → (if is_some v then rest else Some wrong) ≡ e
 past wrong is h = rw is h
 
-pub stop : {X : Type 0} {v : Option X} (wrong : Wrong) (rest : Option Wrong) → v ≡ None → (if is_some v then rest else Some wrong) ≡ Some wrong
-stop wrong rest is = rw is refl
-
 pub next : {a b e : Option Wrong} → a ≡ None → b ≡ e → first a b ≡ e
 next is h = rw is h
 
@@ -148,11 +145,11 @@ spacing_right true found s k =
 -- the scale alone is wrong
 pub scale_wrong : (keeps : Bool) (found : List Row) (margins : Margins) (gaps : Free) (trim creep overlap : ℤ) (order : Order) → true ≡ keeps
     → margins_found found ≡ Some margins → gaps_found found ≡ Some gaps → length_found opt.Trim found ≡ Some trim
-    → length_found opt.Creep found ≡ Some creep → length_found opt.Overlap found ≡ Some overlap → order_found found ≡ Some order → scale_found found ≡ None
-    → wrong_spacing keeps found ≡ Some (NoValue opt.Scale)
+    → length_found opt.Creep found ≡ Some creep → length_found opt.Overlap found ≡ Some overlap → order_found found ≡ Some order
+    → {wrong : Option Wrong} → wrong_among (opt.Scale ∷ []) found ≡ wrong → wrong_spacing keeps found ≡ wrong
 scale_wrong false found margins gaps trim creep overlap order keeps m g t c o r s = absurd (true≢false keeps)
 scale_wrong true found margins gaps trim creep overlap order keeps m g t c o r s =
-    next (past _ m (past _ g (past _ t (past _ c (past _ o refl))))) (next (order_right found order r) (stop _ _ s))
+    next (past _ m (past _ g (past _ t (past _ c (past _ o refl))))) (next (order_right found order r) s)
 
 pub lines_right : (l : Layout) (found : List Row) (marks : Marks) → lines_found l found ≡ Some marks → wrong_lines l found ≡ None
 lines_right (layout.NUp cells) found marks e = past _ e refl

@@ -1,5 +1,5 @@
 -- The parts of a list of lengths or edges, as a loop meets them.
-use Rattle.std.proofs.Common.{rules, length-append, ◌≡◌, ◌∙◌, ℕ, ℤ, ◌+◌, ◌<◌, ◌≤◌, append-nil, Bool, List, [], ◌∷◌, ◌++◌, Option, Some, None, ap, arith, drop, get_or, length, refl, subst, sym, take}
+use Rattle.std.proofs.Common.{rules, length-append, ◌≡◌, ◌∙◌, ℕ, ℤ, ◌+◌, ◌<◌, ◌≤◌, append-nil, Bool, List, [], ◌∷◌, ◌++◌, Option, Some, None, ap, arith, drop, get_or, length, refl, subst, sym}
 use Rattle.std.specs.Prelude.{option_and_then, option_map}
 use Rattle.std.specs.List.{fold}
 use Rattle.std.proofs.lemmas.List.{append_assoc, at_drop_all, at_drop_more}

@@ -53,14 +53,6 @@ pub fn tiles_named(text: &str) -> Option<Cells>
     cells_named(text).filter(|cells| matches!(cells, Cells::Exactly { .. }))
 }
 
-/// The number of pages that the text names, as `Cells::AtLeast`, for sheets with a cell for notes beside each page. `None` unless the text is a
-/// number from 1 to 512.
-pub fn parse_note_count(text: &str) -> Option<Cells>
-    ensures { result ≡ meaning.noted_alone (meaning.cells_named text.now) }
-{
-    note_count_named(text).map(|pages| Cells::AtLeast(pages))
-}
-
 /// The number of pages that the text names, for sheets with a cell for notes beside each page. `None` unless the text is a number from 1 to 512.
 pub(crate) fn note_count_named(text: &str) -> Option<u32>
     ensures { option_map (λ pages. AtLeast pages) result ≡ meaning.noted_alone (meaning.cells_named text.now) }

@@ -1,15 +1,19 @@
 //! Reads the words of a command line into a request.
-ghost use Rattle.std.specs.Prelude.{◌≡◌, [], ◌∷◌, IfOk, IfErr, None, Option, Some, codes, false, map, option_map, string_bytes, true};
-ghost use Rattle.clap.specs.Words.{Text, fault_of, first_of, found_of, is_simple, rows_of, subcommand_of, subcommand_rows_of};
+ghost use Rattle.std.specs.Prelude.{◌≡◌, [], ◌∷◌, IfOk, IfErr, IfSome, MatchOption, None, Option, Some, codes, false, is_some, map, option_map};
+ghost use Rattle.std.specs.Prelude.{string_bytes, true};
+ghost use Rattle.std.specs.Fn.{FnOnceReturnsAt};
+ghost use Rattle.std.specs.Option.{ok_or};
+ghost use Rattle.clap.specs.Words.{Text, fault_of, found_of, is_simple, rows_of, subcommand_of, subcommand_rows_of};
 ghost use Rattle.lengths.specs.Lengths.{a4};
 ghost use Rattle.impose_words.specs.Command.{impose};
-ghost use Rattle.impose_words.specs.Words.{AsksFor, Entered, ReadsSizes, ReadsRequest, border_found, file_asked, given, is_outfile};
+ghost use Rattle.impose_words.specs.Words.{AsksFor, Entered, ReadsSizes, ReadsRequest, file_asked, given, is_outfile};
 ghost use Rattle.impose_words.specs.Words.{gaps_found, margins_found};
-ghost use Rattle.impose_words.specs.Words.{ChoosesBy, MakesBy, NamesPicture, SpacesBy, length_found, ranges_id, part_by as of_both};
-ghost use Rattle.impose_words.specs.Words.{cells_of_command as cells_of_command, command_name, order_found, run_found, scale_found};
-ghost use Rattle.impose_words.specs.Words.{first_found, has_numbers, lines_found, number_size_found, numbers_found};
-ghost use Rattle.impose_words.specs.Words.{skip_among as skip_found_among, skip_found};
-ghost use Rattle.impose_words.specs.Words.{marks_found, row_asked, row_named, signing_found, size_found, turn_found, turned_found};
+ghost use Rattle.impose_words.specs.Words.{ChoosesBy, MakesBy, NamesPicture, SpacesBy, length_found, ranges_id};
+ghost use Rattle.impose_words.specs.Words.{cells_of_command as cells_by, command_name, order_found, run_found, scale_found};
+ghost use Rattle.impose_words.specs.Words.{border_found, first_found, has_numbers, lines_found, number_size_found, numbers_found};
+ghost use Rattle.impose_words.specs.Words.{signing_found, size_found, turn_found};
+ghost use Rattle.impose_words.specs.Words.{skip_found};
+ghost use Rattle.impose_words.specs.Words.{marks_found, row_asked, row_named, turned_found};
 ghost use Rattle.impose_words.specs.Products.{is_plan, is_specification, lays_rows, picture_in};
 ghost use Rattle.impose_words.specs.Spacings.{keeps_room};
 ghost use Rattle.impose_words.specs.Faults.{NoValue, ParseRefuses, Wrong, RefusesCommand, RefusesFound, SaysWrong, wrong_among, wrong_cells, wrong_choice};
@@ -19,8 +23,8 @@ ghost use Rattle.impose_words.specs.declared.fault.OptionId.TheVariants as opt;
 
 use crate::arguments::command;
 use crate::arranging::{
-    NO_MARKS, booklet_marks_named, cells_named, cut_marks_named, number_size_named,
-    parse_note_count, run_named, tiles_named, turn_named, turned_named,
+    NO_MARKS, booklet_marks_named, cells_named, cut_marks_named, note_count_named,
+    number_size_named, run_named, tiles_named, turn_named, turned_named,
 };
 use crate::edges::{Margins, gaps_named, margins_named};
 use crate::fault::{CellCommand, OptionId, ProductOption, RequestFault};
@@ -31,7 +35,7 @@ use clap::ArgMatches;
 use clap::error::ErrorKind;
 use command_words::{is_set, owned, text_of};
 use dressing::{Marks, Numbering};
-use layouts::{Cells, FillOrder, Free, Order, Turned};
+use layouts::{FillOrder, Free, Order, Turned};
 use lengths::{Grains, Number, Paper, a4};
 use pagespec::Turn;
 use rows::{Part, Signing};
@@ -232,13 +236,26 @@ fn turn_of(found: &ArgMatches<'_>) -> Option<Turning>
 fn bad_value(alloc: Global, found: &ArgMatches<'_>, option: OptionId) -> RequestFault
     ensures { (wrong : Option Wrong) → wrong ≡ Some (NoValue option) → SaysWrong (rows_of (found_of found.now)) result wrong }
 {
-    match text_of(found, option.id()) {
-        None => RequestFault::BadValue(option, String::new(alloc)),
-        Some(text) => match String::from_str(alloc, text) {
-            Ok(text) => RequestFault::BadValue(option, text),
-            Err(_) => RequestFault::NoMemory,
-        },
+    let text = text_of(found, option.id()).unwrap_or("");
+    match String::from_str(alloc, text) {
+        Ok(text) => RequestFault::BadValue(option, text),
+        Err(_) => RequestFault::NoMemory,
     }
+}
+
+/// The value of this option, as `parse` reads its text. `None` without the option. The error is the option, if `parse` finds no value in the text.
+fn value<T, F: FnOnce(&str) -> Option<T>>(
+    found: &ArgMatches<'_>,
+    option: OptionId,
+    parse: F,
+) -> Result<Option<T>, OptionId>
+    requires { F.IsAlwaysCallable parse }
+    ensures { MatchOption (given option (rows_of (found_of found.now))) (result ≡ Ok None)
+        (λ text. (value : _) × FnOnceReturnsAt F.FnOnce parse text value × (result ≡ ok_or (option_map (λ v. Some v) value) option)) }
+{
+    text_of(found, option.id())
+        .map(|text| parse(text).ok_or(option))
+        .transpose()
 }
 
 /// The layout that the subcommand of this name asks for.
@@ -269,35 +286,34 @@ fn cells_layout(
     ensures read { IfOk result (AsksFor (command_name command) (rows_of (found_of found.now))) }
     ensures refused { IfErr result (λ f. SaysWrong (rows_of (found_of found.now)) f (wrong_cells command (rows_of (found_of found.now)))) }
 {
-    let Some(text) = text_of(found, "count") else {
+    let Some(count) = text_of(found, "count") else {
         return Err(RequestFault::Lacking);
     };
-    let Some(cells) = cells_in(command, text) else {
-        return Err(bad_value(alloc, found, OptionId::Count(command)));
-    };
-    Ok(match (command, cells) {
-        (CellCommand::NUp, cells) => Layout::NUp(cells),
-        (CellCommand::Cards, cells) => Layout::Cards(cells),
-        (CellCommand::Stack, cells) => Layout::Stack {
-            cells,
-            duplex: is_set(found, "duplex"),
-        },
-        (CellCommand::Notes, Cells::AtLeast(pages)) => Layout::Notes { pages },
-        (CellCommand::Poster, cells) => Layout::Poster(cells),
-        (CellCommand::Notes, Cells::Exactly { .. }) => unreachable!(),
-    })
+    match layout_in(command, count, found) {
+        Some(layout) => Ok(layout),
+        None => Err(bad_value(alloc, found, OptionId::Count(command))),
+    }
 }
 
-/// The cells that the first argument of this command names. For notes the argument is a number of pages. For a poster it is columns and rows of
-/// sheets, or `auto`. `None` if the command doesn't take the argument.
-fn cells_in(command: CellCommand, text: &str) -> Option<Cells>
-    ensures { result ≡ cells_of_command command text.now }
+/// The layout of this command, with the cells that its first argument `count` names. For notes the argument is a number of pages. For a poster it is
+/// columns and rows of sheets, or `auto`. `None` if the command doesn't take the argument.
+fn layout_in(command: CellCommand, count: &str, found: &ArgMatches<'_>) -> Option<Layout>
+    requires { given (opt.Count command) (rows_of (found_of found.now)) ≡ Some count.now }
+    ensures read { IfSome result (AsksFor (command_name command) (rows_of (found_of found.now))) }
+    ensures taken { is_some result ≡ is_some (cells_by command count.now) }
 {
-    match command {
-        CellCommand::Notes => parse_note_count(text),
-        CellCommand::Poster => tiles_named(text),
-        CellCommand::NUp | CellCommand::Cards | CellCommand::Stack => cells_named(text),
-    }
+    Some(match command {
+        CellCommand::NUp => Layout::NUp(cells_named(count)?),
+        CellCommand::Cards => Layout::Cards(cells_named(count)?),
+        CellCommand::Stack => Layout::Stack {
+            cells: cells_named(count)?,
+            duplex: is_set(found, "duplex"),
+        },
+        CellCommand::Notes => Layout::Notes {
+            pages: note_count_named(count)?,
+        },
+        CellCommand::Poster => Layout::Poster(tiles_named(count)?),
+    })
 }
 
 fn booklet_of(alloc: Global, found: &ArgMatches<'_>) -> Result<Layout, RequestFault>
@@ -377,31 +393,14 @@ fn skipped_of(layout: &Layout, found: &ArgMatches<'_>) -> Result<u32, OptionId>
     ensures read { IfOk result (λ skipped. skip_found layout.now (rows_of (found_of found.now)) ≡ Some skipped) }
     ensures refused { IfErr result (λ option. wrong_skip layout.now (rows_of (found_of found.now)) ≡ Some (NoValue option)) }
 {
-    match layout {
-        Layout::NUp(cells) | Layout::Cards(cells) => {
-            let cells = cells.count();
-            skip_among(found, cells).ok_or(OptionId::Skip(cells))
-        }
-        _ => Ok(0),
-    }
-}
-
-/// The number of cells that are used already on a sheet of `cells` cells; 0 without `--skip`. `None` if the option's value isn't a number below
-/// `cells`.
-fn skip_among(found: &ArgMatches<'_>, cells: u64) -> Option<u32>
-    ensures { result ≡ skip_found_among cells (rows_of (found_of found.now)) }
-{
-    match text_of(found, "skip") {
-        None => Some(0),
-        Some(text) => {
-            let skipped = whole_number(text)?;
-            if u64::from(skipped) < cells {
-                Some(skipped)
-            } else {
-                None
-            }
-        }
-    }
+    let cells = match layout {
+        Layout::NUp(cells) | Layout::Cards(cells) => cells.count(),
+        _ => return Ok(0),
+    };
+    let skipped = value(found, OptionId::Skip(cells), |text| {
+        whole_number(text).filter(|skipped| u64::from(*skipped) < cells)
+    })?;
+    Ok(skipped.unwrap_or(0))
 }
 
 /// The requested margins, gaps, trim, creep and overlap, the order in which cells are filled, and the scale of pages. A layout that takes none of
@@ -434,9 +433,7 @@ fn spacing_of(layout: &Layout, skipped: u32, found: &ArgMatches<'_>) -> Result<S
         return Err(OptionId::Overlap);
     };
     let order = order_of(found)?;
-    let Some(scale) = scale_of(found) else {
-        return Err(OptionId::Scale);
-    };
+    let scale = scale_of(found)?;
     Ok(Spacing {
         free: Free {
             across: gaps.across,
@@ -524,14 +521,12 @@ fn turned_of(found: &ArgMatches<'_>) -> Option<Turned>
     }
 }
 
-/// The requested scale, or `Some(None)` without one. `None` if the option's value isn't a number.
-fn scale_of(found: &ArgMatches<'_>) -> Option<Option<Number>>
-    ensures { result ≡ scale_found (rows_of (found_of found.now)) }
+/// The requested scale. `None` without one. The error is the option, if its value isn't a number.
+fn scale_of(found: &ArgMatches<'_>) -> Result<Option<Number>, OptionId>
+    ensures read { IfOk result (λ scale. scale_found (rows_of (found_of found.now)) ≡ Some scale) }
+    ensures refused { IfErr result (λ option. wrong_among (opt.Scale ∷ []) (rows_of (found_of found.now)) ≡ Some (NoValue option)) }
 {
-    match text_of(found, "scale") {
-        None => Some(None),
-        Some(text) => Some(Some(parse_number(text)?)),
-    }
+    value(found, OptionId::Scale, parse_number)
 }
 
 /// The requested marks and page numbers that the layout can have, and the ruled lines that sheets with cells for notes always have. The error is the
@@ -632,25 +627,17 @@ fn choice_by(alloc: Global, id: &str, found: &ArgMatches<'_>) -> Result<PageChoi
     ensures refused { IfErr result (λ f.
         SaysWrong (rows_of (found_of found.now)) f (wrong_choice (Some id.now) (rows_of (found_of found.now)))) }
 {
-    match part_of(is_set(found, "odd"), is_set(found, "even")) {
-        Some(part) => Ok(PageChoice {
-            ranges: owned(alloc, text_of(found, id))?,
-            part,
-            backwards: is_set(found, "reverse"),
-        }),
-        None => Err(RequestFault::OddAndEven),
-    }
-}
-
-fn part_of(odd: bool, even: bool) -> Option<Part>
-    ensures { result ≡ of_both odd even }
-{
-    match (odd, even) {
-        (false, false) => Some(Part::All),
-        (true, false) => Some(Part::Odd),
-        (false, true) => Some(Part::Even),
-        (true, true) => None,
-    }
+    let part = match (is_set(found, "odd"), is_set(found, "even")) {
+        (false, false) => Part::All,
+        (true, false) => Part::Odd,
+        (false, true) => Part::Even,
+        (true, true) => return Err(RequestFault::OddAndEven),
+    };
+    Ok(PageChoice {
+        ranges: owned(alloc, text_of(found, id))?,
+        part,
+        backwards: is_set(found, "reverse"),
+    })
 }
 
 /// The name of the output file. `None` for standard output. A name other than `-` that begins with a minus sign is refused, because it is most likely
@@ -663,12 +650,10 @@ fn outfile_of(alloc: Global, found: &ArgMatches<'_>) -> Result<Option<String>, R
         SaysWrong (rows_of (found_of found.now)) f (wrong_among (opt.Outfile ∷ []) (rows_of (found_of found.now)))) }
 {
     match file_named(text_of(found, "outfile")) {
-        None => Ok(None),
-        Some(name) => if name.as_bytes().starts_with(b"-") {
+        Some(name) if name.as_bytes().starts_with(b"-") => {
             Err(bad_value(alloc, found, OptionId::Outfile))
-        } else {
-            Ok(Some(String::from_str(alloc, name)?))
-        },
+        }
+        name => Ok(owned(alloc, name)?),
     }
 }
 
@@ -727,12 +712,10 @@ fn picture_of(alloc: Global, name: &str, found: &ArgMatches<'_>) -> Result<Produ
         SaysWrong (rows_of (found_of found.now)) f (wrong_among (opt.Preview ∷ []) (rows_of (found_of found.now)))) }
 {
     match file_named(Some(name)) {
-        None => Ok(Product::Picture(None)),
-        Some(name) => if name.as_bytes().ends_with(b".svg") {
-            Ok(Product::Picture(Some(String::from_str(alloc, name)?)))
-        } else {
+        Some(name) if !name.as_bytes().ends_with(b".svg") => {
             Err(bad_value(alloc, found, OptionId::Preview))
-        },
+        }
+        name => Ok(Product::Picture(owned(alloc, name)?)),
     }
 }
 
@@ -740,8 +723,5 @@ fn picture_of(alloc: Global, name: &str, found: &ArgMatches<'_>) -> Result<Produ
 fn file_named(name: Option<&str>) -> Option<&str>
     ensures { option_map (λ s. s.now) result ≡ file_asked (option_map (λ s. s.now) name.entry) }
 {
-    match name {
-        None => None,
-        Some(name) => { if name == "-" { None } else { Some(name) } }
-    }
+    name.filter(|name| *name != "-")
 }

@@ -13,7 +13,7 @@ mod sheet_paper;
 mod signature;
 mod sizes;
 
-pub use arranging::{cells_named, parse_note_count, run_named, tiles_named, turned_named};
+pub use arranging::{cells_named, run_named, tiles_named, turned_named};
 pub use command::read_command;
 pub use edges::{gaps_named, margins_named};
 pub use fault::{CellCommand, OptionId, ProductOption, RequestFault};

@@ -2,7 +2,7 @@ use Rattle.std.proofs.Common.{◌≡◌, ◌∙◌, ℕ, ◌+◌, ◌<◌, Some,
 use Rattle.std.specs.Prelude.{option_and_then, option_map}
 use Rattle.std.proofs.lemmas.Iterator.Consumers.{YieldsList-at, YieldsList-end, YieldsList-turn}
 use Rattle.std.proofs.lemmas.Iterator.Splits.{YieldsList-from_str_split}
-use Rattle.std.proofs.lemmas.List.{at_drop_all, length_push, take_more_set}
+use Rattle.std.proofs.lemmas.List.{length_push, take_more_set}
 use Rattle.impose_words.specs.Edges.{comma, lengths_in, parts_of, up_to_four}
 use Rattle.impose_words.proofs.Listed.{all_read, few, reads_more, reads_none, too_many, with_more}
 use Rattle.impose_words.proofs.edges.lengths_named.Goals as goal
