@@ -4,8 +4,11 @@
 mod context;
 mod fault;
 mod finished;
+mod input_messages;
 mod inputs;
+mod layout_messages;
 mod messages;
+mod place_messages;
 mod report_text;
 mod reports;
 mod rooms;
