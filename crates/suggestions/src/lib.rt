@@ -11,6 +11,6 @@ mod values;
 mod words;
 
 pub use mistakes::words_text;
-pub use shown::{MOST_SHOWN, joined_texts, shown_in_place, shown_word};
+pub use shown::{MOST_SHOWN, shown_in_place, shown_word};
 pub use values::value_text;
 pub use words::{is_range, looks_like_file};

@@ -1,5 +1,5 @@
 //! Words and names, as messages show them.
-ghost use Rattle.std.specs.Prelude.{◌≡◌, ◌++◌, IfOk, OnOk, flat_map, string_bytes};
+ghost use Rattle.std.specs.Prelude.{◌≡◌, ◌++◌, IfOk, OnOk, string_bytes};
 ghost use Rattle.std.specs.Char.Escape.{escape_unicode};
 ghost use Rattle.suggestions.specs.Shown as meaning;
 
@@ -93,15 +93,4 @@ pub(crate) fn message_on(
 /// Whether a word has at most a hundred bytes and no hidden characters, so that messages show it unchanged.
 pub(crate) fn is_shown_whole(word: &str) -> bool {
     word.len() <= MOST_SHOWN && !word.chars().any(|letter| is_hidden(letter))
-}
-
-/// The texts, joined in order.
-pub fn joined_texts(alloc: Global, texts: &[&str]) -> Result<String, AllocError>
-    ensures { IfOk result (λ joined. string_bytes joined ≡ flat_map (λ text. text.now) texts.now) }
-{
-    let mut joined = String::new(alloc);
-    for text in texts {
-        joined.push_str(*text)?;
-    }
-    Ok(joined)
 }

@@ -4,7 +4,7 @@ ghost use Rattle.suggestions.specs.Shown.{IsMessageOn};
 
 use crate::mistakes::begins_with_digit;
 use crate::nearest::nearest_papers;
-use crate::shown::{joined_texts, message_on, shown_word};
+use crate::shown::{message_on, shown_word};
 use crate::words::{has_file_ending, is_range, looks_like_file};
 use impose_words::{
     CellCommand, OptionId, gaps_named, lacks_unit, length_with_unit, margins_named, parse_number,
