@@ -93,8 +93,8 @@ fn wording_for(alloc: Global, option: OptionId, text: &str) -> Result<Wording, A
 
 /// The wording that an option lacks its value, because the name of a file comes after the option.
 fn no_value_wording(alloc: Global, option: OptionId) -> Result<Wording, AllocError> {
-    let (_, advice) = refusal_of(option);
     let id = option.id();
+    let advice = advice_on(option);
     Ok(Wording {
         before: format!(in alloc; "the value of --{id} is missing before '")?,
         behind: format!(in alloc; "': {advice}")?,
@@ -103,60 +103,56 @@ fn no_value_wording(alloc: Global, option: OptionId) -> Result<Wording, AllocErr
 
 /// The wording that the option doesn't take this text.
 fn refusal(alloc: Global, option: OptionId) -> Result<Wording, AllocError> {
-    let (what, advice) = refusal_of(option);
-    Wording::refusing(alloc, what, option, advice)
+    Wording::refusing(alloc, refused_name(option), option, advice_on(option))
 }
 
-/// What messages call a refused value of this option or argument, and the advice on what to give.
-fn refusal_of(option: OptionId) -> (&'static str, &'static str) {
+/// What messages call a refused value of this option or argument.
+fn refused_name(option: OptionId) -> &'static str {
     match option {
-        OptionId::Paper | OptionId::Sheet => ("unknown paper", "name a paper such as a4"),
-        OptionId::Skip(_) => (
-            "bad number",
-            "give the number of cells that are used already, such as 3",
-        ),
-        OptionId::Border => ("bad length", "give it as 1pt, .5mm or .02in"),
-        OptionId::Margin => (
-            "bad length",
-            "give it as 5mm, SIDES,ENDS, TOP,RIGHT,BOTTOM,LEFT, left=2cm,top=1cm or inner=2cm; units are cm, mm, in and pt",
-        ),
-        OptionId::Gap => (
-            "bad length",
-            "give it as 5mm, or 5mm,1cm; units are cm, mm, in and pt",
-        ),
-        OptionId::Numbers => ("bad length", "give it as 10pt or 4mm, from .1pt to 72pt"),
-        OptionId::Trim => (
-            "bad length",
-            "give one length for all edges, such as 5mm, .2in or 14pt",
-        ),
-        OptionId::Creep | OptionId::Overlap => ("bad length", "give it as 5mm, .2in or 14pt"),
-        OptionId::Signature => (
-            "bad signature",
-            "give a multiple of four, as 16, up to 1000000, or auto",
-        ),
-        OptionId::Order => (
-            "unknown order",
-            "give right-down, down-right, left-down or down-left",
-        ),
-        OptionId::Turn => (
-            "unknown turn",
-            "give left (by 90 degrees), right, half or wide",
-        ),
-        OptionId::Turned => ("unknown side", "give left or right"),
-        OptionId::Scale => ("bad scale", "give a number as 0.7"),
-        OptionId::NumbersFrom => (
-            "bad number",
-            "give a whole one without a sign, and the size too, as --numbers 10pt --numbers-from 3",
-        ),
-        OptionId::Preview => (
-            "bad file",
-            "it is an SVG, so name it as sheets.svg, or - for standard output",
-        ),
-        OptionId::BookletMarks => ("unknown marks", "give fold, cut or fold,cut"),
-        OptionId::CutMarks => ("unknown marks", "give cut"),
-        OptionId::Count(_) | OptionId::Outfile => ("bad value", "see impose --help"),
+        OptionId::Paper | OptionId::Sheet => "unknown paper",
+        OptionId::Border | OptionId::Margin | OptionId::Gap | OptionId::Numbers => "bad length",
+        OptionId::Trim | OptionId::Creep | OptionId::Overlap => "bad length",
+        OptionId::Skip(_) | OptionId::NumbersFrom => "bad number",
+        OptionId::Signature => "bad signature",
+        OptionId::Order => "unknown order",
+        OptionId::Turn => "unknown turn",
+        OptionId::Turned => "unknown side",
+        OptionId::Scale => "bad scale",
+        OptionId::Preview => "bad file",
+        OptionId::BookletMarks | OptionId::CutMarks => "unknown marks",
+        OptionId::Count(_) | OptionId::Outfile => "bad value",
     }
 }
+
+/// The advice on the values of this option or argument.
+fn advice_on(option: OptionId) -> &'static str {
+    match option {
+        OptionId::Paper | OptionId::Sheet => "name a paper such as a4",
+        OptionId::Skip(_) => "give the number of cells that are used already, such as 3",
+        OptionId::Border => "give it as 1pt, .5mm or .02in",
+        OptionId::Margin => MARGIN_ADVICE,
+        OptionId::Gap => "give it as 5mm, or 5mm,1cm; units are cm, mm, in and pt",
+        OptionId::Numbers => "give it as 10pt or 4mm, from .1pt to 72pt",
+        OptionId::Trim => "give one length for all edges, such as 5mm, .2in or 14pt",
+        OptionId::Creep | OptionId::Overlap => "give it as 5mm, .2in or 14pt",
+        OptionId::Signature => "give a multiple of four, as 16, up to 1000000, or auto",
+        OptionId::Order => "give right-down, down-right, left-down or down-left",
+        OptionId::Turn => "give left (by 90 degrees), right, half or wide",
+        OptionId::Turned => "give left or right",
+        OptionId::Scale => "give a number as 0.7",
+        OptionId::NumbersFrom => FIRST_NUMBER_ADVICE,
+        OptionId::Preview => "it is an SVG, so name it as sheets.svg, or - for standard output",
+        OptionId::BookletMarks => "give fold, cut or fold,cut",
+        OptionId::CutMarks => "give cut",
+        OptionId::Count(_) | OptionId::Outfile => "see impose --help",
+    }
+}
+
+const MARGIN_ADVICE: &str =
+    "give it as 5mm, SIDES,ENDS, TOP,RIGHT,BOTTOM,LEFT, left=2cm,top=1cm or inner=2cm; units are cm, mm, in and pt";
+
+const FIRST_NUMBER_ADVICE: &str =
+    "give a whole one without a sign, and the size too, as --numbers 10pt --numbers-from 3";
 
 /// The text, with a point in place of each comma between two digits.
 fn with_points(alloc: Global, text: &str) -> Result<String, AllocError> {
