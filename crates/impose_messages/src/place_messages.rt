@@ -62,10 +62,12 @@ fn no_range_text(context: &Context<'_>, place: usize) -> Result<String, AllocErr
             "page ranges: they come before the file, and 1- are all pages: impose select 1- in.ps out.ps";
         return with_caret(context.alloc, message, ranges, place);
     }
-    let message = format!(in context.alloc;
-        "page ranges: no range at byte {place}; write them as 7, 3-9, 5-, _1 (the last) or blank, with commas \
-        between them"
-    )?;
+    let advice = match ranges {
+        "all" => "all pages are 1-",
+        "odd" | "even" => "every second page of 1- is taken by --odd or --even",
+        _ => "write them as 7, 3-9, 5-, _1 (the last) or blank, with commas between them",
+    };
+    let message = format!(in context.alloc; "page ranges: no range at byte {place}; {advice}")?;
     with_caret(context.alloc, message.as_str(), ranges, place)
 }
 

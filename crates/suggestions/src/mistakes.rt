@@ -166,7 +166,10 @@ fn tip_on_option(command: &str, behind: &[String], word: &str) -> Option<&'stati
     if own.is_some() {
         return own;
     }
-    if word == "-o" || word.starts_with("--out") {
+    if matches!(
+        word,
+        "-o" | "--out" | "--outfile" | "--output" | "--output-file"
+    ) {
         return Some(
             "the sheets go to the second file, without an option: impose nup 2 in.ps out.ps",
         );

@@ -15,11 +15,13 @@ pub(crate) const FOR_COMMANDS: &[Tip] = tips! {
         "pages are turned by --turn, as to the left by: impose select 1- --turn left in.ps out.ps",
     "split" | "cut" =>
         "some of the pages are taken by: impose select 1-3 in.ps out.ps; each page is put over several sheets by: impose poster 2x1 in.ps out.ps",
-    "scale" | "resize" | "psresize" =>
+    "scale" | "resize" | "shrink" | "psresize" =>
         "pages are scaled to another paper by: impose nup 1 --sheet a5 in.ps out.ps",
     "merge" | "join" | "concat" | "cat" =>
         "PDFs are joined by: impose-pdf select 1- one.pdf two.pdf out.pdf; PostScript by: gs -q -sDEVICE=ps2write -o both.ps one.ps two.ps",
     "crop" | "trim" => "the edges of pages are left out by: impose nup 1 --trim 15mm in.ps out.ps",
+    "handout" | "handouts" =>
+        "lines for notes are drawn beside pages by: impose notes 3 in.ps out.ps",
     "label" | "labels" =>
         "labels are columns and rows of pages, as in: impose nup 3x8 --scale 1 --sheet a4 in.ps out.ps",
     "signature" | "signatures" =>
@@ -51,7 +53,7 @@ const OF_OTHERS: &[Tip] = tips! {
     "--no-landscape" | "--portrait" =>
         "a sheet is upright unless its paper is named with -landscape, as in: --sheet a4",
     "--collate" | "--printer" | "--dpi" | "--resolution" | "--quality" | "--gray" | "--grayscale"
-    | "--color" | "--colour" =>
+    | "--color" | "--colour" | "--staple" | "--stapler" =>
         "options of the printer are given to lp, as in: impose booklet in.ps | lp -o sides=two-sided-short-edge",
     "--watermark" | "--stamp" | "--title" | "--header" | "--footer" | "--text" | "--font" =>
         "page numbers are the only text that is drawn, as in: impose nup 2 --numbers 10pt in.ps out.ps",
@@ -66,7 +68,7 @@ const OF_OTHERS: &[Tip] = tips! {
     "--blank" | "--insert" => "a blank page is named among the others, as in: --pages 1,blank,2-",
     "--verbose" | "-v" => "there is no longer report; --plan prints which page is where",
     "--dry-run" => "--plan prints which page is where on each sheet, and imposes nothing",
-    "-n" | "-N" | "--nup" | "--up" | "--per-page" | "--pages-per-sheet" =>
+    "-n" | "-N" | "--nup" | "--up" | "--number-up" | "--per-page" | "--pages-per-sheet" =>
         "the number of pages comes after nup, as in: impose nup 4 in.ps out.ps; --plan prints which page is where",
     "--landscape" | "--orientation" | "-f" =>
         "a sheet on its side is named so, as in: --sheet a4-landscape",
@@ -74,17 +76,19 @@ const OF_OTHERS: &[Tip] = tips! {
         "pages that lie on their sides are laid by: impose nup 2 --turned left in.ps out.ps; a sheet on its side is named so, as in: --sheet a4-landscape",
     "-r" =>
         "pages that lie on their sides are laid by: impose nup 2 --turned right in.ps out.ps; all go backwards by --reverse",
-    "-R" | "--backwards" | "--reverse-order" =>
+    "-R" | "--backwards" | "--reverse-order" | "--outputorder" =>
         "pages go backwards by --reverse, as in: impose select 1- --reverse in.ps out.ps",
     "-e" => "every second page is taken by --even, as in: impose select 1- --even in.ps out.ps",
+    "--odd-pages" | "--even-pages" | "--page-set" =>
+        "every second page is taken by --odd or --even, as in: impose select 1- --odd in.ps out.ps",
     "--version" => "the version is printed without a command: impose --version",
-    "-d" | "--frame" | "--frames" | "--draw" | "--line" =>
+    "-d" | "--frame" | "--frames" | "--draw" | "--line" | "--page-border" =>
         "a line round each page is drawn by --border, as in: impose nup 2 --border 1pt in.ps out.ps",
     "-s" | "--zoom" | "--factor" =>
         "the scale of pages is named by --scale, as in: impose nup 2 --scale 0.7 in.ps out.ps",
     "-c" | "--column" | "--column-major" =>
         "pages go down the columns by: impose nup 4 --order down-right in.ps out.ps",
-    "--rows" | "--columns" | "--cols" | "--grid" =>
+    "--rows" | "--columns" | "--cols" | "--grid" | "--layout" =>
         "columns and rows are written as one word, as in: impose nup 2x3 in.ps out.ps",
     "-m" | "-t" | "-i" | "--margins" =>
         "the edges of sheets are kept free by --margin, as in: impose nup 2 --margin 1cm in.ps out.ps",
@@ -100,9 +104,9 @@ const FURTHER: &[Tip] = tips! {
     "-w" | "-W" | "-H" | "--width" | "--height" =>
         "a size is one word, that of the sheets as in: --sheet 210x297mm, and that of the pages after --paper",
     "-P" | "--size" | "--papersize" | "--paper-size" | "--pagesize" | "--page-size" | "--media"
-    | "--fitpaper" =>
+    | "--format" | "--paper_size" | "--fitpaper" =>
         "the paper of the pages comes after --paper, that of the sheets after --sheet, as in: --sheet a4",
-    "--a4paper" | "--a4" | "--a5paper" | "--letterpaper" | "--letter" =>
+    "-a" | "--a4paper" | "--a4" | "--a5paper" | "--letterpaper" | "--letter" =>
         "the paper of the sheets comes after --sheet, as in: --sheet a4",
     "--offset" | "--shift" | "--move" =>
         "pages are moved by a specification, as in: impose spec '0(5mm,0)' in.ps out.ps",
@@ -114,8 +118,10 @@ const FURTHER: &[Tip] = tips! {
         "marks to cut are drawn by --marks cut, as in: impose cards 8 --gap 4mm --marks cut in.ps out.ps",
     "--fold-marks" | "--foldmarks" | "--fold" =>
         "marks to fold are drawn by: impose booklet --marks fold in.ps out.ps",
-    "--right-to-left" | "--righttoleft" | "--binding" | "--binding-side" | "--binding-edge" =>
+    "--right-to-left" | "--righttoleft" | "--direction" =>
         "pages go from right to left by --rtl, as in: impose booklet --rtl in.ps out.ps",
+    "--binding" | "--binding-side" | "--binding-edge" =>
+        "a booklet is bound at the left without an option, and at the right by: impose booklet --rtl in.ps out.ps",
     "--twoside" | "--twosided" | "--two-sided" | "--double-sided" | "--sides" =>
         "which sides are printed is for the printer to know, as in: impose booklet in.ps | lp -o sides=two-sided-short-edge",
     "--tumble" | "--long" | "--flip-long-edge" =>
@@ -129,13 +135,17 @@ const FURTHER: &[Tip] = tips! {
         "pages are numbered by --numbers, as in: impose nup 2 --numbers 10pt in.ps out.ps",
     "--first" | "--first-page" | "--firstpage" | "--last" | "--last-page" | "--lastpage"
     | "--from" | "--to" | "--start" | "--end" | "--page" | "--range" | "--ranges"
-    | "--page-range" =>
+    | "--page-range" | "--page-ranges" =>
         "pages are named by their numbers, as in: --pages 3-8, and after select without an option",
     "--sheets" | "--pages-per-signature" | "--signature-size" | "--leaves" =>
         "leaves are folded some at a time by a number of sides, as in: impose booklet --signature 16 in.ps out.ps",
     "--booklet" | "--book" | "--brochure" => "booklet is a command: impose booklet in.ps out.ps",
     "--poster" | "--poster-size" | "--tile" | "--tiles" =>
         "poster is a command: impose poster 2x2 in.ps out.ps",
+    "--back-cover" | "--backcover" =>
+        "the last page of a booklet is at its back by: impose booklet --cover in.ps out.ps",
+    "--force" | "--overwrite" =>
+        "an OUTFILE that another program wrote is replaced by --replace, as in: impose nup 2 --replace in.ps out.ps",
     "--openright" | "--open-right" =>
         "a blank before the first page opens at the right: --pages blank,1-",
     "--cover" =>
