@@ -1,8 +1,8 @@
 //! Reads the number of pages that a document declares.
-ghost use Rattle.std.specs.Prelude.{◌≡◌, ◌<◌, ◌≤◌, ◌+◌, codes, drop, length, option_map};
+ghost use Rattle.std.specs.Prelude.{◌≡◌, ◌<◌, ◌≤◌, ◌+◌, drop, length, option_map};
 ghost use Rattle.dsc.specs.Fields.{fields_in};
 ghost use Rattle.rules.specs.Units.{line_len};
-ghost use Rattle.papers.specs.Media.{comment_fields, contents};
+ghost use Rattle.papers.specs.Media.{contents};
 ghost use Rattle.row_runs.specs.DeclaredPages as meaning;
 
 use dsc::{
@@ -37,7 +37,10 @@ fn count_by(field: &[u8], text: &[u8]) -> Option<usize>
 fn pages_field(lines: &[u8]) -> Option<&[u8]>
     ensures { option_map (λ field. field.now) result ≡ meaning.pages_field (contents lines.now) }
 {
-    first_field(pages_value(lines)?)
+    match first_comment(lines, b"%%Pages", b"%%Pages:") {
+        Some((value, _)) => first_field(value),
+        None => None,
+    }
 }
 
 /// The first field after the first `%%Pages:` that is in these lines but not in an embedded document. None if there is no such comment or field.
@@ -97,16 +100,6 @@ fn first_field(value: &[u8]) -> Option<&[u8]>
     Some(field)
 }
 
-/// The rest of the line after the first `%%Pages:` in these lines. None if there is no such comment.
-fn pages_value(lines: &[u8]) -> Option<&[u8]>
-    ensures { option_map (λ value. fields_in value.now) result ≡ comment_fields (codes "%%Pages") (contents lines.now) }
-{
-    match first_comment(lines, b"%%Pages", b"%%Pages:") {
-        Some((value, _)) => Some(value),
-        None => None,
-    }
-}
-
 /// The text after the last `%%Trailer` line, or the whole text if there is no such line. The search begins at the end of the text, where the trailer
 /// of most documents is.
 fn last_lines(text: &[u8]) -> &[u8]
@@ -131,7 +124,7 @@ fn trailer_at(text: &[u8], at: usize) -> bool
     ensures { result ≡ meaning.trailer_at at text.now }
 {
     let (_, line) = text.split_at(at);
-    begins_line(text, at) && is_trailer_line(first_content(line))
+    begins_line(text, at) && key_of(first_content(line)) == b"%%Trailer".as_slice()
 }
 
 /// Whether a line begins at this byte. The byte must not be a line feed.
@@ -154,12 +147,6 @@ fn after_line(text: &[u8], at: usize) -> &[u8]
     let (_, line) = text.split_at(at);
     let (_, others) = line.split_at(line_end_after(line, content_end(line)));
     others
-}
-
-fn is_trailer_line(content: &[u8]) -> bool
-    ensures { result ≡ meaning.is_trailer_line content.now }
-{
-    key_of(content) == b"%%Trailer".as_slice()
 }
 
 /// The value of a field of digits, or `usize::MAX` if the value is greater. It is 0 for an empty field. None if the field has other characters.

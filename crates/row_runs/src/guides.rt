@@ -1,15 +1,15 @@
 //! Guides for a drawing of sheets: lines that show margins, cuts, folds and lines for notes.
 ghost use Rattle.std.specs.Prelude.{◌≡◌, ◌<◌, ◌≤◌, ◌++◌, IfOk, OnOk, map};
 ghost use Rattle.row_runs.specs.Guides.{guides_in, level as level_of, level_line as level_line_of};
-ghost use Rattle.row_runs.specs.Guides.{level_lines, level_margin, lines_between, setting_guides, margin_lines};
-ghost use Rattle.row_runs.specs.Guides.{upright as upright_of, upright_line as upright_line_of, upright_lines, upright_margin};
+ghost use Rattle.row_runs.specs.Guides.{level_lines, setting_guides, margin_lines};
+ghost use Rattle.row_runs.specs.Guides.{upright as upright_of, upright_line as upright_line_of, upright_lines};
 ghost use Rattle.row_runs.specs.Guides.{guides_with, note_guide as note_guide_of, note_guides};
 ghost use Rattle.row_runs.specs.Sheets.{MayBeLaid};
 
 use crate::marked::{ruled_if, tile_room};
 use crate::sheet_request::{Laying, Scheme};
 use dressing::{Marks, Stroke};
-use layouts::{Grid, Room, Setting, from_far, gap_at, in_grains};
+use layouts::{Room, Setting, from_far, gap_at, in_grains};
 use lengths::{Grains, Paper};
 use preview::{Guide, GuideKind};
 use std::alloc::{AllocError, Global};
@@ -91,8 +91,10 @@ fn note_guide(line: &Stroke) -> Guide
 fn push_lines(kind: GuideKind, setting: &Setting, guides: &mut Vec<Guide>) -> Result<(), AllocError>
     ensures { OnOk result (guides.new.items ≡ guides.old.items ++ setting_guides kind setting.now) }
 {
-    push_margin(&setting.room, guides)?;
-    push_lines_between(kind, &setting.room, setting.grid, guides)?;
+    let (room, grid) = (&setting.room, setting.grid);
+    push_margin(room, guides)?;
+    push_upright_lines(kind, room, grid.across(), guides)?;
+    push_level_lines(kind, room, grid.up(), guides)?;
     Ok(())
 }
 
@@ -100,42 +102,13 @@ fn push_lines(kind: GuideKind, setting: &Setting, guides: &mut Vec<Guide>) -> Re
 fn push_margin(room: &Room, guides: &mut Vec<Guide>) -> Result<(), AllocError>
     ensures { OnOk result (guides.new.items ≡ guides.old.items ++ margin_lines room.now) }
 {
-    push_upright_margin(room, guides)?;
-    push_level_margin(room, guides)?;
-    Ok(())
-}
-
-/// Adds the guides of the left and the right margin.
-fn push_upright_margin(room: &Room, guides: &mut Vec<Guide>) -> Result<(), AllocError>
-    ensures { OnOk result (guides.new.items ≡ guides.old.items ++ upright_margin room.now) }
-{
-    let right = from_far(room.paper.width(), in_grains(room.right));
-    guides.push(upright(GuideKind::Margin, &room.paper, in_grains(room.left)))?;
-    guides.push(upright(GuideKind::Margin, &room.paper, right))?;
-    Ok(())
-}
-
-/// Adds the guides of the lower and the upper margin.
-fn push_level_margin(room: &Room, guides: &mut Vec<Guide>) -> Result<(), AllocError>
-    ensures { OnOk result (guides.new.items ≡ guides.old.items ++ level_margin room.now) }
-{
-    let top = from_far(room.paper.height(), in_grains(room.top));
-    guides.push(level(GuideKind::Margin, &room.paper, in_grains(room.bottom)))?;
-    guides.push(level(GuideKind::Margin, &room.paper, top))?;
-    Ok(())
-}
-
-/// Adds the lines between neighbouring cells of a grid.
-fn push_lines_between(
-    kind: GuideKind,
-    room: &Room,
-    grid: Grid,
-    guides: &mut Vec<Guide>,
-) -> Result<(), AllocError>
-    ensures { OnOk result (guides.new.items ≡ guides.old.items ++ lines_between kind room.now grid) }
-{
-    push_upright_lines(kind, room, grid.across(), guides)?;
-    push_level_lines(kind, room, grid.up(), guides)?;
+    let paper = &room.paper;
+    let right = from_far(paper.width(), in_grains(room.right));
+    let top = from_far(paper.height(), in_grains(room.top));
+    guides.push(upright(GuideKind::Margin, paper, in_grains(room.left)))?;
+    guides.push(upright(GuideKind::Margin, paper, right))?;
+    guides.push(level(GuideKind::Margin, paper, in_grains(room.bottom)))?;
+    guides.push(level(GuideKind::Margin, paper, top))?;
     Ok(())
 }
 
