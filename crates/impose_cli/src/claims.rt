@@ -1,7 +1,7 @@
 //! Statements that a document makes about itself.
 ghost use Rattle.std.specs.Prelude.{◌≡◌, ◌∷◌, ◌++◌, [], option_map};
 ghost use Rattle.rules.specs.Bytes.{colon};
-ghost use Rattle.papers.specs.Media.{comment_value, contents, header};
+ghost use Rattle.papers.specs.Media.{comment_value, header};
 ghost use Rattle.impose_messages.specs.Said.{shown_name};
 ghost use Rattle.impose_cli.specs.Claims as meaning;
 
@@ -19,7 +19,7 @@ pub(crate) fn claims_of(request: &ImposeRequest, input: &[u8]) -> Claims
     ensures { meaning.IsToldBy request.now input.now result }
 {
     let pages = declared_page_count(input);
-    let unknown = shown(unknown_paper(request, input));
+    let unknown = unknown_paper(request, input);
     let creator = creator_of(input);
     Claims {
         pages,
@@ -28,24 +28,17 @@ pub(crate) fn claims_of(request: &ImposeRequest, input: &[u8]) -> Claims
     }
 }
 
-/// The name, as messages show it, if there is a name.
-fn shown(name: Option<&[u8]>) -> Option<ShownName>
-    ensures { result ≡ option_map shown_name (option_map (λ n. n.now) name.entry) }
-{
-    match name {
-        Some(name) => Some(ShownName::of(name)),
-        None => None,
-    }
-}
-
-/// The name of the document's paper, if no paper of this name is known and the command line names no paper for the pages.
-fn unknown_paper<'t>(request: &ImposeRequest, input: &'t [u8]) -> Option<&'t [u8]>
-    ensures { option_map (λ name. name.now) result
-        ≡ meaning.unknown_paper request.now.page_paper request.now.default_paper input.now }
+/// The name of the document's paper, as messages show it, if no paper of this name is known and the command line names no paper for the pages.
+fn unknown_paper(request: &ImposeRequest, input: &[u8]) -> Option<ShownName>
+    ensures { result
+        ≡ option_map shown_name (meaning.unknown_paper request.now.page_paper request.now.default_paper input.now) }
 {
     match request.page_paper {
         Some(_) => None,
-        None => unknown_name(&request.default_paper, input),
+        None => match unknown_name(&request.default_paper, input) {
+            Some(name) => Some(ShownName::of(name)),
+            None => None,
+        },
     }
 }
 
@@ -109,15 +102,7 @@ fn header_value<'t>(input: &'t [u8], key: &[u8], with_colon: &[u8]) -> Option<&'
     ensures { option_map (λ value. value.now) result ≡ comment_value key.now (header input.now) }
 {
     let (header, _) = input.split_at(header_len(input));
-    value_in(header, key, with_colon)
-}
-
-/// The value of the first comment with this key in these lines. `None` if there is no such comment.
-fn value_in<'t>(lines: &'t [u8], key: &[u8], with_colon: &[u8]) -> Option<&'t [u8]>
-    requires { with_colon.now ≡ key.now ++ colon ∷ [] }
-    ensures { option_map (λ value. value.now) result ≡ comment_value key.now (contents lines.now) }
-{
-    match first_comment(lines, key, with_colon) {
+    match first_comment(header, key, with_colon) {
         Some((value, _)) => Some(value),
         None => None,
     }

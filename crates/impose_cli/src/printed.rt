@@ -1,7 +1,7 @@
 //! Prints the specification of a task, and a command line of pstops that places pages by this specification.
 ghost use Rattle.std.specs.Prelude.{◌≡◌, ◌++◌, IfOk, OnOk};
 ghost use Rattle.impose_cli.specs.Printed.{call_text, printed_command, comments_text, is_border_trimmed};
-ghost use Rattle.impose_cli.specs.Printed.{options_text, printed_text, quoted_spec};
+ghost use Rattle.impose_cli.specs.Printed.{printed_text, quoted_spec};
 
 use crate::task::Task;
 use command_words::{
@@ -51,7 +51,12 @@ fn append_call(
 {
     out.extend_from_slice(b"pstops")?;
     append_if(request.is_quiet, b" -q", out)?;
-    append_options(options, out)
+    append_sides(options.sides, out)?;
+    out.extend_from_slice(b" -w ")?;
+    append_length(options.paper.width(), out)?;
+    out.extend_from_slice(b" -h ")?;
+    append_length(options.paper.height(), out)?;
+    append_border_option(options.border, out)
 }
 
 fn append_comments(
@@ -85,15 +90,4 @@ fn append_spec(spec: &str, out: &mut Vec<u8>) -> Result<(), AllocError>
 {
     append_if(begins_with_minus(spec), b"1:", out)?;
     out.extend_from_slice(spec.as_bytes())
-}
-
-fn append_options(options: &Options, out: &mut Vec<u8>) -> Result<(), AllocError>
-    ensures { OnOk result (out.new.items ≡ out.old.items ++ options_text options.now) }
-{
-    append_sides(options.sides, out)?;
-    out.extend_from_slice(b" -w ")?;
-    append_length(options.paper.width(), out)?;
-    out.extend_from_slice(b" -h ")?;
-    append_length(options.paper.height(), out)?;
-    append_border_option(options.border, out)
 }

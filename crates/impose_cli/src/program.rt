@@ -8,7 +8,6 @@ ghost use Rattle.impose_cli.specs.Looks.{MayBeMade};
 ghost use Rattle.impose_cli.specs.Programs.{CarriesOut, EndsProgram, FindsHome, HasGiven, IsCreatedFor, IsDrawnOver, IsReadOf, IsReading};
 ghost use Rattle.impose_cli.specs.Programs.{IsUnread, MakesProduct, Prints, ShowsSheets, Writes, status_of};
 ghost use Rattle.impose_cli.specs.RowTasks.{LaysRows};
-ghost use Rattle.impose_messages.specs.declared.fault.ImposeFault.TheVariants as faults;
 
 use crate::attempt::{Attempt, refused_before};
 use crate::fronts::{finds_foreign, front_of};
@@ -24,7 +23,6 @@ use impose_words::{ImposeRequest, Product, read_command};
 use lengths::Paper;
 use papers::default_paper;
 use std::alloc::Global;
-use std::io;
 use std::io::ErrorKind;
 use std::sync::Wait;
 use std::thread::Threads;
@@ -308,7 +306,13 @@ fn create_with_text<W: World>(
 {
     let mut output = match world.create(name) {
         Ok(output) => output,
-        Err(refused) => return refused_before(failed_at(0, Some(refused.cause)), refused.world),
+        Err(refused) => {
+            let fault = ImposeFault::Write {
+                written: 0,
+                cause: Some(refused.cause),
+            };
+            return refused_before(fault, refused.world);
+        }
     };
     match write_all(&mut output, text) {
         Ok(()) => Attempt {
@@ -316,21 +320,14 @@ fn create_with_text<W: World>(
             rest: Rest::Output(output),
         },
         Err(broken) => {
-            let fault = failed_at(broken.written, output.cause());
+            let fault = ImposeFault::Write {
+                written: broken.written as u64,
+                cause: output.cause(),
+            };
             Attempt {
                 outcome: Err(fault),
                 rest: Rest::Output(output),
             }
         }
-    }
-}
-
-/// The fault of a write that failed after `written` bytes.
-fn failed_at(written: usize, cause: Option<io::Error>) -> ImposeFault
-    ensures { result ≡ faults.Write written cause }
-{
-    ImposeFault::Write {
-        written: written as u64,
-        cause,
     }
 }

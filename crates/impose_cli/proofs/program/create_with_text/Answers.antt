@@ -1,6 +1,6 @@
-use Rattle.std.proofs.Common.{◌∙◌, ap, option_map, refl, subst, sym}
+use Rattle.std.proofs.Common.{ap, option_map, refl}
 use Rattle.impose_messages.specs.declared.fault.ImposeFault.TheVariants as fault
-use Rattle.impose_cli.specs.Endings.{edge_of_world, IsUncreatedFault, shown}
+use Rattle.impose_cli.specs.Endings.{edge_of_world, shown}
 use Rattle.impose_cli.proofs.Programs.{uncreated, wrote_part, wrote_text}
 use Rattle.impose_cli.proofs.program.create_with_text.Goals as goal
 
@@ -14,12 +14,11 @@ returns-in-Err-write_all g c =
     let broken = c.in-Err-write_all in
     wrote_part (option_map (λ n. n.now) c.args.name) c.args.text.now c.args.done (edge_of_world (g.W.World.tells c.args.world) g.W.World.seen g.W.Output.Output.seen) c.args.world
     c.write_all.new.output _ _ broken.broken.written _ _ c.in-Ok.ensures.created broken.ensures.within broken.ensures.part broken.ensures.failed refl
-    (c.failed_at-fault.ensures ∙ ap (fault.Write broken.broken.written) c.cause.ensures) refl
+    (ap (fault.Write broken.broken.written) c.cause.ensures) refl
 
 pub returns-in-Err : goal.returns-in-Err
 returns-in-Err g c =
     let e = edge_of_world (g.W.World.tells c.args.world) g.W.World.seen g.W.Output.Output.seen in
-    let name = option_map (λ n. n.now) c.args.name in
-    uncreated name c.args.text.now c.args.done e _ c.refused_before.result.outcome c.args.world
+    uncreated (option_map (λ n. n.now) c.args.name) c.args.text.now c.args.done e _ c.refused_before.result.outcome c.args.world
     c.refused_before.result.rest (shown g.W.Output.Output.seen c.refused_before.result.rest) c.refused_before.ensures.outcome
-    (subst (λ f. IsUncreatedFault e name (g.W.World.seen c.args.world) f c.refused_before.result.rest) (sym c.failed_at.ensures) (refl, (c.in-Err.refused.world, c.refused_before.ensures.rest, c.in-Err.ensures.refused)))
+    (refl, (c.in-Err.refused.world, c.refused_before.ensures.rest, c.in-Err.ensures.refused))
