@@ -33,7 +33,7 @@ spec_again : (r : ImposeRequest) (input old text : List ℕ) (done : Finished) (
     → length (output (frame_used r done) None h.spec h.units) ≤ most_input_bytes
     → IsDocumentAgain (frame_used r done) (sheets_named h) h.units (output (frame_used r done) None h.spec h.units)
 spec_again r input old text done h l =
-    let taken = taken_text r.is_guarded (sheet_paper_for r.layout r.sheet_paper done.page_paper) input in
+    let taken = taken_text r.is_guarded (sheet_paper_for r.layout r.sheet_paper done.findings.page_paper) input in
     let i = imposed_again most_slots (frame_used r done) None h.spec taken h.units (sheets_named h) h.taken tt (record { text = h.text; taken = h.takes }) h.plan l in
     record {
       accepted = i.0;
@@ -61,7 +61,7 @@ row_again : (r : ImposeRequest) (input old text : List ℕ) (done : Finished) (h
     → length (output_on h.job h.imposes.made) ≤ most_input_bytes → 0 < length h.imposes.made
     → IsMadeDocument (border_on h.job) (dress_on h) h.imposes.made h.job.document.now (output_on h.job h.imposes.made)
 row_again r input old text done h l some =
-    let taken = text_for r h.job.papers.now done.page_paper input in
+    let taken = text_for r h.job.papers.now done.findings.page_paper input in
     let made = h.imposes.made in
     let us = h.job.document.now in
     let i = made_is_document (border_on h.job) (dress_on h) made taken us (drawn_is_tame (drawn_of h.job) (telling made) (telling_is_tame made)) h.is_job.document some (few_sheets _ made h.imposes.planned.planned) l in

@@ -34,11 +34,10 @@ use Rattle.imposer.specs.declared.outcome.Report.{Report}
 use Rattle.imposer.specs.declared.outcome.RunError.{RunError}
 use Rattle.imposer.specs.declared.outcome.RunError.TheVariants as run
 use Rattle.impose_cli.specs.RowRuns.{ReportsOn}
-use Rattle.impose_cli.specs.Abouts.{finished_by, reported_by}
-use Rattle.impose_cli.specs.Endings.{AfterWrite, BreaksOff, Comes, Edge, HasFirst, Holds, IsNotCreated, IsSaidOf, WritesJob, shown}
+use Rattle.impose_cli.specs.Endings.{BreaksOff, Comes, Edge, HasFirst, Holds, IsNotCreated, IsSaidOf, WritesJob, reported_by, shown}
 use Rattle.world.specs.declared.rest.Rest.{Rest}
 use Rattle.world.specs.declared.rest.Rest.TheVariants.{Output, World}
-use Rattle.impose_cli.specs.declared.runs.About.{About}
+use Rattle.impose_messages.specs.declared.finished.Findings.{Findings}
 use Rattle.impose_messages.specs.declared.fault.ImposeFault.{ImposeFault}
 use Rattle.impose_messages.specs.declared.fault.ImposeFault.TheVariants as fault
 use Rattle.impose_messages.specs.declared.finished.Done.{Done}
@@ -63,14 +62,14 @@ comes_as R R' W W' name tells (Err f) world rest written refused wrote h = elim 
 ]
 
 -- and of what is reported
-pub comes_reported : {V O : Type 0} (R R' : ImposeFault → Type 0) (W : (old new : Option (List ℕ)) → Report → Type 0) (W' : (old new : Option (List ℕ)) → Done → Type 0) (about : About) (name : Option (List ℕ)) (tells : Edge V O)
+pub comes_reported : {V O : Type 0} (R R' : ImposeFault → Type 0) (W : (old new : Option (List ℕ)) → Report → Type 0) (W' : (old new : Option (List ℕ)) → Done → Type 0) (findings : Findings) (name : Option (List ℕ)) (tells : Edge V O)
     (outcome : Result Report ImposeFault) (world : V) (rest : Rest V O) (written : Option (List ℕ))
-    → ((f : ImposeFault) → R f → R' f) → ((old new : Option (List ℕ)) (report : Report) → W old new report → W' old new (done.Imposed (finished_by about report)))
-    → Comes R W name tells outcome world rest written → Comes R' W' name tells (reported_by about outcome) world rest written
-comes_reported R R' W W' about name tells (Ok report) world rest written refused wrote h = (wrote _ _ report h.0, h.1)
-comes_reported R R' W W' about name tells (Err f) world rest written refused wrote h = elim h [
+    → ((f : ImposeFault) → R f → R' f) → ((old new : Option (List ℕ)) (report : Report) → W old new report → W' old new (done.Imposed (record { report = report; findings = findings })))
+    → Comes R W name tells outcome world rest written → Comes R' W' name tells (reported_by findings outcome) world rest written
+comes_reported R R' W W' findings name tells (Ok report) world rest written refused wrote h = (wrote _ _ report h.0, h.1)
+comes_reported R R' W W' findings name tells (Err f) world rest written refused wrote h = elim h [
   | inl stopped ↦ inl (refused f stopped.0, stopped.1)
-  | inr some ↦ inr (some.0, done.Imposed (finished_by about some.1), wrote _ _ some.1 some.2, some.3)
+  | inr some ↦ inr (some.0, done.Imposed (record { report = some.1; findings = findings }), wrote _ _ some.1 some.2, some.3)
 ]
 
 -- ---- made sheets

@@ -1,5 +1,5 @@
 -- What comes of a task by a specification.
-use Rattle.std.proofs.Common.{◌≡◌, ◌∙◌, ℕ, ap, arith, sym, subst, refl, inl, inr, List, Option, None, Result, Ok, Err}
+use Rattle.std.proofs.Common.{◌≡◌, ◌∙◌, ℕ, ap, ap₂, arith, sym, subst, refl, inl, inr, List, Option, None, Result, Ok, Err}
 use Rattle.std.specs.Prelude.{length, option_map, string_bytes}
 use Rattle.std.specs.Io.KnownBytes.{Appends}
 use Rattle.rules.specs.Papers.{Paper}
@@ -7,7 +7,7 @@ use Rattle.rules.specs.Admissible.{Takes, most_slots}
 use Rattle.rules.specs.Parts.{pages}
 use Rattle.rules.specs.Run.{document_of, plan_in}
 use Rattle.rules.specs.Signatures.{sheets_in}
-use Rattle.rules.specs.Output.{framed, output}
+use Rattle.rules.specs.Output.{Frame, framed, output}
 use Rattle.rules.specs.Specification.{Spec}
 use Rattle.rules.specs.Parts.{NestedUnit}
 use Rattle.rules.specs.Sheets.{Plan}
@@ -26,15 +26,12 @@ use Rattle.imposer.specs.declared.outcome.RunError.{RunError}
 use Rattle.impose_messages.specs.declared.fault.ImposeFault.{ImposeFault}
 use Rattle.impose_messages.specs.declared.fault.ImposeFault.TheVariants as fault
 use Rattle.impose_messages.specs.declared.finished.Done.{Done}
-use Rattle.impose_cli.specs.Abouts.{reported_by}
-use Rattle.impose_cli.specs.Endings.{Edge, Comes, IsImposed, RefusesImposing, RefusesSpecRun, RefusesTaskRun, RunsRequest, WritesJob, WritesTask}
+use Rattle.impose_cli.specs.Endings.{Edge, Comes, IsImposed, RefusesImposing, RefusesSpecRun, RefusesTaskRun, RunsRequest, WritesJob, WritesTask, reported_by}
 use Rattle.impose_cli.specs.Refusals.{RefusesTask}
-use Rattle.impose_cli.specs.declared.runs.About.{About}
 use Rattle.impose_cli.proofs.Coming.{comes_as, comes_refused, comes_reported}
 use Rattle.imposer.specs.declared.outcome.Report.{Report}
-use Rattle.impose_cli.specs.Claims.{IsToldBy}
-use Rattle.impose_messages.specs.declared.finished.Claims.{Claims}
-use Rattle.impose_cli.specs.Tasks.{FinishesSpec, ComesToSpec, IsSpecLayout, IsTask, run_asked}
+use Rattle.impose_words.specs.SheetPapers.{sheet_paper_for}
+use Rattle.impose_cli.specs.Tasks.{FinishesSpec, ComesToSpec, IsSpecLayout, IsTask, run_asked, taken_text}
 use Rattle.world.specs.declared.rest.Rest.{Rest}
 use Rattle.world.specs.declared.rest.Rest.TheVariants.{World}
 use Rattle.impose_words.specs.declared.request.Spacing.{Spacing}
@@ -49,19 +46,20 @@ placed_as_named : (l : Layout) (s : Spacing) (named : List ℕ) (page_paper shee
 placed_as_named (layout.Spec specs) s named page_paper sheet_paper pages text sides is h = (h.0 ∙ sym is, h.1)
 placed_as_named other s named page_paper sheet_paper pages text sides is h = absurd is
 
-pub finishes : (r : ImposeRequest) (input : List ℕ) (task : Task) (told : Claims) (old new : Option (List ℕ)) (report : Report) → ((text : List ℕ) × IsSpecLayout r.layout text) → IsTask r input task → IsToldBy r input told
+pub finishes : (r : ImposeRequest) (input : List ℕ) (task : Task) (old new : Option (List ℕ)) (report : Report) → ((text : List ℕ) × IsSpecLayout r.layout text) → IsTask r input task
     → Accepted (run_asked task) (λ spec us. Appends old new (output (frame_of task.options) task.options.sides spec us) × Reports (frame_of task.options) task.options.sides spec us report)
-    → FinishesSpec r input old new (record { report = report; page_paper = task.options.paper; origin = task.origin; cut = None; reach = task.counted.reach; behind = task.counted.behind; taken = task.counted.taken; told = told })
-finishes r input task told old new report named is tells h =
+    → FinishesSpec r input old new (record { report = report; findings = task.findings })
+finishes r input task old new report named is h =
     let spec = h.0 in
     let units = h.1 in
     let accepted = h.2 in
     let p = placed_as_named r.layout r.spacing named.0 _ _ _ _ _ named.1 is.placed in
     let n = length (pages units) in
+    let frame : frame_of task.options ≡ framed task.findings.page_paper r.border = ap₂ framed is.page_paper is.border in
     record {
       page_count = is.page_count;
       document = is.document;
-      page_paper = is.page_paper;
+      findings = is.findings;
       text = named.0;
       is_text = named.1;
       said = is.said;
@@ -69,17 +67,13 @@ finishes r input task told old new report named is tells h =
       spec = spec;
       takes = subst (λ t. Takes most_slots t spec) p.0 accepted.takes;
       units = units;
-      taken = ap document_of (sym is.text) ∙ accepted.document;
-      cut = refl;
-      reach = is.reach;
-      behind = is.behind;
-      pages_taken = is.taken;
-      told = tells;
+      taken = subst (λ (paper : Paper). document_of (taken_text r.is_guarded (sheet_paper_for r.layout r.sheet_paper paper) input) ≡ Ok units) is.page_paper
+          (ap document_of (sym is.text) ∙ accepted.document);
       plan = subst (λ s. plan_in s spec n ≡ Ok (sheets_in s spec n)) p.1 accepted.plan;
-      written = subst (λ s. Appends old new (output (framed task.options.paper r.border) s spec units)) p.1
-          (subst (λ b. Appends old new (output (framed task.options.paper b) task.options.sides spec units)) is.border h.3.0);
-      report = subst (λ s. Reports (framed task.options.paper r.border) s spec units report) p.1
-          (subst (λ b. Reports (framed task.options.paper b) task.options.sides spec units report) is.border h.3.1);
+      written = subst (λ s. Appends old new (output (framed task.findings.page_paper r.border) s spec units)) p.1
+          (subst (λ (f : Frame). Appends old new (output f task.options.sides spec units)) frame h.3.0);
+      report = subst (λ s. Reports (framed task.findings.page_paper r.border) s spec units report) p.1
+          (subst (λ (f : Frame). Reports f task.options.sides spec units report) frame h.3.1);
     }
 
 -- ---- what comes of a request
@@ -95,18 +89,15 @@ pub spec_stops : {V O : Type 0} (r : ImposeRequest) (input : List ℕ) (tells : 
 spec_stops r input tells f outcome world rest written named is none why =
     comes_refused (RefusesImposing r.layout r input) (IsImposed r input) _ tells f outcome world rest written is none (by_spec r.layout named.0 r input f named.1 (inl why))
 
-abbrev pub about_spec : Task → (told : Claims) → About
-about_spec t told = record { page_paper = t.options.paper; origin = t.origin; cut = None; reach = t.counted.reach; behind = t.counted.behind; taken = t.counted.taken; told = told }
-
 -- what comes of its run comes of the request
-pub spec_runs : {V O : Type 0} (r : ImposeRequest) (input : List ℕ) (t : Task) (told : Claims) (tells : Edge V O) (outcome : Result Done ImposeFault) (left : Result Report ImposeFault) (world : V) (rest : Rest V O) (name written : Option (List ℕ))
-    → ((text : List ℕ) × IsSpecLayout r.layout text) → IsTask r input t → IsToldBy r input told → outcome ≡ reported_by (about_spec t told) left → name ≡ option_map string_bytes r.outfile
+pub spec_runs : {V O : Type 0} (r : ImposeRequest) (input : List ℕ) (t : Task) (tells : Edge V O) (outcome : Result Done ImposeFault) (left : Result Report ImposeFault) (world : V) (rest : Rest V O) (name written : Option (List ℕ))
+    → ((text : List ℕ) × IsSpecLayout r.layout text) → IsTask r input t → outcome ≡ reported_by t.findings left → name ≡ option_map string_bytes r.outfile
     → Comes (RefusesTaskRun t) (WritesTask t) name tells left world rest written → RunsRequest r input tells outcome world rest written
-spec_runs r input t told tells outcome left world rest name written text is tells_it reports named h =
+spec_runs r input t tells outcome left world rest name written text is reports named h =
     subst (λ o. RunsRequest r input tells o world rest written) (sym reports)
-    (comes_reported (RefusesTaskRun t) (RefusesImposing r.layout r input) (WritesTask t) (IsImposed r input) (about_spec t told) (option_map string_bytes r.outfile) tells left world rest written
+    (comes_reported (RefusesTaskRun t) (RefusesImposing r.layout r input) (WritesTask t) (IsImposed r input) t.findings (option_map string_bytes r.outfile) tells left world rest written
     (λ f why. by_spec r.layout text.0 r input f text.1 (inr (record { task = t; is_task = is; refused = why })))
-    (λ old new report done. inl (finishes r input t told old new report text is tells_it done))
+    (λ old new report done. inl (finishes r input t old new report text is done))
     (subst (λ n. Comes (RefusesTaskRun t) (WritesTask t) n tells left world rest written) named h))
 
 -- a task of a request that names a specification has no signatures, and so many workers

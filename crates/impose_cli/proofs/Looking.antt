@@ -7,15 +7,14 @@ use Rattle.impose_messages.specs.declared.fault.ImposeFault.{ImposeFault}
 use Rattle.impose_cli.specs.declared.look.Overview.{Overview}
 use Rattle.impose_words.specs.declared.request.ImposeRequest.{ImposeRequest}
 use Rattle.impose_cli.specs.declared.row_task.RowTask.{RowTask}
-use Rattle.impose_cli.proofs.Rows.{is_row_job}
+use Rattle.impose_cli.proofs.Rows.{is_row_job, row_paper_of}
 
 pub tells_row : (r : ImposeRequest) (input : List ℕ) (t : RowTask) (look : Overview) (text : List ℕ) → IsRowTask r input t → TellsTask r t look text → TellsRow r input look text
 tells_row r input t look text is h = record {
-  page_paper = (t.page_paper, t.origin);
-  found = is.page_paper;
-  cut = t.cut;
+  page_paper = (t.findings.page_paper, t.findings.origin);
+  found = row_paper_of r input t.findings is.findings;
   job = h.0;
-  papers = subst (λ ps. ArePapersOf r input ps t.cut) (sym h.1.papers) is.papers;
+  papers = subst (ArePapersOf r input) (sym h.1.papers) is.papers;
   is_job = is_row_job r input t h.0 is h.1;
   told = h.2;
 }

@@ -7,7 +7,6 @@ use Rattle.rules.specs.Parts.{NestedUnit}
 use Rattle.rules.specs.Run.{DocumentFault, document_of}
 use Rattle.impose_messages.specs.Faults.{without_memory}
 use Rattle.layouts.specs.Grids.{is_same}
-use Rattle.papers.specs.declared.cuts.Cut.{Cut}
 use Rattle.std.specs.Prelude.{Option, Result}
 use Rattle.impose_messages.specs.declared.fault.ImposeFault.{ImposeFault}
 use Rattle.impose_messages.specs.declared.fault.ImposeFault.TheVariants as fault
@@ -22,16 +21,16 @@ same_units : (us vs : List NestedUnit) → ◌≡◌ {A = Result (List NestedUni
 same_units us vs e = cc
 
 -- what was found of papers tells it
-pub tells_one : (r : ImposeRequest) (input : List ℕ) (found : Paper × PaperOrigin) (papers : List Paper) (cut : Option Cut) (paper : Paper) (is : Bool)
-    → IsRowPaper r input found → ArePapersOf r input papers cut → is ≡ (is_same found.0 paper && list_all (is_same paper) papers)
+pub tells_one : (r : ImposeRequest) (input : List ℕ) (found : Paper × PaperOrigin) (papers : List Paper) (paper : Paper) (is : Bool)
+    → IsRowPaper r input found → ArePapersOf r input papers → is ≡ (is_same found.0 paper && list_all (is_same paper) papers)
     → TellsOnePaper r input paper is
-tells_one r input found papers cut paper is row own e =
-    let units : own.units ≡ row.0 = same_units own.units row.0 (sym own.document ∙ row.1) in (
+tells_one r input found papers paper is row own e =
+    let units : own.0 ≡ row.0 = same_units own.0 row.0 (sym own.1 ∙ row.1) in (
       row.0,
       row.1,
       e
           ∙ ap (λ (f : Paper × PaperOrigin). is_same f.0 paper && list_all (is_same paper) papers) row.2
-          ∙ ap (λ ps. is_same (row_paper r input row.0).0 paper && list_all (is_same paper) ps) (own.own ∙ ap (papers_in r input) units),
+          ∙ ap (λ ps. is_same (row_paper r input row.0).0 paper && list_all (is_same paper) ps) (own.2 ∙ ap (papers_in r input) units),
     )
 
 -- ---- why there is no task

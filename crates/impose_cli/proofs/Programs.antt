@@ -16,7 +16,6 @@ use Rattle.rules.specs.Papers.{Paper}
 use Rattle.impose_words.specs.Words.{Entered, MakesBy, ReadsRequest}
 use Rattle.impose_cli.specs.Printed.{printed_text}
 use Rattle.impose_cli.specs.Refusals.{HasNoFault}
-use Rattle.impose_cli.specs.Precheck.{MayBeRead, RefusesRequest}
 use Rattle.impose_cli.specs.Tasks.{IsTask}
 use Rattle.world.specs.declared.rest.Rest.{Rest}
 use Rattle.world.specs.declared.rest.Rest.TheVariants.{Output, World}

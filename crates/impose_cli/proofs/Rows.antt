@@ -15,12 +15,9 @@ use Rattle.rows.specs.Sewing.{MayBeSewn}
 use Rattle.imposer.specs.declared.outcome.Report.{Report}
 use Rattle.row_runs.specs.declared.run.RowJob.{RowJob}
 use Rattle.impose_cli.specs.RowRuns.{Imposes}
-use Rattle.impose_cli.specs.Abouts.{reported_by}
-use Rattle.impose_cli.specs.Endings.{Edge, Comes, IsImposed, RefusesImposing, RefusesRowRun, RefusesRowJob, RefusesRowTaskRun, RunsRequest}
-use Rattle.impose_cli.specs.declared.runs.About.{About}
+use Rattle.impose_cli.specs.Endings.{Edge, Comes, IsImposed, RefusesImposing, RefusesRowRun, RefusesRowJob, RefusesRowTaskRun, RunsRequest, reported_by}
 use Rattle.impose_cli.proofs.Coming.{comes_as, comes_refused, comes_reported}
 use Rattle.papers.specs.AsOne.{kinds, most_kinds, kind_paper}
-use Rattle.papers.specs.declared.cuts.Cut.{Cut}
 use Rattle.pagespec.specs.declared.item.Turn.{Turn}
 use Rattle.pagespec.specs.declared.item.Turn.TheVariants as by
 use Rattle.impose_words.specs.declared.request.Turning.TheVariants as turning
@@ -31,13 +28,12 @@ use Rattle.dsc.specs.Serving.{ArePartsOf, Serve}
 use Rattle.dsc.specs.declared.parts.Parts.{Parts}
 use Rattle.impose_messages.specs.declared.finished.PaperOrigin.{PaperOrigin}
 use Rattle.impose_cli.specs.Claims.{IsToldBy}
-use Rattle.impose_messages.specs.declared.finished.Claims.{Claims}
-use Rattle.impose_cli.specs.Tasks.{HasBehind, HasPageCount, page_paper_found}
+use Rattle.impose_messages.specs.declared.finished.Findings.{Findings}
+use Rattle.impose_cli.specs.Tasks.{FindsBySpec, HasPageCount, page_paper_found}
 use Rattle.impose_cli.specs.Refusals.{HasGoodName, RefusesDocument, RefusesFor, RefusesNamed, RefusesOptions, RefusesRowLayout, RefusesRowTask}
-use Rattle.impose_cli.specs.Reaches.{HasReachOver, reach_in, reach_over}
-use Rattle.papers.specs.declared.reach.Reach.{Reach}
-use Rattle.impose_cli.specs.RowTasks.{ArePapersOf, cut_in, papers_in, papers_to_place, row_paper, text_for, why_no_row, FinishesRow, ImposesTask, IsJobOf, IsRowJob, IsRowPaper, IsRowTask, LaysRows, HasReach, HasTurns, IsLaidBy, IsLaidSo, IsLayingOf, LaysSo, TakesNamed, cells_paper, counted_among, counted_in, has_cuts_apart, paper_turned, turns_in, laying_in, own_in, paper_for, row_papers, sheet_paper_in}
-use Rattle.impose_cli.specs.Taken.{HasTaken, row_in, taken_below, taken_in}
+use Rattle.impose_cli.specs.Reaches.{reach_in, reach_over}
+use Rattle.impose_cli.specs.RowTasks.{ArePapersOf, FindsForRow, cut_in, papers_in, papers_to_place, row_paper, text_for, why_no_row, FinishesRow, ImposesTask, IsJobOf, IsRowJob, IsRowPaper, IsRowTask, LaysRows, HasTurns, IsLaidBy, IsLaidSo, IsLayingOf, LaysSo, TakesNamed, cells_paper, counted_among, counted_in, has_cuts_apart, paper_turned, turns_in, laying_in, own_in, paper_for, row_papers, sheet_paper_in}
+use Rattle.impose_cli.specs.Taken.{row_in, taken_below, taken_in}
 use Rattle.row_runs.specs.declared.sheet_request.Laying.{Laying}
 use Rattle.row_runs.specs.declared.sheet_request.Laying.TheVariants as laying
 use Rattle.impose_words.specs.declared.request.Spacing.{Spacing}
@@ -80,9 +76,9 @@ lays_by l s page sheet (row.Plain plain) (laying.AsTheyAre blank) is so = is ∙
 lays_by l s page sheet (row.Plain plain) (laying.InCells t way) is so = is ∙ ap Some (sym so)
 lays_by l s page sheet (row.Plain plain) (laying.Poster p) is so = is ∙ ap Some (sym so)
 
-pub is_row_job : (r : ImposeRequest) (input : List ℕ) (t : RowTask) (job : RowJob) → IsRowTask r input t → IsJobOf r t job → IsRowJob r input t.page_paper job
+pub is_row_job : (r : ImposeRequest) (input : List ℕ) (t : RowTask) (job : RowJob) → IsRowTask r input t → IsJobOf r t job → IsRowJob r input t.findings.page_paper job
 is_row_job r input t job is of = record {
-  document = ap (λ ps. document_of (text_for r ps t.page_paper input)) of.papers ∙ ap document_of (sym is.text) ∙ of.document;
+  document = ap (λ ps. document_of (text_for r ps t.findings.page_paper input)) of.papers ∙ ap document_of (sym is.text) ∙ of.document;
   turns = subst (HasTurns r input) (sym of.turns) is.turns;
   choice = of.choice;
   signing = of.signing ∙ is.signing;
@@ -102,10 +98,9 @@ is_row_job r input t job is of = record {
 whole : (input : List ℕ) (us : List NestedUnit) → document_of input ≡ Ok us → bytes_of us ≡ input
 whole input us e = let read = accepted_cut input us e in ap bytes_of (sym read.1) ∙ sym (text_whole input read.0)
 
-pub are_papers : (r : ImposeRequest) (input : List ℕ) (us : List NestedUnit) (papers : List Paper) (cut : Option Cut) → document_of input ≡ Ok us
-    → papers ≡ papers_in r (bytes_of us) us → cut ≡ cut_in r (bytes_of us) us → ArePapersOf r input papers cut
-are_papers r input us papers cut read own cuts = let same = whole input us read in
-    record { units = us; document = read; own = own ∙ ap (λ t. papers_in r t us) same; cut_pages = cuts ∙ ap (λ t. cut_in r t us) same }
+pub are_papers : (r : ImposeRequest) (input : List ℕ) (us : List NestedUnit) (papers : List Paper) → document_of input ≡ Ok us → papers ≡ papers_in r (bytes_of us) us
+    → ArePapersOf r input papers
+are_papers r input us papers read own = (us, read, own ∙ ap (λ t. papers_in r t us) (whole input us read))
 
 -- papers of pages that aren't turned stay as they are
 pub unturned_papers : (papers : List Paper) → map (paper_turned (turning.All by.None)) papers ≡ papers
@@ -129,20 +124,40 @@ is_counted r us row own taken found one own_is row_is taken_is found_is one_is =
     let first = found_is ∙ ap (paper_for r.layout (page_paper_found r.page_paper r.default_paper (bytes_of us))) papers in
     one_is ∙ ap₂ (λ (t : List Paper) (f : Paper × PaperOrigin). counted_among r.layout t f.0) papers first
 
-pub is_row_paper : (r : ImposeRequest) (input : List ℕ) (us : List NestedUnit) (found : Paper × PaperOrigin) → document_of input ≡ Ok us
-    → found ≡ row_paper r (bytes_of us) us → IsRowPaper r input found
-is_row_paper r input us found read e = (us, read, e ∙ ap (λ t. row_paper r t us) (whole input us read))
+-- the paper for which they are made is that of the request's row
+pub row_paper_of : (r : ImposeRequest) (input : List ℕ) (f : Findings) → FindsForRow r input f → IsRowPaper r input (f.page_paper, f.origin)
+row_paper_of r input f is = (is.units, is.document, is.page_paper)
 
 pub has_turns : (r : ImposeRequest) (input : List ℕ) (us : List NestedUnit) (turns : List Turn) → document_of input ≡ Ok us → turns ≡ turns_in r (bytes_of us) us → HasTurns r input turns
 has_turns r input us turns read e = (us, read, e ∙ ap (λ t. turns_in r t us) (whole input us read))
 
-pub has_reach : (r : ImposeRequest) (input : List ℕ) (us : List NestedUnit) (reach : Option Reach) → document_of input ≡ Ok us
-    → reach ≡ reach_in (has_cuts_apart r.layout) r (counted_in r (bytes_of us) us) (bytes_of us) us → HasReach r input reach
-has_reach r input us reach read e = (us, read, e ∙ ap (λ t. reach_in (has_cuts_apart r.layout) r (counted_in r t us) t us) (whole input us read))
+pub finds_for_row : (r : ImposeRequest) (input : List ℕ) (us : List NestedUnit) (f : Findings) → document_of input ≡ Ok us → (f.page_paper, f.origin) ≡ row_paper r (bytes_of us) us → f.cut ≡ cut_in r (bytes_of us) us
+    → f.reach ≡ reach_in (has_cuts_apart r.layout) r (counted_in r (bytes_of us) us) (bytes_of us) us → f.behind ≡ pages_behind us → f.taken ≡ taken_in r us → IsToldBy r (bytes_of us) f.told
+    → FindsForRow r input f
+finds_for_row r input us f read paper cut reach behind taken told = let same = whole input us read in
+    record {
+      units = us;
+      document = read;
+      page_paper = paper ∙ ap (λ t. row_paper r t us) same;
+      cut = cut ∙ ap (λ t. cut_in r t us) same;
+      reach = reach ∙ ap (λ t. reach_in (has_cuts_apart r.layout) r (counted_in r t us) t us) same;
+      behind = behind;
+      taken = taken;
+      told = subst (λ t. IsToldBy r t f.told) same told;
+    }
 
-pub has_reach_over : (r : ImposeRequest) (input : List ℕ) (us : List NestedUnit) (paper : Paper) (reach : Option Reach) → document_of input ≡ Ok us
-    → reach ≡ reach_over r paper (bytes_of us) us → HasReachOver r input paper reach
-has_reach_over r input us paper reach read e = (us, read, e ∙ ap (λ t. reach_over r paper t us) (whole input us read))
+pub finds_by_spec : (r : ImposeRequest) (input : List ℕ) (us : List NestedUnit) (f : Findings) → document_of input ≡ Ok us → (f.page_paper, f.origin) ≡ page_paper_found r.page_paper r.default_paper input → f.cut ≡ None
+    → f.reach ≡ reach_over r f.page_paper (bytes_of us) us → f.behind ≡ pages_behind us → f.taken ≡ taken_in r us → IsToldBy r input f.told → FindsBySpec r input f
+finds_by_spec r input us f read paper cut reach behind taken told = record {
+  units = us;
+  document = read;
+  page_paper = paper;
+  cut = cut;
+  reach = reach ∙ ap (λ t. reach_over r f.page_paper t us) (whole input us read);
+  behind = behind;
+  taken = taken;
+  told = told;
+}
 
 -- a document's own parts serve for it, and are those of its text
 pub are_parts : (input : List ℕ) (us : List NestedUnit) (p : Parts) → document_of input ≡ Ok us → ArePartsOf (bytes_of us) p → ArePartsOf input p
@@ -150,12 +165,6 @@ are_parts input us p read are = subst (λ text. ArePartsOf text p) (whole input 
 
 pub serve_itself : (text : List ℕ) (p : Parts) → ArePartsOf text p → Serve p text
 serve_itself text p are = record { of = text; are = are; longer = omega arith; accepted = λ few. are.parts.accepted; same = λ few. refl }
-
-pub has_behind : (input : List ℕ) (us : List NestedUnit) (n : ℕ) → document_of input ≡ Ok us → n ≡ pages_behind us → HasBehind input n
-has_behind input us n read e = (us, read, e)
-
-pub has_taken : (r : ImposeRequest) (input : List ℕ) (us : List NestedUnit) (n : ℕ) → document_of input ≡ Ok us → n ≡ taken_in r us → HasTaken r input n
-has_taken r input us n read e = (us, read, e)
 
 -- what is counted of the row of a choice is counted of the request's
 pub counts_taken : (r : ImposeRequest) (us : List NestedUnit) (row : Row) (m n : ℕ) → m ≡ length (pages us) → row ≡ row_in r us → n ≡ taken_below row m → n ≡ taken_in r us
@@ -214,16 +223,12 @@ refused_found r input f h = elim h [
   | inr spent ↦ let us = spent.1.0 in refused_after r input (row_paper r input us) f (us, spent.1.1, refl) (inl (inl spent.2))
 ]
 
-pub finishes_row : (r : ImposeRequest) (input : List ℕ) (t : RowTask) (told : Claims) (old new : Option (List ℕ)) (report : Report) → IsRowTask r input t → IsToldBy r input told → ImposesTask r t old new report
-    → FinishesRow r input old new (record { report = report; page_paper = t.page_paper; origin = t.origin; cut = t.cut; reach = t.reach; behind = t.behind; taken = t.taken; told = told })
-finishes_row r input t told old new report is tells h = record {
-  page_paper = is.page_paper;
-  behind = is.behind;
-  taken = is.taken;
-  told = tells;
+pub finishes_row : (r : ImposeRequest) (input : List ℕ) (t : RowTask) (old new : Option (List ℕ)) (report : Report) → IsRowTask r input t → ImposesTask r t old new report
+    → FinishesRow r input old new (record { report = report; findings = t.findings })
+finishes_row r input t old new report is h = record {
+  findings = is.findings;
   job = h.0;
-  papers = subst (λ ps. ArePapersOf r input ps t.cut) (sym h.1.papers) is.papers;
-  reach = is.reach;
+  papers = subst (ArePapersOf r input) (sym h.1.papers) is.papers;
   is_job = is_row_job r input t h.0 is h.1;
   imposes = h.2;
 }
@@ -239,19 +244,15 @@ pub row_stops : {V O : Type 0} (r : ImposeRequest) (input : List ℕ) (tells : E
 row_stops r input tells f outcome world rest written rows is none why =
     comes_refused (RefusesImposing r.layout r input) (IsImposed r input) _ tells f outcome world rest written is none (on_row r.layout r input f rows (inl why))
 
--- what is reported of a task with a row
-abbrev pub about_row : RowTask → (told : Claims) → About
-about_row t told = record { page_paper = t.page_paper; origin = t.origin; cut = t.cut; reach = t.reach; behind = t.behind; taken = t.taken; told = told }
-
 -- what comes of its run comes of the request
-pub row_runs : {V O : Type 0} (r : ImposeRequest) (input : List ℕ) (t : RowTask) (told : Claims) (tells : Edge V O) (outcome : Result Done ImposeFault) (left : Result Report ImposeFault) (world : V) (rest : Rest V O) (written : Option (List ℕ))
-    → LaysRows r.layout → IsRowTask r input t → IsToldBy r input told → outcome ≡ reported_by (about_row t told) left
+pub row_runs : {V O : Type 0} (r : ImposeRequest) (input : List ℕ) (t : RowTask) (tells : Edge V O) (outcome : Result Done ImposeFault) (left : Result Report ImposeFault) (world : V) (rest : Rest V O) (written : Option (List ℕ))
+    → LaysRows r.layout → IsRowTask r input t → outcome ≡ reported_by t.findings left
     → Comes (RefusesRowTaskRun r t) (ImposesTask r t) (option_map string_bytes r.outfile) tells left world rest written → RunsRequest r input tells outcome world rest written
-row_runs r input t told tells outcome left world rest written rows is tells_it reports h =
+row_runs r input t tells outcome left world rest written rows is reports h =
     subst (λ o. RunsRequest r input tells o world rest written) (sym reports)
-    (comes_reported (RefusesRowTaskRun r t) (RefusesImposing r.layout r input) (ImposesTask r t) (IsImposed r input) (about_row t told) (option_map string_bytes r.outfile) tells left world rest written
+    (comes_reported (RefusesRowTaskRun r t) (RefusesImposing r.layout r input) (ImposesTask r t) (IsImposed r input) t.findings (option_map string_bytes r.outfile) tells left world rest written
     (λ f why. on_row r.layout r input f rows (inr (record { task = t; is_task = is; refused = why })))
-    (λ old new report done. inr (finishes_row r input t told old new report is tells_it done)) h)
+    (λ old new report done. inr (finishes_row r input t old new report is done)) h)
 
 -- what comes of its job comes of a task
 pub task_comes : {V O : Type 0} (r : ImposeRequest) (t : RowTask) (job : RowJob) (name other : Option (List ℕ)) (tells : Edge V O) (outcome : Result Report ImposeFault) (world : V) (rest : Rest V O) (written : Option (List ℕ))

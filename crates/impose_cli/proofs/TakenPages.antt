@@ -4,9 +4,8 @@ use Rattle.std.specs.Prelude.{Option, None, Some, option_and_then, slice_get, ge
 use Rattle.std.proofs.lemmas.List.{take_more, length-take-le}
 use Rattle.rules.specs.Papers.{Paper}
 use Rattle.rules.specs.Rows.{Row}
-use Rattle.impose_cli.specs.Reaches.{is_entry_of, takes}
 use Rattle.impose_cli.specs.RowTasks.{or_without, row_papers, taken_from}
-use Rattle.impose_cli.specs.Taken.{taken_below}
+use Rattle.impose_cli.specs.Taken.{is_entry_of, taken_below, takes}
 
 swapped : (a b c : Bool) → (a || (b || c)) ≡ (b || (a || c))
 swapped true true c = refl

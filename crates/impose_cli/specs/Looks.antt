@@ -1,7 +1,6 @@
 -- What is reported of a request in place of carrying it out: the plan of its sheets, or their picture.
-use Rattle.std.specs.Prelude.{⊤, ℕ, List, Option}
+use Rattle.std.specs.Prelude.{⊤, ℕ, List}
 use Rattle.rules.specs.Papers.{Paper}
-use Rattle.papers.specs.declared.cuts.Cut.{Cut}
 use Rattle.row_runs.specs.Looks.{TellsPicture, TellsPlan}
 use Rattle.row_runs.specs.declared.run.RowJob.{RowJob}
 use Rattle.impose_cli.specs.RowTasks.{ArePapersOf, IsJobOf, IsRowJob, IsRowPaper, LaysRows}
@@ -37,8 +36,7 @@ TellsTask r t look text = (job : RowJob) × IsJobOf r t job × TellsSheets look 
 pub record TellsRow (r : ImposeRequest) (input : List ℕ) (look : Overview) (text : List ℕ) : Type 0 where
   pub page_paper : Paper × PaperOrigin
   pub found : IsRowPaper r input page_paper
-  pub cut : Option Cut
   pub job : RowJob
-  pub papers : ArePapersOf r input job.papers.now cut
+  pub papers : ArePapersOf r input job.papers.now
   pub is_job : IsRowJob r input page_paper.0 job
   pub told : TellsSheets look job text

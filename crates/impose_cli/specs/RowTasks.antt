@@ -43,8 +43,8 @@ use Rattle.row_sheets.specs.declared.poster.Poster.{Poster}
 use Rattle.impose_words.specs.Spacings.{arrangement_in, binding_in, swaps_margins, notes_in, zine_in}
 use Rattle.impose_words.specs.declared.request.Spacing.{Spacing}
 use Rattle.impose_cli.specs.Claims.{IsToldBy}
-use Rattle.impose_cli.specs.Reaches.{reach_in, takes}
-use Rattle.impose_cli.specs.Taken.{HasTaken, row_in}
+use Rattle.impose_cli.specs.Reaches.{reach_in}
+use Rattle.impose_cli.specs.Taken.{row_in, taken_in, takes}
 use Rattle.pagespec.specs.Items.{turn_of}
 use Rattle.pagespec.specs.declared.item.Turn.{Turn}
 use Rattle.pagespec.specs.declared.item.Turn.TheVariants as by
@@ -52,14 +52,15 @@ use Rattle.impose_words.specs.Arranging.{turn_for}
 use Rattle.impose_words.specs.declared.request.Turning.{Turning}
 use Rattle.impose_words.specs.declared.request.Turning.TheVariants as turning
 use Rattle.row_runs.specs.Turning.{turned_paper}
-use Rattle.papers.specs.declared.reach.Reach.{Reach}
-use Rattle.impose_cli.specs.Tasks.{HasBehind, page_paper_found, taken_text}
+use Rattle.impose_cli.specs.Tasks.{page_paper_found, taken_text}
+use Rattle.dsc.specs.PagesBehind.{pages_behind}
 use Rattle.impose_words.specs.SheetPapers.{sheet_paper_for}
 use Rattle.impose_messages.specs.declared.fault.ImposeFault.{ImposeFault}
 use Rattle.impose_messages.specs.declared.fault.ImposeFault.TheVariants as fault
 use Rattle.impose_words.specs.declared.request.Layout.{Layout}
 use Rattle.impose_words.specs.declared.request.Layout.TheVariants as layout
 use Rattle.impose_words.specs.declared.request.ImposeRequest.{ImposeRequest}
+use Rattle.impose_messages.specs.declared.finished.Findings.{Findings}
 use Rattle.impose_messages.specs.declared.finished.Finished.{Finished}
 use Rattle.impose_messages.specs.declared.finished.PaperOrigin.{PaperOrigin}
 use Rattle.impose_messages.specs.declared.finished.PaperOrigin.TheVariants.{FirstPage}
@@ -304,12 +305,6 @@ abbrev pub has_cuts_apart : Layout → Bool
 has_cuts_apart (layout.SpecRow specs signing) = false
 has_cuts_apart other = true
 
--- the document is accepted, and these of its pages reach beyond their papers
-abbrev pub HasReach : ImposeRequest → (input : List ℕ) → Option Reach → Type 0
-HasReach r input reach =
-    (us : List NestedUnit) × (document_of input ≡ Ok us)
-    × (reach ≡ reach_in (has_cuts_apart r.layout) r (counted_in r input us) input us)
-
 -- a specification is made for the layout
 abbrev pub has_specification : Layout → Bool
 has_specification (layout.NUp cells) = true
@@ -343,12 +338,20 @@ cut_by_named (Some named) row input us = cut_on row named (papers_of_each_page N
 abbrev pub cut_in : ImposeRequest → (input : List ℕ) → List NestedUnit → Option Cut
 cut_in r input us = cut_by_named (if has_cuts_apart r.layout then r.page_paper else None) (row_in r us) input us
 
--- the document is accepted, and its pages have these papers, of which the named one cuts these
-pub record ArePapersOf (r : ImposeRequest) (input : List ℕ) (papers : List Paper) (cut : Option Cut) : Type 0 where
+-- the document is accepted, and its pages have these papers
+abbrev pub ArePapersOf : ImposeRequest → (input : List ℕ) → (papers : List Paper) → Type 0
+ArePapersOf r input papers = (us : List NestedUnit) × (document_of input ≡ Ok us) × (papers ≡ papers_in r input us)
+
+-- what a request that lays rows finds in a document that is accepted
+pub record FindsForRow (r : ImposeRequest) (input : List ℕ) (f : Findings) : Type 0 where
   pub units : List NestedUnit
   pub document : document_of input ≡ Ok units
-  pub own : papers ≡ papers_in r input units
-  pub cut_pages : cut ≡ cut_in r input units
+  pub page_paper : (f.page_paper, f.origin) ≡ row_paper r input units
+  pub cut : f.cut ≡ cut_in r input units
+  pub reach : f.reach ≡ reach_in (has_cuts_apart r.layout) r (counted_in r input units) input units
+  pub behind : f.behind ≡ pages_behind units
+  pub taken : f.taken ≡ taken_in r units
+  pub told : IsToldBy r input f.told
 
 -- the layout lays rows on sheets
 abbrev pub LaysRows : Layout → Type 0
@@ -358,14 +361,11 @@ LaysRows other = ⊤
 -- the task is what the request asks for with this document
 pub record IsRowTask (r : ImposeRequest) (input : List ℕ) (t : RowTask) : Type 0 where
   pub turns : HasTurns r input t.turns.items
-  pub papers : ArePapersOf r input t.papers.items t.cut
-  pub reach : HasReach r input t.reach
-  pub page_paper : IsRowPaper r input (t.page_paper, t.origin)
-  pub behind : HasBehind input t.behind
-  pub taken : HasTaken r input t.taken
-  pub text : t.text.items ≡ text_for r t.papers.items t.page_paper input
-  pub laying : IsLaidBy r t.page_paper t.laying
-  pub possible : why_no_row r t.page_paper ≡ None
+  pub papers : ArePapersOf r input t.papers.items
+  pub findings : FindsForRow r input t.findings
+  pub text : t.text.items ≡ text_for r t.papers.items t.findings.page_paper input
+  pub laying : IsLaidBy r t.findings.page_paper t.laying
+  pub possible : why_no_row r t.findings.page_paper ≡ None
   pub may_be_laid : MayBeLaidSo t.laying
   pub signing : t.signing ≡ signing_in r.layout
   pub may_be_sewn : IfSome t.signing MayBeSewn
@@ -411,12 +411,8 @@ pub record IsRowJob (r : ImposeRequest) (input : List ℕ) (page_paper : Paper) 
 -- The request was carried out for this document: exactly the output was appended of the sheets on which its layout lays
 -- its row, with the lines by which they report their papers and the marks that it asks for.
 pub record FinishesRow (r : ImposeRequest) (input : List ℕ) (old new : Option (List ℕ)) (done : Finished) : Type 0 where
-  pub page_paper : IsRowPaper r input (done.page_paper, done.origin)
-  pub behind : HasBehind input done.behind
-  pub taken : HasTaken r input done.taken
-  pub told : IsToldBy r input done.told
+  pub findings : FindsForRow r input done.findings
   pub job : RowJob
-  pub papers : ArePapersOf r input job.papers.now done.cut
-  pub reach : HasReach r input done.reach
-  pub is_job : IsRowJob r input done.page_paper job
+  pub papers : ArePapersOf r input job.papers.now
+  pub is_job : IsRowJob r input done.findings.page_paper job
   pub imposes : Imposes job old new done.report

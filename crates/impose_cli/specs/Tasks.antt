@@ -9,8 +9,8 @@ use Rattle.rules.specs.Run.{document_of, plan_in}
 use Rattle.rules.specs.Sheets.{sheets}
 use Rattle.dsc.specs.PagesBehind.{pages_behind}
 use Rattle.impose_cli.specs.Claims.{IsToldBy}
-use Rattle.impose_cli.specs.Reaches.{HasReachOver}
-use Rattle.impose_cli.specs.Taken.{HasTaken}
+use Rattle.impose_cli.specs.Reaches.{reach_over}
+use Rattle.impose_cli.specs.Taken.{taken_in}
 use Rattle.rules.specs.Choice.{sides_for}
 use Rattle.rows.specs.Sewing.{signing_of}
 use Rattle.guard.specs.Guard.{guarded}
@@ -37,6 +37,7 @@ use Rattle.impose_words.specs.declared.request.Layout.{Layout}
 use Rattle.impose_words.specs.declared.request.Layout.TheVariants as layout
 use Rattle.impose_words.specs.declared.request.ImposeRequest.{ImposeRequest}
 use Rattle.impose_cli.specs.declared.task.Task.{Task}
+use Rattle.impose_messages.specs.declared.finished.Findings.{Findings}
 use Rattle.impose_messages.specs.declared.finished.Finished.{Finished}
 
 -- the paper of the pages: the one that is named, else the document's own, else the one at home
@@ -57,9 +58,17 @@ taken_text is_guarded sheet_paper input = if is_guarded then guarded (Some sheet
 abbrev pub HasPageCount : (input : List ℕ) → ℕ → Type 0
 HasPageCount input n = (us : List NestedUnit) × (document_of input ≡ Ok us) × (n ≡ length (pages us))
 
--- the document is accepted, and so many pages follow its trailer
-abbrev pub HasBehind : (input : List ℕ) → ℕ → Type 0
-HasBehind input n = (us : List NestedUnit) × (document_of input ≡ Ok us) × (n ≡ pages_behind us)
+-- What a request that places all pages by one paper finds in a document that is accepted. The pages that the paper cuts are among those that reach
+-- beyond it (RULES, 17).
+pub record FindsBySpec (r : ImposeRequest) (input : List ℕ) (f : Findings) : Type 0 where
+  pub units : List NestedUnit
+  pub document : document_of input ≡ Ok units
+  pub page_paper : (f.page_paper, f.origin) ≡ page_paper_found r.page_paper r.default_paper input
+  pub cut : f.cut ≡ None
+  pub reach : f.reach ≡ reach_over r f.page_paper input units
+  pub behind : f.behind ≡ pages_behind units
+  pub taken : f.taken ≡ taken_in r units
+  pub told : IsToldBy r input f.told
 
 -- the text is the canonical one of the specification, and is read as that
 abbrev pub IsWritten : Spec → (text : List ℕ) → Type 0
@@ -100,11 +109,9 @@ is_said r = is_all_pages r.choice && not r.last_at_back && is_unturned r.turn &&
 pub record IsTask (request : ImposeRequest) (input : List ℕ) (task : Task) : Type 0 where
   pub page_count : ℕ
   pub document : HasPageCount input page_count
-  pub behind : HasBehind input task.counted.behind
-  pub taken : HasTaken request input task.counted.taken
-  pub reach : HasReachOver request input task.options.paper task.counted.reach
+  pub findings : FindsBySpec request input task.findings
   pub said : is_said request ≡ true
-  pub page_paper : (task.options.paper, task.origin) ≡ page_paper_found request.page_paper request.default_paper input
+  pub page_paper : task.options.paper ≡ task.findings.page_paper
   pub placed : ComesToSpec request.layout request.spacing task.options.paper (sheet_paper_for request.layout request.sheet_paper task.options.paper)
       page_count (string_bytes task.spec) task.options.sides
   pub text : task.text.items
@@ -125,14 +132,14 @@ IsSpecLayout other text = ⊥
 
 -- how the pages were placed: by their paper, and with the border that is asked for
 abbrev pub frame_used : ImposeRequest → Finished → Frame
-frame_used r done = framed done.page_paper r.border
+frame_used r done = framed done.findings.page_paper r.border
 
 -- The request was carried out for this document by a specification: exactly the output was appended that the rules define
 -- for it and the document, with the guard in it if it is asked for.
 pub record FinishesSpec (r : ImposeRequest) (input : List ℕ) (old new : Option (List ℕ)) (done : Finished) : Type 0 where
   pub page_count : ℕ
   pub document : HasPageCount input page_count
-  pub page_paper : (done.page_paper, done.origin) ≡ page_paper_found r.page_paper r.default_paper input
+  pub findings : FindsBySpec r input done.findings
   pub text : List ℕ
   pub is_text : IsSpecLayout r.layout text
   pub said : is_said r ≡ true
@@ -140,12 +147,7 @@ pub record FinishesSpec (r : ImposeRequest) (input : List ℕ) (old new : Option
   pub spec : Spec
   pub takes : Takes most_slots text spec
   pub units : List NestedUnit
-  pub taken : document_of (taken_text r.is_guarded (sheet_paper_for r.layout r.sheet_paper done.page_paper) input) ≡ Ok units
-  pub cut : done.cut ≡ None
-  pub reach : HasReachOver r input done.page_paper done.reach
-  pub behind : HasBehind input done.behind
-  pub pages_taken : HasTaken r input done.taken
-  pub told : IsToldBy r input done.told
+  pub taken : document_of (taken_text r.is_guarded (sheet_paper_for r.layout r.sheet_paper done.findings.page_paper) input) ≡ Ok units
   pub plan : plan_in None spec (length (pages units)) ≡ Ok (sheets spec (length (pages units)))
   pub written : Appends old new (output (frame_used r done) None spec units)
   pub report : Reports (frame_used r done) None spec units done.report

@@ -18,8 +18,8 @@ mod task;
 
 pub use guard::RoomyText;
 pub use impose_messages::{
-    Claims, Compression, Done, Finished, ImposeFault, PaperOrigin, ReportText, command_text,
-    fault_status, fault_text, text_of_fault, text_said, words_text,
+    Claims, Compression, Done, Findings, Finished, ImposeFault, PaperOrigin, ReportText,
+    command_text, fault_status, fault_text, text_of_fault, text_said, words_text,
 };
 pub use impose_words::{
     CellCommand, IdleOption, ImposeRequest, Layout, OptionId, PageChoice, Product, ProductOption,

@@ -2,7 +2,6 @@
 ghost use Rattle.std.specs.Prelude.{◌≡◌, ◌+◌, ◌<◌, ◌≤◌, drop, map, option_map, string_bytes, vec_len};
 ghost use Rattle.world.specs.Input.{document_in};
 ghost use Rattle.std.specs.Prelude.{Some, IfOk, IfErr, OnOk};
-ghost use Rattle.std.specs.Io.KnownBytes.{Appends};
 ghost use Rattle.impose_cli.specs.Endings.{edge_of_world, shown};
 ghost use Rattle.impose_cli.specs.Looks.{MayBeMade};
 ghost use Rattle.impose_cli.specs.Programs.{CarriesOut, EndsProgram, FindsHome, HasGiven, IsCreatedFor, IsDrawnOver, IsReadOf, IsReading};

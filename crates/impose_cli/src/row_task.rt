@@ -1,5 +1,5 @@
 //! The task of laying a row of pages on sheets.
-ghost use Rattle.std.specs.Prelude.{◌≡◌, ◌<◌, ◌≤◌, ◌&&◌, ◌⊎◌, ℕ, length, true, IfErr, IfOk, IfSome, IsTrue, None, Ok, IsOk, OnErr};
+ghost use Rattle.std.specs.Prelude.{◌≡◌, ◌<◌, ◌≤◌, ◌&&◌, ◌⊎◌, ℕ, length, true, IfErr, IfOk, IfSome, IsTrue, None, Ok};
 ghost use Rattle.std.specs.Prelude.{if◌then◌else◌, map, option_map, string_bytes};
 ghost use Rattle.rows.specs.Sewing.{MayBeSewn};
 ghost use Rattle.impose_cli.specs.Endings.{Comes, RefusesRowTaskRun, edge_of_world, shown};
@@ -12,19 +12,24 @@ ghost use Rattle.rules.specs.Choice.{imposed_row as row_of};
 ghost use Rattle.impose_words.specs.Arranging.{turn_for as turn_by};
 ghost use Rattle.impose_words.specs.Choices.{choice_in};
 ghost use Rattle.impose_cli.specs.RowTasks.{guarded_in, first_paper as first_paper_of};
-ghost use Rattle.impose_cli.specs.RowTasks.{ArePapersOf, HasReach, HasTurns, ImposesTask, IsRowPaper, IsRowTask, LaysRows, counted_in};
+ghost use Rattle.impose_cli.specs.Claims.{IsToldBy};
+ghost use Rattle.impose_cli.specs.RowTasks.{ArePapersOf, FindsForRow, HasTurns, ImposesTask, IsRowTask, LaysRows, counted_in};
 ghost use Rattle.std.specs.List.{list_all};
 ghost use Rattle.impose_cli.specs.RowTasks.{MayBeLaidSo, TellsOnePaper, has_cuts_apart as cuts_apart};
 ghost use Rattle.layouts.specs.Grids.{is_same as are_same};
-ghost use Rattle.impose_cli.specs.RowTasks.{counted_among, cut_by_named, cut_in, paper_for, paper_turned, papers_in as papers_found, papers_to_place, row_paper, turns_in, turns_of};
-ghost use Rattle.impose_cli.specs.Reaches.{reach_in};
-ghost use Rattle.impose_cli.specs.Taken.{HasTaken, taken_in};
+ghost use Rattle.impose_cli.specs.RowTasks.{counted_among, cut_by_named, cut_in, cut_on, paper_for, paper_turned, papers_in as papers_found, papers_to_place, row_paper, turns_in, turns_of};
+ghost use Rattle.impose_cli.specs.Reaches.{reach_in, reach_on, told_own};
+ghost use Rattle.paper_names.specs.Names.{paper_named};
+ghost use Rattle.papers.specs.Own.{papers_of_each_page};
+ghost use Rattle.papers.specs.Reach.{page_boxes};
+ghost use Rattle.impose_cli.specs.Taken.{taken_in};
 ghost use Rattle.impose_cli.specs.Refusals.{RefusesDocument, RefusesRowTask};
-ghost use Rattle.impose_cli.specs.Tasks.{HasBehind, HasPageCount, page_paper_found};
+ghost use Rattle.impose_cli.specs.Tasks.{HasPageCount, page_paper_found};
 ghost use Rattle.dsc.specs.PagesBehind.{pages_behind};
 ghost use Rattle.dsc.specs.Serving.{ArePartsOf, Serve};
 
 use crate::attempt::{Attempt, refused_before};
+use crate::claims::claims_of;
 use crate::laying::{RowLaying, begun_for, papers_for, row_laying, signing_for};
 use crate::reach::reach_of_row;
 use crate::runs::impose_job;
@@ -33,8 +38,8 @@ use crate::task::{paper_of_pages, text_to_impose};
 use command_words::name_of;
 use dsc::{Document, Parts};
 use guard::RoomyText;
-use impose_messages::{ImposeFault, PaperOrigin, refused_document};
-use impose_words::{ImposeRequest, Layout, PageChoice, Turning};
+use impose_messages::{Findings, ImposeFault, PaperOrigin, refused_document};
+use impose_words::{ImposeRequest, Layout, Turning};
 use imposer::{Report, RunError};
 use layouts::is_of_size;
 use lengths::Paper;
@@ -52,22 +57,27 @@ use world::World;
 pub(crate) struct RowTask {
     /// The document, with the guard unless the request leaves it out.
     pub(crate) text: RoomyText,
-    pub(crate) page_paper: Paper,
-    pub(crate) origin: PaperOrigin,
+    /// The facts for the report. Sheets and cells are made for the paper that it names.
+    pub(crate) findings: Findings,
     /// The turn of each page. Empty without `--turn`.
     pub(crate) turns: Vec<Turn>,
     /// The papers by which the document's pages are placed, each turned with its page.
     pub(crate) papers: Vec<Paper>,
-    /// The imposed pages that `--paper` cuts. For a specification they are in `reach`.
-    pub(crate) cut: Option<Cut>,
-    /// The imposed pages that reach more than one point beyond the papers by which they are placed.
-    pub(crate) reach: Option<Reach>,
-    /// The number of pages after the document's trailer.
-    pub(crate) behind: usize,
-    /// The number of the document's pages that are imposed. A page that is imposed several times counts once.
-    pub(crate) taken: u32,
     pub(crate) laying: RowLaying,
     pub(crate) signing: Option<Signing>,
+}
+
+/// Facts about a document's pages, by which they are laid on sheets.
+#[derive(Drop)]
+struct FoundPages {
+    /// The number of pages.
+    pages: u32,
+    /// The turn of each page. Empty without `--turn`.
+    turns: Vec<Turn>,
+    /// The papers by which the pages are placed, each turned with its page.
+    papers: Vec<Paper>,
+    /// The facts for the report. Sheets and cells are made for the paper that it names.
+    findings: Findings,
 }
 
 /// The task of a request for a document, and the parts of the task's text. The error is the first fault that is found before the pages are imposed.
@@ -82,63 +92,32 @@ pub(crate) fn row_task(
     ensures refused { IfErr result (RefusesRowTask request.now input.items) }
 {
     // The document is read before the guard is inserted, so that a fault names its place in the input.
-    let (found, parts) = papers_of(alloc, request, input.as_slice())?;
-    let papers = papers_for(request, &found.page_paper);
+    let (found, parts) = pages_of(alloc, request, input.as_slice())?;
+    let papers = papers_for(request, &found.findings.page_paper);
     let laying = row_laying(alloc, request, &papers)?;
     let signing = signing_for(request)?;
     let sheet = guarded_paper(alloc, request, &found, &papers.sheet)?;
     let text = text_to_impose(request.is_guarded, &sheet, input)?;
     let task = RowTask {
         text,
-        page_paper: found.page_paper,
-        origin: found.origin,
+        findings: found.findings,
         turns: found.turns,
         papers: found.papers,
-        cut: found.cut,
-        reach: found.reach,
-        behind: found.behind,
-        taken: found.taken,
         laying,
         signing,
     };
     Ok((task, parts))
 }
 
-/// The papers of a document's pages, and other facts about these pages.
-#[derive(Drop)]
-struct FoundPapers {
-    /// The number of pages.
-    pages: u32,
-    /// The paper for which sheets and cells are made, before any turn.
-    page_paper: Paper,
-    /// Where `page_paper` is taken from.
-    origin: PaperOrigin,
-    /// The turn of each page. Empty without `--turn`.
-    turns: Vec<Turn>,
-    /// The papers by which the pages are placed, each turned with its page.
-    papers: Vec<Paper>,
-    /// The imposed pages that `--paper` cuts. For a specification they are in `reach`.
-    cut: Option<Cut>,
-    /// The imposed pages that reach more than one point beyond the papers by which they are placed.
-    reach: Option<Reach>,
-    /// The number of pages after the trailer.
-    behind: usize,
-    /// The number of pages that are imposed. A page that is imposed several times counts once.
-    taken: u32,
-}
-
-/// The papers of a document's pages, other facts about these pages, and the document's parts. Fails only if the document or memory is refused.
-fn papers_of(
+/// Facts about a document's pages, and the document's parts. Fails only if the document or memory is refused.
+fn pages_of(
     alloc: Global,
     request: &ImposeRequest,
     input: &[u8],
-) -> Result<(FoundPapers, Parts), ImposeFault>
-    ensures found { IfOk result (λ found. ArePapersOf request.now input.now found.0.papers.items found.0.cut) }
+) -> Result<(FoundPages, Parts), ImposeFault>
+    ensures papers { IfOk result (λ found. ArePapersOf request.now input.now found.0.papers.items) }
     ensures turns { IfOk result (λ found. HasTurns request.now input.now found.0.turns.items) }
-    ensures paper { IfOk result (λ found. IsRowPaper request.now input.now (found.0.page_paper, found.0.origin)) }
-    ensures reach { IfOk result (λ found. HasReach request.now input.now found.0.reach) }
-    ensures behind { IfOk result (λ found. HasBehind input.now found.0.behind) }
-    ensures taken { IfOk result (λ found. HasTaken request.now input.now found.0.taken) }
+    ensures findings { IfOk result (λ found. FindsForRow request.now input.now found.0.findings) }
     ensures count { IfOk result (λ found. found.0.pages ≡ length found.0.papers.items) }
     ensures few { IfOk result (λ found. found.0.pages ≤ most_pages) }
     ensures parts { IfOk result (λ found. ArePartsOf input.now found.1) }
@@ -149,7 +128,7 @@ fn papers_of(
         Ok(document) => document,
         Err(error) => return Err(refused_document(error, input)),
     };
-    let found = papers_in(alloc, request, &document)?;
+    let found = pages_in(alloc, request, &document)?;
     Ok((found, document.into_parts()))
 }
 
@@ -164,20 +143,17 @@ pub(crate) fn has_one_paper(
     ensures told { IfOk result (TellsOnePaper request.now input.now paper.now) }
     ensures refused { IfErr result (λ f. RefusesDocument input.now f ⊎ (f ≡ without_memory)) }
 {
-    let (found, _) = papers_of(alloc, request, input)?;
-    Ok(are_all(&found.page_paper, found.papers.as_slice(), paper))
+    let (found, _) = pages_of(alloc, request, input)?;
+    Ok(are_all(&found.findings.page_paper, found.papers.as_slice(), paper))
 }
 
 /// Whether the paper `first` and all of the papers `others` have the size of `paper`.
 fn are_all(first: &Paper, others: &[Paper], paper: &Paper) -> bool
     ensures { result ≡ (are_same first.now paper.now && list_all (are_same paper.now) others.now) }
 {
-    is_of_size(first, paper) && are_same_as(paper, others)
-}
-
-fn are_same_as(paper: &Paper, others: &[Paper]) -> bool
-    ensures { result ≡ list_all (are_same paper.now) others.now }
-{
+    if !is_of_size(first, paper) {
+        return false;
+    }
     for other in others {
         if !is_of_size(paper, other) {
             return false;
@@ -186,24 +162,25 @@ fn are_same_as(paper: &Paper, others: &[Paper]) -> bool
     true
 }
 
-fn papers_in(
+fn pages_in(
     alloc: Global,
     request: &ImposeRequest,
     document: &Document<'_>,
-) -> Result<FoundPapers, AllocError>
+) -> Result<FoundPages, AllocError>
     ensures turns { IfOk result (λ found.
         found.turns.items ≡ turns_in request.now (bytes_of document.now) document.now) }
     ensures papers { IfOk result (λ found.
         found.papers.items ≡ papers_found request.now (bytes_of document.now) document.now) }
     ensures paper { IfOk result (λ found.
-        (found.page_paper, found.origin) ≡ row_paper request.now (bytes_of document.now) document.now) }
+        (found.findings.page_paper, found.findings.origin) ≡ row_paper request.now (bytes_of document.now) document.now) }
     ensures cut { IfOk result (λ found.
-        found.cut ≡ cut_in request.now (bytes_of document.now) document.now) }
+        found.findings.cut ≡ cut_in request.now (bytes_of document.now) document.now) }
     ensures reach { IfOk result (λ found.
-        found.reach ≡ reach_in (cuts_apart request.now.layout) request.now (counted_in request.now (bytes_of document.now) document.now)
+        found.findings.reach ≡ reach_in (cuts_apart request.now.layout) request.now (counted_in request.now (bytes_of document.now) document.now)
         (bytes_of document.now) document.now) }
-    ensures behind { IfOk result (λ found. found.behind ≡ pages_behind document.now) }
-    ensures taken { IfOk result (λ found. found.taken ≡ taken_in request.now document.now) }
+    ensures behind { IfOk result (λ found. found.findings.behind ≡ pages_behind document.now) }
+    ensures taken { IfOk result (λ found. found.findings.taken ≡ taken_in request.now document.now) }
+    ensures told { IfOk result (λ found. IsToldBy request.now (bytes_of document.now) found.findings.told) }
     ensures count { IfOk result (λ found. found.pages ≡ length found.papers.items) }
     ensures few { IfOk result (λ found. found.pages ≤ most_pages) }
 {
@@ -219,27 +196,29 @@ fn papers_in(
         taken.as_slice(),
         own.as_slice(),
     )?;
-    let cut = cut_pages(alloc, request, document, row.as_slice())?;
-    let reach = reach_of_row(
+    let (cut, reach) = cut_and_reach(
         alloc,
         request,
         document,
+        row.as_slice(),
         counted.as_slice(),
         own.as_slice(),
-        has_cuts_apart(&request.layout),
     )?;
     let (turns, papers) = turned_pages(alloc, request.turn, counted)?;
     let count = taken_count(alloc, row.as_slice(), document.pages())?;
-    Ok(FoundPapers {
+    Ok(FoundPages {
         pages: document.pages(),
-        page_paper,
-        origin,
         turns,
         papers,
-        cut,
-        reach,
-        behind: document.pages_behind_trailer(),
-        taken: count,
+        findings: Findings {
+            page_paper,
+            origin,
+            cut,
+            reach,
+            behind: document.pages_behind_trailer(),
+            taken: count,
+            told: claims_of(request, document.text()),
+        },
     })
 }
 
@@ -348,6 +327,55 @@ fn all_of(alloc: Global, one: &Paper, own: &[Paper]) -> Result<Vec<Paper>, Alloc
     Ok(papers)
 }
 
+/// The pages of the row that the paper of `--paper` cuts, and those that reach beyond `placed`, the papers by which pages are placed. `own` has the
+/// papers that the request finds for the document's pages. If a specification places the pages, those that are cut aren't reported separately.
+fn cut_and_reach(
+    alloc: Global,
+    request: &ImposeRequest,
+    document: &Document<'_>,
+    row: &[Option<u32>],
+    placed: &[Paper],
+    own: &[Paper],
+) -> Result<(Option<Cut>, Option<Reach>), AllocError>
+    requires { own.now ≡ papers_of_each_page request.now.page_paper paper_named request.now.default_paper (bytes_of document.now) document.now }
+    ensures cut { IfOk result (λ found. found.0 ≡ cut_by_named (if cuts_apart request.now.layout then request.now.page_paper else None)
+        row.now (bytes_of document.now) document.now) }
+    ensures reach { IfOk result (λ found. found.1 ≡ reach_on (cuts_apart request.now.layout) row.now placed.now
+        (told_own request.now (bytes_of document.now) document.now) (page_boxes (bytes_of document.now) document.now)) }
+{
+    let cut_apart = has_cuts_apart(&request.layout);
+    match request.page_paper {
+        None => Ok((
+            None,
+            reach_of_row(alloc, document, row, placed, own, cut_apart)?,
+        )),
+        Some(named) => {
+            // A page that names no paper counts as having the paper of `--paper`, which doesn't cut it.
+            let told = page_papers(alloc, document, None, &named)?;
+            let cut = cut_if(alloc, cut_apart, row, told.as_slice(), &named)?;
+            let reach = reach_of_row(alloc, document, row, placed, told.as_slice(), cut_apart)?;
+            Ok((cut, reach))
+        }
+    }
+}
+
+/// The pages of the row that the paper `named` cuts. `None` if they aren't asked for. `own` has the papers of the document's pages.
+fn cut_if(
+    alloc: Global,
+    is_asked: bool,
+    row: &[Option<u32>],
+    own: &[Paper],
+    named: &Paper,
+) -> Result<Option<Cut>, AllocError>
+    ensures { IfOk result (λ cut. cut ≡ (if is_asked then cut_on row.now named.now own.now else None)) }
+{
+    if !is_asked {
+        return Ok(None);
+    }
+    let taken = papers_taken(alloc, row, own, named)?;
+    Ok(cut_by(named, taken.as_slice()))
+}
+
 /// Whether pages that the paper of `--paper` cuts are reported separately from those that reach beyond their papers.
 fn has_cuts_apart(layout: &Layout) -> bool
     ensures { result ≡ cuts_apart layout.now }
@@ -355,33 +383,12 @@ fn has_cuts_apart(layout: &Layout) -> bool
     !matches!(layout, Layout::SpecRow { .. })
 }
 
-/// The pages of the row that the paper of `--paper` cuts. `None` without `--paper`, if it cuts no page, or if such pages aren't reported separately.
-fn cut_pages(
-    alloc: Global,
-    request: &ImposeRequest,
-    document: &Document<'_>,
-    row: &[Option<u32>],
-) -> Result<Option<Cut>, AllocError>
-    ensures { IfOk result (λ cut. cut ≡ cut_by_named (if cuts_apart request.now.layout then request.now.page_paper else None)
-        row.now (bytes_of document.now) document.now) }
-{
-    if !has_cuts_apart(&request.layout) {
-        return Ok(None);
-    }
-    let Some(named) = request.page_paper else {
-        return Ok(None);
-    };
-    // A page that names no paper counts as having the paper of `--paper`, which doesn't cut it.
-    let own = page_papers(alloc, document, None, &named)?;
-    let taken = papers_taken(alloc, row, own.as_slice(), &named)?;
-    Ok(cut_by(&named, taken.as_slice()))
-}
-
-/// The paper whose size the guard sets: that of the sheets, or of a selection's first sheet. The only error is refused memory.
+/// The paper whose size the guard sets: `sheet`, the paper of the sheets, or the paper of a selection's first sheet. A selection whose first sheet is
+/// blank, or whose choice gives no row, has `sheet` too. The only error is refused memory.
 fn guarded_paper(
     alloc: Global,
     request: &ImposeRequest,
-    found: &FoundPapers,
+    found: &FoundPages,
     sheet: &Paper,
 ) -> Result<Paper, ImposeFault>
     requires count { found.now.pages ≡ length found.now.papers.items }
@@ -391,31 +398,15 @@ fn guarded_paper(
     ensures refused { IfErr result (λ f. f ≡ without_memory) }
 {
     match &request.layout {
-        Layout::Selection => first_paper(alloc, &request.choice, found, sheet),
+        Layout::Selection => {
+            match imposed_row(alloc, found.pages, &request.choice.as_choice(), None) {
+                Ok(row) => Ok(paper_of_first(row.as_slice(), found.papers.as_slice(), sheet)),
+                Err(RowError::NoMemory) => Err(ImposeFault::no_memory()),
+                // There is no such row. The run reports the reason.
+                Err(_) => Ok(*sheet),
+            }
+        }
         _ => Ok(*sheet),
-    }
-}
-
-/// The paper of a selection's first sheet. It is `blank`, the paper of blank sheets, if that sheet is blank or the choice gives no row. The only
-/// error is refused memory.
-fn first_paper(
-    alloc: Global,
-    choice: &PageChoice,
-    found: &FoundPapers,
-    blank: &Paper,
-) -> Result<Paper, ImposeFault>
-    requires count { found.now.pages ≡ length found.now.papers.items }
-    requires few { found.now.pages ≤ most_pages }
-    ensures value { IfOk result (λ paper. paper ≡ first_paper_of
-        (row_of (length found.now.papers.items) (choice_in choice.now) None) found.now.papers.items blank.now) }
-    ensures refused { IfErr result (λ f. f ≡ without_memory) }
-    ensures there { OnErr result (IsOk (row_of (length found.now.papers.items) (choice_in choice.now) None)) }
-{
-    match imposed_row(alloc, found.pages, &choice.as_choice(), None) {
-        Ok(row) => Ok(paper_of_first(row.as_slice(), found.papers.as_slice(), blank)),
-        Err(RowError::NoMemory) => Err(ImposeFault::no_memory()),
-        // There is no such row. The run reports the reason.
-        Err(_) => Ok(*blank),
     }
 }
 
@@ -455,6 +446,7 @@ pub(crate) fn impose_task<R: Threads + Wait + Sync, W: World>(
         Ok(document) => document,
         Err(error) => return refused_before(ImposeFault::Run(RunError::from(error)), world),
     };
+    // Written out as in look.rt: with a function that makes the job for both, the prover isn't told which modules hold the type `SheetRequest`.
     let job = RowJob {
         document: &document,
         turns: task.turns.as_slice(),

@@ -15,26 +15,22 @@ ghost use Rattle.dsc.specs.Serving.{Serve};
 ghost use Rattle.impose_cli.specs.Tasks.{IsSpecLayout, run_asked};
 ghost use Rattle.impose_cli.specs.RowRuns.{Imposes};
 ghost use Rattle.impose_cli.specs.RowTasks.{LaysRows};
-ghost use Rattle.impose_cli.specs.Endings.{Comes, RefusesRowJob, RefusesTaskRun, RunsRequest, edge_of_world, shown};
+ghost use Rattle.impose_cli.specs.Endings.{Comes, RefusesRowJob, RefusesTaskRun, RunsRequest, edge_of_world, reported_by, shown};
 ghost use Rattle.impose_cli.specs.Endings.{BreaksOff, Holds, IsNotCreated, IsSaidOf, WritesJob, WritesTask};
-ghost use Rattle.impose_cli.specs.Abouts.{reported_by};
 ghost use Rattle.impose_messages.specs.declared.fault.ImposeFault.TheVariants as faults;
 ghost use Rattle.world.specs.declared.rest.Rest.TheVariants as rests;
 
 use crate::attempt::{Attempt, refused_before};
-use crate::claims::claims_of;
 use crate::laying::is_drawn;
 use crate::row_task::{asked_fault_of, impose_task, row_task};
 use crate::task::{Task, WORKERS, task_for};
 use command_words::name_of;
 use dsc::{Document, Parts};
 use guard::RoomyText;
-use impose_messages::{Claims, Done, Finished, ImposeFault, PaperOrigin};
+use impose_messages::{Done, Findings, Finished, ImposeFault};
 use impose_words::{ImposeRequest, Layout};
 use imposer::{Job, NoListener, Open, Report, RunError, Sink, run_plan};
-use lengths::Paper;
 use pagespec::{Spec, read_spec};
-use papers::{Cut, Reach};
 use row_runs::{RowJob, plan_error};
 use sheet_plan::Plan;
 use std::alloc::Global;
@@ -78,23 +74,13 @@ fn run_row<R: Threads + Wait + Sync, W: World>(
     ensures { RunsRequest request.now input.items (edge_of_world (W.tells world) W.seen W.Output.seen) result.outcome
         world result.rest (shown W.Output.seen result.rest) }
 {
-    let told = claims_of(request, input.as_slice());
     let (task, parts) = match row_task(alloc, request, input) {
         Ok(found) => found,
         Err(fault) => return refused_before(fault, world),
     };
     let left = impose_task(rt, alloc, request, &task, parts, world);
-    let about = About {
-        page_paper: task.page_paper,
-        origin: task.origin,
-        cut: task.cut,
-        reach: task.reach,
-        behind: task.behind,
-        taken: task.taken,
-        told,
-    };
     Attempt {
-        outcome: reported(left.outcome, about),
+        outcome: reported(left.outcome, task.findings),
         rest: left.rest,
     }
 }
@@ -141,23 +127,13 @@ fn run_spec<R: Threads + Wait + Sync, W: World>(
     ensures { RunsRequest request.now input.items (edge_of_world (W.tells world) W.seen W.Output.seen) result.outcome
         world result.rest (shown W.Output.seen result.rest) }
 {
-    let told = claims_of(request, input.as_slice());
     let (task, parts) = match task_for(alloc, request, input) {
         Ok(found) => found,
         Err(fault) => return refused_before(fault, world),
     };
     let left = impose_by_spec(rt, alloc, &task, parts, name_of(&request.outfile), world);
-    let about = About {
-        page_paper: task.options.paper,
-        origin: task.origin,
-        cut: None,
-        reach: task.counted.reach,
-        behind: task.counted.behind,
-        taken: task.counted.taken,
-        told,
-    };
     Attempt {
-        outcome: reported(left.outcome, about),
+        outcome: reported(left.outcome, task.findings),
         rest: left.rest,
     }
 }
@@ -214,33 +190,12 @@ fn read_task<'t>(
     Ok((spec, document))
 }
 
-/// Facts about a run that are reported together with its counts.
-#[derive(Drop)]
-struct About {
-    page_paper: Paper,
-    origin: PaperOrigin,
-    cut: Option<Cut>,
-    reach: Option<Reach>,
-    behind: usize,
-    taken: u32,
-    told: Claims,
-}
-
-/// The outcome of a run. If the run finished, the facts in `about` are added to its report. A fault stays as it is.
-fn reported(outcome: Result<Report, ImposeFault>, about: About) -> Result<Done, ImposeFault>
-    ensures { result ≡ reported_by about outcome }
+/// The outcome of a run. If the run finished, the report gets the facts that were found before. A fault stays as it is.
+fn reported(outcome: Result<Report, ImposeFault>, findings: Findings) -> Result<Done, ImposeFault>
+    ensures { result ≡ reported_by findings outcome }
 {
     match outcome {
-        Ok(report) => Ok(Done::Imposed(Finished {
-            report,
-            page_paper: about.page_paper,
-            origin: about.origin,
-            cut: about.cut,
-            reach: about.reach,
-            behind: about.behind,
-            taken: about.taken,
-            told: about.told,
-        })),
+        Ok(report) => Ok(Done::Imposed(Finished { report, findings })),
         Err(fault) => Err(fault),
     }
 }

@@ -3,9 +3,8 @@ ghost use Rattle.std.specs.Prelude.{◌≡◌, ℕ, ◌+◌, ◌<◌, ◌≤◌,
 ghost use Rattle.std.specs.Prelude.{[], ◌++◌, option_and_then, slice_get};
 ghost use Rattle.rules.specs.Choice.{imposed_row as row_of, most_entries};
 ghost use Rattle.impose_words.specs.Choices.{choice_in};
-ghost use Rattle.impose_cli.specs.Reaches.{is_entry_of, takes};
 ghost use Rattle.impose_cli.specs.RowTasks.{or_without, row_papers, taken_from};
-ghost use Rattle.impose_cli.specs.Taken.{row_or_none, taken_below};
+ghost use Rattle.impose_cli.specs.Taken.{is_entry_of, row_or_none, taken_below, takes};
 
 use impose_words::PageChoice;
 use lengths::Paper;
@@ -26,20 +25,6 @@ pub(crate) fn row_of_choice(
         Err(RowError::NoMemory) => Err(AllocError),
         Err(_) => Ok(Vec::new(alloc)),
     }
-}
-
-/// The number of different pages in the row that a choice gives, for a document of `pages` pages. It is 0 if the choice gives no row.
-pub(crate) fn pages_of_choice(
-    alloc: Global,
-    pages: u32,
-    choice: &PageChoice,
-) -> Result<u32, AllocError>
-    requires { pages ≤ most_entries }
-    ensures { IfOk result (λ count.
-        count ≡ taken_below (row_or_none (row_of pages (choice_in choice.now) None)) pages) }
-{
-    let row = row_of_choice(alloc, pages, choice)?;
-    taken_count(alloc, row.as_slice(), pages)
 }
 
 /// The number of different pages in a row, for a document of `pages` pages.

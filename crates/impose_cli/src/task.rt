@@ -12,28 +12,27 @@ ghost use Rattle.layouts.specs.Refusals.{why_not_bound};
 ghost use Rattle.layouts.specs.declared.error.ArrangementError.{ArrangementError};
 ghost use Rattle.impose_messages.specs.Faults.{without_memory};
 ghost use Rattle.impose_cli.specs.RowTasks.{has_specification as is_made_for};
-ghost use Rattle.impose_cli.specs.Tasks.{HasBehind, HasPageCount, ComesToSpec, IsTask, IsWritten, page_paper_found};
+ghost use Rattle.impose_cli.specs.Tasks.{ComesToSpec, FindsBySpec, HasPageCount, IsTask, IsWritten, page_paper_found};
 ghost use Rattle.impose_cli.specs.Tasks.{is_said as says, taken_text};
-ghost use Rattle.impose_cli.specs.Reaches.{HasReachOver};
-ghost use Rattle.impose_cli.specs.Taken.{HasTaken};
 ghost use Rattle.impose_cli.specs.Refusals.{HasNoFault, HasOnePaper, HasOtherPapers, IsSpecification, RefusesDocument, RefusesFor, RefusesSpecification, RefusesTask, why_not_specified};
 ghost use Rattle.impose_cli.specs.Precheck.{IsPossible, RefusesUnread, named_cells_paper};
 ghost use Rattle.impose_words.specs.declared.request.Layout.TheVariants as layout;
 ghost use Rattle.impose_messages.specs.declared.fault.ImposeFault.TheVariants as faults;
 
+use crate::claims::claims_of;
 use crate::laying::{check_sheets, laying_for, papers_for, spec_named};
 use crate::reach::reach_over;
 use crate::row_task::has_one_paper;
-use crate::taken::pages_of_choice;
+use crate::taken::{row_of_choice, taken_count};
 use dsc::{Document, Parts};
 use guard::RoomyText;
-use impose_messages::{ImposeFault, PaperOrigin, refused_document};
+use impose_messages::{Findings, ImposeFault, PaperOrigin, refused_document};
 use impose_words::{ImposeRequest, Layout, Spacing, Turning};
 use imposer::{Options, Workers};
 use layouts::{Binding, Cells, Papers, arrange, bind};
 use lengths::Paper;
 use pagespec::{Spec, Turn, write_spec};
-use papers::{Reach, document_paper};
+use papers::document_paper;
 use rows::{Signing, auto_sides};
 use std::alloc::{AllocError, Global};
 
@@ -45,23 +44,8 @@ pub struct Task {
     /// The specification by which the document's pages are placed.
     pub spec: String,
     pub options: Options,
-    /// Where the paper of the pages is taken from.
-    pub origin: PaperOrigin,
-    /// The counts of the document's pages.
-    pub counted: CountedPages,
-}
-
-/// The counts of a document's pages, which are all placed by one paper, and the pages that reach beyond that paper.
-#[derive(Clone, Copy)]
-pub struct CountedPages {
-    /// The number of pages, without those after the trailer.
-    pub pages: u32,
-    /// The number of pages after the trailer.
-    pub behind: usize,
-    /// The number of pages that are imposed. A page that is imposed several times counts once.
-    pub taken: u32,
-    /// The imposed pages that reach more than one point beyond the paper by which they are placed. `None` if no page does.
-    pub reach: Option<Reach>,
+    /// Facts about the document's pages, which are all placed by one paper.
+    pub findings: Findings,
 }
 
 /// One preparer and one imposer. More threads save no time (bench/README.md).
@@ -140,8 +124,8 @@ pub fn task_for(
     ensures refused { IfErr result (RefusesTask request.now input.items) }
 {
     // The document is read before the guard is inserted, so that a fault names its place in the input.
-    let (page_paper, origin) = paper_of_pages(request, input.as_slice());
-    let (counted, parts) = pages_of(alloc, request, input.as_slice(), &page_paper)?;
+    let (findings, pages, parts) = findings_of(alloc, request, input.as_slice())?;
+    let page_paper = findings.page_paper;
     if !is_said(request) {
         return Err(ImposeFault::NoSpecification);
     }
@@ -151,13 +135,7 @@ pub fn task_for(
         page: page_paper,
         sheet: sheet_paper,
     };
-    let (spec, sides) = placing(
-        alloc,
-        &request.layout,
-        &request.spacing,
-        &papers,
-        counted.pages,
-    )?;
+    let (spec, sides) = placing(alloc, &request.layout, &request.spacing, &papers, pages)?;
     let text = text_to_impose(request.is_guarded, &sheet_paper, input)?;
     let options = Options {
         paper: page_paper,
@@ -169,8 +147,7 @@ pub fn task_for(
         text,
         spec,
         options,
-        origin,
-        counted,
+        findings,
     };
     Ok((task, parts))
 }
@@ -235,20 +212,18 @@ pub(crate) fn paper_of_pages(request: &ImposeRequest, input: &[u8]) -> (Paper, P
     }
 }
 
-/// The counts of a document's pages, which are all placed by this paper, and the document's parts. Fails only if the document or memory is refused.
-pub(crate) fn pages_of(
+/// Facts about a document's pages, which are all placed by one paper, their number, and the document's parts. Fails only if the document or memory is
+/// refused.
+fn findings_of(
     alloc: Global,
     request: &ImposeRequest,
     input: &[u8],
-    paper: &Paper,
-) -> Result<(CountedPages, Parts), ImposeFault>
-    ensures counted { IfOk result (λ found. HasPageCount input.now found.0.pages) }
-    ensures behind { IfOk result (λ found. HasBehind input.now found.0.behind) }
-    ensures taken { IfOk result (λ found. HasTaken request.now input.now found.0.taken) }
-    ensures reach { IfOk result (λ found. HasReachOver request.now input.now paper.now found.0.reach) }
-    ensures some { IfOk result (λ found. 0 < found.0.pages) }
-    ensures within { IfOk result (λ found. found.0.pages ≤ most_pages) }
-    ensures parts { IfOk result (λ found. ArePartsOf input.now found.1) }
+) -> Result<(Findings, u32, Parts), ImposeFault>
+    ensures findings { IfOk result (λ found. FindsBySpec request.now input.now found.0) }
+    ensures counted { IfOk result (λ found. HasPageCount input.now found.1) }
+    ensures some { IfOk result (λ found. 0 < found.1) }
+    ensures within { IfOk result (λ found. found.1 ≤ most_pages) }
+    ensures parts { IfOk result (λ found. ArePartsOf input.now found.2) }
     ensures refused { IfErr result (λ f.
         RefusesDocument input.now f ⊎ ((n : ℕ) × HasPageCount input.now n × (f ≡ without_memory))) }
 {
@@ -256,15 +231,21 @@ pub(crate) fn pages_of(
         Ok(document) => document,
         Err(error) => return Err(refused_document(error, input)),
     };
-    let reach = reach_over(alloc, request, &document, paper)?;
-    let taken = pages_of_choice(alloc, document.pages(), &request.choice)?;
-    let counted = CountedPages {
-        pages: document.pages(),
+    let pages = document.pages();
+    let (page_paper, origin) = paper_of_pages(request, input);
+    let row = row_of_choice(alloc, pages, &request.choice)?;
+    let reach = reach_over(alloc, request, &document, row.as_slice(), &page_paper)?;
+    let taken = taken_count(alloc, row.as_slice(), pages)?;
+    let findings = Findings {
+        page_paper,
+        origin,
+        cut: None,
+        reach,
         behind: document.pages_behind_trailer(),
         taken,
-        reach,
+        told: claims_of(request, input),
     };
-    Ok((counted, document.into_parts()))
+    Ok((findings, pages, document.into_parts()))
 }
 
 /// The text of a specification, and the number of sides of a signature, if the pages go into signatures.
@@ -300,9 +281,9 @@ fn placing(
         Layout::Notes { .. } | Layout::Poster(_) | Layout::Zine => Err(
             ImposeFault::NoSpecification,
         ),
-        Layout::Spec(specs) => named_placing(alloc, specs.as_str(), None),
+        Layout::Spec(specs) => named_placing(alloc, specs.as_str(), None, pages),
         Layout::SpecRow { specs, signing } => {
-            named_placing(alloc, specs.as_str(), row_sides(*signing, pages))
+            named_placing(alloc, specs.as_str(), *signing, pages)
         }
     }
 }
@@ -314,13 +295,25 @@ fn creeps(spacing: &Spacing) -> bool
     spacing.creep.get() != 0
 }
 
-/// The text of the specification that the request names, with this number of sides of a signature. The only error is refused memory.
-fn named_placing(alloc: Global, specs: &str, sides: Option<u32>) -> Result<PlacedItem, ImposeFault>
+/// The text of the specification that the request names, and the sides of a signature for this number of pages, if its row is put into signatures.
+/// The only error is refused memory.
+fn named_placing(
+    alloc: Global,
+    specs: &str,
+    signing: Option<Signing>,
+    pages: u32,
+) -> Result<PlacedItem, ImposeFault>
+    requires some { 0 < pages }
+    requires few { pages ≤ most_pages }
     ensures text { IfOk result (λ placed. string_bytes placed.0 ≡ specs.now) }
-    ensures sides { IfOk result (λ placed. placed.1 ≡ sides) }
+    ensures sides { IfOk result (λ placed. placed.1 ≡ option_map (λ how. sides_for (signing_of how) pages) signing) }
     ensures refused { IfErr result (λ f. f ≡ without_memory) }
 {
-    Ok((String::from_str(alloc, specs)?, sides))
+    let text = String::from_str(alloc, specs)?;
+    match signing {
+        Some(how) => Ok((text, Some(signature_sides(how, pages)))),
+        None => Ok((text, None)),
+    }
 }
 
 fn nup_placing(
@@ -369,18 +362,6 @@ fn written(alloc: Global, spec: &Spec, sides: Option<u32>) -> Result<PlacedItem,
     ensures refused { IfErr result (λ f. f ≡ without_memory) }
 {
     Ok((write_spec(alloc, spec)?, sides))
-}
-
-/// The number of sides of a signature, for this number of pages. `None` if the row of a specification isn't put into signatures.
-fn row_sides(signing: Option<Signing>, pages: u32) -> Option<u32>
-    requires some { 0 < pages }
-    requires few { pages ≤ most_pages }
-    ensures { result ≡ option_map (λ how. sides_for (signing_of how) pages) signing }
-{
-    match signing {
-        Some(how) => Some(signature_sides(how, pages)),
-        None => None,
-    }
 }
 
 /// The number of sides that `signing` gives each signature, for this number of pages.

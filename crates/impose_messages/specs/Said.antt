@@ -106,8 +106,9 @@ sheets_text sheet page_paper = if is_same sheet page_paper then [] else sheet_te
 
 -- the report: the counts, the size of the pages' paper with where it was found, and that of the sheets (RULES, 17)
 abbrev pub report_text : Finished → ImposeRequest → List ℕ
-report_text finished r = counts_text finished.taken finished.report r ++ (codes "; pages of " ++ (paper_size_text finished.page_paper
-    ++ (codes " pt, " ++ (origin_text finished.origin ++ sheets_text (sheet_paper_for r.layout r.sheet_paper finished.page_paper) finished.page_paper))))
+report_text finished r = let f = finished.findings in
+    counts_text f.taken finished.report r ++ (codes "; pages of " ++ (paper_size_text f.page_paper
+    ++ (codes " pt, " ++ (origin_text f.origin ++ sheets_text (sheet_paper_for r.layout r.sheet_paper f.page_paper) f.page_paper))))
 
 -- a byte of a name as it is shown: what isn't a printable one of ASCII is a question mark
 abbrev pub shown_byte : ℕ → ℕ
@@ -304,10 +305,10 @@ AddsText Holds before after = (text : List ℕ) × Holds text × (after ≡ befo
 -- cut, that pages reach beyond their papers, that pages follow the trailer, that not as many were found as the document says, and
 -- that pages depend on the text before them
 abbrev pub run_lines : Finished → ImposeRequest → List ℕ
-run_lines finished r =
-    line_of (Some (report_text finished r)) ++ line_of (unknown_text finished.told.unknown)
-    ++ line_of (cut_text finished.cut finished.page_paper) ++ line_of (reach_text finished.reach) ++ line_of (behind_text finished.behind)
-    ++ line_of (told_text finished.told.pages finished.report.pages) ++ line_of (creator_text finished.told.creator finished.report.pages)
+run_lines finished r = let f = finished.findings in
+    line_of (Some (report_text finished r)) ++ line_of (unknown_text f.told.unknown)
+    ++ line_of (cut_text f.cut f.page_paper) ++ line_of (reach_text f.reach) ++ line_of (behind_text f.behind)
+    ++ line_of (told_text f.told.pages finished.report.pages) ++ line_of (creator_text f.told.creator finished.report.pages)
 
 -- a line that the output is PostScript comes after what was said before, if it is named as something else
 abbrev pub AddsNote : (outfile : Option (List ℕ)) → (before after : List ℕ) → Type 0

@@ -39,10 +39,9 @@ pub struct Claims {
     pub creator: Option<Creator>,
 }
 
-/// Facts about a request whose sheets have been written, for the report.
+/// Facts that a request finds in a document before sheets are made, for the report.
 #[derive(Drop)]
-pub struct Finished {
-    pub report: Report,
+pub struct Findings {
     /// The paper of the pages, before any turn.
     pub page_paper: Paper,
     /// Where `page_paper` is taken from.
@@ -57,6 +56,14 @@ pub struct Finished {
     pub taken: u32,
     /// The statements that the document makes about itself.
     pub told: Claims,
+}
+
+/// A request whose sheets have been written.
+#[derive(Drop)]
+pub struct Finished {
+    /// The counts of its run.
+    pub report: Report,
+    pub findings: Findings,
 }
 
 /// The result of a request that has been carried out.

@@ -22,15 +22,16 @@ pub(crate) fn push_report(said: &mut ReportText, done: &Finished, request: &Impo
     ensures text { said.new ≡ said.old ++ report_text done.now request.now }
     ensures short { length said.new ≤ length said.old + 693 }
 {
-    push_counts(said, done.taken, &done.report, request);
+    let found = &done.findings;
+    push_counts(said, found.taken, &done.report, request);
     said.push(b"; pages of ");
-    push_size(said, &done.page_paper);
+    push_size(said, &found.page_paper);
     said.push(b" pt, ");
-    said.push(origin_text(done.origin));
+    said.push(origin_text(found.origin));
     push_sheets(
         said,
-        &request.sheet_paper_for(&done.page_paper),
-        &done.page_paper,
+        &request.sheet_paper_for(&found.page_paper),
+        &found.page_paper,
     );
 }
 

@@ -22,13 +22,14 @@ pub(crate) fn push_lines(said: &mut ReportText, done: &Finished, request: &Impos
     ensures text { said.new ≡ said.old ++ run_lines done.now request.now }
     ensures short { length said.new ≤ length said.old + 2_477 }
 {
+    let found = &done.findings;
     push_report_line(said, done, request);
-    push_unknown_line(said, &done.told.unknown);
-    push_cut_line(said, &done.cut, &done.page_paper);
-    push_reach_line(said, &done.reach);
-    push_behind_line(said, done.behind);
-    push_told_line(said, done.told.pages, done.report.pages);
-    push_creator_line(said, done.told.creator, done.report.pages);
+    push_unknown_line(said, &found.told.unknown);
+    push_cut_line(said, &found.cut, &found.page_paper);
+    push_reach_line(said, &found.reach);
+    push_behind_line(said, found.behind);
+    push_told_line(said, found.told.pages, done.report.pages);
+    push_creator_line(said, found.told.creator, done.report.pages);
 }
 
 fn push_report_line(said: &mut ReportText, done: &Finished, request: &ImposeRequest)

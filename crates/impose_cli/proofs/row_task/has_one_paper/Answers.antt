@@ -3,12 +3,14 @@ use Rattle.layouts.proofs.Fitting.{handed_on}
 use Rattle.impose_messages.specs.Faults.{without_memory}
 use Rattle.impose_cli.specs.Refusals.{RefusesDocument}
 use Rattle.impose_cli.proofs.OnePaper.{tells_one}
+use Rattle.impose_cli.proofs.Rows.{row_paper_of}
 use Rattle.impose_cli.proofs.row_task.has_one_paper.Goals as goal
 
 pub returns-clause-told : goal.returns-clause-told
 returns-clause-told c =
-    tells_one c.args.request.now c.args.input.now (c.in_ok-found.found.page_paper, c.in_ok-found.found.origin) c.in_ok-found.found.papers.items c.in_ok-found.found.cut c.args.paper.now _
-    c.in_ok-found.ensures.paper c.in_ok-found.ensures.found (rw c.as_slice.ensures.value at c.are_all.ensures)
+    let findings = c.in_ok-found.found.findings in
+    tells_one c.args.request.now c.args.input.now (findings.page_paper, findings.origin) c.in_ok-found.found.papers.items c.args.paper.now _
+    (row_paper_of c.args.request.now c.args.input.now findings c.in_ok-found.ensures.findings) c.in_ok-found.ensures.papers (rw c.as_slice.ensures.value at c.are_all.ensures)
 
 pub returns-in_err-found-clause-refused : goal.returns-in_err-found-clause-refused
 returns-in_err-found-clause-refused c =

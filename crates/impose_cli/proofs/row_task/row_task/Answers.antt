@@ -5,7 +5,7 @@ use Rattle.layouts.proofs.Fitting.{handed_on}
 use Rattle.impose_messages.specs.Faults.{without_memory}
 use Rattle.impose_cli.specs.Tasks.{taken_text}
 use Rattle.impose_cli.specs.RowTasks.{IsRowPaper, first_paper, guarded_in, why_no_row}
-use Rattle.impose_cli.proofs.Rows.{laid_as_asked, layout_refused, refused_after, refused_found}
+use Rattle.impose_cli.proofs.Rows.{laid_as_asked, layout_refused, refused_after, refused_found, row_paper_of}
 use Rattle.impose_cli.proofs.row_task.row_task.Goals as goal
 
 pub returns-in_err-found-clause-refused : goal.returns-in_err-found-clause-refused
@@ -15,25 +15,26 @@ returns-in_err-found-clause-refused c =
 
 pub returns-in_err-laying-clause-refused : goal.returns-in_err-laying-clause-refused
 returns-in_err-laying-clause-refused c =
-    let found : IsRowPaper c.args.request.now c.args.input.items (c.in_ok-found.found.page_paper, c.in_ok-found.found.origin) = rw c.as_slice.ensures.value at c.in_ok-found.ensures.paper in
+    let findings = c.in_ok-found.found.findings in
+    let found : IsRowPaper c.args.request.now c.args.input.items (findings.page_paper, findings.origin) =
+    row_paper_of c.args.request.now c.args.input.items findings (rw c.as_slice.ensures.value at c.in_ok-found.ensures.findings) in
     handed_on c.from_residual-in_err-laying.result _ _ c.from_residual-in_err-laying.ensures.1
-    (layout_refused c.args.request.now c.args.input.items (c.in_ok-found.found.page_paper, c.in_ok-found.found.origin) _ _ _ found c.papers_for-papers.ensures.page c.papers_for-papers.ensures.sheet c.in_err-laying.ensures.refused)
+    (layout_refused c.args.request.now c.args.input.items (findings.page_paper, findings.origin) _ _ _ found c.papers_for-papers.ensures.page c.papers_for-papers.ensures.sheet c.in_err-laying.ensures.refused)
 
 pub returns-in_err-signing-clause-refused : goal.returns-in_err-signing-clause-refused
 returns-in_err-signing-clause-refused c =
-    let found : IsRowPaper c.args.request.now c.args.input.items (c.in_ok-found.found.page_paper, c.in_ok-found.found.origin) = rw c.as_slice.ensures.value at c.in_ok-found.ensures.paper in
-    let possible : why_no_row c.args.request.now c.in_ok-found.found.page_paper ≡ None = search rules in
+    let findings = c.in_ok-found.found.findings in
+    let found : IsRowPaper c.args.request.now c.args.input.items (findings.page_paper, findings.origin) =
+    row_paper_of c.args.request.now c.args.input.items findings (rw c.as_slice.ensures.value at c.in_ok-found.ensures.findings) in
+    let possible : why_no_row c.args.request.now findings.page_paper ≡ None = search rules in
     handed_on c.from_residual-in_err-signing.result _ _ c.from_residual-in_err-signing.ensures.1
     (refused_after c.args.request.now c.args.input.items _ _ found (inr (inr (possible, c.in_ok-laying.ensures.named, c.in_err-signing.ensures.refused))))
 
 pub returns-clause-is_task : goal.returns-clause-is_task
 returns-clause-is_task c = record {
   turns = rw c.as_slice.ensures.value at c.in_ok-found.ensures.turns;
-  papers = rw c.as_slice.ensures.value at c.in_ok-found.ensures.found;
-  reach = rw c.as_slice.ensures.value at c.in_ok-found.ensures.reach;
-  page_paper = rw c.as_slice.ensures.value at c.in_ok-found.ensures.paper;
-  behind = rw c.as_slice.ensures.value at c.in_ok-found.ensures.behind;
-  taken = rw c.as_slice.ensures.value at c.in_ok-found.ensures.taken;
+  papers = rw c.as_slice.ensures.value at c.in_ok-found.ensures.papers;
+  findings = rw c.as_slice.ensures.value at c.in_ok-found.ensures.findings;
   text = c.in_ok-text.ensures.taken ∙ ap (λ p. taken_text c.args.request.now.is_guarded p c.args.input.items)
       (c.in_ok-sheet.ensures.value
       ∙ ap (λ s. guarded_in c.args.request.now.layout (first_paper (imposed_row (length c.in_ok-found.found.papers.items) (choice_in c.args.request.now.choice) None) c.in_ok-found.found.papers.items s) s)
@@ -51,12 +52,16 @@ returns-clause-parts c = c.in_ok-text.ensures.parts c.in_ok-found.parts (rw c.as
 
 pub returns-in_err-sheet-clause-refused : goal.returns-in_err-sheet-clause-refused
 returns-in_err-sheet-clause-refused c =
-    let found : IsRowPaper c.args.request.now c.args.input.items (c.in_ok-found.found.page_paper, c.in_ok-found.found.origin) = rw c.as_slice.ensures.value at c.in_ok-found.ensures.paper in
+    let findings = c.in_ok-found.found.findings in
+    let found : IsRowPaper c.args.request.now c.args.input.items (findings.page_paper, findings.origin) =
+    row_paper_of c.args.request.now c.args.input.items findings (rw c.as_slice.ensures.value at c.in_ok-found.ensures.findings) in
     handed_on c.from_residual-in_err-sheet.result _ _ c.from_residual-in_err-sheet.ensures.1
     (refused_after c.args.request.now c.args.input.items _ _ found (inl (inl c.in_err-sheet.ensures.refused)))
 
 pub returns-in_err-text-clause-refused : goal.returns-in_err-text-clause-refused
 returns-in_err-text-clause-refused c =
-    let found : IsRowPaper c.args.request.now c.args.input.items (c.in_ok-found.found.page_paper, c.in_ok-found.found.origin) = rw c.as_slice.ensures.value at c.in_ok-found.ensures.paper in
+    let findings = c.in_ok-found.found.findings in
+    let found : IsRowPaper c.args.request.now c.args.input.items (findings.page_paper, findings.origin) =
+    row_paper_of c.args.request.now c.args.input.items findings (rw c.as_slice.ensures.value at c.in_ok-found.ensures.findings) in
     handed_on c.from_residual-in_err-text.result without_memory _ c.from_residual-in_err-text.ensures.1
     (refused_after c.args.request.now c.args.input.items _ _ found (inl (inl refl)))

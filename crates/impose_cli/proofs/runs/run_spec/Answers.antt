@@ -17,6 +17,6 @@ impose_by_spec-left-requires-clause-workers g c κs bounds = workers_of c.args.r
 pub returns : goal.returns
 returns g c =
     let left = c.impose_by_spec-left.result in
-    spec_runs c.args.request.now c.args.input.items c.in-Ok.found.0 c.claims_of-told.result (edge_of_world (g.W.World.tells c.args.world) g.W.World.seen g.W.Output.Output.seen) c.reported.result left.outcome c.args.world left.rest
-    (option_map (λ n. n.now) c.name_of.result) (shown g.W.Output.Output.seen left.rest) c.requires.spec c.in-Ok.ensures.is_task (rw c.as_slice.ensures.value at c.claims_of-told.ensures) c.reported.ensures c.name_of.ensures
+    spec_runs c.args.request.now c.args.input.items c.in-Ok.found.0 (edge_of_world (g.W.World.tells c.args.world) g.W.World.seen g.W.Output.Output.seen) c.reported.result left.outcome c.args.world left.rest
+    (option_map (λ n. n.now) c.name_of.result) (shown g.W.Output.Output.seen left.rest) c.requires.spec c.in-Ok.ensures.is_task c.reported.ensures c.name_of.ensures
     c.impose_by_spec-left.ensures

@@ -1,6 +1,5 @@
-use Rattle.std.proofs.Common.{option_map, refl, rules, subst, true}
+use Rattle.std.proofs.Common.{refl, rules, true}
 use Rattle.std.specs.IoError.{error_kind}
-use Rattle.world.specs.Worlds.{HasRefused, WorldView, creating}
 use Rattle.impose_cli.specs.Endings.{edge_of_world}
 use Rattle.impose_cli.proofs.Coming.{held_fresh, held_there, is_not_created, refused_whole, refused_world}
 use Rattle.impose_cli.proofs.runs.written_out.Goals as goal

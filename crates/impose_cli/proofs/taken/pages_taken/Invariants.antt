@@ -1,6 +1,6 @@
 use Rattle.std.proofs.Common.{◌≡◌, ◌<◌, ℕ, length, take, false}
 use Rattle.std.specs.Prelude.{get_or}
-use Rattle.impose_cli.specs.Reaches.{takes}
+use Rattle.impose_cli.specs.Taken.{takes}
 use Rattle.impose_cli.proofs.taken.pages_taken.Given as goal
 
 abbrev pub invariant-loop-entry : goal.invariant-loop-entry

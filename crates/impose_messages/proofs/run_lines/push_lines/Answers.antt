@@ -6,18 +6,19 @@ use Rattle.impose_messages.proofs.run_lines.push_lines.Goals as goal
 pub returns-clause-text : goal.returns-clause-text
 returns-clause-text c =
     let done = c.args.done.now in
+    let found = done.findings in
     let a : List ℕ = line_of (Some (report_text done c.args.request.now)) in
-    let b : List ℕ = a ++ line_of (unknown_text done.told.unknown) in
-    let d : List ℕ = b ++ line_of (cut_text done.cut done.page_paper) in
-    let e : List ℕ = d ++ line_of (reach_text done.reach) in
-    let f : List ℕ = e ++ line_of (behind_text done.behind) in
-    let g : List ℕ = f ++ line_of (told_text done.told.pages done.report.pages) in
-    two c.args.said.now g (line_of (creator_text done.told.creator done.report.pages)) _ _
-    (two c.args.said.now f (line_of (told_text done.told.pages done.report.pages)) _ _
-    (two c.args.said.now e (line_of (behind_text done.behind)) _ _
-    (two c.args.said.now d (line_of (reach_text done.reach)) _ _
-    (two c.args.said.now b (line_of (cut_text done.cut done.page_paper)) _ _
-    (two c.args.said.now a (line_of (unknown_text done.told.unknown)) _ _ c.push_report_line.ensures.text c.push_unknown_line.ensures.text)
+    let b : List ℕ = a ++ line_of (unknown_text found.told.unknown) in
+    let d : List ℕ = b ++ line_of (cut_text found.cut found.page_paper) in
+    let e : List ℕ = d ++ line_of (reach_text found.reach) in
+    let f : List ℕ = e ++ line_of (behind_text found.behind) in
+    let g : List ℕ = f ++ line_of (told_text found.told.pages done.report.pages) in
+    two c.args.said.now g (line_of (creator_text found.told.creator done.report.pages)) _ _
+    (two c.args.said.now f (line_of (told_text found.told.pages done.report.pages)) _ _
+    (two c.args.said.now e (line_of (behind_text found.behind)) _ _
+    (two c.args.said.now d (line_of (reach_text found.reach)) _ _
+    (two c.args.said.now b (line_of (cut_text found.cut found.page_paper)) _ _
+    (two c.args.said.now a (line_of (unknown_text found.told.unknown)) _ _ c.push_report_line.ensures.text c.push_unknown_line.ensures.text)
     c.push_cut_line.ensures.text)
     c.push_reach_line.ensures.text)
     c.push_behind_line.ensures.text)

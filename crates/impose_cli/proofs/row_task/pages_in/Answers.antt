@@ -6,7 +6,7 @@ use Rattle.impose_words.specs.Choices.{choice_in}
 use Rattle.impose_cli.specs.Taken.{row_or_none}
 use Rattle.impose_cli.specs.RowTasks.{cells_paper, row_paper}
 use Rattle.impose_cli.proofs.Rows.{are_counted, as_many, counts_taken, is_counted}
-use Rattle.impose_cli.proofs.row_task.papers_in.Goals as goal
+use Rattle.impose_cli.proofs.row_task.pages_in.Goals as goal
 
 pub returns-clause-papers : goal.returns-clause-papers
 returns-clause-papers c =
