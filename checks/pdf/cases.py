@@ -228,8 +228,14 @@ def ran(case: Case, programs: Programs, folder: Path) -> Run:
     with tempfile.TemporaryFile() as source, open("/dev/full", "wb") as full:
         source.write(case.documents[stdin[0]].data if stdin else b"")
         source.seek(0)
-        how = case.setting("stdout") or [""]
-        to: IO[bytes] | int = full if how == ["full"] else closed() if how == ["closed"] else subprocess.PIPE
+        to: IO[bytes] | int = subprocess.PIPE
+        match case.setting("stdout"):
+            case ["full"]:
+                to = full
+            case ["closed"]:
+                to = closed()
+            case ["terminal"]:
+                _, to = os.openpty()
         process = subprocess.Popen(
             words, stdin=source, stdout=to, stderr=subprocess.PIPE, cwd=inside, env=env, preexec_fn=limited
         )

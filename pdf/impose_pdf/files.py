@@ -13,6 +13,7 @@ from impose_pdf.making import PRODUCER
 from impose_pdf.words import Refusal, Request, refusal, shown
 
 SIGNALS = (signal.SIGHUP, signal.SIGINT, signal.SIGTERM)
+OTHER_ENDINGS = (".ps", ".eps", ".svg", ".gz", ".txt", ".png", ".jpg", ".jpeg")
 
 
 class Sink(io.RawIOBase):
@@ -94,6 +95,8 @@ class Outfile:
             self.mode = 0  # it isn't there
         if stat.S_ISDIR(self.mode):
             raise refusal(3, f"cannot write {self.name}: it is a folder")
+        if name == "-" and os.isatty(1):
+            raise refusal(2, "a terminal shows no PDF: name an OUTFILE, or print it by: impose-pdf .. - | lp")
         self.is_file = not self.mode or stat.S_ISREG(self.mode)
         if self.is_file:
             self.folder, self.last = os.path.split(os.path.realpath(name))
@@ -108,6 +111,11 @@ class Outfile:
             raise refusal(
                 2, f"{self.name} wasn't written by impose-pdf; --replace replaces it, or name another OUTFILE"
             )
+
+    def warning(self) -> str:
+        """The line about a file that is named as another kind of file."""
+        ending = os.path.splitext(self.given)[1].lower()
+        return f"impose-pdf: {self.name} holds a PDF, whatever its name says\n" if ending in OTHER_ENDINGS else ""
 
     def look(self) -> None:
         """Refuses a file that can't be replaced."""

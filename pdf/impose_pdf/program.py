@@ -118,6 +118,8 @@ def impose(request: Request, program: str) -> None:
         making = Making(row)
         making.make(sheets, turn_to_read(request, sheets), imposer.flip())
         outfile.write(making.pdf)
+        if "--quiet" not in request.options:
+            say(outfile.warning())
     say("".join(source.warning() for source in opened.values()))
     all_pages = sum(len(source.pages) for source in opened.values())
     say(reported(report, len(set(sizes)) == 1, len(set(row)), all_pages))
