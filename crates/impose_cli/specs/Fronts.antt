@@ -1,5 +1,5 @@
 -- The first bytes of a file: those of the one that names the paper at home, and those of OUTFILE, which may hold a document by others.
-use Rattle.std.specs.Prelude.{◌≡◌, ◌⊎◌, ◌+◌, ◌||◌, ◌&&◌, ℕ, Bool, true, false, not, is_some, List, [], Option, Some, None, IfSome, codes, nat_eq, option_map, string_bytes}
+use Rattle.std.specs.Prelude.{◌≡◌, ◌⊎◌, ◌+◌, ◌||◌, ◌&&◌, ℕ, Bool, true, false, not, is_some, List, [], ◌∷◌, Option, Some, None, IfSome, codes, nat_eq, option_map, string_bytes}
 use Rattle.std.specs.List.{starts_with}
 use Rattle.memchr.specs.Find.{first_of, matches}
 use Rattle.world.specs.Input.{IsFirst, document_in}
@@ -29,9 +29,18 @@ LooksAt name most gives regular old new front =
 
 -- ---- a document by others
 
--- a file that begins so is a document: a PDF, or PostScript, perhaps behind white space
+-- before the PostScript in a job for a printer, by which the printer's own language (PJL) is entered
+abbrev pub printer_job : List ℕ
+printer_job = 27 ∷ codes "%-12345X"
+
+-- before the PostScript in an EPS with a preview (EPSF, Appendix)
+abbrev pub binary_header : List ℕ
+binary_header = 197 ∷ 208 ∷ 211 ∷ 198 ∷ []
+
+-- a file that begins so is a document: a PDF; PostScript, perhaps after white space; or what has PostScript after a head of its own
 abbrev pub is_document : (front : List ℕ) → Bool
-is_document front = starts_with nat_eq front (codes "%PDF-") || starts_with nat_eq (document_in front) (codes "%!")
+is_document front = starts_with nat_eq front (codes "%PDF-") || (starts_with nat_eq (document_in front) (codes "%!")
+    || (starts_with nat_eq front printer_job || starts_with nat_eq front binary_header))
 
 -- so begins the second line of the guard, and the first one before each page on a sheet
 abbrev pub mark : List ℕ

@@ -56,12 +56,21 @@ pub(crate) fn finds_foreign<W: World>(request: &ImposeRequest, world: &mut W) ->
     is_foreign(&front[..count])
 }
 
-/// Whether a file with these first bytes is a PDF or a PostScript document, and the bytes have no mark of impose.
+/// Whether a file with these first bytes is a document, and the bytes have no mark of impose.
 fn is_foreign(front: &[u8]) -> bool
     ensures { result ≡ meaning.is_foreign front.now }
 {
+    is_document(front) && !is_marked(front)
+}
+
+/// Whether a file with these first bytes is a PDF, a PostScript document, a printer's job, or an EPS with a binary header.
+fn is_document(front: &[u8]) -> bool
+    ensures { result ≡ meaning.is_document front.now }
+{
     let (_, document) = front.split_at(padding(front));
-    (front.starts_with(b"%PDF-") || document.starts_with(b"%!")) && !is_marked(front)
+    front.starts_with(b"%PDF-")
+        || (document.starts_with(b"%!")
+            || (front.starts_with(b"\x1b%-12345X") || front.starts_with(b"\xc5\xd0\xd3\xc6")))
 }
 
 /// Whether these bytes have a mark of impose: the first words of the guard, or those before a page on a sheet.
