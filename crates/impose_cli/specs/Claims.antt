@@ -12,7 +12,7 @@ use Rattle.impose_words.specs.declared.request.ImposeRequest.{ImposeRequest}
 use Rattle.impose_messages.specs.Said.{shown_name}
 use Rattle.impose_messages.specs.declared.finished.Claims.{Claims}
 use Rattle.impose_messages.specs.declared.finished.Creator.{Creator}
-use Rattle.impose_messages.specs.declared.finished.Creator.TheVariants.{Hp2xx, Xcircuit}
+use Rattle.impose_messages.specs.declared.finished.Creator.TheVariants.{G2, Hp2xx, Plplot, Xcircuit}
 use Rattle.row_runs.specs.DeclaredPages.{declared_page_count}
 
 -- a comment names papers or media
@@ -44,7 +44,8 @@ unknown_paper None usual text = unknown_name usual text
 -- the program of this name, if sheets of its pages fail (RULES, 17)
 abbrev pub creator_named : (name : List ℕ) → Option Creator
 creator_named name = if bytes_eq name (codes "hp2xx") then Some Hp2xx
-    else if bytes_eq name (codes "Xcircuit") || bytes_eq name (codes "XCircuit") then Some Xcircuit else None
+    else if bytes_eq name (codes "Xcircuit") || bytes_eq name (codes "XCircuit") then Some Xcircuit
+    else if bytes_eq name (codes "PLplot") then Some Plplot else if bytes_eq name (codes "g2") then Some G2 else None
 
 -- the one that a document names first as its creator
 abbrev pub creator_of : (text : List ℕ) → Option Creator

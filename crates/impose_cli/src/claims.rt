@@ -90,6 +90,10 @@ fn creator_named(name: &[u8]) -> Option<Creator>
         Some(Creator::Hp2xx)
     } else if name == b"Xcircuit".as_slice() || name == b"XCircuit".as_slice() {
         Some(Creator::Xcircuit)
+    } else if name == b"PLplot".as_slice() {
+        Some(Creator::Plplot)
+    } else if name == b"g2".as_slice() {
+        Some(Creator::G2)
     } else {
         None
     }

@@ -34,7 +34,7 @@ use Rattle.impose_words.specs.declared.request.Spacing.{Spacing}
 use Rattle.impose_words.specs.declared.request.Layout.{Layout}
 use Rattle.impose_words.specs.declared.request.Layout.TheVariants as layout
 use Rattle.impose_messages.specs.declared.finished.Creator.{Creator}
-use Rattle.impose_messages.specs.declared.finished.Creator.TheVariants.{Hp2xx, Xcircuit}
+use Rattle.impose_messages.specs.declared.finished.Creator.TheVariants.{G2, Hp2xx, Plplot, Xcircuit}
 use Rattle.impose_messages.specs.declared.finished.Finished.{Finished}
 use Rattle.impose_messages.specs.declared.finished.PaperOrigin.{PaperOrigin}
 use Rattle.impose_messages.specs.declared.finished.PaperOrigin.TheVariants as origin
@@ -206,15 +206,19 @@ told_text (Some told) found = if told == found then None else Some (told_message
 abbrev pub creator_effect : Creator → List ℕ
 creator_effect Hp2xx = codes "pages by hp2xx undo the setup, so that sheets print nothing"
 creator_effect Xcircuit = codes "pages by Xcircuit use what earlier pages define, so that sheets may be missing"
+creator_effect Plplot = codes "pages by PLplot undo the setup's scale, so that sheets are cut"
+creator_effect G2 = codes "pages by g2 rely on the setup's turn, so that sheets may be cut"
 
 -- and what to do
 abbrev pub creator_message : Creator → List ℕ
 creator_message creator = creator_effect creator ++ codes ": let Ghostscript draw the document first, by ps2pdf and pdftops"
 
--- one of so many pages depends on the text before it: each by hp2xx, by Xcircuit none but those after the first
+-- one of so many pages depends on the text before it: each by hp2xx, PLplot or g2, by Xcircuit none but those after the first
 abbrev pub depends : Creator → (pages : ℕ) → Bool
 depends Hp2xx pages = true
 depends Xcircuit pages = not (pages == 1)
+depends Plplot pages = true
+depends G2 pages = true
 
 -- if one does
 abbrev pub creator_text : Option Creator → (pages : ℕ) → Option (List ℕ)

@@ -25,6 +25,10 @@ pub enum Creator {
     Hp2xx,
     /// Xcircuit: its pages use definitions of earlier pages.
     Xcircuit,
+    /// PLplot: its setup scales the first page, and each page undoes this scale.
+    Plplot,
+    /// g2: its setup turns and moves the pages.
+    G2,
 }
 
 /// Facts that a document states in its comments, for the messages about the document.

@@ -387,6 +387,8 @@ fn creator_effect(creator: Creator) -> &'static [u8]
         Creator::Xcircuit => {
             b"pages by Xcircuit use what earlier pages define, so that sheets may be missing"
         }
+        Creator::Plplot => b"pages by PLplot undo the setup's scale, so that sheets are cut",
+        Creator::G2 => b"pages by g2 rely on the setup's turn, so that sheets may be cut",
     }
 }
 

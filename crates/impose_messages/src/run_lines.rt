@@ -133,7 +133,7 @@ fn has_dependent_pages(creator: Creator, pages: u32) -> bool
     ensures { result ≡ depends_on creator pages }
 {
     match creator {
-        Creator::Hp2xx => true,
+        Creator::Hp2xx | Creator::Plplot | Creator::G2 => true,
         Creator::Xcircuit => pages != 1,
     }
 }
