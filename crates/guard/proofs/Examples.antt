@@ -1,10 +1,11 @@
--- Where lines are inserted, worked out.
-use Rattle.std.proofs.Common.{◌≡◌, ℕ, List, [], ◌∷◌, length, refl}
+-- Where lines are inserted, and which setups place pages, worked out.
+use Rattle.std.proofs.Common.{◌≡◌, ℕ, true, false, List, [], ◌∷◌, length, map, refl}
 use Rattle.std.specs.Prelude.{codes, None, Some}
 use Rattle.std.specs.Fmt.{digits}
 use Rattle.rules.specs.Papers.{points}
 use Rattle.guard.specs.PutIn.{put_in}
 use Rattle.guard.specs.Guard.{page_size_line, guard_lines}
+use Rattle.guard.specs.Setups.{places_pages}
 
 abbrev one : List (List ℕ)
 one = codes "x" ∷ []
@@ -53,3 +54,13 @@ without_a_paper = refl
 
 with_a_paper : length (guard_lines (Some (points 595 842))) ≡ 39
 with_a_paper = refl
+
+-- Setups that scale, turn or move their pages, and others.
+
+setups_that_place_pages : map places_pages (codes "%!\n.2 .2 scale" ∷ codes "[1 0 0 1 9 9]concat%" ∷ codes "gsave save restore 90 rotate" ∷ [])
+    ≡ true ∷ true ∷ true ∷ []
+setups_that_place_pages = refl
+
+setups_that_place_none : map places_pages (codes "/f{90 rotate}def" ∷ codes "/scale 2 def(rotate)pop%scale" ∷ codes "gsave 2 2 scale grestore" ∷ codes "%%Page: 1 1\n2 2 scale" ∷ [])
+    ≡ false ∷ false ∷ false ∷ false ∷ []
+setups_that_place_none = refl

@@ -3,4 +3,5 @@ pub mod Gluing
 pub mod TheGuard
 pub mod Serving
 pub mod Sizes
+mod SetupTokens
 pub mod Examples
