@@ -37,7 +37,7 @@ printer_job = 27 ∷ codes "%-12345X"
 abbrev pub binary_header : List ℕ
 binary_header = 197 ∷ 208 ∷ 211 ∷ 198 ∷ []
 
--- a file that begins so is a document: a PDF; PostScript, perhaps after white space; or what has PostScript after a head of its own
+-- a file that begins so is a document: a PDF; PostScript, perhaps after white space or Ctrl-D; or what has PostScript after a head of its own
 abbrev pub is_document : (front : List ℕ) → Bool
 is_document front = starts_with nat_eq front (codes "%PDF-") || (starts_with nat_eq (document_in front) (codes "%!")
     || (starts_with nat_eq front printer_job || starts_with nat_eq front binary_header))

@@ -238,7 +238,7 @@ fn read_from<W: World>(
     }
 }
 
-/// The document in an input before which `ROOM` bytes are free. White space before the document is left out.
+/// The document in an input before which `ROOM` bytes are free. White space and Ctrl-D before the document are left out.
 fn roomy_document(bytes: Vec<u8>) -> RoomyText
     requires { 2_560 ≤ vec_len bytes }
     ensures { result.items ≡ document_in (drop 2_560 bytes.items) }

@@ -29,10 +29,14 @@ Counts old new r = MatchResult r (λ _. new ≡ old) (λ _. new ≡ old + 1)
 abbrev pub is_white : ℕ → Bool
 is_white b = b == 0 || (b == 9 || (b == 10 || (b == 12 || (b == 13 || b == 32))))
 
--- a text without its white space before %!, which an interpreter passes over
+-- white space, or the control character that ends a job for a printer (Ctrl-D), which drivers also write before the first one
+abbrev pub is_padding : ℕ → Bool
+is_padding b = b == 4 || is_white b
+
+-- a text without its padding before %!, which Ghostscript passes over
 abbrev pub unpadded : (text : List ℕ) → List ℕ
 unpadded text =
-    let behind = drop (prefix_len is_white text) text in if starts_with nat_eq behind (codes "%!") then behind else text
+    let behind = drop (prefix_len is_padding text) text in if starts_with nat_eq behind (codes "%!") then behind else text
 
 -- the document in an input: what is too long isn't read whole, and stays so
 abbrev pub document_in : (input : List ℕ) → List ℕ
