@@ -7,3 +7,7 @@ pub mod RangeParts
 pub mod Sewn
 pub mod Tallied
 pub mod Walked
+pub mod LastPage
+pub mod LastIsLast
+pub mod BegunRows
+pub mod AsMany
