@@ -32,3 +32,4 @@ mod AsPrinted
 mod AsDocument
 mod PrintedBacks
 pub mod NoPlan
+pub mod CardGrid

@@ -1,7 +1,7 @@
 -- Sheets whose cells are filled from a row: grids, cards, stacks. Each page is fitted into its cell by its own paper. All
 -- here is this project's own rules.
 use Rattle.std.specs.Prelude.{◌≡◌, ◌≢◌, ℕ, ◌+◌, ◌-◌, ◌*◌, ◌/◌, ◌%◌, ◌<◌, ◌≤◌, nat_abs, Bool, true, false, ◌&&◌, ◌==◌, if◌then◌else◌, List}
-use Rattle.std.specs.Prelude.{map, flat_map, length, nat_lt, Option, Some, None, ⊤}
+use Rattle.std.specs.Prelude.{map, flat_map, length, nat_lt, replicate, Option, Some, None, ⊤}
 use Rattle.std.specs.List.{range_with_len}
 use Rattle.rules.specs.Papers.{Paper}
 use Rattle.rules.specs.Sheets.{blocks}
@@ -122,6 +122,10 @@ zine_sheets f row = map (λ s. record {
 -- if no back is turned they are a grid with two cells
 abbrev pub BookletIsGrid : Type 0
 BookletIsGrid = (f : Filling) (row : Row) → booklet_sheets f false row ≡ grid_sheets f 2 row
+
+-- cards are the grid of a row that has each entry in as many cells
+abbrev pub CardsAreGrid : Type 0
+CardsAreGrid = (f : Filling) (cells : ℕ) (row : Row) → 0 < cells → card_sheets f cells row ≡ grid_sheets f cells (flat_map (replicate cells) row)
 
 -- the cells of the sheets, in turn, have the row, and blanks after its end: a law
 abbrev pub GridRunsOn : Type 0

@@ -3,7 +3,7 @@ ghost use Rattle.row_sheets.specs.AsDocument.{RowIsDocument};
 ghost use Rattle.row_sheets.specs.AsPrinted.{NothingIsWrittenOfNumbers, PrintedBacksAreImposed, PrintedBookletIsImposed, PrintedIsImposed};
 ghost use Rattle.row_sheets.specs.BySpec.{BySpecOnAll};
 ghost use Rattle.row_sheets.specs.Specified.{GridIsSpecified, BookletIsSpecified};
-ghost use Rattle.row_sheets.specs.Filled.{GridRunsOn, BehindIsMirror};
+ghost use Rattle.row_sheets.specs.Filled.{BehindIsMirror, CardsAreGrid, GridRunsOn};
 ghost use Rattle.row_sheets.specs.Filled.{FilledIsInside, FilledIsApart, SidesAreInside, SidesAreApart, BookletIsGrid, BookletKeepsFold};
 ghost use Rattle.row_sheets.specs.Creep.{CreepMoves, CreepGrows, CreepKeepsSides, NoCreepIsPlain};
 ghost use Rattle.row_sheets.specs.Halves.{BookletKeepsGap, BookletLiesInHalves};
@@ -33,6 +33,11 @@ pub fn grid_is_read()
 /// Each sheet of cards shows one entry of the row in all of its cells. The sheets show the entries in the order of the row.
 pub fn cards_are_read()
     ensures { CardsAreRead }
+{}
+
+/// Sheets of cards are those of a grid whose row has a copy of each entry for each cell.
+pub fn cards_are_grid()
+    ensures { CardsAreGrid }
 {}
 
 /// If the sheets of a stack are cut and the piles are laid on one another, the entries are read in the order of the row.
