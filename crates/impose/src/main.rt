@@ -23,7 +23,7 @@ fn main(rt: HostRuntime) -> ExitCode {
         Ok(words) => words,
         Err(fault) => return end_with(&rt, ImposeFault::Command(fault)),
     };
-    let world = Host::new(&rt, rt.stdin(), rt.stdout());
+    let world = Host::new(&rt, rt.stdin(), rt.stdout(), rt.stderr());
     let paper_size = paper_size(&rt);
     let paper_size = paper_size.as_str().as_bytes();
     let ended = impose(&rt, rt.alloc(), words.as_slice(), paper_size, world);

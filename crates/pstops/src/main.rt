@@ -13,7 +13,7 @@ fn main(rt: HostRuntime) -> ExitCode {
     let alloc = rt.alloc();
     let (status, line) = match words(&rt) {
         Ok(words) => {
-            let world = Host::new(&rt, rt.stdin(), rt.stdout());
+            let world = Host::new(&rt, rt.stdin(), rt.stdout(), rt.stderr());
             let ended = pstops(&rt, alloc, after_name(words.as_slice()), world);
             (ended.status, ended.line)
         }

@@ -20,12 +20,13 @@ pub struct Folder<'a> {
     alloc: Global,
     files: &'a [GivenFile<'a>],
     takes: Takes,
+    is_terminal: bool,
     trace: Trace,
     failures: Failures,
 }
 
 impl<'a> Folder<'a> {
-    /// A world of these files, whose output behaves as `takes` says. The world has received no request.
+    /// A world of these files, whose output behaves as `takes` says, and isn't a terminal. The world has received no request.
     pub fn new(alloc: Global, files: &'a [GivenFile<'a>], takes: Takes) -> Folder<'a>
         ensures gives { ⟦<Folder<'a> as World>⟧.gives result ≡ (λ name. Some (read_by files.now name)) }
         ensures asked { (⟦<Folder<'a> as World>⟧.seen result).asked ≡ Some [] }
@@ -35,8 +36,21 @@ impl<'a> Folder<'a> {
             alloc,
             files,
             takes,
+            is_terminal: false,
             trace: Trace::new(alloc),
             failures: Failures::none(),
+        }
+    }
+
+    /// The same world, with a terminal as its standard output.
+    pub fn at_terminal(self) -> Folder<'a>
+        ensures terminal { ⟦<Folder<'a> as World>⟧.terminal result ≡ Some true }
+        ensures gives { ⟦<Folder<'a> as World>⟧.gives result ≡ ⟦<Folder<'a> as World>⟧.gives self.entry }
+        ensures seen { ⟦<Folder<'a> as World>⟧.seen result ≡ ⟦<Folder<'a> as World>⟧.seen self.entry }
+    {
+        Folder {
+            is_terminal: true,
+            ..self
         }
     }
 
@@ -65,6 +79,8 @@ impl<'a> World for Folder<'a> {
     ghost regular = { λ folder name. Some (is_regular folder.files.now name) };
 
     ghost same = { λ _ input name. Some (is_named input name) };
+
+    ghost terminal = { λ folder. Some folder.is_terminal };
 
     ghost tells = { λ _. true };
 
@@ -97,6 +113,7 @@ impl<'a> World for Folder<'a> {
         ensures counted { self.new.failures.count ≡ self.old.failures.count + failures_of source.entry }
         ensures again { ⟦<Folder<'a> as World>⟧.gives self.new ≡ ⟦<Folder<'a> as World>⟧.gives self.old }
         ensures same { ⟦<Folder<'a> as World>⟧.same self.new ≡ ⟦<Folder<'a> as World>⟧.same self.old }
+        ensures terminal { ⟦<Folder<'a> as World>⟧.terminal self.new ≡ ⟦<Folder<'a> as World>⟧.terminal self.old }
         ensures tells { ⟦<Folder<'a> as World>⟧.tells self.new ≡ ⟦<Folder<'a> as World>⟧.tells self.old }
     {
         self.failures.close(source)
@@ -114,6 +131,12 @@ impl<'a> World for Folder<'a> {
             None => false,
         }
     }
+
+    fn is_output_terminal(&self) -> bool {
+        self.is_terminal
+    }
+
+    fn announce(&self, _line: &str) {}
 
     fn create(self, name: Option<&str>) -> Result<WriteOutput<Written>, Refused<Folder<'a>>> {
         let alloc = self.alloc;

@@ -8,7 +8,7 @@ use crate::output::WriteOutput;
 use crate::source::ReadSource;
 use crate::world::{Refused, World};
 use std::fs::{File, Files};
-use std::io::{Read, Stdin, Stdout, Write};
+use std::io::{IsTerminal, Read, Stderr, Stdin, Stdout, Write};
 use std::os::unix::fs::MetadataExt;
 use std::{fs, io};
 
@@ -18,6 +18,7 @@ pub struct Host<'a, R: Files> {
     files: &'a R,
     stdin: Stdin,
     stdout: Stdout,
+    stderr: Stderr,
     failures: Failures,
 }
 
@@ -40,13 +41,14 @@ const STANDARD_INPUT: &str = "/dev/stdin";
 
 impl<'a, R: Files> Host<'a, R> {
     /// The world with these files and standard streams. The world has not failed yet.
-    pub fn new(files: &'a R, stdin: Stdin, stdout: Stdout) -> Host<'a, R>
+    pub fn new(files: &'a R, stdin: Stdin, stdout: Stdout, stderr: Stderr) -> Host<'a, R>
         ensures { (⟦<Host<'a, R> as World>⟧.seen result).failures ≡ 0 }
     {
         Host {
             files,
             stdin,
             stdout,
+            stderr,
             failures: Failures::none(),
         }
     }
@@ -81,6 +83,7 @@ impl<'a, R: Files> World for Host<'a, R> {
         ensures counted { self.new.failures.count ≡ self.old.failures.count + failures_of source }
         ensures again { ⟦<Host<'a, R> as World>⟧.gives self.new ≡ ⟦<Host<'a, R> as World>⟧.gives self.old }
         ensures same { ⟦<Host<'a, R> as World>⟧.same self.new ≡ ⟦<Host<'a, R> as World>⟧.same self.old }
+        ensures terminal { ⟦<Host<'a, R> as World>⟧.terminal self.new ≡ ⟦<Host<'a, R> as World>⟧.terminal self.old }
         ensures tells { ⟦<Host<'a, R> as World>⟧.tells self.new ≡ ⟦<Host<'a, R> as World>⟧.tells self.old }
     {
         self.failures.close(source)
@@ -103,6 +106,17 @@ impl<'a, R: Files> World for Host<'a, R> {
                 one.is_file() && one.dev() == other.dev() && one.ino() == other.ino()
             }
             _ => false,
+        }
+    }
+
+    fn is_output_terminal(&self) -> bool {
+        self.stdout.is_terminal()
+    }
+
+    fn announce(&self, line: &str) {
+        if self.stdin.is_terminal() {
+            let mut stderr = self.stderr;
+            let _ = stderr.write_all(line.as_bytes());
         }
     }
 

@@ -31,6 +31,9 @@ pub trait World: Sized + Drop {
     // Whether the input of the first name is the file of the second, where that is known.
     ghost same: { Self → Option (List ℕ) → List ℕ → Option Bool } = { λ _ _ _. None };
 
+    // Whether standard output is a terminal, if that is known.
+    ghost terminal: { Self → Option Bool } = { λ _. None };
+
     // Whether its outputs report their names and the bytes written to them.
     ghost tells: { Self → Bool } = { λ _. false };
 
@@ -47,6 +50,7 @@ pub trait World: Sized + Drop {
         // A file gives the same bytes as before this call. Standard input may give fewer, since it may have been read.
         ensures again { is_some name.entry ≡ true → gives self.new ≡ gives self.old }
         ensures same { same self.new ≡ same self.old }
+        ensures terminal { terminal self.new ≡ terminal self.old }
         ensures tells { tells self.new ≡ tells self.old };
 
     /// Closes an input, and adds its failures to those of the world. Returns the error of the input's last failure, or None if the input hasn't
@@ -59,6 +63,7 @@ pub trait World: Sized + Drop {
         ensures counted { (seen self.new).failures ≡ (seen self.old).failures + failures_of source }
         ensures again { gives self.new ≡ gives self.old }
         ensures same { same self.new ≡ same self.old }
+        ensures terminal { terminal self.new ≡ terminal self.old }
         ensures tells { tells self.new ≡ tells self.old };
 
     /// Whether there is a regular file of this name. A caller can check this first, since opening another kind of file may wait, and reading it may
@@ -69,6 +74,14 @@ pub trait World: Sized + Drop {
     /// Whether `file` is a name of the regular file that is the input. The input is the file named `input`, or standard input if `input` is None.
     fn is_input(&self, input: Option<&str>, file: &str) -> bool
         ensures { IfSome (same self.now (option_map (λ n. n.now) input.entry) file.now) (λ is. result ≡ is) };
+
+    /// Whether standard output is a terminal.
+    fn is_output_terminal(&self) -> bool
+        ensures { IfSome (terminal self.now) (λ is. result ≡ is) };
+
+    /// Writes this line to standard error if standard input is a terminal, so that the person at the terminal knows what the program waits for.
+    /// Nothing reports it if the line can't be written.
+    fn announce(&self, line: &str);
 
     /// Creates the file of this name, or empties it if it exists. If `name` is None, the output is standard output. Nothing has been written to the
     /// new output. A refusal is counted as a failure of the world.
