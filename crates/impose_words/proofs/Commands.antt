@@ -11,12 +11,11 @@ use Rattle.clap.proofs.SimpleLemmas.{is_false}
 use Rattle.clap.specs.declared.builder.arg.Arg.{Arg}
 use Rattle.clap.specs.declared.builder.command.Command.{Command}
 use Rattle.clap.specs.declared.builder.command.Command.TheViews.{out-Command}
-use Rattle.impose_words.specs.Command.{first_apps, impose, other_apps, with_top}
-use Rattle.impose_words.specs.Tables.{app_in, rule_in, rules_in, with_app, with_group, with_row}
+use Rattle.impose_words.specs.Command.{app_in, first_apps, impose, other_apps, rule_in, rules_in, with_app, with_group, with_row, with_top}
 use Rattle.impose_words.specs.declared.arguments.Argument.{Argument}
 use Rattle.impose_words.specs.declared.arguments.Argument.TheVariants as argument
-use Rattle.impose_words.specs.declared.arguments.Group.{Group}
 use Rattle.impose_words.specs.declared.arguments.Subcommand.{Subcommand}
+use Rattle.impose_words.specs.declared.subcommands.Group.{Group}
 
 pub impose_is_simple : is_simple impose ≡ true
 unfolding impose
@@ -52,8 +51,6 @@ is_simple_row (argument.Valued id name help) = refl
 is_simple_row (argument.LetteredValued letter id name help) = refl
 is_simple_row (argument.Flag id help) = refl
 is_simple_row (argument.LetteredFlag letter id help) = refl
-is_simple_row (argument.HiddenValued id name) = refl
-is_simple_row (argument.HiddenFlag id) = refl
 
 -- a simple argument isn't global
 is_local : (a : Arg) → is_simple_arg a ≡ true → a.global ≡ false

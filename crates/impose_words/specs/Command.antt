@@ -6,6 +6,11 @@ use Rattle.std.specs.List.{fold}
 use Rattle.clap.specs.Words.{App, Rule, Shape, Text, new_app, new_rule, with_rule, with_subcommand}
 use Rattle.clap.specs.Simple.{on_top}
 use Rattle.clap.specs.declared.builder.action.ArgAction.TheVariants.{Set, SetTrue}
+use Rattle.impose_words.specs.declared.arguments.Argument.{Argument}
+use Rattle.impose_words.specs.declared.arguments.Argument.TheVariants as argument
+use Rattle.impose_words.specs.declared.arguments.Subcommand.{Subcommand}
+use Rattle.impose_words.specs.declared.subcommands.Group.{Group}
+use Rattle.impose_words.specs.declared.subcommands.Group.TheVariants as group
 
 abbrev pub positional_rule : Text → Rule
 positional_rule id = record (new_rule id) { value_names = 1; action = Some Set }
@@ -157,3 +162,46 @@ with_top s = record s { has_version = true; subcommand_required = true; arg_requ
 -- opaque, so that what a clause says of it stays short
 unfoldable pub impose : App
 impose = fold (λ a sub. with_subcommand a sub.top) (on_top with_top (new_app (codes "impose"))) (first_apps ++ other_apps)
+
+-- ---- the table of subcommands, by which the command is made
+
+abbrev pub rule_in : Argument → Rule
+rule_in (argument.Required id name help) = required_rule id.now
+rule_in (argument.Positional id name help) = positional_rule id.now
+rule_in (argument.Valued id name help) = option_rule id.now
+rule_in (argument.LetteredValued letter id name help) = lettered letter (option_rule id.now)
+rule_in (argument.Flag id help) = flag_rule id.now
+rule_in (argument.LetteredFlag letter id help) = lettered letter (flag_rule id.now)
+
+abbrev pub with_row : App → Argument → App
+with_row app row = with_rule app (rule_in row)
+
+-- the arguments of a group
+abbrev pub rules_in : Group → List Rule
+rules_in group.Count = count_rule ∷ []
+rules_in group.Copies = count_rule ∷ []
+rules_in group.BoundCells = cell_rules
+rules_in group.Cells = cell_rules
+rules_in group.Skip = option_rule (codes "skip") ∷ []
+rules_in group.Duplex = flag_rule (codes "duplex") ∷ []
+rules_in group.Booklet = booklet_rules
+rules_in group.Zine = zine_rules
+rules_in group.Notes = notes_rules
+rules_in group.Poster = poster_rules
+rules_in group.Selection = select_rules
+rules_in group.Specs = spec_rules
+rules_in group.Turn = option_rule (codes "turn") ∷ []
+rules_in group.Look = look_rules
+rules_in group.Pages = option_rule (codes "pages") ∷ []
+rules_in group.Common = common_rules
+
+abbrev pub with_group : App → Group → App
+with_group app g = fold with_rule app (rules_in g)
+
+-- a subcommand with the arguments of its row
+abbrev pub app_in : Subcommand → App
+app_in row = fold with_group (new_app row.name.now) row.groups.now
+
+-- the command with one more of them
+abbrev pub with_app : App → Subcommand → App
+with_app app row = with_subcommand app (app_in row).top

@@ -1,7 +1,6 @@
--- Read in this order: the command, the tables that it is made of, and its values, sizes, edges, signatures, cells, choices of pages,
+-- Read in this order: the command, and its values, sizes, edges, signatures, cells, choices of pages,
 -- what is kept free, the paper of the sheets and what is made among them; what the words ask for; what would do nothing; what is refused.
 pub mod Command
-pub mod Tables
 pub mod Sizes
 pub mod Edges
 pub mod Signatures

@@ -8,10 +8,10 @@ mod edges;
 mod fault;
 mod idle;
 mod request;
-mod shared_arguments;
 mod sheet_paper;
 mod signature;
 mod sizes;
+mod subcommands;
 
 pub use arranging::{cells_named, run_named, tiles_named, turned_named};
 pub use command::read_command;

@@ -1,7 +1,7 @@
 use Rattle.std.proofs.Common.{◌≡◌, drop}
 use Rattle.std.specs.List.{fold}
 use Rattle.clap.specs.Words.{app_of}
-use Rattle.impose_words.specs.Tables.{with_app}
+use Rattle.impose_words.specs.Command.{with_app}
 use Rattle.impose_words.proofs.arguments.with_subcommands.Given as goal
 
 abbrev pub invariant-loop-row : goal.invariant-loop-row
