@@ -1,31 +1,16 @@
 -- What was found for a subcommand, and what its refusals say of the words.
-use Rattle.std.proofs.Common.{◌≡◌, ℕ, ℤ, ap, ap₂, refl, inl, inr, subst, sym, Bool, List, [], ◌∷◌, Option, Some, None, unwrap_or, true, false, true≢false}
-use Rattle.std.specs.Prelude.{codes, if◌then◌else◌, is_some, option_map}
+use Rattle.std.proofs.Common.{◌≡◌, ap, ap₂, refl, inl, inr, subst, sym, List, [], ◌∷◌, Option, Some, None, unwrap_or, true}
+use Rattle.std.specs.Prelude.{option_map}
 use Rattle.std.specs.Box.{box_value}
 use Rattle.clap.specs.Words.{Row, Text, found_of, rows_of, subcommand_name_of, subcommand_rows, subcommand_rows_of}
 use Rattle.clap.specs.declared.parser.matches.ArgMatches.{ArgMatches}
 use Rattle.clap.specs.declared.parser.matches.ArgMatches.TheViews.{out-ArgMatches, out-SubCommand}
 use Rattle.rules.specs.Papers.{Paper}
-use Rattle.impose_words.specs.Faults.{ParseRefuses, RefusesCommand, RefusesFound, SaysWrong, Wrong, first, wrong_among, wrong_choice, wrong_marks}
-use Rattle.impose_words.specs.Faults.{wrong_lines, wrong_numbers, wrong_order, wrong_sizes, wrong_skip, wrong_spacing}
-use Rattle.impose_words.specs.Words.{ChoosesBy, Entered, Enters, ReadsRequest, ReadsSizes, SpacesBy, file_asked, given, has_flag, is_outfile}
-use Rattle.impose_words.specs.Arranging.{numbering, marks_and_numbers}
-use Rattle.impose_words.specs.Words.{first_found, has_numbers, lines_found, number_size_found, numbers_found}
-use Rattle.impose_words.specs.Words.{gaps_found, length_found, margins_found, marks_found, order_by, order_found, run_found, skip_found, turned_found}
-use Rattle.layouts.specs.declared.arrangement.Free.{Free}
-use Rattle.impose_words.specs.Edges.{free_with}
-use Rattle.impose_words.specs.declared.edges.Margins.{Margins}
-use Rattle.impose_words.specs.declared.request.Layout.{Layout}
-use Rattle.impose_words.specs.declared.request.Layout.TheVariants as layout
+use Rattle.impose_words.specs.Faults.{ParseRefuses, RefusesCommand, RefusesFound, SaysWrong, Wrong, first, wrong_among, wrong_choice}
+use Rattle.impose_words.specs.Words.{ChoosesBy, Entered, Enters, ReadsRequest, file_asked, given, is_outfile}
 use Rattle.impose_words.specs.declared.request.PageChoice.{PageChoice}
 use Rattle.impose_words.specs.declared.request.ImposeRequest.{ImposeRequest}
-use Rattle.impose_words.specs.declared.request.Spacing.{Spacing}
-use Rattle.impose_words.specs.declared.request.Turning.{Turning}
-use Rattle.dressing.specs.declared.numbers.Numbering.{Numbering}
-use Rattle.dressing.specs.declared.strokes.Marks.{Marks}
-use Rattle.layouts.specs.declared.arrangement.Order.{Order}
-use Rattle.layouts.specs.declared.arrangement.FillOrder.{FillOrder}
-use Rattle.layouts.specs.declared.arrangement.Turned.{Turned}
+use Rattle.impose_words.proofs.Values.{past}
 use Rattle.impose_words.specs.declared.fault.RequestFault.{RequestFault}
 use Rattle.impose_words.specs.declared.fault.RequestFault.TheVariants as fault
 use Rattle.impose_words.specs.declared.fault.OptionId.TheVariants as opt
@@ -86,10 +71,6 @@ refuses_words words name found (fault.TwoProducts one other) e h = (name, found,
 
 -- ---- which is first
 
--- what was found goes before what is wrong after it
-pub past : {X : Type 0} {v : Option X} {x : X} (wrong : Wrong) {rest e : Option Wrong} → v ≡ Some x → rest ≡ e → (if is_some v then rest else Some wrong) ≡ e
-past wrong is h = rw is h
-
 pub next : {a b e : Option Wrong} → a ≡ None → b ≡ e → first a b ≡ e
 next is h = rw is h
 
@@ -109,82 +90,6 @@ pub says_next : (found : List Row) (f : RequestFault) (a b : Option Wrong) → a
 says_next found f a b is h = subst (λ o. SaysWrong found f (first o b)) (sym is) h
 
 -- ---- nothing is wrong with what was read
-
-pub sizes_right : (found : List Row) (page_paper sheet_paper : Option Paper) (border : Option ℤ) (turn : Turning) → ReadsSizes found page_paper sheet_paper border turn → wrong_sizes found ≡ None
-sizes_right found page_paper sheet_paper border turn r = past _ r.page_paper_is (past _ r.sheet_paper_is (past _ r.border_is (past _ r.turn_is refl)))
-
-pub skip_right : (l : Layout) (found : List Row) (skipped : ℕ) → skip_found l found ≡ Some skipped → wrong_skip l found ≡ None
-skip_right (layout.NUp cells) found skipped e = past _ e refl
-skip_right (layout.Cards cells) found skipped e = past _ e refl
-skip_right other found skipped e = refl
-
--- an order that is read has parts that are
-order_parts : (run : Option (FillOrder × Bool)) (rtl : Bool) (turned : Option Turned) (order : Order) (w v : Wrong) → order_by run rtl turned ≡ Some order
-    → (if is_some run then (if is_some turned then None else Some w) else Some v) ≡ None
-order_parts None rtl turned order w v e = cc
-order_parts (Some run) rtl None order w v e = cc
-order_parts (Some run) rtl (Some turned) order w v e = refl
-
-pub order_right : (found : List Row) (order : Order) → order_found found ≡ Some order → wrong_order found ≡ None
-order_right found order e = order_parts (run_found found) (has_flag (codes "rtl") found) (turned_found found) order _ _ e
-
--- so has what is kept free
-free_parts : (margins : Option Margins) (gaps : Option Free) (trim : Option ℤ) (free : Free) (w v u : Wrong) {e : Option Wrong} → free_with margins gaps trim ≡ Some free → e ≡ None
-    → (if is_some margins then (if is_some gaps then (if is_some trim then e else Some w) else Some v) else Some u) ≡ None
-free_parts None gaps trim free w v u s h = cc
-free_parts (Some margins) None trim free w v u s h = cc
-free_parts (Some margins) (Some gaps) None free w v u s h = cc
-free_parts (Some margins) (Some gaps) (Some trim) free w v u s h = h
-
-pub spacing_right : (keeps : Bool) (found : List Row) (s : Spacing) → SpacesBy keeps found s → wrong_spacing keeps found ≡ None
-spacing_right false found s k = refl
-spacing_right true found s k =
-    next (free_parts (margins_found found) (gaps_found found) (length_found opt.Trim found) s.free _ _ _ k.0 (past _ k.1 (past _ k.2 refl)))
-    (next (order_right found s.order k.3) (past _ k.4 refl))
-
--- the scale alone is wrong
-pub scale_wrong : (keeps : Bool) (found : List Row) (margins : Margins) (gaps : Free) (trim creep overlap : ℤ) (order : Order) → true ≡ keeps
-    → margins_found found ≡ Some margins → gaps_found found ≡ Some gaps → length_found opt.Trim found ≡ Some trim
-    → length_found opt.Creep found ≡ Some creep → length_found opt.Overlap found ≡ Some overlap → order_found found ≡ Some order
-    → {wrong : Option Wrong} → wrong_among (opt.Scale ∷ []) found ≡ wrong → wrong_spacing keeps found ≡ wrong
-scale_wrong false found margins gaps trim creep overlap order keeps m g t c o r s = absurd (true≢false keeps)
-scale_wrong true found margins gaps trim creep overlap order keeps m g t c o r s =
-    next (past _ m (past _ g (past _ t (past _ c (past _ o refl))))) (next (order_right found order r) s)
-
-pub lines_right : (l : Layout) (found : List Row) (marks : Marks) → lines_found l found ≡ Some marks → wrong_lines l found ≡ None
-lines_right (layout.NUp cells) found marks e = past _ e refl
-lines_right (layout.Cards cells) found marks e = past _ e refl
-lines_right (layout.Stack cells duplex) found marks e = past _ e refl
-lines_right (layout.Booklet signing long_edge) found marks e = past _ e refl
-lines_right (layout.Notes pages) found marks e = refl
-lines_right (layout.Poster cells) found marks e = past _ e refl
-lines_right layout.Zine found marks e = refl
-lines_right layout.Selection found marks e = refl
-lines_right (layout.Spec specs) found marks e = refl
-lines_right (layout.SpecRow specs signing) found marks e = refl
-
-sizes_read : (size : Option (Option ℤ)) (first : Option ℕ) (numbers : Option Numbering) (w v : Wrong) → numbering size first ≡ Some numbers
-    → (if is_some size then (if is_some first then None else Some w) else Some v) ≡ None
-sizes_read None first numbers w v e = cc
-sizes_read (Some size) None numbers w v e = cc
-sizes_read (Some size) (Some first) numbers w v e = refl
-
-pub numbers_right : (has : Bool) (found : List Row) (numbers : Option Numbering) → (if has then numbering (number_size_found found) (first_found found) else Some None) ≡ Some numbers
-    → wrong_numbers has found ≡ None
-numbers_right false found numbers e = refl
-numbers_right true found numbers e = sizes_read (number_size_found found) (first_found found) numbers _ _ e
-
--- marks that are read have parts that are
-parts : (lines : Option Marks) (numbers : Option (Option Numbering)) (marks : Marks) → marks_and_numbers lines numbers ≡ Some marks
-    → ((l : Marks) × (lines ≡ Some l)) × ((n : Option Numbering) × (numbers ≡ Some n))
-parts None numbers marks e = cc
-parts (Some lines) None marks e = cc
-parts (Some lines) (Some numbers) marks e = ((lines, refl), (numbers, refl))
-
-pub marks_right : (l : Layout) (found : List Row) (marks : Marks) → marks_found l found ≡ Some marks → wrong_marks l found ≡ None
-marks_right l found marks e =
-    let read = parts (lines_found l found) (numbers_found l found) marks e in
-    next (lines_right l found read.0.0 read.0.1) (numbers_right (has_numbers l) found read.1.0 read.1.1)
 
 pub choice_right : (id : Option Text) (found : List Row) (choice : PageChoice) → ChoosesBy id found choice → wrong_choice id found ≡ None
 choice_right None found choice k = refl

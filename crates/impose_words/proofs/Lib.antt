@@ -1,5 +1,6 @@
 pub mod Commands
 pub mod Cutting
+pub mod Values
 pub mod Found
 mod Listed
 pub mod Examples

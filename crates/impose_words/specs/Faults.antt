@@ -1,7 +1,8 @@
 -- What may be wrong with what was found, which of it comes first, and what a fault says of it.
-use Rattle.std.specs.Prelude.{◌≡◌, ◌⊎◌, ⊤, Bool, true, false, if◌then◌else◌, is_some, unwrap_or, List, [], ◌∷◌, Option, Some, None}
+use Rattle.std.specs.Prelude.{◌≡◌, ◌⊎◌, ⊤, Result, Bool, true, false, if◌then◌else◌, is_some, unwrap_or, List, [], ◌∷◌, Option, Some, None}
 use Rattle.std.specs.Prelude.{codes, option_map, string_bytes}
 use Rattle.std.specs.Str.{bytes_eq}
+use Rattle.std.specs.Result.{result_err}
 use Rattle.clap.specs.Words.{IsAmong, Row, Text, fault_of, first_of, kind_of, subcommand_of}
 use Rattle.layouts.specs.Grids.{cells_per_sheet}
 use Rattle.impose_words.specs.Arranging.{booklet_marks_named, cut_marks_named, no_marks}
@@ -70,6 +71,10 @@ abbrev pub wrong_among : List OptionId → (found : List Row) → Option Wrong
 wrong_among [] found = None
 wrong_among (option ∷ options) found = if is_value option found then wrong_among options found else Some (NoValue option)
 
+-- the option that an error names has a value that is none, and without an error nothing is wrong
+abbrev pub wrong_in : {A : Type 0} → Result A OptionId → Option Wrong
+wrong_in result = option_map (λ option. NoValue option) (result_err result)
+
 -- ---- in their order
 
 -- the papers, the border and the turn
@@ -111,11 +116,15 @@ abbrev pub wrong_order : (found : List Row) → Option Wrong
 wrong_order found = wrong_among (opt.Order ∷ opt.Turned ∷ []) found
 
 -- what is kept free, the order and the scale, of a layout that keeps room
-abbrev pub wrong_spacing : (keeps : Bool) → (found : List Row) → Option Wrong
-wrong_spacing false found = None
-wrong_spacing true found =
+abbrev pub wrong_room : (keeps : Bool) → (found : List Row) → Option Wrong
+wrong_room false found = None
+wrong_room true found =
     first (wrong_among (opt.Margin ∷ opt.Gap ∷ opt.Trim ∷ opt.Creep ∷ opt.Overlap ∷ []) found)
     (first (wrong_order found) (wrong_among (opt.Scale ∷ []) found))
+
+-- the cells that are used already, and then the room
+abbrev pub wrong_spacing : Layout → (found : List Row) → Option Wrong
+wrong_spacing layout found = first (wrong_skip layout found) (wrong_room (keeps_room layout) found)
 
 -- the marks, of sheets that have some
 abbrev pub wrong_lines : Layout → (found : List Row) → Option Wrong
@@ -147,11 +156,10 @@ wrong_product true found = first (option_map (λ two. Two two.0 two.1) (two_foun
 -- all that comes after the layout
 abbrev pub wrong_for : Layout → (found : List Row) → Option Wrong
 wrong_for layout found =
-    first (wrong_skip layout found)
-    (first (wrong_spacing (keeps_room layout) found)
+    first (wrong_spacing layout found)
     (first (wrong_marks layout found)
     (first (wrong_choice (ranges_id layout) found)
-    (first (wrong_among (opt.Outfile ∷ []) found) (wrong_product (lays_rows layout) found)))))
+    (first (wrong_among (opt.Outfile ∷ []) found) (wrong_product (lays_rows layout) found))))
 
 -- ---- the refusals
 

@@ -3,7 +3,8 @@ use Rattle.std.specs.Prelude.{◌≡◌, ◌||◌, ◌&&◌, [], ℕ, ℤ, pos, 
 use Rattle.std.specs.Prelude.{option_and_then, option_map, unwrap_or, List, Option, Some, None, codes, nat_eq, string_bytes}
 use Rattle.std.specs.Str.{bytes_eq}
 use Rattle.std.specs.List.{starts_with}
-use Rattle.clap.specs.Words.{Row, Text, fault_of, first_of, subcommand_of}
+use Rattle.clap.specs.Words.{Row, Text, fault_of, first_of, found_of, rows_of, subcommand_of}
+use Rattle.clap.specs.declared.parser.matches.ArgMatches.{ArgMatches}
 use Rattle.rules.specs.Papers.{Paper}
 use Rattle.command_words.specs.Matches.{has_true}
 use Rattle.layouts.specs.declared.arrangement.Cells.{Cells}
@@ -48,6 +49,10 @@ use Rattle.impose_words.specs.declared.fault.ProductOption.{ProductOption}
 use Rattle.impose_words.specs.declared.fault.ProductOption.TheVariants as instead
 
 -- ---- values
+
+-- what was found for a subcommand
+abbrev pub rows_in : ArgMatches → List Row
+rows_in found = rows_of (found_of found)
 
 -- a flag is among the words
 abbrev pub has_flag : (id : Text) → (found : List Row) → Bool

@@ -1,24 +1,18 @@
 //! Reads the words of a command line into a request.
-ghost use Rattle.std.specs.Prelude.{◌≡◌, [], ◌∷◌, IfOk, IfErr, IfSome, MatchOption, None, Option, Some, codes, false, is_some, map, option_map};
-ghost use Rattle.std.specs.Prelude.{string_bytes, true};
+ghost use Rattle.std.specs.Prelude.{◌≡◌, [], ◌∷◌, IfErr, IfOk, IfSome, MatchOption, None, Option, Some, codes, false, is_some, map, option_map, string_bytes, true};
 ghost use Rattle.std.specs.Fn.{FnOnceReturnsAt};
 ghost use Rattle.std.specs.Option.{ok_or};
-ghost use Rattle.clap.specs.Words.{Text, fault_of, found_of, is_simple, rows_of, subcommand_of, subcommand_rows_of};
+ghost use Rattle.clap.specs.Words.{Text, fault_of, is_simple, subcommand_of, subcommand_rows_of};
 ghost use Rattle.lengths.specs.Lengths.{a4};
 ghost use Rattle.impose_words.specs.Command.{impose};
-ghost use Rattle.impose_words.specs.Words.{AsksFor, Entered, ReadsSizes, ReadsRequest, file_asked, given, is_outfile};
-ghost use Rattle.impose_words.specs.Words.{gaps_found, margins_found};
-ghost use Rattle.impose_words.specs.Words.{ChoosesBy, MakesBy, NamesPicture, SpacesBy, length_found, ranges_id};
-ghost use Rattle.impose_words.specs.Words.{cells_of_command as cells_by, command_name, order_found, run_found, scale_found};
-ghost use Rattle.impose_words.specs.Words.{border_found, first_found, has_numbers, lines_found, number_size_found, numbers_found};
-ghost use Rattle.impose_words.specs.Words.{signing_found, size_found, turn_found};
-ghost use Rattle.impose_words.specs.Words.{skip_found};
-ghost use Rattle.impose_words.specs.Words.{marks_found, row_asked, row_named, turned_found};
+ghost use Rattle.impose_words.specs.Words.{AsksFor, ChoosesBy, Entered, MakesBy, NamesPicture, ReadsRequest, ReadsSizes, SpacesBy};
+ghost use Rattle.impose_words.specs.Words.{cells_of_command as cells_by, command_name, file_asked, first_found, given, has_numbers, is_outfile, length_found};
+ghost use Rattle.impose_words.specs.Words.{lines_found, marks_found, numbers_found, order_found, ranges_id, row_asked, row_named, rows_in, skip_found};
 ghost use Rattle.impose_words.specs.Products.{is_plan, is_specification, lays_rows, picture_in};
 ghost use Rattle.impose_words.specs.Spacings.{keeps_room};
-ghost use Rattle.impose_words.specs.Faults.{NoValue, ParseRefuses, Wrong, RefusesCommand, RefusesFound, SaysWrong, wrong_among, wrong_cells, wrong_choice};
-ghost use Rattle.impose_words.specs.Faults.{wrong_for, wrong_layout, wrong_marks, wrong_order, wrong_product, wrong_sizes, wrong_spacing};
-ghost use Rattle.impose_words.specs.Faults.{wrong_lines, wrong_numbers, wrong_skip, wrong_specs};
+ghost use Rattle.impose_words.specs.Faults.{NoValue, ParseRefuses, RefusesCommand, RefusesFound, SaysWrong, Wrong, wrong_among, wrong_cells};
+ghost use Rattle.impose_words.specs.Faults.{wrong_choice, wrong_for, wrong_in, wrong_layout, wrong_lines, wrong_marks, wrong_numbers, wrong_order};
+ghost use Rattle.impose_words.specs.Faults.{wrong_product, wrong_sizes, wrong_skip, wrong_spacing, wrong_specs};
 ghost use Rattle.impose_words.specs.declared.fault.OptionId.TheVariants as opt;
 
 use crate::arguments::command;
@@ -36,7 +30,7 @@ use clap::error::ErrorKind;
 use command_words::{is_set, owned, text_of};
 use dressing::{Marks, Numbering};
 use layouts::{FillOrder, Free, Order, Turned};
-use lengths::{Grains, Number, Paper, a4};
+use lengths::{Grains, Paper, a4};
 use pagespec::Turn;
 use rows::{Part, Signing};
 use std::alloc::Global;
@@ -104,9 +98,9 @@ fn subcommand_request(
     name: &str,
     found: &ArgMatches<'_>,
 ) -> Result<ImposeRequest, RequestFault>
-    ensures read { IfOk result (ReadsRequest name.now (rows_of (found_of found.now))) }
+    ensures read { IfOk result (ReadsRequest name.now (rows_in found.now)) }
     ensures home { IfOk result (λ request. request.default_paper ≡ a4) }
-    ensures refused { IfErr result (RefusesFound name.now (rows_of (found_of found.now))) }
+    ensures refused { IfErr result (RefusesFound name.now (rows_in found.now)) }
 {
     let sizes = match sizes_of(found) {
         Ok(sizes) => sizes,
@@ -124,17 +118,13 @@ fn request_for(
     layout: Layout,
     found: &ArgMatches<'_>,
 ) -> Result<ImposeRequest, RequestFault>
-    requires sizes { ReadsSizes (rows_of (found_of found.now)) sizes.page_paper sizes.sheet_paper sizes.border sizes.turn }
-    ensures read { (name : Text) → AsksFor name (rows_of (found_of found.now)) layout
-        → IfOk result (ReadsRequest name (rows_of (found_of found.now))) }
+    requires sizes { ReadsSizes (rows_in found.now) sizes.page_paper sizes.sheet_paper sizes.border sizes.turn }
+    ensures read { (name : Text) → AsksFor name (rows_in found.now) layout
+        → IfOk result (ReadsRequest name (rows_in found.now)) }
     ensures home { IfOk result (λ request. request.default_paper ≡ a4) }
-    ensures refused { IfErr result (λ f. SaysWrong (rows_of (found_of found.now)) f (wrong_for layout (rows_of (found_of found.now)))) }
+    ensures refused { IfErr result (λ f. SaysWrong (rows_in found.now) f (wrong_for layout (rows_in found.now))) }
 {
-    let skipped = match skipped_of(&layout, found) {
-        Ok(skipped) => skipped,
-        Err(option) => return Err(bad_value(alloc, found, option)),
-    };
-    let spacing = match spacing_of(&layout, skipped, found) {
+    let spacing = match spacing_of(&layout, found) {
         Ok(spacing) => spacing,
         Err(option) => return Err(bad_value(alloc, found, option)),
     };
@@ -175,66 +165,28 @@ struct Sizes {
     turn: Turning,
 }
 
-/// Reads the papers, the border and the turn, in this order. The error is the first option that has an invalid value.
+/// Reads the papers, the border and the turn, in this order. A border of width 0 is no border. The error is the first option that has an invalid
+/// value.
 fn sizes_of(found: &ArgMatches<'_>) -> Result<Sizes, OptionId>
     ensures read { IfOk result (λ sizes.
-        ReadsSizes (rows_of (found_of found.now)) sizes.page_paper sizes.sheet_paper sizes.border sizes.turn) }
-    ensures refused { IfErr result (λ option. wrong_sizes (rows_of (found_of found.now)) ≡ Some (NoValue option)) }
+        ReadsSizes (rows_in found.now) sizes.page_paper sizes.sheet_paper sizes.border sizes.turn) }
+    ensures wrong { wrong_sizes (rows_in found.now) ≡ wrong_in result }
 {
-    let Some(page_paper) = paper_option(found, OptionId::Paper) else {
-        return Err(OptionId::Paper);
-    };
-    let Some(sheet_paper) = paper_option(found, OptionId::Sheet) else {
-        return Err(OptionId::Sheet);
-    };
-    let Some(border) = border_of(found) else {
-        return Err(OptionId::Border);
-    };
-    let Some(turn) = turn_of(found) else {
-        return Err(OptionId::Turn);
-    };
+    let page_paper = value(found, OptionId::Paper, size_named)?;
+    let sheet_paper = value(found, OptionId::Sheet, size_named)?;
+    let border = value(found, OptionId::Border, border_with_unit)?;
+    let turn = value(found, OptionId::Turn, turn_named)?;
     Ok(Sizes {
         page_paper,
         sheet_paper,
-        border,
-        turn,
+        border: border.unwrap_or(None),
+        turn: turn.unwrap_or(Turning::All(Turn::None)),
     })
-}
-
-/// The paper that an option names, or `Some(None)` without the option. `None` if the option's value names no paper.
-fn paper_option(found: &ArgMatches<'_>, option: OptionId) -> Option<Option<Paper>>
-    ensures { result ≡ size_found option (rows_of (found_of found.now)) }
-{
-    match text_of(found, option.id()) {
-        None => Some(None),
-        Some(text) => Some(Some(size_named(text)?)),
-    }
-}
-
-/// The width of the requested border. `Some(None)` without the option, and for the width 0. `None` if the option's value isn't a length, or is
-/// negative.
-fn border_of(found: &ArgMatches<'_>) -> Option<Option<Grains>>
-    ensures { result ≡ border_found (rows_of (found_of found.now)) }
-{
-    match text_of(found, "border") {
-        None => Some(None),
-        Some(text) => border_with_unit(text),
-    }
-}
-
-/// The pages to turn and their turn, as `--turn` names them. Without the option no page is turned. `None` if the option's value is refused.
-fn turn_of(found: &ArgMatches<'_>) -> Option<Turning>
-    ensures { result ≡ turn_found (rows_of (found_of found.now)) }
-{
-    match text_of(found, "turn") {
-        None => Some(Turning::All(Turn::None)),
-        Some(text) => turn_named(text),
-    }
 }
 
 /// The fault for an invalid value of this option or argument: `BadValue`, or `NoMemory` if memory for the value is refused.
 fn bad_value(alloc: Global, found: &ArgMatches<'_>, option: OptionId) -> RequestFault
-    ensures { (wrong : Option Wrong) → wrong ≡ Some (NoValue option) → SaysWrong (rows_of (found_of found.now)) result wrong }
+    ensures { (wrong : Option Wrong) → wrong ≡ Some (NoValue option) → SaysWrong (rows_in found.now) result wrong }
 {
     let text = text_of(found, option.id()).unwrap_or("");
     match String::from_str(alloc, text) {
@@ -250,7 +202,7 @@ fn value<T, F: FnOnce(&str) -> Option<T>>(
     parse: F,
 ) -> Result<Option<T>, OptionId>
     requires { F.IsAlwaysCallable parse }
-    ensures { MatchOption (given option (rows_of (found_of found.now))) (result ≡ Ok None)
+    ensures { MatchOption (given option (rows_in found.now)) (result ≡ Ok None)
         (λ text. (value : _) × FnOnceReturnsAt F.FnOnce parse text value × (result ≡ ok_or (option_map (λ v. Some v) value) option)) }
 {
     text_of(found, option.id())
@@ -260,8 +212,8 @@ fn value<T, F: FnOnce(&str) -> Option<T>>(
 
 /// The layout that the subcommand of this name asks for.
 fn layout_of(alloc: Global, name: &str, found: &ArgMatches<'_>) -> Result<Layout, RequestFault>
-    ensures read { IfOk result (AsksFor name.now (rows_of (found_of found.now))) }
-    ensures refused { IfErr result (λ f. SaysWrong (rows_of (found_of found.now)) f (wrong_layout name.now (rows_of (found_of found.now)))) }
+    ensures read { IfOk result (AsksFor name.now (rows_in found.now)) }
+    ensures refused { IfErr result (λ f. SaysWrong (rows_in found.now) f (wrong_layout name.now (rows_in found.now))) }
 {
     match name {
         "nup" => cells_layout(alloc, CellCommand::NUp, found),
@@ -283,8 +235,8 @@ fn cells_layout(
     command: CellCommand,
     found: &ArgMatches<'_>,
 ) -> Result<Layout, RequestFault>
-    ensures read { IfOk result (AsksFor (command_name command) (rows_of (found_of found.now))) }
-    ensures refused { IfErr result (λ f. SaysWrong (rows_of (found_of found.now)) f (wrong_cells command (rows_of (found_of found.now)))) }
+    ensures read { IfOk result (AsksFor (command_name command) (rows_in found.now)) }
+    ensures refused { IfErr result (λ f. SaysWrong (rows_in found.now) f (wrong_cells command (rows_in found.now))) }
 {
     let Some(count) = text_of(found, "count") else {
         return Err(RequestFault::Lacking);
@@ -298,8 +250,8 @@ fn cells_layout(
 /// The layout of this command, with the cells that its first argument `count` names. For notes the argument is a number of pages. For a poster it is
 /// columns and rows of sheets, or `auto`. `None` if the command doesn't take the argument.
 fn layout_in(command: CellCommand, count: &str, found: &ArgMatches<'_>) -> Option<Layout>
-    requires { given (opt.Count command) (rows_of (found_of found.now)) ≡ Some count.now }
-    ensures read { IfSome result (AsksFor (command_name command) (rows_of (found_of found.now))) }
+    requires { given (opt.Count command) (rows_in found.now) ≡ Some count.now }
+    ensures read { IfSome result (AsksFor (command_name command) (rows_in found.now)) }
     ensures taken { is_some result ≡ is_some (cells_by command count.now) }
 {
     Some(match command {
@@ -317,33 +269,23 @@ fn layout_in(command: CellCommand, count: &str, found: &ArgMatches<'_>) -> Optio
 }
 
 fn booklet_of(alloc: Global, found: &ArgMatches<'_>) -> Result<Layout, RequestFault>
-    ensures read { IfOk result (AsksFor (codes "booklet") (rows_of (found_of found.now))) }
+    ensures read { IfOk result (AsksFor (codes "booklet") (rows_in found.now)) }
     ensures refused { IfErr result (λ f.
-        SaysWrong (rows_of (found_of found.now)) f (wrong_among (opt.Signature ∷ []) (rows_of (found_of found.now)))) }
+        SaysWrong (rows_in found.now) f (wrong_among (opt.Signature ∷ []) (rows_in found.now))) }
 {
-    match signing_of(found) {
-        Some(signing) => Ok(Layout::Booklet {
+    match value(found, OptionId::Signature, signing_named) {
+        Ok(signing) => Ok(Layout::Booklet {
             signing: signing.unwrap_or(Signing::InOne),
             long_edge: is_set(found, "long-edge"),
         }),
-        None => Err(bad_value(alloc, found, OptionId::Signature)),
-    }
-}
-
-/// The requested signatures, or `Some(None)` without the option. `None` if the option's value names no signatures.
-fn signing_of(found: &ArgMatches<'_>) -> Option<Option<Signing>>
-    ensures { result ≡ signing_found (rows_of (found_of found.now)) }
-{
-    match text_of(found, "signature") {
-        None => Some(None),
-        Some(text) => Some(Some(signing_named(text)?)),
+        Err(option) => Err(bad_value(alloc, found, option)),
     }
 }
 
 fn selection_of(found: &ArgMatches<'_>) -> Result<Layout, RequestFault>
-    ensures read { IfOk result (AsksFor (codes "select") (rows_of (found_of found.now))) }
+    ensures read { IfOk result (AsksFor (codes "select") (rows_in found.now)) }
     ensures refused { IfErr result (λ f.
-        SaysWrong (rows_of (found_of found.now)) f (wrong_layout (codes "select") (rows_of (found_of found.now)))) }
+        SaysWrong (rows_in found.now) f (wrong_layout (codes "select") (rows_in found.now))) }
 {
     match text_of(found, "ranges") {
         Some(_) => Ok(Layout::Selection),
@@ -352,8 +294,8 @@ fn selection_of(found: &ArgMatches<'_>) -> Result<Layout, RequestFault>
 }
 
 fn spec_of(alloc: Global, found: &ArgMatches<'_>) -> Result<Layout, RequestFault>
-    ensures read { IfOk result (AsksFor (codes "spec") (rows_of (found_of found.now))) }
-    ensures refused { IfErr result (λ f. SaysWrong (rows_of (found_of found.now)) f (wrong_specs (rows_of (found_of found.now)))) }
+    ensures read { IfOk result (AsksFor (codes "spec") (rows_in found.now)) }
+    ensures refused { IfErr result (λ f. SaysWrong (rows_in found.now) f (wrong_specs (rows_in found.now))) }
 {
     let specs = match text_of(found, "specs") {
         Some(specs) => String::from_str(alloc, specs)?,
@@ -362,23 +304,23 @@ fn spec_of(alloc: Global, found: &ArgMatches<'_>) -> Result<Layout, RequestFault
     if !asks_for_row(found) {
         return Ok(Layout::Spec(specs));
     }
-    match signing_of(found) {
-        Some(signing) => Ok(Layout::SpecRow { specs, signing }),
-        None => Err(bad_value(alloc, found, OptionId::Signature)),
+    match value(found, OptionId::Signature, signing_named) {
+        Ok(signing) => Ok(Layout::SpecRow { specs, signing }),
+        Err(option) => Err(bad_value(alloc, found, option)),
     }
 }
 
 /// Whether `spec` places a row of pages and not simply all pages of the document. It does so if options choose the row, or if the sheets are to be
 /// listed or drawn.
 fn asks_for_row(found: &ArgMatches<'_>) -> bool
-    ensures { result ≡ row_asked (rows_of (found_of found.now)) }
+    ensures { result ≡ row_asked (rows_in found.now) }
 {
     names_row(found) || is_set(found, "plan") || text_of(found, "preview").is_some()
 }
 
 /// Whether an option chooses the pages of the row, chooses their order, or puts them into signatures.
 fn names_row(found: &ArgMatches<'_>) -> bool
-    ensures { result ≡ row_named (rows_of (found_of found.now)) }
+    ensures { result ≡ row_named (rows_in found.now) }
 {
     text_of(found, "pages").is_some()
         || text_of(found, "signature").is_some()
@@ -390,8 +332,8 @@ fn names_row(found: &ArgMatches<'_>) -> bool
 /// The number of cells of the first sheet that are used already; 0 without `--skip`, and for layouts that don't take it. The error is the option
 /// `--skip`, if its value isn't a number below the number of a sheet's cells.
 fn skipped_of(layout: &Layout, found: &ArgMatches<'_>) -> Result<u32, OptionId>
-    ensures read { IfOk result (λ skipped. skip_found layout.now (rows_of (found_of found.now)) ≡ Some skipped) }
-    ensures refused { IfErr result (λ option. wrong_skip layout.now (rows_of (found_of found.now)) ≡ Some (NoValue option)) }
+    ensures read { IfOk result (λ skipped. skip_found layout.now (rows_in found.now) ≡ Some skipped) }
+    ensures wrong { wrong_skip layout.now (rows_in found.now) ≡ wrong_in result }
 {
     let cells = match layout {
         Layout::NUp(cells) | Layout::Cards(cells) => cells.count(),
@@ -403,45 +345,37 @@ fn skipped_of(layout: &Layout, found: &ArgMatches<'_>) -> Result<u32, OptionId>
     Ok(skipped.unwrap_or(0))
 }
 
-/// The requested margins, gaps, trim, creep and overlap, the order in which cells are filled, and the scale of pages. A layout that takes none of
-/// these has them as in `Spacing::none()`. The number of skipped cells is `skipped`. The error is the first option that has an invalid value.
-fn spacing_of(layout: &Layout, skipped: u32, found: &ArgMatches<'_>) -> Result<Spacing, OptionId>
-    ensures read { IfOk result (SpacesBy (keeps_room layout.now) (rows_of (found_of found.now))) }
-    ensures skipped { IfOk result (λ spacing. spacing.skipped ≡ skipped) }
-    ensures refused { IfErr result (λ option.
-        wrong_spacing (keeps_room layout.now) (rows_of (found_of found.now)) ≡ Some (NoValue option)) }
+/// The number of skipped cells, the requested margins, gaps, trim, creep and overlap, the order in which cells are filled, and the scale of pages. A
+/// layout that takes none of these has them as in `Spacing::none()`. The error is the first option that has an invalid value.
+fn spacing_of(layout: &Layout, found: &ArgMatches<'_>) -> Result<Spacing, OptionId>
+    ensures read { IfOk result (SpacesBy (keeps_room layout.now) (rows_in found.now)) }
+    ensures skipped { IfOk result (λ spacing. skip_found layout.now (rows_in found.now) ≡ Some spacing.skipped) }
+    ensures wrong { wrong_spacing layout.now (rows_in found.now) ≡ wrong_in result }
 {
+    let skipped = skipped_of(layout, found)?;
     if !layout.keeps_room() {
         return Ok(Spacing {
             skipped,
             ..Spacing::none()
         });
     }
-    let Some(margins) = margins_of(found) else {
-        return Err(OptionId::Margin);
-    };
-    let Some(gaps) = gaps_of(found) else {
-        return Err(OptionId::Gap);
-    };
-    let Some(trim) = length_of(found, OptionId::Trim) else {
-        return Err(OptionId::Trim);
-    };
-    let Some(creep) = length_of(found, OptionId::Creep) else {
-        return Err(OptionId::Creep);
-    };
-    let Some(overlap) = length_of(found, OptionId::Overlap) else {
-        return Err(OptionId::Overlap);
-    };
+    let margins = value(found, OptionId::Margin, margins_named)?;
+    let gaps = value(found, OptionId::Gap, gaps_named)?;
+    let trim = length_of(found, OptionId::Trim)?;
+    let creep = length_of(found, OptionId::Creep)?;
+    let overlap = length_of(found, OptionId::Overlap)?;
     let order = order_of(found)?;
-    let scale = scale_of(found)?;
+    let scale = value(found, OptionId::Scale, parse_number)?;
+    let Margins { free, inner } = margins.unwrap_or(Margins::of(Free::none()));
+    let Free { across, up, .. } = gaps.unwrap_or(Free::none());
     Ok(Spacing {
         free: Free {
-            across: gaps.across,
-            up: gaps.up,
+            across,
+            up,
             trim,
-            ..margins.free
+            ..free
         },
-        inner: margins.inner,
+        inner,
         creep,
         overlap,
         order,
@@ -451,89 +385,35 @@ fn spacing_of(layout: &Layout, skipped: u32, found: &ArgMatches<'_>) -> Result<S
     })
 }
 
-/// The margins of a sheet; 0 without `--margin`. `None` if the option's value gives no margins.
-fn margins_of(found: &ArgMatches<'_>) -> Option<Margins>
-    ensures { result ≡ margins_found (rows_of (found_of found.now)) }
+/// The length that an option names; 0 without the option. The error is the option, if its value isn't a length.
+fn length_of(found: &ArgMatches<'_>, option: OptionId) -> Result<Grains, OptionId>
+    ensures { result ≡ ok_or (length_found option (rows_in found.now)) option }
 {
-    match text_of(found, OptionId::Margin.id()) {
-        None => Some(Margins::of(Free::none())),
-        Some(text) => margins_named(text),
-    }
-}
-
-/// The gaps between cells; 0 without `--gap`. `None` if the option's value gives no gaps.
-fn gaps_of(found: &ArgMatches<'_>) -> Option<Free>
-    ensures { result ≡ gaps_found (rows_of (found_of found.now)) }
-{
-    match text_of(found, OptionId::Gap.id()) {
-        None => Some(Free::none()),
-        Some(text) => gaps_named(text),
-    }
-}
-
-/// The length that an option names; 0 without the option. `None` if the option's value isn't a length.
-fn length_of(found: &ArgMatches<'_>, option: OptionId) -> Option<Grains>
-    ensures { result ≡ length_found option (rows_of (found_of found.now)) }
-{
-    match text_of(found, option.id()) {
-        None => Some(Free::none().trim),
-        Some(text) => length_with_unit(text),
-    }
+    let length = value(found, option, length_with_unit)?;
+    Ok(length.unwrap_or(Grains::ZERO))
 }
 
 /// The order in which cells are filled, and the side to which a sheet is turned to read its pages. With `--rtl`, any order runs from right to left.
 /// The error is the first option that has an invalid value.
 fn order_of(found: &ArgMatches<'_>) -> Result<Order, OptionId>
-    ensures read { IfOk result (λ order. order_found (rows_of (found_of found.now)) ≡ Some order) }
-    ensures refused { IfErr result (λ option. wrong_order (rows_of (found_of found.now)) ≡ Some (NoValue option)) }
+    ensures read { IfOk result (λ order. order_found (rows_in found.now) ≡ Some order) }
+    ensures wrong { wrong_order (rows_in found.now) ≡ wrong_in result }
 {
-    let Some((run, from_right)) = run_of(found) else {
-        return Err(OptionId::Order);
-    };
-    let Some(turned) = turned_of(found) else {
-        return Err(OptionId::Turned);
-    };
+    let run = value(found, OptionId::Order, run_named)?;
+    let turned = value(found, OptionId::Turned, turned_named)?;
+    let (run, from_right) = run.unwrap_or((FillOrder::Rows, false));
     Ok(Order {
         run,
         right_to_left: from_right || is_set(found, "rtl"),
-        turned,
+        turned: turned.unwrap_or(Turned::Upright),
     })
-}
-
-/// The order that `--order` names: whether cells are filled by rows or by columns, and whether from right to left. Without the option they are filled
-/// by rows, from the left. `None` if the option's value names no order.
-fn run_of(found: &ArgMatches<'_>) -> Option<(FillOrder, bool)>
-    ensures { result ≡ run_found (rows_of (found_of found.now)) }
-{
-    match text_of(found, "order") {
-        None => Some((FillOrder::Rows, false)),
-        Some(text) => run_named(text),
-    }
-}
-
-/// The side to which a sheet is turned to read its pages; `Upright` without `--turned`. `None` if the option's value isn't a side.
-fn turned_of(found: &ArgMatches<'_>) -> Option<Turned>
-    ensures { result ≡ turned_found (rows_of (found_of found.now)) }
-{
-    match text_of(found, "turned") {
-        None => Some(Turned::Upright),
-        Some(text) => turned_named(text),
-    }
-}
-
-/// The requested scale. `None` without one. The error is the option, if its value isn't a number.
-fn scale_of(found: &ArgMatches<'_>) -> Result<Option<Number>, OptionId>
-    ensures read { IfOk result (λ scale. scale_found (rows_of (found_of found.now)) ≡ Some scale) }
-    ensures refused { IfErr result (λ option. wrong_among (opt.Scale ∷ []) (rows_of (found_of found.now)) ≡ Some (NoValue option)) }
-{
-    value(found, OptionId::Scale, parse_number)
 }
 
 /// The requested marks and page numbers that the layout can have, and the ruled lines that sheets with cells for notes always have. The error is the
 /// first option that has an invalid value.
 fn marks_of(layout: &Layout, found: &ArgMatches<'_>) -> Result<Marks, OptionId>
-    ensures read { IfOk result (λ marks. marks_found layout.now (rows_of (found_of found.now)) ≡ Some marks) }
-    ensures refused { IfErr result (λ option. wrong_marks layout.now (rows_of (found_of found.now)) ≡ Some (NoValue option)) }
+    ensures read { IfOk result (λ marks. marks_found layout.now (rows_in found.now) ≡ Some marks) }
+    ensures wrong { wrong_marks layout.now (rows_in found.now) ≡ wrong_in result }
 {
     let lines = lines_of(layout, found)?;
     let numbers = numbering_option(layout, found)?;
@@ -543,8 +423,8 @@ fn marks_of(layout: &Layout, found: &ArgMatches<'_>) -> Result<Marks, OptionId>
 /// The requested fold and cut marks that the layout can have, or the ruled lines that sheets with cells for notes always have. The error is the
 /// option that has an invalid value.
 fn lines_of(layout: &Layout, found: &ArgMatches<'_>) -> Result<Marks, OptionId>
-    ensures read { IfOk result (λ marks. lines_found layout.now (rows_of (found_of found.now)) ≡ Some marks) }
-    ensures refused { IfErr result (λ option. wrong_lines layout.now (rows_of (found_of found.now)) ≡ Some (NoValue option)) }
+    ensures read { IfOk result (λ marks. lines_found layout.now (rows_in found.now) ≡ Some marks) }
+    ensures wrong { wrong_lines layout.now (rows_in found.now) ≡ wrong_in result }
 {
     match (layout, text_of(found, "marks")) {
         (Layout::Booklet { .. }, Some(text)) => {
@@ -565,36 +445,21 @@ fn lines_of(layout: &Layout, found: &ArgMatches<'_>) -> Result<Marks, OptionId>
 /// The requested page numbers: their size, and the number of the first page. `None` without `--numbers`, and for a layout that can't have page
 /// numbers. The error is the first option that has an invalid value, or `--numbers-from` without `--numbers`.
 fn numbering_option(layout: &Layout, found: &ArgMatches<'_>) -> Result<Option<Numbering>, OptionId>
-    ensures read { IfOk result (λ numbers. numbers_found layout.now (rows_of (found_of found.now)) ≡ Some numbers) }
-    ensures refused { IfErr result (λ option.
-        wrong_numbers (has_numbers layout.now) (rows_of (found_of found.now)) ≡ Some (NoValue option)) }
+    ensures read { IfOk result (λ numbers. numbers_found layout.now (rows_in found.now) ≡ Some numbers) }
+    ensures wrong { wrong_numbers (has_numbers layout.now) (rows_in found.now) ≡ wrong_in result }
 {
     if !layout.has_numbers() {
         return Ok(None);
     }
-    let Some(size) = number_size_of(found) else {
-        return Err(OptionId::Numbers);
-    };
-    match first_of(found) {
-        Some(first) => Ok(size.map(|size| Numbering { size, first })),
-        None => Err(OptionId::NumbersFrom),
-    }
-}
-
-/// The size of page numbers, or `Some(None)` without `--numbers`. `None` if the option's value isn't a length from a tenth of a point to 72 points.
-fn number_size_of(found: &ArgMatches<'_>) -> Option<Option<Grains>>
-    ensures { result ≡ number_size_found (rows_of (found_of found.now)) }
-{
-    match text_of(found, "numbers") {
-        None => Some(None),
-        Some(text) => Some(Some(number_size_named(text)?)),
-    }
+    let size = value(found, OptionId::Numbers, number_size_named)?;
+    let first = first_of(found).ok_or(OptionId::NumbersFrom)?;
+    Ok(size.map(|size| Numbering { size, first }))
 }
 
 /// The number that is drawn on the first page; 1 without `--numbers-from`. `None` if that option's value isn't a whole number, or if the option is
 /// given without `--numbers`.
 fn first_of(found: &ArgMatches<'_>) -> Option<u32>
-    ensures { result ≡ first_found (rows_of (found_of found.now)) }
+    ensures { result ≡ first_found (rows_in found.now) }
 {
     match (text_of(found, "numbers"), text_of(found, "numbers-from")) {
         (_, None) => Some(1),
@@ -609,9 +474,9 @@ fn choice_of(
     layout: &Layout,
     found: &ArgMatches<'_>,
 ) -> Result<PageChoice, RequestFault>
-    ensures read { IfOk result (ChoosesBy (ranges_id layout.now) (rows_of (found_of found.now))) }
+    ensures read { IfOk result (ChoosesBy (ranges_id layout.now) (rows_in found.now)) }
     ensures refused { IfErr result (λ f.
-        SaysWrong (rows_of (found_of found.now)) f (wrong_choice (ranges_id layout.now) (rows_of (found_of found.now)))) }
+        SaysWrong (rows_in found.now) f (wrong_choice (ranges_id layout.now) (rows_in found.now))) }
 {
     match layout {
         Layout::Spec(_) => Ok(PageChoice::whole()),
@@ -623,9 +488,9 @@ fn choice_of(
 /// The pages that the argument `id` names by ranges, or all pages without it, with the effect of `--odd`, `--even` and `--reverse`. `--odd` and
 /// `--even` together are refused.
 fn choice_by(alloc: Global, id: &str, found: &ArgMatches<'_>) -> Result<PageChoice, RequestFault>
-    ensures read { IfOk result (ChoosesBy (Some id.now) (rows_of (found_of found.now))) }
+    ensures read { IfOk result (ChoosesBy (Some id.now) (rows_in found.now)) }
     ensures refused { IfErr result (λ f.
-        SaysWrong (rows_of (found_of found.now)) f (wrong_choice (Some id.now) (rows_of (found_of found.now)))) }
+        SaysWrong (rows_in found.now) f (wrong_choice (Some id.now) (rows_in found.now))) }
 {
     let part = match (is_set(found, "odd"), is_set(found, "even")) {
         (false, false) => Part::All,
@@ -644,10 +509,10 @@ fn choice_by(alloc: Global, id: &str, found: &ArgMatches<'_>) -> Result<PageChoi
 /// a misplaced option.
 fn outfile_of(alloc: Global, found: &ArgMatches<'_>) -> Result<Option<String>, RequestFault>
     ensures asked { IfOk result (λ outfile.
-        file_asked (given opt.Outfile (rows_of (found_of found.now))) ≡ option_map string_bytes outfile) }
+        file_asked (given opt.Outfile (rows_in found.now)) ≡ option_map string_bytes outfile) }
     ensures no_option { IfOk result (λ outfile. is_outfile (option_map string_bytes outfile) ≡ true) }
     ensures refused { IfErr result (λ f.
-        SaysWrong (rows_of (found_of found.now)) f (wrong_among (opt.Outfile ∷ []) (rows_of (found_of found.now)))) }
+        SaysWrong (rows_in found.now) f (wrong_among (opt.Outfile ∷ []) (rows_in found.now))) }
 {
     match file_named(text_of(found, "outfile")) {
         Some(name) if name.as_bytes().starts_with(b"-") => {
@@ -664,9 +529,9 @@ fn product_of(
     layout: &Layout,
     found: &ArgMatches<'_>,
 ) -> Result<Product, RequestFault>
-    ensures read { IfOk result (MakesBy (lays_rows layout.now) (rows_of (found_of found.now))) }
+    ensures read { IfOk result (MakesBy (lays_rows layout.now) (rows_in found.now)) }
     ensures refused { IfErr result (λ f.
-        SaysWrong (rows_of (found_of found.now)) f (wrong_product (lays_rows layout.now) (rows_of (found_of found.now)))) }
+        SaysWrong (rows_in found.now) f (wrong_product (lays_rows layout.now) (rows_in found.now))) }
 {
     let printed = is_set(found, "print-spec");
     if !layout.lays_rows() {
@@ -706,10 +571,10 @@ fn specification_if(printed: bool) -> Product
 
 /// The kind of output for `--preview`: a drawing in the file `name`, or on standard output for `-`. Any other name must end in `.svg`.
 fn picture_of(alloc: Global, name: &str, found: &ArgMatches<'_>) -> Result<Product, RequestFault>
-    requires { given opt.Preview (rows_of (found_of found.now)) ≡ Some name.now }
+    requires { given opt.Preview (rows_in found.now) ≡ Some name.now }
     ensures picture { IfOk result (NamesPicture name.now) }
     ensures refused { IfErr result (λ f.
-        SaysWrong (rows_of (found_of found.now)) f (wrong_among (opt.Preview ∷ []) (rows_of (found_of found.now)))) }
+        SaysWrong (rows_in found.now) f (wrong_among (opt.Preview ∷ []) (rows_in found.now))) }
 {
     match file_named(Some(name)) {
         Some(name) if !name.as_bytes().ends_with(b".svg") => {
