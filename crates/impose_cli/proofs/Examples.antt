@@ -7,7 +7,7 @@ use Rattle.guard.specs.Guard.{guarded}
 use Rattle.rules.specs.Choice.{InOne as in_one, Auto as by_itself, sides_for}
 use Rattle.papers.specs.declared.media.Comment.TheVariants.{DocumentMedia}
 use Rattle.impose_messages.specs.declared.finished.PaperOrigin.TheVariants.{Named, ByComment, ByDefault}
-use Rattle.impose_messages.specs.declared.finished.Creator.TheVariants.{G2, Hp2xx, Plplot, Xcircuit}
+use Rattle.impose_messages.specs.declared.finished.Dependence.TheVariants.{Hp2xx, Plplot, Xcircuit}
 use Rattle.impose_cli.specs.Claims.{creator_of}
 use Rattle.impose_cli.specs.RowTasks.{guarded_in}
 use Rattle.impose_cli.specs.Tasks.{own_or_home, page_paper_found, taken_text}
@@ -21,13 +21,9 @@ booklets_by_themselves : map (sides_for by_itself) (1 ∷ 32 ∷ 33 ∷ 36 ∷ 6
 booklets_by_themselves = refl
 
 -- A document's creator is known by the first word, in the header alone.
-creators : map creator_of (codes "%!\n%%Creator: hp2xx 3.4.4\n" ∷ codes "%!\n%%Creator: XCircuit v3.6\n" ∷ codes "%!\n%%Creator: hp2xxx\n" ∷ codes "%!\n%%EndComments\n%%Creator: hp2xx\n" ∷ [])
-    ≡ Some Hp2xx ∷ Some Xcircuit ∷ None ∷ None ∷ []
+creators : map creator_of (codes "%!\n%%Creator: hp2xx 3.4.4\n" ∷ codes "%!\n%%Creator: XCircuit v3.6\n" ∷ codes "%!\n%%Creator: PLplot Version 5\n" ∷ codes "%!\n%%Creator: hp2xxx\n" ∷ codes "%!\n%%EndComments\n%%Creator: hp2xx\n" ∷ [])
+    ≡ Some Hp2xx ∷ Some Xcircuit ∷ Some Plplot ∷ None ∷ None ∷ []
 creators = refl
-
-creators_that_place_pages_in_the_setup : map creator_of (codes "%!\n%%Creator: PLplot Version 5.15.0\n" ∷ codes "%!\n%%Creator: g2 0.72\n" ∷ [])
-    ≡ Some Plplot ∷ Some G2 ∷ []
-creators_that_place_pages_in_the_setup = refl
 
 -- Papers.
 

@@ -1,9 +1,11 @@
 -- What a document says of itself, as far as it is reported: how many pages it has, a paper by a name that isn't known
--- (DSC 2.1, %%DocumentPaperSizes), and a program whose pages depend on the text before them (DSC 3.0, %%Creator).
+-- (DSC 2.1, %%DocumentPaperSizes), and why its pages depend on the text before them (DSC 3.0, %%Creator; its setup).
 use Rattle.std.specs.Prelude.{◌≡◌, ◌||◌, ℕ, Bool, true, false, if◌then◌else◌, List, Option, Some, None, codes, option_and_then, option_map}
+use Rattle.std.specs.Option.{option_or}
 use Rattle.std.specs.Str.{bytes_eq}
 use Rattle.rules.specs.Papers.{Paper}
 use Rattle.dsc.specs.Fields.{fields_in}
+use Rattle.guard.specs.Setups.{places_pages}
 use Rattle.papers.specs.Comments.{first_name}
 use Rattle.papers.specs.Media.{comment_value, document_paper, header, is_at_end}
 use Rattle.papers.specs.declared.media.Comment.{Comment}
@@ -11,8 +13,8 @@ use Rattle.papers.specs.declared.media.Comment.TheVariants.{BoundingBox, Documen
 use Rattle.impose_words.specs.declared.request.ImposeRequest.{ImposeRequest}
 use Rattle.impose_messages.specs.Said.{shown_name}
 use Rattle.impose_messages.specs.declared.finished.Claims.{Claims}
-use Rattle.impose_messages.specs.declared.finished.Creator.{Creator}
-use Rattle.impose_messages.specs.declared.finished.Creator.TheVariants.{G2, Hp2xx, Plplot, Xcircuit}
+use Rattle.impose_messages.specs.declared.finished.Dependence.{Dependence}
+use Rattle.impose_messages.specs.declared.finished.Dependence.TheVariants.{Hp2xx, Plplot, Setup, Xcircuit}
 use Rattle.row_runs.specs.DeclaredPages.{declared_page_count}
 
 -- a comment names papers or media
@@ -42,16 +44,16 @@ unknown_paper (Some named) usual text = None
 unknown_paper None usual text = unknown_name usual text
 
 -- the program of this name, if sheets of its pages fail (RULES, 17)
-abbrev pub creator_named : (name : List ℕ) → Option Creator
+abbrev pub creator_named : (name : List ℕ) → Option Dependence
 creator_named name = if bytes_eq name (codes "hp2xx") then Some Hp2xx
     else if bytes_eq name (codes "Xcircuit") || bytes_eq name (codes "XCircuit") then Some Xcircuit
-    else if bytes_eq name (codes "PLplot") then Some Plplot else if bytes_eq name (codes "g2") then Some G2 else None
+    else if bytes_eq name (codes "PLplot") then Some Plplot else None
 
 -- the one that a document names first as its creator
-abbrev pub creator_of : (text : List ℕ) → Option Creator
+abbrev pub creator_of : (text : List ℕ) → Option Dependence
 creator_of text = option_and_then creator_named (option_and_then first_name (comment_value (codes "%%Creator") (header text)))
 
 pub record IsToldBy (r : ImposeRequest) (input : List ℕ) (told : Claims) : Type 0 where
   pub pages : told.pages ≡ declared_page_count input
   pub unknown : told.unknown ≡ option_map shown_name (unknown_paper r.page_paper r.default_paper input)
-  pub creator : told.creator ≡ creator_of input
+  pub dependence : told.dependence ≡ option_or (creator_of input) (if places_pages input then Some Setup else None)

@@ -1,4 +1,4 @@
-//! Statements that a document makes about itself.
+//! What a document tells about itself.
 ghost use Rattle.std.specs.Prelude.{◌≡◌, ◌∷◌, ◌++◌, [], option_map};
 ghost use Rattle.rules.specs.Bytes.{colon};
 ghost use Rattle.papers.specs.Media.{comment_value, header};
@@ -6,25 +6,27 @@ ghost use Rattle.impose_messages.specs.Said.{shown_name};
 ghost use Rattle.impose_cli.specs.Claims as meaning;
 
 use dsc::header_len;
-use impose_messages::{Claims, Creator, ShownName};
+use guard::places_pages;
+use impose_messages::{Claims, Dependence, ShownName};
 use impose_words::ImposeRequest;
 use lengths::Paper;
 use papers::{Comment, document_paper, first_comment, first_name, is_at_end};
 use row_runs::declared_page_count;
 
-/// Facts that a document states in its comments, for the messages about the document. They are the number of pages that it declares, its paper's name
-/// if no paper of this name is known, and its creator. The paper's name is left out if the command line names a paper for the pages. The creator is
-/// given only if it is a program whose pages depend on the text before them. No memory is allocated.
+/// Facts that a document's comments and its setup tell, for the messages about the document. They are the number of pages that it declares, its paper's
+/// name if no paper of this name is known, and why pages depend on the text before them. The paper's name is left out if the command line names a paper
+/// for the pages. No memory is allocated.
 pub(crate) fn claims_of(request: &ImposeRequest, input: &[u8]) -> Claims
     ensures { meaning.IsToldBy request.now input.now result }
 {
     let pages = declared_page_count(input);
     let unknown = unknown_paper(request, input);
-    let creator = creator_of(input);
+    let setup = places_pages(input).then_some(Dependence::Setup);
+    let dependence = creator_of(input).or(setup);
     Claims {
         pages,
         unknown,
-        creator,
+        dependence,
     }
 }
 
@@ -75,25 +77,23 @@ fn is_by_name(found: Option<(Paper, Comment)>) -> bool
     }
 }
 
-/// The program that made the document, if it is one whose pages depend on the text before them. Its name is the first word of `%%Creator:`.
-fn creator_of(input: &[u8]) -> Option<Creator>
+/// The program that made the document, if its pages are known to depend on the text before them. Its name is the first word of `%%Creator:`.
+fn creator_of(input: &[u8]) -> Option<Dependence>
     ensures { result ≡ meaning.creator_of input.now }
 {
     let value = header_value(input, b"%%Creator", b"%%Creator:")?;
     creator_named(first_name(value)?)
 }
 
-fn creator_named(name: &[u8]) -> Option<Creator>
+fn creator_named(name: &[u8]) -> Option<Dependence>
     ensures { result ≡ meaning.creator_named name.now }
 {
     if name == b"hp2xx".as_slice() {
-        Some(Creator::Hp2xx)
+        Some(Dependence::Hp2xx)
     } else if name == b"Xcircuit".as_slice() || name == b"XCircuit".as_slice() {
-        Some(Creator::Xcircuit)
+        Some(Dependence::Xcircuit)
     } else if name == b"PLplot".as_slice() {
-        Some(Creator::Plplot)
-    } else if name == b"g2".as_slice() {
-        Some(Creator::G2)
+        Some(Dependence::Plplot)
     } else {
         None
     }

@@ -9,9 +9,9 @@ use Rattle.impose_messages.specs.declared.fault.ImposeFault.TheVariants as fault
 use Rattle.impose_messages.specs.declared.fault.Compression.TheVariants.{Gzip}
 use Rattle.impose_words.specs.declared.idle.IdleOption.TheVariants.{CutMarks}
 use Rattle.impose_words.specs.declared.fault.RequestFault.TheVariants as command
-use Rattle.impose_messages.specs.declared.finished.Creator.TheVariants.{Hp2xx, Xcircuit}
+use Rattle.impose_messages.specs.declared.finished.Dependence.TheVariants.{Hp2xx, Xcircuit}
 use Rattle.impose_messages.specs.Statuses.{fault_status, words_status}
-use Rattle.impose_messages.specs.Said.{behind_text, blanks_text, creator_text, cut_pages_text, edges_text, is_pdf_name, leaf_count_text, page_count_text, sheets_text, shown_name, paper_size_text, told_text, unknown_text}
+use Rattle.impose_messages.specs.Said.{behind_text, blanks_text, cut_pages_text, dependence_text, edges_text, is_pdf_name, leaf_count_text, page_count_text, sheets_text, shown_name, paper_size_text, told_text, unknown_text}
 use Rattle.rules.specs.Papers.{points}
 
 -- Exit statuses.
@@ -119,10 +119,10 @@ one_told : told_text (Some 1) 2 ≡ Some (codes "the document says 1 page, 2 wer
 unfolding digits
 one_told = refl
 
-single_page_by_xcircuit : creator_text (Some Xcircuit) 1 ≡ None
+single_page_by_xcircuit : dependence_text (Some Xcircuit) 1 ≡ None
 single_page_by_xcircuit = refl
 
-single_page_by_hp2xx : creator_text (Some Hp2xx) 1
+single_page_by_hp2xx : dependence_text (Some Hp2xx) 1
     ≡ Some (codes "pages by hp2xx undo the setup, so that sheets print nothing: let Ghostscript draw the document first, by ps2pdf and pdftops")
 single_page_by_hp2xx = refl
 

@@ -33,8 +33,8 @@ use Rattle.impose_words.specs.SheetPapers.{sheet_paper_for}
 use Rattle.impose_words.specs.declared.request.Spacing.{Spacing}
 use Rattle.impose_words.specs.declared.request.Layout.{Layout}
 use Rattle.impose_words.specs.declared.request.Layout.TheVariants as layout
-use Rattle.impose_messages.specs.declared.finished.Creator.{Creator}
-use Rattle.impose_messages.specs.declared.finished.Creator.TheVariants.{G2, Hp2xx, Plplot, Xcircuit}
+use Rattle.impose_messages.specs.declared.finished.Dependence.{Dependence}
+use Rattle.impose_messages.specs.declared.finished.Dependence.TheVariants.{Hp2xx, Plplot, Setup, Xcircuit}
 use Rattle.impose_messages.specs.declared.finished.Finished.{Finished}
 use Rattle.impose_messages.specs.declared.finished.PaperOrigin.{PaperOrigin}
 use Rattle.impose_messages.specs.declared.finished.PaperOrigin.TheVariants as origin
@@ -202,28 +202,28 @@ abbrev pub told_text : (told : Option ℕ) → (found : ℕ) → Option (List �
 told_text None found = None
 told_text (Some told) found = if told == found then None else Some (told_message told found)
 
--- of pages by these programs: what becomes of the sheets
-abbrev pub creator_effect : Creator → List ℕ
-creator_effect Hp2xx = codes "pages by hp2xx undo the setup, so that sheets print nothing"
-creator_effect Xcircuit = codes "pages by Xcircuit use what earlier pages define, so that sheets may be missing"
-creator_effect Plplot = codes "pages by PLplot undo the setup's scale, so that sheets are cut"
-creator_effect G2 = codes "pages by g2 rely on the setup's turn, so that sheets may be cut"
+-- of pages that depend on the text before them: why, and what becomes of the sheets
+abbrev pub dependence_effect : Dependence → List ℕ
+dependence_effect Hp2xx = codes "pages by hp2xx undo the setup, so that sheets print nothing"
+dependence_effect Xcircuit = codes "pages by Xcircuit use what earlier pages define, so that sheets may be missing"
+dependence_effect Plplot = codes "pages by PLplot undo the setup's scale, so that sheets are cut"
+dependence_effect Setup = codes "the setup scales, turns or moves pages, so that sheets may be wrong"
 
 -- and what to do
-abbrev pub creator_message : Creator → List ℕ
-creator_message creator = creator_effect creator ++ codes ": let Ghostscript draw the document first, by ps2pdf and pdftops"
+abbrev pub dependence_message : Dependence → List ℕ
+dependence_message dependence = dependence_effect dependence ++ codes ": let Ghostscript draw the document first, by ps2pdf and pdftops"
 
--- one of so many pages depends on the text before it: each by hp2xx, PLplot or g2, by Xcircuit none but those after the first
-abbrev pub depends : Creator → (pages : ℕ) → Bool
+-- one of so many pages depends on the text before it: of those by Xcircuit none but those after the first
+abbrev pub depends : Dependence → (pages : ℕ) → Bool
 depends Hp2xx pages = true
 depends Xcircuit pages = not (pages == 1)
 depends Plplot pages = true
-depends G2 pages = true
+depends Setup pages = true
 
 -- if one does
-abbrev pub creator_text : Option Creator → (pages : ℕ) → Option (List ℕ)
-creator_text None pages = None
-creator_text (Some creator) pages = if depends creator pages then Some (creator_message creator) else None
+abbrev pub dependence_text : Option Dependence → (pages : ℕ) → Option (List ℕ)
+dependence_text None pages = None
+dependence_text (Some dependence) pages = if depends dependence pages then Some (dependence_message dependence) else None
 
 -- a file is named as a PDF
 abbrev pub is_pdf_name : (name : List ℕ) → Bool
@@ -312,7 +312,7 @@ abbrev pub run_lines : Finished → ImposeRequest → List ℕ
 run_lines finished r = let f = finished.findings in
     line_of (Some (report_text finished r)) ++ line_of (unknown_text f.told.unknown)
     ++ line_of (cut_text f.cut f.page_paper) ++ line_of (reach_text f.reach) ++ line_of (behind_text f.behind)
-    ++ line_of (told_text f.told.pages finished.report.pages) ++ line_of (creator_text f.told.creator finished.report.pages)
+    ++ line_of (told_text f.told.pages finished.report.pages) ++ line_of (dependence_text f.told.dependence finished.report.pages)
 
 -- a line that the output is PostScript comes after what was said before, if it is named as something else
 abbrev pub AddsNote : (outfile : Option (List ℕ)) → (before after : List ℕ) → Type 0

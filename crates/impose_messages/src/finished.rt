@@ -18,20 +18,20 @@ pub enum PaperOrigin {
     FirstPage,
 }
 
-/// A program whose pages depend on the text before them, so that sheets may print nothing of these pages.
+/// Why pages depend on the text before them, so that sheets may be wrong.
 #[derive(Clone, Copy)]
-pub enum Creator {
-    /// hp2xx: its pages undo the document's setup.
+pub enum Dependence {
+    /// Pages by hp2xx undo the document's setup.
     Hp2xx,
-    /// Xcircuit: its pages use definitions of earlier pages.
+    /// Pages by Xcircuit use definitions of earlier pages.
     Xcircuit,
-    /// PLplot: its setup scales the first page, and each page undoes this scale.
+    /// PLplot scales the first page in its setup, and each page undoes this scale.
     Plplot,
-    /// g2: its setup turns and moves the pages.
-    G2,
+    /// The document's setup scales, turns or moves the pages.
+    Setup,
 }
 
-/// Facts that a document states in its comments, for the messages about the document.
+/// Facts that a document's comments and its setup tell, for the messages about the document.
 #[derive(Drop)]
 pub struct Claims {
     /// The number of pages that the document declares, if it declares one.
@@ -39,8 +39,8 @@ pub struct Claims {
     /// The name of the document's paper, as messages show it, if no paper of this name is known. `None` if the command line names a paper for the
     /// pages.
     pub unknown: Option<ShownName>,
-    /// The program that made the document, if it is one whose pages depend on the text before them.
-    pub creator: Option<Creator>,
+    /// Why the pages depend on the text before them, if they are known to.
+    pub dependence: Option<Dependence>,
 }
 
 /// Facts that a request finds in a document before sheets are made, for the report.

@@ -18,7 +18,7 @@ mod shown;
 mod statuses;
 
 pub use fault::{Compression, ImposeFault};
-pub use finished::{Claims, Creator, Done, Findings, Finished, PaperOrigin};
+pub use finished::{Claims, Dependence, Done, Findings, Finished, PaperOrigin};
 pub use inputs::refused_document;
 pub use messages::{command_text, fault_text};
 pub use report_text::ReportText;

@@ -2,11 +2,11 @@
 ghost use Rattle.std.specs.Prelude.{◌≡◌, ◌+◌, ◌/◌, ◌≤◌, ◌++◌, if◌then◌else◌, [], length};
 ghost use Rattle.impose_messages.specs.Rooms.{most_said};
 ghost use Rattle.impose_messages.specs.Said.{prints_leaves as are_sides_of, behind_message, blank_count as blanks_in, blanks_text, count_text, counts_text};
-ghost use Rattle.impose_messages.specs.Said.{corners_text, creator_effect as effect_of, creator_message, cut_message, cut_pages_text, cut_size_text, edges_text, leaf_count_text, note_text};
+ghost use Rattle.impose_messages.specs.Said.{corners_text, cut_message, cut_pages_text, cut_size_text, dependence_effect as effect_of, dependence_message, edges_text, leaf_count_text, note_text};
 ghost use Rattle.impose_messages.specs.Said.{origin_text as text_of_origin, others_text, places_per_sheet as places_in, reach_message, report_text};
 ghost use Rattle.impose_messages.specs.Said.{sheet_text, sheets_text, sides_text, page_count_text, paper_size_text, some_pages_text, told_advice as advice_told, told_message, unknown_message};
 
-use crate::finished::{Creator, Finished, PaperOrigin};
+use crate::finished::{Dependence, Finished, PaperOrigin};
 use crate::report_text::ReportText;
 use crate::shown::ShownName;
 use impose_words::{ImposeRequest, Layout};
@@ -367,28 +367,28 @@ fn told_advice(told: usize, found: usize) -> &'static [u8]
     }
 }
 
-/// Appends the message that pages by this program depend on the text before them, and the cure.
-pub(crate) fn push_creator(said: &mut ReportText, creator: Creator)
+/// Appends the message that pages depend on the text before them, and the cure.
+pub(crate) fn push_dependence(said: &mut ReportText, dependence: Dependence)
     requires room { length said.old + 160 ≤ most_said }
-    ensures text { said.new ≡ said.old ++ creator_message creator }
+    ensures text { said.new ≡ said.old ++ dependence_message dependence }
     ensures short { length said.new ≤ length said.old + 160 }
 {
-    said.push(creator_effect(creator));
+    said.push(dependence_effect(dependence));
     said.push(b": let Ghostscript draw the document first, by ps2pdf and pdftops");
 }
 
-/// The effect of pages by this program on the sheets.
-fn creator_effect(creator: Creator) -> &'static [u8]
-    ensures value { result.now ≡ effect_of creator }
+/// Why pages depend on the text before them, and the effect on the sheets.
+fn dependence_effect(dependence: Dependence) -> &'static [u8]
+    ensures value { result.now ≡ effect_of dependence }
     ensures short { length result.now ≤ 90 }
 {
-    match creator {
-        Creator::Hp2xx => b"pages by hp2xx undo the setup, so that sheets print nothing",
-        Creator::Xcircuit => {
+    match dependence {
+        Dependence::Hp2xx => b"pages by hp2xx undo the setup, so that sheets print nothing",
+        Dependence::Xcircuit => {
             b"pages by Xcircuit use what earlier pages define, so that sheets may be missing"
         }
-        Creator::Plplot => b"pages by PLplot undo the setup's scale, so that sheets are cut",
-        Creator::G2 => b"pages by g2 rely on the setup's turn, so that sheets may be cut",
+        Dependence::Plplot => { b"pages by PLplot undo the setup's scale, so that sheets are cut" }
+        Dependence::Setup => b"the setup scales, turns or moves pages, so that sheets may be wrong",
     }
 }
 

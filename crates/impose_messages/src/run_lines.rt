@@ -2,12 +2,12 @@
 ghost use Rattle.std.specs.Prelude.{◌≡◌, ◌+◌, ◌≤◌, ◌++◌, IfSome, Some, length, option_map, string_bytes};
 ghost use Rattle.impose_messages.specs.Rooms.{most_said};
 ghost use Rattle.impose_messages.specs.Said.{AddsNote, advice_on as advice_by_name, behind_text, cut_text, line_of, note_text as text_of_note};
-ghost use Rattle.impose_messages.specs.Said.{creator_text, depends as depends_on, reach_text, report_text, run_lines, told_text, unknown_text};
+ghost use Rattle.impose_messages.specs.Said.{depends as depends_on, dependence_text, reach_text, report_text, run_lines, told_text, unknown_text};
 
-use crate::finished::{Creator, Finished};
+use crate::finished::{Dependence, Finished};
 use crate::report_text::ReportText;
 use crate::reports::{
-    push_behind, push_creator, push_cut, push_note, push_reach, push_report, push_told,
+    push_behind, push_cut, push_dependence, push_note, push_reach, push_report, push_told,
     push_unknown,
 };
 use crate::shown::ShownName;
@@ -29,7 +29,7 @@ pub(crate) fn push_lines(said: &mut ReportText, done: &Finished, request: &Impos
     push_reach_line(said, &found.reach);
     push_behind_line(said, found.behind);
     push_told_line(said, found.told.pages, done.report.pages);
-    push_creator_line(said, found.told.creator, done.report.pages);
+    push_dependence_line(said, found.told.dependence, done.report.pages);
 }
 
 fn push_report_line(said: &mut ReportText, done: &Finished, request: &ImposeRequest)
@@ -111,30 +111,30 @@ fn push_told_line(said: &mut ReportText, told: Option<usize>, found: u32)
     said.push(b"\n");
 }
 
-fn push_creator_line(said: &mut ReportText, creator: Option<Creator>, pages: u32)
+fn push_dependence_line(said: &mut ReportText, dependence: Option<Dependence>, pages: u32)
     requires room { length said.old + 169 ≤ most_said }
-    ensures text { said.new ≡ said.old ++ line_of (creator_text creator pages) }
+    ensures text { said.new ≡ said.old ++ line_of (dependence_text dependence pages) }
     ensures short { length said.new ≤ length said.old + 169 }
 {
-    let Some(creator) = creator else {
+    let Some(dependence) = dependence else {
         return;
     };
-    if !has_dependent_pages(creator, pages) {
+    if !has_dependent_pages(dependence, pages) {
         return;
     }
     said.push(b"impose: ");
-    push_creator(said, creator);
+    push_dependence(said, dependence);
     said.push(b"\n");
 }
 
-/// Whether pages by this program depend on the text before them, in a document of this number of pages. A single page by Xcircuit has no earlier page
-/// to depend on.
-fn has_dependent_pages(creator: Creator, pages: u32) -> bool
-    ensures { result ≡ depends_on creator pages }
+/// Whether pages of a document with this number of pages depend in this way on the text before them. A single page by Xcircuit has no earlier page to
+/// depend on.
+fn has_dependent_pages(dependence: Dependence, pages: u32) -> bool
+    ensures { result ≡ depends_on dependence pages }
 {
-    match creator {
-        Creator::Hp2xx | Creator::Plplot | Creator::G2 => true,
-        Creator::Xcircuit => pages != 1,
+    match dependence {
+        Dependence::Hp2xx | Dependence::Plplot | Dependence::Setup => true,
+        Dependence::Xcircuit => pages != 1,
     }
 }
 

@@ -1,6 +1,6 @@
 use Rattle.std.proofs.Common.{◌++◌, List, ℕ, Some}
 use Rattle.impose_messages.proofs.Pieces.{two}
-use Rattle.impose_messages.specs.Said.{behind_text, creator_text, cut_text, line_of, reach_text, report_text, told_text, unknown_text}
+use Rattle.impose_messages.specs.Said.{behind_text, cut_text, dependence_text, line_of, reach_text, report_text, told_text, unknown_text}
 use Rattle.impose_messages.proofs.run_lines.push_lines.Goals as goal
 
 pub returns-clause-text : goal.returns-clause-text
@@ -13,7 +13,7 @@ returns-clause-text c =
     let e : List ℕ = d ++ line_of (reach_text found.reach) in
     let f : List ℕ = e ++ line_of (behind_text found.behind) in
     let g : List ℕ = f ++ line_of (told_text found.told.pages done.report.pages) in
-    two c.args.said.now g (line_of (creator_text found.told.creator done.report.pages)) _ _
+    two c.args.said.now g (line_of (dependence_text found.told.dependence done.report.pages)) _ _
     (two c.args.said.now f (line_of (told_text found.told.pages done.report.pages)) _ _
     (two c.args.said.now e (line_of (behind_text found.behind)) _ _
     (two c.args.said.now d (line_of (reach_text found.reach)) _ _
@@ -23,4 +23,4 @@ returns-clause-text c =
     c.push_reach_line.ensures.text)
     c.push_behind_line.ensures.text)
     c.push_told_line.ensures.text)
-    c.push_creator_line.ensures.text
+    c.push_dependence_line.ensures.text
