@@ -43,7 +43,9 @@ pub(crate) const FOR_COMMANDS: &[Tip] = tips! {
 
 /// The tip on an option of other programs, if one is known.
 pub(crate) fn tip_on_other(word: &str) -> Option<&'static str> {
-    tip_in(OF_OTHERS, word).or(tip_in(FURTHER, word))
+    tip_in(OF_OTHERS, word)
+        .or(tip_in(FURTHER, word))
+        .or(tip_in(OF_PRINTING, word))
 }
 
 /// Tips on options of other programs.
@@ -94,7 +96,7 @@ const OF_OTHERS: &[Tip] = tips! {
         "the edges of sheets are kept free by --margin, as in: impose nup 2 --margin 1cm in.ps out.ps",
 };
 
-/// Further tips on options of other programs. One table with all these tips would be too long for the prover.
+/// Further tips on options of other programs. One table with all tips would be too long for the prover.
 const FURTHER: &[Tip] = tips! {
     "--inner-margin" | "--outer-margin" | "--top-margin" | "--bottom-margin" | "--left-margin"
     | "--right-margin" | "--inner" =>
@@ -152,4 +154,42 @@ const FURTHER: &[Tip] = tips! {
         "a cover for other paper is: impose booklet --pages 1-2,_2-_1 in.ps out.ps; the rest is --pages 3-_3",
     "--mirror" | "--reflect" | "--flip" | "--flip-other-edge" =>
         "pages are mirrored by the printer: lp -o mirror out.ps",
+};
+
+/// Tips on further words for printing, such as those of CUPS, pdfjam and printing shops.
+const OF_PRINTING: &[Tip] = tips! {
+    "--number-up-layout" | "--page-order" | "--columnstrict" =>
+        "the order of the cells is named by --order, as in: impose nup 4 --order down-right in.ps out.ps",
+    "--orientation-requested" =>
+        "a sheet on its side is named so, as in: --sheet a4-landscape; pages are turned by --turn left",
+    "--rotateoversize" =>
+        "pages wider than high are turned by --turn wide, as in: impose nup 2 --turn wide in.ps out.ps",
+    "--doublepages" | "--doublepagestwist" =>
+        "each page is on a sheet several times by: impose cards 2 in.ps out.ps",
+    "--templatesize" | "--sheet-size" | "--sheetsize" | "--a3paper" | "--a3" =>
+        "the paper of the sheets comes after --sheet, as in: --sheet a4",
+    "--paper-format" | "--papertype" | "--paper-type" =>
+        "the paper of the pages comes after --paper, that of the sheets after --sheet, as in: --sheet a4",
+    "--exclude" | "--skip-pages" | "--omit" =>
+        "pages are left out by naming the others, as in: impose nup 2 --pages 1,3- in.ps out.ps",
+    "--blank-pages" | "--blanks" =>
+        "a blank page is named among the others, as in: --pages 1,blank,2-",
+    "--sheets-per-booklet" =>
+        "leaves are folded some at a time by a number of sides, as in: impose booklet --signature 16 in.ps out.ps",
+    "--margin-left" | "--margin-right" | "--margin-top" | "--margin-bottom" | "--margin-inner" =>
+        "margins are named by their edges, as in: impose nup 1 --margin inner=2cm,top=1cm in.ps out.ps",
+    "--hspace" | "--vspace" =>
+        "room between pages is kept by --gap, across and upwards, as in: impose nup 4 --gap 5mm,1cm in.ps out.ps",
+    "--trim-left" | "--trim-right" | "--trim-top" | "--trim-bottom" | "--crop-box" =>
+        "all edges of pages are left out by one length, as in: impose nup 2 --trim 15mm in.ps out.ps",
+    "--border-width" | "--line-width" =>
+        "a line round each page is drawn by --border, as in: impose nup 2 --border 1pt in.ps out.ps",
+    "--pagenumber" | "--bates" =>
+        "pages are numbered by --numbers, as in: impose nup 2 --numbers 10pt in.ps out.ps",
+    "--resize" => "pages are scaled to another paper by: impose nup 1 --sheet a5 in.ps out.ps",
+    "--input" | "--infile" =>
+        "the pages come from the first file, without an option: impose nup 2 in.ps out.ps",
+    "--silent" => "the report is left out by -q, as in: impose nup 2 -q in.ps out.ps",
+    "--register-marks" | "--registration-marks" | "--color-bars" | "--colour-bars" =>
+        "marks are drawn for folds and cuts alone, as in: impose cards 8 --marks cut in.ps out.ps",
 };
