@@ -34,7 +34,7 @@ begun_or_not false t n there enough = (there, enough)
 
 -- of a sheet's cells, which are enough; those for pages are half of them, beside notes
 filled : (l : Layout) (s : Spacing) (page sheet : Paper) → is_even_enough l s.free ≡ true → 0 < cells_per_sheet (cells_of_layout l s).cells
-    → cells_per_sheet (cells_of_layout l s).cells ≤ size (setting_of page sheet (cells_of_layout l s)).grid → MayBeLaid (filled_in l s.skipped (cells_of_layout l s) page sheet)
+    → cells_per_sheet (cells_of_layout l s).cells ≤ size (setting_of page sheet (cells_of_layout l s)).grid → MayBeLaid (filled_in l s (cells_of_layout l s) page sheet)
 filled (layout.Cards cells) s page sheet even there enough =
     begun_or_not (s.skipped == 0) (setting_of page sheet (arrangement_in s cells)) (cells_per_sheet cells) there enough
 filled (layout.Stack cells true) s page sheet even there enough = tt
@@ -44,7 +44,7 @@ filled layout.Zine s page sheet even there enough = are_zine_cells page sheet s 
 filled other s page sheet even there enough = (there, enough)
 
 pub may_be_filled : (l : Layout) (s : Spacing) (page sheet : Paper) (a : Arrangement) → a ≡ cells_of_layout l s → is_even_enough l s.free ≡ true
-    → why_not_arranged page sheet a ≡ None → cells_per_sheet a.cells ≤ size (setting_of page sheet a).grid → MayBeLaid (filled_in l s.skipped a page sheet)
+    → why_not_arranged page sheet a ≡ None → cells_per_sheet a.cells ≤ size (setting_of page sheet a).grid → MayBeLaid (filled_in l s a page sheet)
 may_be_filled l s page sheet a is even possible enough =
-    subst (λ (x : Arrangement). 0 < cells_per_sheet x.cells → cells_per_sheet x.cells ≤ size (setting_of page sheet x).grid → MayBeLaid (filled_in l s.skipped x page sheet)) (sym is)
+    subst (λ (x : Arrangement). 0 < cells_per_sheet x.cells → cells_per_sheet x.cells ≤ size (setting_of page sheet x).grid → MayBeLaid (filled_in l s x page sheet)) (sym is)
     (filled l s page sheet even) (some_cells (cells_per_sheet a.cells) _ possible) enough

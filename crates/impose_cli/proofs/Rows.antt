@@ -1,6 +1,7 @@
 -- What comes of a task with a row, and of a request.
 use Rattle.std.proofs.Common.{◌≡◌, ◌⊎◌, ◌∙◌, ap, ap₂, sym, subst, refl, arith, inl, inr, Bool, Bor, true, false, true≢false, List, [], ◌∷◌, ℕ, Option, Some, None, Result, Ok, Err}
-use Rattle.std.specs.Prelude.{IfSome, length, map, option_map, string_bytes}
+use Rattle.std.specs.Prelude.{length, map, option_map, replicate, string_bytes}
+use Rattle.rules.specs.Choice.{RowFault}
 use Rattle.rules.specs.Rows.{Row}
 use Rattle.rules.specs.Papers.{Paper}
 use Rattle.rules.specs.Specification.{Spec}
@@ -11,7 +12,6 @@ use Rattle.dsc.proofs.Reading.{accepted_cut}
 use Rattle.dsc.proofs.Slices.{text_whole}
 use Rattle.rules.specs.Parts.{NestedUnit, bytes_of, pages}
 use Rattle.rules.specs.Run.{document_of}
-use Rattle.rows.specs.Sewing.{MayBeSewn}
 use Rattle.imposer.specs.declared.outcome.Report.{Report}
 use Rattle.row_runs.specs.declared.run.RowJob.{RowJob}
 use Rattle.impose_cli.specs.RowRuns.{Imposes}
@@ -32,8 +32,8 @@ use Rattle.impose_messages.specs.declared.finished.Findings.{Findings}
 use Rattle.impose_cli.specs.Tasks.{FindsBySpec, HasPageCount, page_paper_found}
 use Rattle.impose_cli.specs.Refusals.{HasGoodName, RefusesDocument, RefusesFor, RefusesNamed, RefusesOptions, RefusesRowLayout, RefusesRowTask}
 use Rattle.impose_cli.specs.Reaches.{reach_in, reach_over}
-use Rattle.impose_cli.specs.RowTasks.{ArePapersOf, FindsForRow, cut_in, papers_in, papers_to_place, row_paper, text_for, why_no_row, FinishesRow, ImposesTask, IsJobOf, IsRowJob, IsRowPaper, IsRowTask, LaysRows, HasTurns, IsLaidBy, IsLaidSo, IsLayingOf, LaysSo, TakesNamed, cells_paper, counted_among, counted_in, has_cuts_apart, paper_turned, turns_in, laying_in, own_in, paper_for, row_papers, sheet_paper_in}
-use Rattle.impose_cli.specs.Taken.{row_in, taken_below, taken_in}
+use Rattle.impose_cli.specs.RowTasks.{ArePapersOf, FindsForRow, cut_in, papers_in, papers_to_place, row_paper, text_for, why_no_row, FinishesRow, ImposesTask, IsJobOf, IsRowJob, IsRowPaper, IsRowTask, LaysRows, HasTurns, IsLaidBy, IsLaidSo, IsLayingOf, LaysSo, TakesNamed, cells_paper, counted_among, counted_in, first_paper, guarded_in, has_cuts_apart, paper_turned, turns_in, laying_in, own_in, paper_for, row_papers, sheet_paper_in}
+use Rattle.impose_cli.specs.Taken.{row_in, row_or_none, taken_below, taken_in}
 use Rattle.row_runs.specs.declared.sheet_request.Laying.{Laying}
 use Rattle.row_runs.specs.declared.sheet_request.Laying.TheVariants as laying
 use Rattle.impose_words.specs.declared.request.Spacing.{Spacing}
@@ -80,13 +80,10 @@ pub is_row_job : (r : ImposeRequest) (input : List ℕ) (t : RowTask) (job : Row
 is_row_job r input t job is of = record {
   document = ap (λ ps. document_of (text_for r ps t.findings.page_paper input)) of.papers ∙ ap document_of (sym is.text) ∙ of.document;
   turns = subst (HasTurns r input) (sym of.turns) is.turns;
-  choice = of.choice;
-  signing = of.signing ∙ is.signing;
-  last_at_back = of.last_at_back;
-  begun = of.begun;
+  row = of.row;
   laying = lays_by r.layout r.spacing _ _ t.laying job.asked.laying is.laying of.laying;
   possible = is.possible;
-  options = (subst (λ s. IfSome s MayBeSewn) is.signing is.may_be_sewn, is.border);
+  options = is.options;
   same_scale = of.same_scale;
   border = of.border;
   inset = of.inset;
@@ -106,6 +103,11 @@ are_papers r input us papers read own = (us, read, own ∙ ap (λ t. papers_in r
 pub unturned_papers : (papers : List Paper) → map (paper_turned (turning.All by.None)) papers ≡ papers
 unturned_papers [] = refl
 unturned_papers (paper ∷ papers) = ap (λ (ps : List Paper). paper ∷ ps) (unturned_papers papers)
+
+-- as many papers, all alike
+pub all_alike : (own : List Paper) (one : Paper) → replicate (length own) one ≡ map (λ paper. one) own
+all_alike [] one = refl
+all_alike (paper ∷ own) one = ap (λ (ps : List Paper). one ∷ ps) (all_alike own one)
 
 -- papers are found one after another: the pages' own, those of the row, and those that count
 pub are_counted : (r : ImposeRequest) (us : List NestedUnit) (row : Row) (own taken counted : List Paper) (one : Paper) → own ≡ own_in r (bytes_of us) us
@@ -189,6 +191,16 @@ pub as_many : (r : ImposeRequest) (us : List NestedUnit) (one : Paper) (taken ow
     → n ≡ length papers
 as_many r us one taken own counted papers n count is placed turned = count
     ∙ sym (ap length turned ∙ length-map counted (cells_paper r) ∙ ap length placed ∙ placed_len r.layout one taken own ∙ ap length is ∙ papers_len r.page_paper paper_named r.default_paper (bytes_of us) us)
+
+-- a choice that gives no row has no first entry
+first_of : (found : Result Row RowFault) (papers : List Paper) (blank : Paper) → first_paper (Ok (row_or_none found)) papers blank ≡ first_paper found papers blank
+first_of (Ok row) papers blank = refl
+first_of (Err fault) papers blank = refl
+
+pub guarded_by : (l : Layout) (found : Result Row RowFault) (row : Row) (papers : List Paper) (given sheet : Paper) → row ≡ row_or_none found → given ≡ sheet
+    → guarded_in l (first_paper (Ok row) papers given) given ≡ guarded_in l (first_paper found papers sheet) sheet
+guarded_by l found row papers given sheet is same =
+    ap₂ (λ r s. guarded_in l (first_paper (Ok r) papers s) s) is same ∙ ap (λ p. guarded_in l p sheet) (first_of found papers sheet)
 
 -- why there is no task for a document that is accepted, with sheets and cells for this paper
 abbrev pub RefusesAccepted : ImposeRequest → (page_paper : Paper) → ImposeFault → Type 0

@@ -20,7 +20,8 @@ use Rattle.impose_words.specs.declared.request.Layout.{Layout}
 use Rattle.impose_words.specs.declared.request.Layout.TheVariants as layout
 use Rattle.impose_words.specs.declared.request.Spacing.{Spacing}
 use Rattle.impose_words.specs.declared.request.Turning.TheVariants as turning
-use Rattle.impose_cli.specs.RowTasks.{laying_in, paper_turned, signing_in, turns_of}
+use Rattle.impose_cli.specs.RowsAsked.{signing_in}
+use Rattle.impose_cli.specs.RowTasks.{laying_in, paper_turned, turns_of}
 
 abbrev swapped_room_or_none : Bool → Option Laying → Option Room
 swapped_room_or_none exchanged None = None

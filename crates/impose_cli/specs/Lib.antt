@@ -1,8 +1,9 @@
--- Read in this order: what a document's error makes of a request, and which of its pages are taken; what a run on a row writes; what a request comes to with a
+-- Read in this order: what a document's error makes of a request, which of its pages are taken, and the row that it asks for; what a run on a row writes; what a request comes to with a
 -- document, and what is refused; what its run leaves; what a look shows; what is printed; what is checked unread; laws; the
 -- fronts of files; the whole program.
 pub mod Claims
 pub mod Taken
+pub mod RowsAsked
 pub mod Reaches
 pub mod Faults
 pub mod Tasks

@@ -1,5 +1,5 @@
 -- What is imposed of a row of pages, and how: a request for a document, if its layout lays rows on sheets.
-use Rattle.std.specs.Prelude.{◌≡◌, ⊤, string_bytes, ℕ, ◌+◌, ◌==◌, Bool, true, false, ◌&&◌, if◌then◌else◌, List, [], ◌∷◌, length, Option, Some, None, Result, Ok, Err, IfSome, option_map, option_and_then, map, slice_get, ◌||◌, not}
+use Rattle.std.specs.Prelude.{◌≡◌, ⊤, string_bytes, ℕ, ◌+◌, Bool, true, false, ◌&&◌, if◌then◌else◌, List, [], ◌∷◌, length, Option, Some, None, Result, Ok, Err, IfSome, option_map, option_and_then, map, slice_get, ◌||◌, not}
 use Rattle.std.specs.List.{list_all}
 use Rattle.std.specs.Ordering.{int_eq}
 use Rattle.rules.specs.Admissible.{Takes, most_slots}
@@ -10,9 +10,8 @@ use Rattle.rules.specs.Run.{document_of}
 use Rattle.rules.specs.Choice.{RowFault, imposed_row}
 use Rattle.rules.specs.Rows.{Row}
 use Rattle.row_sheets.specs.RowSheets.{selected_sheet}
-use Rattle.rows.specs.Choices.{choice_of}
+use Rattle.rows.specs.Printed.{asked_by}
 use Rattle.rows.specs.Sewing.{MayBeSewn}
-use Rattle.rows.specs.declared.sewing.Signing.{Signing}
 use Rattle.layouts.specs.Fitted.{binding_setting_of, setting_of}
 use Rattle.layouts.specs.Grids.{cells_per_sheet, rounded_down, rounded_up, is_same}
 use Rattle.layouts.specs.Refusals.{error_unless, is_length, why_not_arranged, why_not_bound}
@@ -32,10 +31,7 @@ use Rattle.sheet_text.specs.Jobs.{is_border}
 use Rattle.imposer.specs.declared.outcome.Report.{Report}
 use Rattle.row_runs.specs.declared.sheet_request.Laying.{Laying}
 use Rattle.row_runs.specs.declared.sheet_request.Laying.TheVariants as laying
-use Rattle.row_runs.specs.declared.sheet_request.Scheme.{Scheme}
 use Rattle.row_runs.specs.declared.sheet_request.Scheme.TheVariants as scheme
-use Rattle.row_runs.specs.declared.begun.Begun.{Begun}
-use Rattle.row_runs.specs.declared.begun.Begun.TheVariants as begun
 use Rattle.row_runs.specs.declared.run.RowJob.{RowJob}
 use Rattle.impose_words.specs.Choices.{choice_in}
 use Rattle.row_sheets.specs.Posters.{on_fewest, why_no_poster}
@@ -44,6 +40,7 @@ use Rattle.impose_words.specs.Spacings.{arrangement_in, binding_in, swaps_margin
 use Rattle.impose_words.specs.declared.request.Spacing.{Spacing}
 use Rattle.impose_cli.specs.Claims.{IsToldBy}
 use Rattle.impose_cli.specs.Reaches.{reach_in}
+use Rattle.impose_cli.specs.RowsAsked.{row_asked, scheme_in, signing_in}
 use Rattle.impose_cli.specs.Taken.{row_in, taken_in, takes}
 use Rattle.pagespec.specs.Items.{turn_of}
 use Rattle.pagespec.specs.declared.item.Turn.{Turn}
@@ -68,12 +65,6 @@ use Rattle.impose_cli.specs.declared.laying.RowLaying.{RowLaying}
 use Rattle.impose_cli.specs.declared.laying.RowLaying.TheVariants as row
 use Rattle.impose_cli.specs.declared.row_task.RowTask.{RowTask}
 
--- how a layout's row is sewn
-abbrev pub signing_in : Layout → Option Signing
-signing_in (layout.Booklet signing long_edge) = Some signing
-signing_in (layout.SpecRow specs signing) = signing
-signing_in other = None
-
 -- its signatures have as many sides as they may have, and a border is wider than nothing
 abbrev pub HasOptions : ImposeRequest → Type 0
 HasOptions r = IfSome (signing_in r.layout) MayBeSewn × (is_border r.border ≡ true)
@@ -91,22 +82,8 @@ cells_of_layout (layout.Stack cells duplex) s = arrangement_in s cells
 cells_of_layout (layout.Notes pages) s = notes_in s pages
 cells_of_layout other s = zine_in s
 
--- how a row is put into so many: it goes on from cell to cell, unless the layout has another scheme. So do the entries of cards on a sheet that is begun,
--- each as often as its cards
-abbrev pub scheme_in : Layout → (skipped cells : ℕ) → Scheme
-scheme_in (layout.Cards cells) skipped n = if skipped == 0 then scheme.Cards n else scheme.Grid n
-scheme_in (layout.Stack cells duplex) skipped n = if duplex then scheme.Leaves else scheme.Stack n
-scheme_in (layout.Notes pages) skipped n = scheme.Grid pages
-scheme_in layout.Zine skipped n = scheme.Zine
-scheme_in other skipped n = scheme.Grid n
-
--- where the row begins on the first sheet
-abbrev pub begun_in : Layout → (skipped : ℕ) → Begun
-begun_in (layout.Cards cells) skipped = if skipped == 0 then begun.Pages 0 else begun.Cards (cells_per_sheet cells) skipped
-begun_in other skipped = begun.Pages skipped
-
-abbrev pub filled_in : Layout → (skipped : ℕ) → Arrangement → (page_paper sheet_paper : Paper) → Laying
-filled_in l skipped a page sheet = laying.InCells (setting_of page sheet a) (scheme_in l skipped (cells_per_sheet a.cells))
+abbrev pub filled_in : Layout → Spacing → Arrangement → (page_paper sheet_paper : Paper) → Laying
+filled_in l s a page sheet = laying.InCells (setting_of page sheet a) (scheme_in l s (cells_per_sheet a.cells))
 
 -- columns and rows of sheets of a paper, with one margin along all edges: of it and of the overlap none is lost
 abbrev pub tiles_in : Spacing → (columns rows : ℕ) → (sheet : Paper) → Poster
@@ -132,7 +109,7 @@ laying_in (layout.Poster cells) s page sheet = Some (laying.Poster (poster_in s 
 laying_in layout.Selection s page sheet = Some (laying.AsTheyAre sheet)
 laying_in (layout.Spec specs) s page sheet = None
 laying_in (layout.SpecRow specs signing) s page sheet = None
-laying_in other s page sheet = Some (filled_in other s.skipped (cells_of_layout other s) page sheet)
+laying_in other s page sheet = Some (filled_in other s (cells_of_layout other s) page sheet)
 
 -- as much is kept free along opposite edges, or along all
 abbrev pub has_even_margins : Free → Bool
@@ -367,19 +344,14 @@ pub record IsRowTask (r : ImposeRequest) (input : List ℕ) (t : RowTask) : Type
   pub laying : IsLaidBy r t.findings.page_paper t.laying
   pub possible : why_no_row r t.findings.page_paper ≡ None
   pub may_be_laid : MayBeLaidSo t.laying
-  pub signing : t.signing ≡ signing_in r.layout
-  pub may_be_sewn : IfSome t.signing MayBeSewn
-  pub border : is_border r.border ≡ true
+  pub options : HasOptions r
 
 -- the job is the run of such a task
 pub record IsJobOf (r : ImposeRequest) (t : RowTask) (job : RowJob) : Type 0 where
   pub document : document_of t.text.items ≡ Ok job.document.now
   pub turns : job.turns.now ≡ t.turns.items
   pub papers : job.papers.now ≡ t.papers.items
-  pub choice : choice_of job.asked.choice ≡ choice_in r.choice
-  pub signing : job.asked.signing ≡ t.signing
-  pub last_at_back : job.asked.last_at_back ≡ r.last_at_back
-  pub begun : job.asked.begun ≡ begun_in r.layout r.spacing.skipped
+  pub row : asked_by job.asked.row ≡ row_asked r
   pub laying : IsLayingOf t.laying job.asked.laying
   pub same_scale : job.asked.same_scale ≡ r.spacing.same_scale
   pub border : job.border ≡ r.border
@@ -395,10 +367,7 @@ ImposesTask r t old new report = (job : RowJob) × IsJobOf r t job × Imposes jo
 pub record IsRowJob (r : ImposeRequest) (input : List ℕ) (page_paper : Paper) (job : RowJob) : Type 0 where
   pub document : document_of (text_for r job.papers.now page_paper input) ≡ Ok job.document.now
   pub turns : HasTurns r input job.turns.now
-  pub choice : choice_of job.asked.choice ≡ choice_in r.choice
-  pub signing : job.asked.signing ≡ signing_in r.layout
-  pub last_at_back : job.asked.last_at_back ≡ r.last_at_back
-  pub begun : job.asked.begun ≡ begun_in r.layout r.spacing.skipped
+  pub row : asked_by job.asked.row ≡ row_asked r
   pub laying : LaysBy r page_paper job.asked.laying
   pub possible : why_no_row r page_paper ≡ None
   pub options : HasOptions r

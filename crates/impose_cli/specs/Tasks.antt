@@ -1,5 +1,5 @@
 -- What is imposed, and how: a request for a document.
-use Rattle.std.specs.Prelude.{◌≡◌, ℕ, ◌==◌, pos, Bool, true, false, ◌&&◌, ◌||◌, not, if◌then◌else◌, List, length, Option, is_some}
+use Rattle.std.specs.Prelude.{◌≡◌, ℕ, pos, Bool, true, false, ◌&&◌, ◌||◌, not, if◌then◌else◌, List, length, Option, is_some}
 use Rattle.std.specs.Prelude.{Some, None, Ok, option_map, string_bytes}
 use Rattle.rules.specs.Papers.{Paper}
 use Rattle.rules.specs.Specification.{Spec, canonical}
@@ -10,8 +10,10 @@ use Rattle.rules.specs.Sheets.{sheets}
 use Rattle.dsc.specs.PagesBehind.{pages_behind}
 use Rattle.impose_cli.specs.Claims.{IsToldBy}
 use Rattle.impose_cli.specs.Reaches.{reach_over}
+use Rattle.impose_cli.specs.RowsAsked.{row_asked}
 use Rattle.impose_cli.specs.Taken.{taken_in}
 use Rattle.rules.specs.Choice.{sides_for}
+use Rattle.rows.specs.Printed.{is_plain}
 use Rattle.rows.specs.Sewing.{signing_of}
 use Rattle.guard.specs.Guard.{guarded}
 use Rattle.layouts.specs.Grids.{arranged, bound}
@@ -25,7 +27,6 @@ use Rattle.papers.specs.Media.{document_paper}
 use Rattle.papers.specs.declared.media.Comment.{Comment}
 use Rattle.impose_messages.specs.declared.finished.PaperOrigin.{PaperOrigin}
 use Rattle.impose_messages.specs.declared.finished.PaperOrigin.TheVariants.{Named, ByComment, ByDefault}
-use Rattle.impose_words.specs.Choices.{is_all_pages}
 use Rattle.impose_words.specs.declared.request.Turning.{Turning}
 use Rattle.impose_words.specs.declared.request.Turning.TheVariants as turning
 use Rattle.pagespec.specs.declared.item.Turn.TheVariants as turned
@@ -102,8 +103,7 @@ is_unmarked m = not (m.fold || m.cut || m.ruled || is_some m.numbers)
 -- beside the layout a specification says what is asked for: all pages, in their order, blanks after them, unturned, unmarked, from the first cell on, each in its own
 -- scale, and backs as fronts (RULES, 16, step 8)
 abbrev pub is_said : ImposeRequest → Bool
-is_said r = is_all_pages r.choice && not r.last_at_back && is_unturned r.turn && is_unmarked r.marks && not r.spacing.same_scale && (r.spacing.skipped == 0)
-    && not (swaps_margins r.layout r.spacing)
+is_said r = is_plain (row_asked r) && is_unturned r.turn && is_unmarked r.marks && not r.spacing.same_scale && not (swaps_margins r.layout r.spacing)
 
 -- the task is what the request asks for with this document
 pub record IsTask (request : ImposeRequest) (input : List ℕ) (task : Task) : Type 0 where

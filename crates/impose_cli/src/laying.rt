@@ -2,6 +2,7 @@
 ghost use Rattle.std.specs.Prelude.{◌≡◌, ◌↔◌, ◌≤◌, IfErr, IfOk, IfSome, IsTrue, OnOk, None, Some, option_map, true};
 ghost use Rattle.layouts.specs.Grids.{cells_per_sheet};
 ghost use Rattle.layouts.specs.Refusals.{most_on_sheet, why_not_arranged};
+ghost use Rattle.rows.specs.Printed.{asked_by};
 ghost use Rattle.rows.specs.Sewing.{MayBeSewn};
 ghost use Rattle.sheet_text.specs.Jobs.{is_border};
 ghost use Rattle.row_runs.specs.Sheets.{MayBeLaid};
@@ -10,8 +11,9 @@ ghost use Rattle.impose_cli.specs.Refusals.{HasGoodName, RefusesRowLayout, Refus
 ghost use Rattle.impose_cli.specs.RowTasks.{IsLaidSo, IsLayingOf, LaysRows, MayBeLaidSo};
 ghost use Rattle.impose_cli.specs.Refusals.{RefusesLayout, RefusesOptions};
 ghost use Rattle.impose_cli.specs.RowTasks.{has_even_margins as are_even, is_even_enough as are_even_enough};
-ghost use Rattle.impose_cli.specs.RowTasks.{cells_of_layout, filled_in, laying_in, scheme_in, why_no_layout, why_not_placed, begun_in};
-ghost use Rattle.impose_cli.specs.RowTasks.{cells_paper, sheet_paper_in, signing_in};
+ghost use Rattle.impose_cli.specs.RowsAsked.{begun_in, row_asked as row_asked_by, scheme_in, signing_in};
+ghost use Rattle.impose_cli.specs.RowTasks.{HasOptions, cells_of_layout, filled_in, laying_in, why_no_layout, why_not_placed};
+ghost use Rattle.impose_cli.specs.RowTasks.{cells_paper, sheet_paper_in};
 ghost use Rattle.impose_cli.specs.Precheck.{kept_free as kept_free_in, why_no_sheets};
 ghost use Rattle.impose_words.specs.declared.request.Layout.TheVariants as layout;
 ghost use Rattle.impose_messages.specs.declared.fault.ImposeFault.TheVariants as faults;
@@ -25,9 +27,9 @@ use layouts::{
 };
 use lengths::{Grains, Paper};
 use pagespec::{Spec, read_spec};
-use row_runs::{Begun, Laying, Scheme, turned_paper};
+use row_runs::{Laying, Scheme, turned_paper};
 use row_sheets::{Poster, check_poster};
-use rows::Signing;
+use rows::{Begun, RowRequest, Signing};
 use sheet_plan::are_sides;
 use std::alloc::Global;
 
@@ -209,7 +211,7 @@ fn cell_laying(
 ) -> Result<Option<Laying<'static>>, ImposeFault>
     requires { are_even_enough layout.now spacing.now.free ≡ true }
     ensures laying { IfOk result (λ laying.
-        laying ≡ Some (filled_in layout.now spacing.now.skipped (cells_of_layout layout.now spacing.now) papers.now.page papers.now.sheet)) }
+        laying ≡ Some (filled_in layout.now spacing.now (cells_of_layout layout.now spacing.now) papers.now.page papers.now.sheet)) }
     ensures may_be { IfOk result (λ laying. IfSome laying MayBeLaid) }
     ensures possible { OnOk result (option_map faults.Layout
         (why_not_arranged papers.now.page papers.now.sheet (cells_of_layout layout.now spacing.now)) ≡ None) }
@@ -220,7 +222,7 @@ fn cell_laying(
     match Setting::of(papers, &arrangement) {
         Ok(setting) => Ok(Some(Laying::InCells {
             setting,
-            scheme: scheme_for(layout, spacing.skipped, arrangement.cells),
+            scheme: scheme_for(layout, spacing, arrangement.cells),
         })),
         Err(error) => Err(ImposeFault::Layout(error)),
     }
@@ -238,14 +240,14 @@ fn cells_for(layout: &Layout, spacing: &Spacing) -> Arrangement
     }
 }
 
-/// The scheme by which the layout puts a row of pages into these cells, if `skipped` cells of the first sheet are used already.
-fn scheme_for(layout: &Layout, skipped: u32, cells: Cells) -> Scheme
+/// The scheme by which the layout puts a row of pages into these cells.
+fn scheme_for(layout: &Layout, spacing: &Spacing, cells: Cells) -> Scheme
     requires { cells_per_sheet cells ≤ most_on_sheet }
-    ensures { result ≡ scheme_in layout.now skipped (cells_per_sheet cells) }
+    ensures { result ≡ scheme_in layout.now spacing.now (cells_per_sheet cells) }
 {
     let cells = cells.count() as u32;
     match layout {
-        Layout::Cards(_) => if skipped == 0 {
+        Layout::Cards(_) => if spacing.skipped == 0 {
             Scheme::Cards { cells }
         } else {
             Scheme::Grid { cells }
@@ -261,20 +263,34 @@ fn scheme_for(layout: &Layout, skipped: u32, cells: Cells) -> Scheme
     }
 }
 
-/// The start of the layout's row on the first sheet, of which this number of cells is used already.
-pub(crate) fn begun_for(layout: &Layout, skipped: u32) -> Begun
-    ensures { result ≡ begun_in layout.now skipped }
+/// The row that a request asks for.
+pub(crate) fn row_asked(request: &ImposeRequest) -> RowRequest<'_>
+    ensures asked { asked_by result ≡ row_asked_by request.now }
+    ensures signing { result.signing ≡ signing_in request.now.layout }
 {
+    RowRequest {
+        choice: request.choice.as_choice(),
+        signing: named_signing(&request.layout),
+        last_at_back: request.last_at_back,
+        begun: begun_for(&request.layout, &request.spacing),
+    }
+}
+
+/// The start of the layout's row on the first sheet, of which some cells may be used already.
+fn begun_for(layout: &Layout, spacing: &Spacing) -> Begun
+    ensures { result ≡ begun_in layout.now spacing.now }
+{
+    let used = spacing.skipped;
     match layout {
-        Layout::Cards(cells) => if skipped == 0 {
+        Layout::Cards(cells) => if used == 0 {
             Begun::Pages { used: 0 }
         } else {
             Begun::Cards {
                 cells: cells.count(),
-                used: skipped,
+                used,
             }
         },
-        _ => Begun::Pages { used: skipped },
+        _ => Begun::Pages { used },
     }
 }
 
@@ -354,13 +370,11 @@ fn has_even_margins(free: &Free) -> bool
     free.left.get() == free.right.get() && free.bottom.get() == free.top.get()
 }
 
-/// The signatures of a request, if it has any. The error is `Options` if a signature can't have the named number of sides, or if the width of the
-/// border isn't above 0.
-#[tactic(auto, using(crate::proofs::RowOptions::no_border, crate::proofs::RowOptions::not_sewn))]
-pub(crate) fn signing_for(request: &ImposeRequest) -> Result<Option<Signing>, ImposeFault>
-    ensures signing { IfOk result (λ signing. signing ≡ signing_in request.now.layout) }
-    ensures may_be { IfOk result (λ signing. IfSome signing MayBeSewn) }
-    ensures border { OnOk result (is_border request.now.border ≡ true) }
+/// Checks the signatures and the border of a request, if it has them. The error is `Options` if a signature can't have the named number of sides, or if
+/// the width of the border isn't above 0.
+#[tactic(auto, using(crate::proofs::RowOptions::has_options, crate::proofs::RowOptions::no_border, crate::proofs::RowOptions::not_sewn))]
+pub(crate) fn check_options(request: &ImposeRequest) -> Result<(), ImposeFault>
+    ensures accepted { OnOk result (HasOptions request.now) }
     ensures refused { IfErr result (RefusesOptions request.now) }
 {
     let signing = named_signing(&request.layout);
@@ -369,7 +383,7 @@ pub(crate) fn signing_for(request: &ImposeRequest) -> Result<Option<Signing>, Im
     }
     match signing {
         Some(how) if !may_be_sewn(how) => Err(ImposeFault::Run(RunError::Options)),
-        _ => Ok(signing),
+        _ => Ok(()),
     }
 }
 

@@ -1,14 +1,13 @@
 //! Lists and drawings of the sheets that a request makes.
-ghost use Rattle.std.specs.Prelude.{IfErr, IfOk, IfSome};
-ghost use Rattle.rows.specs.Sewing.{MayBeSewn};
+ghost use Rattle.std.specs.Prelude.{IfErr, IfOk};
 ghost use Rattle.dsc.specs.Serving.{Serve};
 ghost use Rattle.row_runs.specs.Runs.{RefusesRun};
 ghost use Rattle.row_runs.specs.Sheets.{MayBeAsked};
 ghost use Rattle.impose_cli.specs.Endings.{RefusesRowRun, RefusesRowTaskRun};
 ghost use Rattle.impose_cli.specs.Looks.{TellsSheets, TellsRow, TellsTask};
-ghost use Rattle.impose_cli.specs.RowTasks.{LaysRows, MayBeLaidSo};
+ghost use Rattle.impose_cli.specs.RowTasks.{HasOptions, LaysRows, MayBeLaidSo};
 
-use crate::laying::begun_for;
+use crate::laying::row_asked;
 use crate::row_task::{RowTask, asked_fault_of, row_task};
 use dsc::{Document, Parts};
 use guard::RoomyText;
@@ -55,7 +54,7 @@ fn task_text(
     look: Overview,
 ) -> Result<Vec<u8>, ImposeFault>
     requires laid { MayBeLaidSo task.now.laying }
-    requires sewn { IfSome task.now.signing MayBeSewn }
+    requires options { HasOptions request.now }
     requires parts { Serve parts task.now.text.items }
     ensures told { IfOk result (λ text. TellsTask request.now task.now look text.items) }
     ensures refused { IfErr result (RefusesRowTaskRun request.now task.now) }
@@ -70,10 +69,7 @@ fn task_text(
         turns: task.turns.as_slice(),
         papers: task.papers.as_slice(),
         asked: SheetRequest {
-            choice: request.choice.as_choice(),
-            signing: task.signing,
-            last_at_back: request.last_at_back,
-            begun: begun_for(&request.layout, request.spacing.skipped),
+            row: row_asked(request),
             laying: task.laying.lent(),
             same_scale: request.spacing.same_scale,
         },

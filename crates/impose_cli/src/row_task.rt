@@ -1,19 +1,16 @@
 //! The task of laying a row of pages on sheets.
-ghost use Rattle.std.specs.Prelude.{◌≡◌, ◌<◌, ◌≤◌, ◌&&◌, ◌⊎◌, ℕ, length, true, IfErr, IfOk, IfSome, IsTrue, None, Ok};
+ghost use Rattle.std.specs.Prelude.{◌≡◌, ◌<◌, ◌&&◌, ◌⊎◌, ℕ, length, true, IfErr, IfOk, None, Ok};
 ghost use Rattle.std.specs.Prelude.{if◌then◌else◌, map, option_map, string_bytes};
-ghost use Rattle.rows.specs.Sewing.{MayBeSewn};
 ghost use Rattle.impose_cli.specs.Endings.{Comes, RefusesRowTaskRun, edge_of_world, shown};
 ghost use Rattle.rules.specs.Parts.{bytes_of};
-ghost use Rattle.sheet_text.specs.Jobs.{is_border};
 ghost use Rattle.impose_messages.specs.Faults.{without_memory};
 ghost use Rattle.impose_cli.specs.Faults.{of_asked as asked_fault};
-ghost use Rattle.rules.specs.Run.{most_pages};
 ghost use Rattle.rules.specs.Choice.{imposed_row as row_of};
 ghost use Rattle.impose_words.specs.Arranging.{turn_for as turn_by};
 ghost use Rattle.impose_words.specs.Choices.{choice_in};
 ghost use Rattle.impose_cli.specs.RowTasks.{guarded_in, first_paper as first_paper_of};
 ghost use Rattle.impose_cli.specs.Claims.{IsToldBy};
-ghost use Rattle.impose_cli.specs.RowTasks.{ArePapersOf, FindsForRow, HasTurns, ImposesTask, IsRowTask, LaysRows, counted_in};
+ghost use Rattle.impose_cli.specs.RowTasks.{ArePapersOf, FindsForRow, HasOptions, HasTurns, ImposesTask, IsRowTask, LaysRows, counted_in};
 ghost use Rattle.std.specs.List.{list_all};
 ghost use Rattle.impose_cli.specs.RowTasks.{MayBeLaidSo, TellsOnePaper, has_cuts_apart as cuts_apart};
 ghost use Rattle.layouts.specs.Grids.{is_same as are_same};
@@ -22,7 +19,7 @@ ghost use Rattle.impose_cli.specs.Reaches.{reach_in, reach_on, told_own};
 ghost use Rattle.paper_names.specs.Names.{paper_named};
 ghost use Rattle.papers.specs.Own.{papers_of_each_page};
 ghost use Rattle.papers.specs.Reach.{page_boxes};
-ghost use Rattle.impose_cli.specs.Taken.{taken_in};
+ghost use Rattle.impose_cli.specs.Taken.{row_or_none, taken_in};
 ghost use Rattle.impose_cli.specs.Refusals.{RefusesDocument, RefusesRowTask};
 ghost use Rattle.impose_cli.specs.Tasks.{HasPageCount, page_paper_found};
 ghost use Rattle.dsc.specs.PagesBehind.{pages_behind};
@@ -30,7 +27,7 @@ ghost use Rattle.dsc.specs.Serving.{ArePartsOf, Serve};
 
 use crate::attempt::{Attempt, refused_before};
 use crate::claims::claims_of;
-use crate::laying::{RowLaying, begun_for, papers_for, row_laying, signing_for};
+use crate::laying::{RowLaying, check_options, papers_for, row_asked, row_laying};
 use crate::reach::reach_of_row;
 use crate::runs::impose_job;
 use crate::taken::{papers_on_row, papers_taken, row_of_choice, taken_count};
@@ -46,7 +43,7 @@ use lengths::Paper;
 use pagespec::Turn;
 use papers::{Cut, Reach, cut_by, first_instead_of, merge_near_sizes, page_papers};
 use row_runs::{RowJob, SheetError, SheetRequest, turned_paper};
-use rows::{RowError, Signing, imposed_row};
+use rows::RowError;
 use std::alloc::{AllocError, Global};
 use std::sync::Wait;
 use std::thread::Threads;
@@ -64,14 +61,13 @@ pub(crate) struct RowTask {
     /// The papers by which the document's pages are placed, each turned with its page.
     pub(crate) papers: Vec<Paper>,
     pub(crate) laying: RowLaying,
-    pub(crate) signing: Option<Signing>,
 }
 
 /// Facts about a document's pages, by which they are laid on sheets.
 #[derive(Drop)]
 struct FoundPages {
-    /// The number of pages.
-    pages: u32,
+    /// The row of pages, or an empty one if the choice gives none.
+    row: Vec<Option<u32>>,
     /// The turn of each page. Empty without `--turn`.
     turns: Vec<Turn>,
     /// The papers by which the pages are placed, each turned with its page.
@@ -95,8 +91,8 @@ pub(crate) fn row_task(
     let (found, parts) = pages_of(alloc, request, input.as_slice())?;
     let papers = papers_for(request, &found.findings.page_paper);
     let laying = row_laying(alloc, request, &papers)?;
-    let signing = signing_for(request)?;
-    let sheet = guarded_paper(alloc, request, &found, &papers.sheet)?;
+    check_options(request)?;
+    let sheet = guarded_paper(request, &found, &papers.sheet);
     let text = text_to_impose(request.is_guarded, &sheet, input)?;
     let task = RowTask {
         text,
@@ -104,7 +100,6 @@ pub(crate) fn row_task(
         turns: found.turns,
         papers: found.papers,
         laying,
-        signing,
     };
     Ok((task, parts))
 }
@@ -118,8 +113,8 @@ fn pages_of(
     ensures papers { IfOk result (λ found. ArePapersOf request.now input.now found.0.papers.items) }
     ensures turns { IfOk result (λ found. HasTurns request.now input.now found.0.turns.items) }
     ensures findings { IfOk result (λ found. FindsForRow request.now input.now found.0.findings) }
-    ensures count { IfOk result (λ found. found.0.pages ≡ length found.0.papers.items) }
-    ensures few { IfOk result (λ found. found.0.pages ≤ most_pages) }
+    ensures row { IfOk result (λ found.
+        found.0.row.items ≡ row_or_none (row_of (length found.0.papers.items) (choice_in request.now.choice) None)) }
     ensures parts { IfOk result (λ found. ArePartsOf input.now found.1) }
     ensures refused { IfErr result (λ f.
         RefusesDocument input.now f ⊎ ((n : ℕ) × HasPageCount input.now n × (f ≡ without_memory))) }
@@ -181,8 +176,8 @@ fn pages_in(
     ensures behind { IfOk result (λ found. found.findings.behind ≡ pages_behind document.now) }
     ensures taken { IfOk result (λ found. found.findings.taken ≡ taken_in request.now document.now) }
     ensures told { IfOk result (λ found. IsToldBy request.now (bytes_of document.now) found.findings.told) }
-    ensures count { IfOk result (λ found. found.pages ≡ length found.papers.items) }
-    ensures few { IfOk result (λ found. found.pages ≤ most_pages) }
+    ensures row { IfOk result (λ found.
+        found.row.items ≡ row_or_none (row_of (length found.papers.items) (choice_in request.now.choice) None)) }
 {
     let own = page_papers(alloc, document, request.page_paper, &request.default_paper)?;
     let row = row_of_choice(alloc, document.pages(), &request.choice)?;
@@ -207,7 +202,7 @@ fn pages_in(
     let (turns, papers) = turned_pages(alloc, request.turn, counted)?;
     let count = taken_count(alloc, row.as_slice(), document.pages())?;
     Ok(FoundPages {
-        pages: document.pages(),
+        row,
         turns,
         papers,
         findings: Findings {
@@ -307,24 +302,17 @@ fn papers_placed(
 {
     match layout {
         Layout::Selection => merge_near_sizes(alloc, taken, own),
-        Layout::SpecRow { .. } => all_of(alloc, one, own),
+        Layout::SpecRow { .. } => {
+            let mut papers = Vec::new(alloc);
+            papers.resize(own.len(), *one)?;
+            Ok(papers)
+        }
         _ => {
             let mut papers = Vec::new(alloc);
             papers.extend_from_slice(own)?;
             Ok(papers)
         }
     }
-}
-
-/// A list that has the paper `one` for each of the papers `own`.
-fn all_of(alloc: Global, one: &Paper, own: &[Paper]) -> Result<Vec<Paper>, AllocError>
-    ensures { IfOk result (λ papers. papers.items ≡ map (λ paper. one.now) own.now) }
-{
-    let mut papers = Vec::new(alloc);
-    for _paper in own {
-        papers.push(*one)?;
-    }
-    Ok(papers)
 }
 
 /// The pages of the row that the paper of `--paper` cuts, and those that reach beyond `placed`, the papers by which pages are placed. `own` has the
@@ -384,29 +372,13 @@ fn has_cuts_apart(layout: &Layout) -> bool
 }
 
 /// The paper whose size the guard sets: `sheet`, the paper of the sheets, or the paper of a selection's first sheet. A selection whose first sheet is
-/// blank, or whose choice gives no row, has `sheet` too. The only error is refused memory.
-fn guarded_paper(
-    alloc: Global,
-    request: &ImposeRequest,
-    found: &FoundPages,
-    sheet: &Paper,
-) -> Result<Paper, ImposeFault>
-    requires count { found.now.pages ≡ length found.now.papers.items }
-    requires few { found.now.pages ≤ most_pages }
-    ensures value { IfOk result (λ paper. paper ≡ guarded_in request.now.layout (first_paper_of
-        (row_of (length found.now.papers.items) (choice_in request.now.choice) None) found.now.papers.items sheet.now) sheet.now) }
-    ensures refused { IfErr result (λ f. f ≡ without_memory) }
+/// blank, or whose choice gives no row, has `sheet` too.
+fn guarded_paper(request: &ImposeRequest, found: &FoundPages, sheet: &Paper) -> Paper
+    ensures { result ≡ guarded_in request.now.layout (first_paper_of (Ok found.now.row.items) found.now.papers.items sheet.now) sheet.now }
 {
     match &request.layout {
-        Layout::Selection => {
-            match imposed_row(alloc, found.pages, &request.choice.as_choice(), None) {
-                Ok(row) => Ok(paper_of_first(row.as_slice(), found.papers.as_slice(), sheet)),
-                Err(RowError::NoMemory) => Err(ImposeFault::no_memory()),
-                // There is no such row. The run reports the reason.
-                Err(_) => Ok(*sheet),
-            }
-        }
-        _ => Ok(*sheet),
+        Layout::Selection => paper_of_first(found.row.as_slice(), found.papers.as_slice(), sheet),
+        _ => *sheet,
     }
 }
 
@@ -435,8 +407,7 @@ pub(crate) fn impose_task<R: Threads + Wait + Sync, W: World>(
 ) -> Attempt<W, Report>
     requires countable { (W.seen world).failures < u64.MAX }
     requires laid { MayBeLaidSo task.now.laying }
-    requires sewn { IfSome task.now.signing MayBeSewn }
-    requires border { IsTrue (is_border request.now.border) }
+    requires options { HasOptions request.now }
     requires parts { Serve parts task.now.text.items }
     ensures { Comes (RefusesRowTaskRun request.now task.now) (ImposesTask request.now task.now)
         (option_map string_bytes request.now.outfile) (edge_of_world (W.tells world) W.seen W.Output.seen) result.outcome
@@ -446,16 +417,13 @@ pub(crate) fn impose_task<R: Threads + Wait + Sync, W: World>(
         Ok(document) => document,
         Err(error) => return refused_before(ImposeFault::Run(RunError::from(error)), world),
     };
-    // Written out as in look.rt: with a function that makes the job for both, the prover isn't told which modules hold the type `SheetRequest`.
+    // Written out as in look.rt: with a function that makes the job for both, the prover isn't told which modules hold the types of its fields.
     let job = RowJob {
         document: &document,
         turns: task.turns.as_slice(),
         papers: task.papers.as_slice(),
         asked: SheetRequest {
-            choice: request.choice.as_choice(),
-            signing: task.signing,
-            last_at_back: request.last_at_back,
-            begun: begun_for(&request.layout, request.spacing.skipped),
+            row: row_asked(request),
             laying: task.laying.lent(),
             same_scale: request.spacing.same_scale,
         },

@@ -34,17 +34,11 @@ pub(crate) fn taken_count(alloc: Global, row: &[Option<u32>], pages: u32) -> Res
     let taken = pages_taken(alloc, row, pages as usize)?;
     let mut count = 0;
     for page in 0..pages {
-        count = counted(count, taken[page as usize]);
+        if taken[page as usize] {
+            count += 1;
+        }
     }
     Ok(count)
-}
-
-/// `count`, plus one if the page is taken.
-fn counted(count: u32, is_taken: bool) -> u32
-    requires { count < u32.MAX }
-    ensures { result ≡ count + (if is_taken then 1 else 0) }
-{
-    if is_taken { count + 1 } else { count }
 }
 
 /// The papers of the pages in a row, in the order of the row. Blanks, and pages that `own` doesn't have, are left out. `own` has the papers of all
@@ -98,15 +92,10 @@ pub(crate) fn papers_taken(
     let taken = pages_taken(alloc, row, own.len())?;
     let mut papers = Vec::new(alloc);
     for (page, paper) in own.iter().enumerate() {
-        papers.push(paper_if(taken[page], paper, other))?;
+        let shown = if taken[page] { paper } else { other };
+        papers.push(*shown)?;
     }
     Ok(papers)
-}
-
-fn paper_if(is_taken: bool, own: &Paper, other: &Paper) -> Paper
-    ensures { result ≡ if is_taken then own.now else other.now }
-{
-    if is_taken { *own } else { *other }
 }
 
 /// For each page of a document of `pages` pages, whether the page is in the row.

@@ -20,7 +20,7 @@ ghost use Rattle.impose_words.specs.declared.request.Layout.TheVariants as layou
 ghost use Rattle.impose_messages.specs.declared.fault.ImposeFault.TheVariants as faults;
 
 use crate::claims::claims_of;
-use crate::laying::{check_sheets, laying_for, papers_for, spec_named};
+use crate::laying::{check_sheets, laying_for, papers_for, row_asked, spec_named};
 use crate::reach::reach_over;
 use crate::row_task::has_one_paper;
 use crate::taken::{row_of_choice, taken_count};
@@ -87,18 +87,16 @@ fn check_spec(alloc: Global, specs: &str) -> Result<(), ImposeFault>
     }
 }
 
-/// Whether a specification can express the request, apart from its layout and creep. The request must not choose or turn pages, skip cells, keep the
-/// last page at the back, or draw marks or numbers. Nor may it ask for the same scale for all pages, or exchange margins on backs.
+/// Whether a specification can express the request, apart from its layout and creep. The request must have a plain row, and must not turn pages, or
+/// draw marks or numbers. Nor may it ask for the same scale for all pages, or exchange margins on backs.
 fn is_said(request: &ImposeRequest) -> bool
     ensures { result ≡ says request.now }
 {
     let marks = request.marks;
-    request.choice.is_whole()
-        && !request.last_at_back
+    row_asked(request).is_plain()
         && matches!(request.turn, Turning::All(Turn::None))
         && !(marks.fold || marks.cut || marks.ruled || marks.numbers.is_some())
         && !request.spacing.same_scale
-        && request.spacing.skipped == 0
         && !request.swaps_margins()
 }
 
@@ -107,7 +105,7 @@ fn is_said(request: &ImposeRequest) -> bool
 ///
 /// A fault of the document.
 ///
-/// `NoSpecification` for chosen or turned pages, skipped cells, a last page at the back, marks, page numbers, one scale for all pages, or an inner
+/// `NoSpecification` for a row that isn't plain (`RowRequest::is_plain`), turned pages, marks, page numbers, one scale for all pages, or an inner
 /// margin of `nup`.
 ///
 /// `SeveralPapers` for `nup` and `booklet`, if the pages don't all have the same paper.

@@ -6,11 +6,7 @@ mod TrailerLines
 mod Outside
 mod Alone
 mod Counted
-mod LastIsLast
-mod CardGrid
-mod BegunRows
 mod AsMany
-mod LastPage
 mod OneScale
 mod NotLaid
 mod Turned

@@ -17,7 +17,7 @@ use Rattle.row_sheets.specs.Bound.{as_bound, faces_on}
 use Rattle.row_sheets.specs.SameScale.{at_one_scale}
 use Rattle.row_sheets.specs.Shapes.{filling}
 use Rattle.row_sheets.proofs.Folding.{faces_read}
-use Rattle.row_runs.specs.Begun.{laid_row}
+use Rattle.rows.specs.Printed.{laid_row}
 use Rattle.row_runs.specs.Evened.{at_common_scale}
 use Rattle.row_runs.specs.ReadAsBound.{AskedIsRead}
 use Rattle.row_runs.specs.Sheets.{leaves_in, row_printed, sewn, sheets_laid}
@@ -55,8 +55,8 @@ asked_is_read pages papers a made t turned_backs creep how may asked is sewn_so 
     let sheets = asked.are_laid ∙ ap (λ l. sheets_laid (at_common_scale a.same_scale l papers laid) (leaves_in (sewn a) row) papers laid) is in
     let faces_are : map (as_bound b) (faces_on b turned_backs made) ≡ faces laid =
     ap (λ m. map (as_bound b) (faces_on b turned_backs m)) sheets ∙ faces_laid a.same_scale t turned_backs creep (leaves_in (sewn a) row) papers laid b in
-    let laid_is : laid ≡ in_signatures sides row = ap (λ s. laid_row a.begun (option_map signing_of s) row) sewn_so in
-    let whole = whole_leaves how (length row) (may_be_sewn a.signing how sewn_so may.sewn) in
+    let laid_is : laid ≡ in_signatures sides row = ap (λ s. laid_row a.row.begun (option_map signing_of s) row) sewn_so in
+    let whole = whole_leaves how (length row) (may_be_sewn a.row.signing how sewn_so may.sewn) in
     ap (λ all. flat_map (read_signature (sides / 4) all) (range_with_len 0 many)) (faces_are ∙ ap faces laid_is)
     ∙ subst (λ s. flat_map (read_signature (sides / 4) (faces (in_signatures s row))) (range_with_len 0 (blocks s (length row))) ≡ map (entry_of row) (range_with_len 0 (blocks s (length row) * s)))
     whole (row_is_read (sides / 4) row)

@@ -1,4 +1,4 @@
--- Read in this order: what is written of made sheets. Then, of a row: what errors are called; layings with one scale; limits; the last page at the back; begun sheets;
+-- Read in this order: what is written of made sheets. Then, of a row: what errors are called; layings with one scale; limits;
 -- the sheets that are asked for, how their pages are placed and read, turned pages; backs; which places can be written; their marks and
 -- numbers; what the answers mean; lines on sheets; how sheets are read; what is shown of them before they are imposed.
 -- At last, how many pages a document says that it has.
@@ -6,8 +6,6 @@ pub mod SheetsRuns
 pub mod Errors
 pub mod Evened
 pub mod Limits
-pub mod LastPage
-pub mod Begun
 pub mod Sheets
 pub mod Standing
 pub mod InPlaces

@@ -26,5 +26,5 @@ AreReadAs right_to_left turned_backs sides row made = (let signatures = blocks s
 -- the booklet that is asked for is read in the order of the row that is chosen: a law
 abbrev pub AskedIsRead : Type 0
 AskedIsRead = (pages : ℕ) (papers : List Paper) (a : SheetRequest) (made : List MadeSheet) (t : Setting) (turned_backs : Bool) (creep : ℕ) (how : Signing)
-    → MayBeAsked a → (asked : AreAsked pages papers a made) → a.laying ≡ laying.InCells t (scheme.Booklet turned_backs creep) → a.signing ≡ Some how
+    → MayBeAsked a → (asked : AreAsked pages papers a made) → a.laying ≡ laying.InCells t (scheme.Booklet turned_backs creep) → a.row.signing ≡ Some how
     → AreReadAs t.order.right_to_left turned_backs (sides_for (signing_of how) (length asked.row)) asked.row made

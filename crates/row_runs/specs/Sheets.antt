@@ -3,14 +3,13 @@ use Rattle.std.specs.Prelude.{◌≡◌, ⊤, ℕ, ◌*◌, ◌/◌, ◌<◌, �
 use Rattle.std.specs.Option.{option_or}
 use Rattle.rules.specs.Papers.{Paper}
 use Rattle.rules.specs.Run.{most_pages}
-use Rattle.rules.specs.Units.{◌>>=◌}
 use Rattle.rules.specs.Made.{MadeSheet}
 use Rattle.rules.specs.Rows.{Row}
-use Rattle.rules.specs.Choice.{RowFault, Signing, chosen, sides_for}
+use Rattle.rules.specs.Choice.{RowFault, Signing, sides_for}
 use Rattle.layouts.specs.Cells.{size}
 use Rattle.layouts.specs.declared.error.ArrangementError.{ArrangementError}
-use Rattle.rows.specs.Choices.{choice_of}
-use Rattle.rows.specs.Sewing.{MayBeSewn, signing_of}
+use Rattle.rows.specs.Printed.{asked_by, printed_row, row_read}
+use Rattle.rows.specs.Sewing.{MayBeSewn}
 use Rattle.rows.specs.Refusals.{RefusesRow}
 use Rattle.row_sheets.specs.BySpec.{by_spec}
 use Rattle.row_sheets.specs.RowSheets.{selected}
@@ -22,9 +21,7 @@ use Rattle.row_sheets.specs.Standing.{AllEntriesFit, AllFitOnLeaves}
 use Rattle.row_sheets.specs.Zine.{AreZineCells}
 use Rattle.sheet_plan.specs.MadeRefusals.{RefusesMade}
 use Rattle.sheet_plan.specs.declared.error.MadeError.{MadeError}
-use Rattle.row_runs.specs.Begun.{laid_row}
 use Rattle.row_runs.specs.Evened.{at_common_scale, why_not_even_if}
-use Rattle.row_runs.specs.LastPage.{last_at_back_if}
 use Rattle.row_runs.specs.Limits.{IsLimit}
 use Rattle.row_runs.specs.declared.sheet_request.SheetRequest.{SheetRequest}
 use Rattle.row_runs.specs.declared.sheet_request.Laying.{Laying}
@@ -50,7 +47,7 @@ MayBeLaid (laying.BySpec spec sheet page) = ⊤
 -- sheets may be asked for: they may be laid, and a signature may have its number of sides
 pub record MayBeAsked (a : SheetRequest) : Type 0 where
   pub laid : MayBeLaid a.laying
-  pub sewn : IfSome a.signing MayBeSewn
+  pub sewn : IfSome a.row.signing MayBeSewn
 
 -- ---- how a row is laid
 
@@ -113,15 +110,15 @@ RefusesLaying l leaves papers row (error.Sheets e) =
 
 -- how the row is put into signatures, if it is
 abbrev pub sewn : SheetRequest → Option Signing
-sewn a = option_map signing_of a.signing
+sewn a = (asked_by a.row).signing
 
--- the row that is chosen of a document with so many pages, or its fault; blanks come before its last page if that is asked for
+-- the row that is asked for, of a document with so many pages, or its fault
 abbrev pub row_chosen : (pages : ℕ) → SheetRequest → Result Row RowFault
-row_chosen pages a = chosen pages (choice_of a.choice) >>= λ row. Ok (last_at_back_if a.last_at_back (sewn a) row)
+row_chosen pages a = row_read pages (asked_by a.row)
 
--- the row as it is laid: in signatures, or from where it begins on the first sheet
+-- the row as it is laid
 abbrev pub row_printed : SheetRequest → Row → Row
-row_printed a row = laid_row a.begun (sewn a) row
+row_printed a row = printed_row (asked_by a.row) row
 
 -- how the row that is chosen is laid: at one scale if that is asked for
 abbrev pub laying_for : SheetRequest → List Paper → Row → Laying

@@ -92,7 +92,7 @@ WrittenAreRead = (j : RowJob) (made : List MadeSheet) → (are : AreTurned j mad
 -- the booklet that is written is read in the order of the row that is chosen, as by `impose booklet --turn left`: a law
 abbrev pub WrittenIsBound : Type 0
 WrittenIsBound = (j : RowJob) (made : List MadeSheet) (t : Setting) (turned_backs : Bool) (creep : ℕ) (how : Signing) → (are : AreTurned j made)
-    → j.asked.laying ≡ laying.InCells t (scheme.Booklet turned_backs creep) → j.asked.signing ≡ Some how
+    → j.asked.laying ≡ laying.InCells t (scheme.Booklet turned_backs creep) → j.asked.row.signing ≡ Some how
     → AreReadAs t.order.right_to_left turned_backs (sides_for (signing_of how) (length are.asked.row)) are.asked.row made
 
 -- ---- in their cells, also turned

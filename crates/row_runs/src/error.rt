@@ -26,7 +26,7 @@ pub enum SheetError {
     /// A page would get an offset of 100,000 points or more, because it is shifted on a back or turned.
     #[error("a page would be placed 100,000 points or more away")]
     OutOfReach,
-    /// Memory was refused, or cards on a begun sheet would have more than 4,000,000 copies.
+    /// Memory was refused, or the printed row would have more than 4,000,000 copies of its entries.
     #[error("out of memory")]
     NoMemory,
 }

@@ -1,7 +1,5 @@
 //! Laws of the sheets that a row makes. Each function states one law in its contract, and does nothing.
-ghost use Rattle.row_runs.specs.Begun.{BegunLeavesUsed, CardsAreGrid};
 ghost use Rattle.row_runs.specs.InPlaces.{AskedStandInPlaces};
-ghost use Rattle.row_runs.specs.LastPage.{LastPageIsLast};
 ghost use Rattle.row_runs.specs.ReadAsBound.{AskedIsRead};
 ghost use Rattle.row_runs.specs.SwappedMargins.{FittedAreInPoints, SwappedStands};
 ghost use Rattle.row_runs.specs.Turning.{TurnedStands, TurnsAddUp};
@@ -18,20 +16,6 @@ pub fn asked_stand_in_places()
 /// A booklet is read in the order of the chosen row, once its leaves are folded, put into one another and bound.
 pub fn asked_is_read()
     ensures { AskedIsRead }
-{}
-
-/// Suppose that a row has at most 1,000,000 entries once blanks fill up its last signature. If these blanks are put before the row's last entry, this
-/// entry is at the back of the folded booklet.
-pub fn last_page_is_last()
-    ensures { LastPageIsLast }
-{}
-
-/// On a begun sheet, the cells that were used before stay empty, and the row's entries follow in order. For cards, each further cell has the entry
-/// that it would have on a whole sheet (`used`). Whole sheets of cards are those of a grid whose row has a copy of each entry for each cell
-/// (`cards`).
-pub fn begun_leaves_used()
-    ensures used { BegunLeavesUsed }
-    ensures cards { CardsAreGrid }
 {}
 
 /// Two quarter turns of a page to the left are a half turn, three are a quarter turn to the right, and four leave the page as it was.

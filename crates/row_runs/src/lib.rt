@@ -1,12 +1,10 @@
 //! Prepares a row of pages for writing: takes a request, lays the row on sheets, and lists or draws these sheets.
 #![tactic(auto)]
 
-mod begun;
 mod declared_pages;
 mod error;
 mod evened;
 mod guides;
-mod last_page;
 pub mod laws;
 mod limits;
 mod look;
@@ -19,7 +17,6 @@ mod sheet_request;
 mod swapped_margins;
 mod turning;
 
-pub use begun::Begun;
 pub use declared_pages::declared_page_count;
 pub use error::{SheetError, plan_error};
 pub use look::{row_plan, row_preview};

@@ -7,7 +7,6 @@ ghost use Rattle.row_runs.specs.Numbers.{named_places_from, sheet_paper as sheet
 ghost use Rattle.row_runs.specs.Reaching.{is_changed};
 ghost use Rattle.row_runs.specs.Sheets.{MayBeAsked, row_chosen};
 
-use crate::begun::laid_row;
 use crate::error::SheetError;
 use crate::evened::at_common_scale;
 use crate::reaching::check_reach;
@@ -71,14 +70,14 @@ fn places_of(
     requires asked { MayBeAsked asked.now }
     ensures { IfOk result (λ made. made ≡ places_by papers.now asked.now (row_chosen pages asked.now)) }
 {
-    let Ok(row) = asked.row(alloc, pages) else {
+    let Ok(row) = asked.row.read(alloc, pages) else {
         return Err(AllocError);
     };
-    let leaves = leaves_in(asked.signing, row.as_slice());
+    let leaves = leaves_in(asked.row.signing, row.as_slice());
     let own = papers_on_row(alloc, papers, sheet_paper(&asked.laying), row.as_slice())?;
     let named = named_places(alloc, row.as_slice())?;
-    let places = laid_row(alloc, named, asked.begun, asked.signing)?;
-    let printed = laid_row(alloc, row, asked.begun, asked.signing)?;
+    let places = asked.row.printed(alloc, named)?;
+    let printed = asked.row.printed(alloc, row)?;
     let Ok(laying) = at_common_scale(asked.same_scale, &asked.laying, papers, printed.as_slice())
     else {
         return Err(AllocError);

@@ -1,20 +1,17 @@
 //! Requests for sheets, and the sheets that they make.
 ghost use Rattle.std.specs.Prelude.{◌≡◌, ◌<◌, ◌≤◌, IfErr, IfOk, IfSome, OnOk, Ok, None, Some, length, option_map, ℕ};
 ghost use Rattle.rules.specs.Choice.{most_entries};
-ghost use Rattle.rows.specs.Refusals.{RefusesRow};
 ghost use Rattle.rows.specs.Sewing.{MayBeSewn, signing_of};
 ghost use Rattle.layouts.specs.Refusals.{IsArrangementFault};
 ghost use Rattle.row_sheets.specs.Shapes.{filling};
 ghost use Rattle.row_runs.specs.Errors.{of_arrangement, of_poster, of_row};
 ghost use Rattle.row_runs.specs.Limits.{AreFewAsLaid, limit_in as limit_of_laying};
 ghost use Rattle.row_runs.specs.Sheets.{AreAsked, FitAsLaid, MayBeAsked, MayBeLaid, RefusesAsked, RefusesLaying};
-ghost use Rattle.row_runs.specs.Sheets.{leaves_in as leaves_of_signature, row_chosen, sheets_by_scheme, sheets_laid, why_not_in};
+ghost use Rattle.row_runs.specs.Sheets.{leaves_in as leaves_of_signature, sheets_by_scheme, sheets_laid, why_not_in};
 ghost use Rattle.row_runs.specs.Standing.{StandAsLaid};
 
-use crate::begun::{Begun, laid_row};
 use crate::error::{SheetError, plan_error};
 use crate::evened::at_common_scale;
-use crate::last_page::last_at_back;
 use crate::limits::limit_in;
 use layouts::{ArrangementError, Setting};
 use lengths::Paper;
@@ -24,7 +21,7 @@ use row_sheets::{
     creeping_booklet_sheets, grid_sheets, leaf_sheets, poster_row_sheets, select, spec_sheets,
     stack_sheets, zine_sheets,
 };
-use rows::{Choice, RowError, Signing, chosen_row};
+use rows::{RowError, RowRequest, Signing};
 use sheet_plan::{MadeError, MadeSheets};
 use std::alloc::Global;
 
@@ -99,39 +96,11 @@ pub enum Scheme {
 /// A request for sheets of a document.
 #[derive(Clone, Copy)]
 pub struct SheetRequest<'t> {
-    /// The choice of the pages that are imposed.
-    pub choice: Choice<'t>,
-    /// The signatures into which the row is put. None if pages aren't put into signatures.
-    pub signing: Option<Signing>,
-    /// Whether the blanks that fill up the last signature come before the last page.
-    pub last_at_back: bool,
-    /// Where the row begins on the first sheet, unless it is in signatures.
-    pub begun: Begun,
+    /// The row of pages that is laid on the sheets.
+    pub row: RowRequest<'t>,
     pub laying: Laying<'t>,
     /// Whether all pages in cells get the same scale, which is the least of their scales.
     pub same_scale: bool,
-}
-
-impl SheetRequest<'_> {
-    /// The row to lay: the chosen pages and blanks, with the blanks that fill up the last signature before the last page if `last_at_back` is set.
-    /// Fails if the choice gives no row, or if memory is refused.
-    pub(crate) fn row(&self, alloc: Global, pages: u32) -> Result<Vec<Option<u32>>, RowError>
-        requires pages { pages ≤ most_entries }
-        requires sewn { IfSome self.now.signing MayBeSewn }
-        ensures row { IfOk result (λ row. row_chosen pages self.now ≡ Ok row.items) }
-        ensures some { IfOk result (λ row. 0 < length row.items) }
-        ensures few { IfOk result (λ row. length row.items ≤ most_entries) }
-        ensures refused { IfErr result (RefusesRow (row_chosen pages self.now)) }
-    {
-        let row = chosen_row(alloc, pages, &self.choice)?;
-        if !self.last_at_back {
-            return Ok(row);
-        }
-        match last_at_back(row, self.signing) {
-            Ok(row) => Ok(row),
-            Err(_) => Err(RowError::NoMemory),
-        }
-    }
 }
 
 /// The sheets that are requested of a document with this number of pages. `papers` has the paper of each page, in order. A page that has no entry
@@ -152,12 +121,12 @@ pub fn make_sheets(
     ensures few { IfOk result (AreFewAsLaid asked.now.laying) }
     ensures refused { IfErr result (RefusesAsked pages papers.now asked.now) }
 {
-    let row = match asked.row(alloc, pages) {
+    let row = match asked.row.read(alloc, pages) {
         Ok(row) => row,
         Err(error) => return Err(row_error(error)),
     };
-    let leaves = leaves_in(asked.signing, row.as_slice());
-    let printed = match laid_row(alloc, row, asked.begun, asked.signing) {
+    let leaves = leaves_in(asked.row.signing, row.as_slice());
+    let printed = match asked.row.printed(alloc, row) {
         Ok(printed) => printed,
         Err(_) => return Err(SheetError::NoMemory),
     };

@@ -24,7 +24,7 @@ returns-in-Zine-clause-laying c =
     let papers = c.args.papers.now in
     let s = c.args.spacing.now in
     IfOk-weaker c.cell_laying-in-Zine.result _ _
-    (λ x e. e ∙ subst (λ (l : Layout). Some (filled_in l s.skipped (cells_of_layout l s) papers.page papers.sheet) ≡ laying_in l s papers.page papers.sheet) (sym c.in-Zine.is) refl)
+    (λ x e. e ∙ subst (λ (l : Layout). Some (filled_in l s (cells_of_layout l s) papers.page papers.sheet) ≡ laying_in l s papers.page papers.sheet) (sym c.in-Zine.is) refl)
     c.cell_laying-in-Zine.ensures.laying
 
 pub returns-in-Zine-clause-possible : goal.returns-in-Zine-clause-possible

@@ -19,10 +19,11 @@ returns-clause-papers c =
     (are_counted c.args.request.now c.args.document.now c.in_ok-row.row.items c.in_ok-own.own.items c.in_ok-taken.taken.items c.in_ok-counted.counted.items
     c.in_ok-page_paper.page_paper c.in_ok-own.ensures row taken one (rw c.as_slice-5.ensures.value at (rw c.as_slice-6.ensures.value at c.in_ok-counted.ensures)))
 
-pub returns-clause-count : goal.returns-clause-count
-returns-clause-count c =
-    as_many c.args.request.now c.args.document.now c.in_ok-page_paper.page_paper _ c.in_ok-own.own.items c.in_ok-counted.counted.items c.in_ok-turns.papers.items _
-    c.pages-3.ensures.count c.in_ok-own.ensures (rw c.as_slice-6.ensures.value at c.in_ok-counted.ensures) c.in_ok-turns.ensures.papers
+pub returns-clause-row : goal.returns-clause-row
+returns-clause-row c =
+    c.in_ok-row.ensures ∙ ap (λ n. row_or_none (imposed_row n (choice_in c.args.request.now.choice) None))
+    (as_many c.args.request.now c.args.document.now c.in_ok-page_paper.page_paper _ c.in_ok-own.own.items c.in_ok-counted.counted.items c.in_ok-turns.papers.items _
+    c.pages.ensures.count c.in_ok-own.ensures (rw c.as_slice-6.ensures.value at c.in_ok-counted.ensures) c.in_ok-turns.ensures.papers)
 
 pub returns-clause-taken : goal.returns-clause-taken
 returns-clause-taken c =

@@ -5,14 +5,14 @@ use Rattle.row_runs.specs.Sheets.{leaves_in, row_chosen, row_printed, sewn}
 use Rattle.row_runs.proofs.Places.{place_count, places_so}
 use Rattle.row_runs.proofs.numbered.places_of.Goals as goal
 
-pub laid_row-requires-clause-some : goal.laid_row-requires-clause-some
-laid_row-requires-clause-some c =
+pub printed-requires-clause-some : goal.printed-requires-clause-some
+printed-requires-clause-some c =
     let row = c.in-Ok.row.items in
     let is : c.in_ok-named.named.items ≡ named_places_from 0 row = c.in_ok-named.ensures ∙ ap (named_places_from 0) c.as_slice-3.ensures.value in
     subst (λ n. 0 < n) (sym (ap length is ∙ place_count 0 row)) c.in-Ok.ensures.some
 
-pub laid_row-requires-clause-few : goal.laid_row-requires-clause-few
-laid_row-requires-clause-few c =
+pub printed-requires-clause-few : goal.printed-requires-clause-few
+printed-requires-clause-few c =
     let row = c.in-Ok.row.items in
     let is : c.in_ok-named.named.items ≡ named_places_from 0 row = c.in_ok-named.ensures ∙ ap (named_places_from 0) c.as_slice-3.ensures.value in
     subst (λ n. n ≤ most_entries) (sym (ap length is ∙ place_count 0 row)) c.in-Ok.ensures.few

@@ -1,5 +1,0 @@
-use Rattle.row_runs.proofs.LastIsLast.{last_page_is_last}
-use Rattle.row_runs.proofs.laws.last_page_is_last.Goals as goal
-
-pub returns : goal.returns
-returns c = last_page_is_last
