@@ -63,10 +63,11 @@ FindsHome variable gives regular old new home =
 
 -- ---- faults
 
--- A world after an input that couldn't be opened or read: it failed once more, and the fault has its cause. For want of memory it
--- failed for that, or memory ran out outside it.
+-- A world after an input that couldn't be opened or read: it failed once more, but not for want of memory, and the fault has its cause.
+-- For want of memory it failed for that, or memory ran out outside it.
 abbrev pub IsUnread : (old new : WorldView) → ImposeFault → Type 0
-IsUnread old new (fault.Read cause) = (new.failures ≡ old.failures + 1) × (new.cause ≡ option_map error_kind cause)
+IsUnread old new (fault.Read cause) =
+    (new.failures ≡ old.failures + 1) × (new.cause ≡ option_map error_kind cause) × ¬ (new.cause ≡ Some OutOfMemory)
 IsUnread old new (fault.Run e) =
     (fault.Run e ≡ without_memory)
     × ((new.failures ≡ old.failures) ⊎ ((new.failures ≡ old.failures + 1) × (new.cause ≡ Some OutOfMemory)))

@@ -22,7 +22,6 @@ use impose_words::{ImposeRequest, Product, read_command};
 use lengths::Paper;
 use papers::default_paper;
 use std::alloc::Global;
-use std::io::ErrorKind;
 use std::sync::Wait;
 use std::thread::Threads;
 use world::{Output, ReadFault, ReadSource, Rest, World, padding, read_input_behind, write_all};
@@ -206,8 +205,7 @@ fn roomy_input<W: World>(
 {
     match world.open(name) {
         Ok(input) => read_from(alloc, input, world),
-        Err(error) if error.kind() == ErrorKind::OutOfMemory => Err(ImposeFault::no_memory()),
-        Err(error) => Err(ImposeFault::Read(Some(error))),
+        Err(error) => Err(ImposeFault::unread(Some(error))),
     }
 }
 
@@ -234,7 +232,7 @@ fn read_from<W: World>(
     match read {
         Ok(bytes) => Ok(roomy_document(bytes)),
         Err(ReadFault::NoMemory) => Err(ImposeFault::no_memory()),
-        Err(ReadFault::Device) => Err(ImposeFault::Read(cause)),
+        Err(ReadFault::Device) => Err(ImposeFault::unread(cause)),
     }
 }
 

@@ -7,6 +7,7 @@ use rows::RowError;
 use sheet_plan::MadeError;
 use std::alloc::AllocError;
 use std::io;
+use std::io::ErrorKind;
 
 /// The compression of a file, recognised by the file's first bytes.
 #[derive(Clone, Copy)]
@@ -76,13 +77,23 @@ pub enum ImposeFault {
 
 impl ImposeFault {
     ghost use Rattle.std.specs.Prelude.{◌≡◌};
-    ghost use Rattle.impose_messages.specs.Faults.{without_memory};
+    ghost use Rattle.impose_messages.specs.Faults.{IsUnreadFor, without_memory};
 
     /// The fault of running out of memory before anything was written.
     pub fn no_memory() -> ImposeFault
         ensures { result ≡ without_memory }
     {
         ImposeFault::Run(RunError::NoMemory { written: 0 })
+    }
+
+    /// The fault of an input that couldn't be opened or read for this cause: a lack of memory if the cause is one, otherwise `Read`.
+    pub fn unread(cause: Option<io::Error>) -> ImposeFault
+        ensures { IsUnreadFor cause result }
+    {
+        match cause {
+            Some(error) if error.kind() == ErrorKind::OutOfMemory => ImposeFault::no_memory(),
+            cause => ImposeFault::Read(cause),
+        }
     }
 }
 

@@ -2,8 +2,10 @@
 use Rattle.std.specs.Prelude.{◌≡◌, ◌⊎◌, ◌+◌, ◌<◌, ◌≤◌, ℕ, List, [], Bool, true, Option, Some, Result, IsOk, option_map}
 use Rattle.std.specs.Prelude.{string_bytes}
 use Rattle.std.specs.Io.KnownBytes.{Appends, Keeps}
+use Rattle.std.specs.IoError.{error_kind}
 use Rattle.std.specs.declared.io.ErrorKind.{ErrorKind}
 use Rattle.std.specs.declared.io.ErrorKind.TheVariants.{OutOfMemory}
+use Rattle.std.below.std_io.specs.declared.io.error.Error.{Error}
 use Rattle.clap.specs.Words.{Text, matches_of}
 use Rattle.rules.specs.Output.{output}
 use Rattle.imposer.specs.Runs.{Accepted, frame_of}
@@ -40,10 +42,15 @@ MakesRequest words r = TakesWords words × Reads (matches_of pstops words) r
 abbrev pub HasRead : (words : List Text) → Gives → Request → (input : List ℕ) → Type 0
 HasRead words gives r input = MakesRequest words r × IsFirst most_bytes (gives (option_map string_bytes r.infile)) input
 
--- A world after an input that couldn't be opened or read: it failed once more. For want of memory it failed for that, or memory ran
--- out outside it.
+-- the fault of an input that couldn't be opened or read for this cause
+abbrev pub IsReadFaultOf : (cause : Option Error) → ReadFault → Type 0
+IsReadFaultOf cause read.Device = ¬ (option_map error_kind cause ≡ Some OutOfMemory)
+IsReadFaultOf cause read.NoMemory = option_map error_kind cause ≡ Some OutOfMemory
+
+-- A world after an input that couldn't be opened or read: it failed once more, and not for want of memory. For want of memory it failed
+-- for that, or memory ran out outside it.
 abbrev pub IsUnreadInput : ReadFault → (old new : WorldView) → Type 0
-IsUnreadInput read.Device old new = new.failures ≡ old.failures + 1
+IsUnreadInput read.Device old new = (new.failures ≡ old.failures + 1) × ¬ (new.cause ≡ Some OutOfMemory)
 IsUnreadInput read.NoMemory old new =
     (new.failures ≡ old.failures) ⊎ ((new.failures ≡ old.failures + 1) × (new.cause ≡ Some OutOfMemory))
 

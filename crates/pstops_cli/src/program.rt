@@ -5,7 +5,7 @@ ghost use Rattle.std.specs.declared.io.ErrorKind.TheVariants.{OutOfMemory};
 ghost use Rattle.imposer.specs.declared.outcome.RunError.TheVariants as runs;
 ghost use Rattle.pstops_cli.specs.declared.messages.Fault.TheVariants as faults;
 ghost use Rattle.pstops_cli.specs.Programs.{CarriesOutWords, CreatesAndRuns, EndsPstops, HasGivenInput, HasRead, IsSaid};
-ghost use Rattle.pstops_cli.specs.Programs.{IsUnreadInput, StopsBefore};
+ghost use Rattle.pstops_cli.specs.Programs.{IsReadFaultOf, IsUnreadInput, StopsBefore};
 ghost use Rattle.world.specs.Input.{IsFirst, most_bytes};
 ghost use Rattle.world.specs.Rests.{failures_in, shown};
 ghost use Rattle.world.specs.Worlds.{HasGranted, WasAsked, opening};
@@ -98,11 +98,23 @@ fn input_of<W: World>(
         Ok(input) => {
             let mut source = ReadSource::new(input);
             let read = read_input(alloc, &mut source);
-            drop(world.close(source));
-            read
+            let cause = world.close(source);
+            match read {
+                Err(ReadFault::Device) => Err(fault_of_reading(cause)),
+                read => read,
+            }
         }
-        Err(error) if error.kind() == ErrorKind::OutOfMemory => Err(ReadFault::NoMemory),
-        Err(_) => Err(ReadFault::Device),
+        Err(cause) => Err(fault_of_reading(Some(cause))),
+    }
+}
+
+/// The fault of an input that couldn't be opened or read for this cause: `NoMemory` if memory was refused, otherwise `Device`.
+fn fault_of_reading(cause: Option<io::Error>) -> ReadFault
+    ensures { IsReadFaultOf cause result }
+{
+    match cause {
+        Some(error) if error.kind() == ErrorKind::OutOfMemory => ReadFault::NoMemory,
+        _ => ReadFault::Device,
     }
 }
 
