@@ -32,19 +32,19 @@ use Rattle.impose_words.specs.declared.request.ImposeRequest.{ImposeRequest}
 use Rattle.impose_cli.specs.declared.task.Task.{Task}
 
 -- nothing was created: the request is refused unread, or the input can't be read
-pub stopped_before : {V O : Type 0} (seen : V → WorldView) (r : ImposeRequest) (gives : Inputs) (same : SameFiles) (foreign : Bool) (tells : Edge V O) (f : ImposeFault) (outcome : Result Done ImposeFault)
+pub stopped_before : {V O : Type 0} (seen : V → WorldView) (r : ImposeRequest) (gives : Inputs) (same : SameFiles) (terminal : Option Bool) (foreign : Bool) (tells : Edge V O) (f : ImposeFault) (outcome : Result Done ImposeFault)
     (world left : V) (rest : Rest V O) (written : Option (List ℕ)) → outcome ≡ Err f → rest ≡ World left
-    → (RefusesUnopened same foreign r f × (left ≡ world)) ⊎ (MayReadInput same foreign r × IsReading (option_map string_bytes r.infile) (seen world) (seen left) f)
-    → CarriesOut seen r gives same foreign tells outcome world rest written
-stopped_before seen r gives same foreign tells f outcome world left rest written told none why = inl (f, left, told, none, why)
+    → (RefusesUnopened same terminal foreign r f × (left ≡ world)) ⊎ (MayReadInput same terminal foreign r × IsReading (option_map string_bytes r.infile) (seen world) (seen left) f)
+    → CarriesOut seen r gives same terminal foreign tells outcome world rest written
+stopped_before seen r gives same terminal foreign tells f outcome world left rest written told none why = inl (f, left, told, none, why)
 
 -- the input was read, and what is asked for was made of it
-pub took : {V O : Type 0} (seen : V → WorldView) (r : ImposeRequest) (gives : Inputs) (files : SameFiles) (foreign : Bool) (tells told : Edge V O) (input : List ℕ) (name : Option (List ℕ))
+pub took : {V O : Type 0} (seen : V → WorldView) (r : ImposeRequest) (gives : Inputs) (files : SameFiles) (terminal : Option Bool) (foreign : Bool) (tells told : Edge V O) (input : List ℕ) (name : Option (List ℕ))
     (outcome : Result Done ImposeFault) (world read : V) (rest : Rest V O) (written : Option (List ℕ))
     → name ≡ option_map string_bytes r.infile → IsReadOf (gives name) input → HasGiven name (seen world) (seen read)
-    → MayReadInput files foreign r → told ≡ tells → MakesProduct r.product r input told outcome read rest written
-    → CarriesOut seen r gives files foreign tells outcome world rest written
-took seen r gives files foreign tells told input name outcome world read rest written named first given possible same taken =
+    → MayReadInput files terminal foreign r → told ≡ tells → MakesProduct r.product r input told outcome read rest written
+    → CarriesOut seen r gives files terminal foreign tells outcome world rest written
+took seen r gives files terminal foreign tells told input name outcome world read rest written named first given possible same taken =
     inr (
       input,
       read,
@@ -55,13 +55,14 @@ took seen r gives files foreign tells told input name outcome world read rest wr
     )
 
 -- the request was carried out in the world that was asked for the paper at home and for OUTFILE, which is as it was else
-pub at_home : {V O : Type 0} (seen : V → WorldView) (r : ImposeRequest) (gives given : Inputs) (files known : SameFiles) (foreign : Bool) (tells told : Edge V O) (outcome : Result Done ImposeFault)
-    (world : V) (rest : Rest V O) (written : Option (List ℕ)) → given ≡ gives → known ≡ files → told ≡ tells
-    → CarriesOut seen r given known foreign told outcome world rest written → CarriesOut seen r gives files foreign tells outcome world rest written
-at_home seen r gives given files known foreign tells told outcome world rest written same_gives same_files same_tells h =
-    subst (λ t. CarriesOut seen r gives files foreign t outcome world rest written) same_tells
-    (subst (λ k. CarriesOut seen r gives k foreign told outcome world rest written) same_files
-    (subst (λ g. CarriesOut seen r g known foreign told outcome world rest written) same_gives h))
+pub at_home : {V O : Type 0} (seen : V → WorldView) (r : ImposeRequest) (gives given : Inputs) (files known : SameFiles) (terminal found : Option Bool) (foreign : Bool) (tells told : Edge V O) (outcome : Result Done ImposeFault)
+    (world : V) (rest : Rest V O) (written : Option (List ℕ)) → given ≡ gives → known ≡ files → found ≡ terminal → told ≡ tells
+    → CarriesOut seen r given known found foreign told outcome world rest written → CarriesOut seen r gives files terminal foreign tells outcome world rest written
+at_home seen r gives given files known terminal found foreign tells told outcome world rest written same_gives same_files same_terminal same_tells h =
+    subst (λ t. CarriesOut seen r gives files terminal foreign t outcome world rest written) same_tells
+    (subst (λ o. CarriesOut seen r gives files o foreign told outcome world rest written) same_terminal
+    (subst (λ k. CarriesOut seen r gives k found foreign told outcome world rest written) same_files
+    (subst (λ g. CarriesOut seen r g known found foreign told outcome world rest written) same_gives h)))
 
 -- OUTFILE was looked at in a world that gives the same
 pub found_at_home : (r : ImposeRequest) (gives given : Inputs) (regular : RegularFiles) (same known : SameFiles) (old new : WorldView) (foreign : Bool) → given ≡ gives → known ≡ same
@@ -185,9 +186,9 @@ made_created (product.Picture file) r input tells f world rest written h = elim 
   | inr some ↦ text_created (option_map string_bytes file) some.0 tells f world rest written some.2
 ]
 
-pub created_for : {V O : Type 0} (seen : V → WorldView) (r : ImposeRequest) (gives : Inputs) (same : SameFiles) (foreign : Bool) (tells : Edge V O) (outcome : Result Done ImposeFault) (world : V) (rest : Rest V O) (written : Option (List ℕ)) → CarriesOut seen r gives same foreign tells outcome world rest written → IsCreatedFor outcome rest
-created_for seen r gives same foreign tells (Ok what) world rest written h = tt
-created_for seen r gives same foreign tells (Err f) world rest written h = elim h [
+pub created_for : {V O : Type 0} (seen : V → WorldView) (r : ImposeRequest) (gives : Inputs) (same : SameFiles) (terminal : Option Bool) (foreign : Bool) (tells : Edge V O) (outcome : Result Done ImposeFault) (world : V) (rest : Rest V O) (written : Option (List ℕ)) → CarriesOut seen r gives same terminal foreign tells outcome world rest written → IsCreatedFor outcome rest
+created_for seen r gives same terminal foreign tells (Ok what) world rest written h = tt
+created_for seen r gives same terminal foreign tells (Err f) world rest written h = elim h [
   | inl stopped ↦ inl (ap has_output stopped.3)
   | inr made ↦ made_created r.product r made.0 tells f made.1 rest written made.5
 ]

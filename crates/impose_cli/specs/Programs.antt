@@ -148,27 +148,34 @@ abbrev pub IsDrawnOver : SameFiles → Product → (infile : Option (List ℕ)) 
 IsDrawnOver same (product.Picture (Some file)) infile is = IfSome (same infile (string_bytes file)) (λ known. is ≡ known)
 IsDrawnOver same other infile is = is ≡ false
 
--- the request may be read for, nothing is drawn over what is read, and no document by others is in OUTFILE
-abbrev pub MayReadInput : SameFiles → (foreign : Bool) → ImposeRequest → Type 0
-MayReadInput same foreign r = MayBeRead r × IsDrawnOver same r.product (option_map string_bytes r.infile) false × (foreign ≡ false)
+-- whether the sheets are to be written to standard output, and that is a terminal, as far as that is known
+abbrev pub IsForTerminal : (terminal : Option Bool) → Product → (outfile : Option (List ℕ)) → (is : Bool) → Type 0
+IsForTerminal terminal product.Sheets None is = IfSome terminal (λ known. is ≡ known)
+IsForTerminal terminal other outfile is = is ≡ false
 
--- a request is refused before its input is opened: by itself, since its picture would be written to the file that is read, or since its
--- sheets would replace a document by others
-abbrev pub RefusesUnopened : SameFiles → (foreign : Bool) → ImposeRequest → ImposeFault → Type 0
-RefusesUnopened same foreign r f = RefusesRequest r f
+-- the request may be read for, nothing is drawn over what is read, no sheets come on a terminal, and no document by others is in OUTFILE
+abbrev pub MayReadInput : SameFiles → (terminal : Option Bool) → (foreign : Bool) → ImposeRequest → Type 0
+MayReadInput same terminal foreign r = MayBeRead r × IsDrawnOver same r.product (option_map string_bytes r.infile) false
+    × IsForTerminal terminal r.product (option_map string_bytes r.outfile) false × (foreign ≡ false)
+
+-- a request is refused before its input is opened: by itself, since its picture would be written to the file that is read, since its
+-- sheets would come on a terminal, or since they would replace a document by others
+abbrev pub RefusesUnopened : SameFiles → (terminal : Option Bool) → (foreign : Bool) → ImposeRequest → ImposeFault → Type 0
+RefusesUnopened same terminal foreign r f = RefusesRequest r f
     ⊎ ((MayBeRead r × (f ≡ fault.OverInput) × IsDrawnOver same r.product (option_map string_bytes r.infile) true)
-    ⊎ (MayBeRead r × (f ≡ fault.OverDocument) × (foreign ≡ true)))
+    ⊎ ((MayBeRead r × (f ≡ fault.OnTerminal) × IsForTerminal terminal r.product (option_map string_bytes r.outfile) true)
+    ⊎ (MayBeRead r × (f ≡ fault.OverDocument) × (foreign ≡ true))))
 
 -- What comes of a request, by whether a document by others was found in OUTFILE: it is refused before its input is opened; or it isn't,
 -- and its input can't be read, and the world is back; or the input was read, and what is asked for is made of it (RULES, 16)
-abbrev pub CarriesOut : {W O : Type 0} → (seen : W → WorldView) → ImposeRequest → Inputs → SameFiles → (foreign : Bool) → (edge : Edge W O)
-    → Result Done ImposeFault → (world : W) → (rest : Rest W O) → (written : Option (List ℕ)) → Type 0
-CarriesOut {W} seen r gives same foreign edge outcome world rest written =
+abbrev pub CarriesOut : {W O : Type 0} → (seen : W → WorldView) → ImposeRequest → Inputs → SameFiles → (terminal : Option Bool) → (foreign : Bool)
+    → (edge : Edge W O) → Result Done ImposeFault → (world : W) → (rest : Rest W O) → (written : Option (List ℕ)) → Type 0
+CarriesOut {W} seen r gives same terminal foreign edge outcome world rest written =
     ((f : ImposeFault) × (left : W) × (outcome ≡ Err f) × (rest ≡ World left)
-    × ((RefusesUnopened same foreign r f × (left ≡ world))
-    ⊎ (MayReadInput same foreign r × IsReading (option_map string_bytes r.infile) (seen world) (seen left) f)))
+    × ((RefusesUnopened same terminal foreign r f × (left ≡ world))
+    ⊎ (MayReadInput same terminal foreign r × IsReading (option_map string_bytes r.infile) (seen world) (seen left) f)))
     ⊎ ((document : List ℕ) × (read : W) × IsReadOf (gives (option_map string_bytes r.infile)) document
-    × HasGiven (option_map string_bytes r.infile) (seen world) (seen read) × MayReadInput same foreign r
+    × HasGiven (option_map string_bytes r.infile) (seen world) (seen read) × MayReadInput same terminal foreign r
     × MakesProduct r.product r document edge outcome read rest written)
 
 -- what is refused has no output: one that exists is that of a request that was carried out, or for which a write failed or
@@ -180,14 +187,14 @@ IsCreatedFor (Err f) rest = (has_output rest ≡ false) ⊎ AfterWrite f (λ n. 
 -- How the program ends: the words are refused, and the world is back; or they make a request, with the paper at home; OUTFILE is looked at,
 -- and this comes of it.
 abbrev pub EndsProgram : {W O : Type 0} → (seen : W → WorldView) → (words : List Text) → (variable : List ℕ) → Inputs
-    → (regular : W → RegularFiles) → SameFiles → (edge : Edge W O) → Option ImposeRequest → Result Done ImposeFault → (world : W)
+    → (regular : W → RegularFiles) → SameFiles → (terminal : Option Bool) → (edge : Edge W O) → Option ImposeRequest → Result Done ImposeFault → (world : W)
     → (rest : Rest W O) → (written : Option (List ℕ)) → Type 0
-EndsProgram seen words variable gives regular same edge None (Ok what) world rest written = ⊥
-EndsProgram seen words variable gives regular same edge None (Err (fault.Command f)) world rest written =
+EndsProgram seen words variable gives regular same terminal edge None (Ok what) world rest written = ⊥
+EndsProgram seen words variable gives regular same terminal edge None (Err (fault.Command f)) world rest written =
     RefusesCommand words f × (rest ≡ World world)
-EndsProgram seen words variable gives regular same edge None (Err other) world rest written = ⊥
-EndsProgram {W} seen words variable gives regular same edge (Some r) outcome world rest written =
+EndsProgram seen words variable gives regular same terminal edge None (Err other) world rest written = ⊥
+EndsProgram {W} seen words variable gives regular same terminal edge (Some r) outcome world rest written =
     Entered words (λ name found. ReadsRequest name found r) × (looked : W)
     × FindsHome variable gives (regular world) (seen world) (seen looked) r.default_paper
     × (found : W) × (foreign : Bool) × FindsForeign r gives (regular looked) same (seen looked) (seen found) foreign
-    × CarriesOut seen r gives same foreign edge outcome found rest written
+    × CarriesOut seen r gives same terminal foreign edge outcome found rest written

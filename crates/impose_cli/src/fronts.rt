@@ -16,6 +16,7 @@ pub(crate) fn front_of<W: World>(name: &str, front: &mut [u8], world: &mut W) ->
         (take result front.new) }
     ensures again { W.gives world.new ≡ W.gives world.old }
     ensures same { W.same world.new ≡ W.same world.old }
+    ensures terminal { W.terminal world.new ≡ W.terminal world.old }
     ensures tells { W.tells world.new ≡ W.tells world.old }
 {
     if !world.is_file(name) {
@@ -43,6 +44,7 @@ pub(crate) fn finds_foreign<W: World>(request: &ImposeRequest, world: &mut W) ->
     ensures found { meaning.FindsForeign request.now (W.gives world.old) (W.regular world.old) (W.same world.old) (W.seen world.old) (W.seen world.new) result }
     ensures again { W.gives world.new ≡ W.gives world.old }
     ensures same { W.same world.new ≡ W.same world.old }
+    ensures terminal { W.terminal world.new ≡ W.terminal world.old }
     ensures tells { W.tells world.new ≡ W.tells world.old }
 {
     let Some(file) = request.file_to_spare() else {
@@ -53,13 +55,7 @@ pub(crate) fn finds_foreign<W: World>(request: &ImposeRequest, world: &mut W) ->
     }
     let mut front = [0; FRONT_BYTES];
     let count = front_of(file, &mut front, world);
-    is_foreign(&front[..count])
-}
-
-/// Whether a file with these first bytes is a document, and the bytes have no mark of impose.
-fn is_foreign(front: &[u8]) -> bool
-    ensures { result ≡ meaning.is_foreign front.now }
-{
+    let front = &front[..count];
     is_document(front) && !is_marked(front)
 }
 

@@ -4,7 +4,7 @@ ghost use Rattle.world.specs.Input.{document_in};
 ghost use Rattle.std.specs.Prelude.{Some, IfOk, IfErr, OnOk};
 ghost use Rattle.impose_cli.specs.Endings.{edge_of_world, shown};
 ghost use Rattle.impose_cli.specs.Looks.{MayBeMade};
-ghost use Rattle.impose_cli.specs.Programs.{CarriesOut, EndsProgram, FindsHome, HasGiven, IsCreatedFor, IsDrawnOver, IsReadOf, IsReading};
+ghost use Rattle.impose_cli.specs.Programs.{CarriesOut, EndsProgram, FindsHome, HasGiven, IsCreatedFor, IsDrawnOver, IsForTerminal, IsReadOf, IsReading};
 ghost use Rattle.impose_cli.specs.Programs.{IsUnread, MakesProduct, Prints, ShowsSheets, Writes, status_of};
 ghost use Rattle.impose_cli.specs.RowTasks.{LaysRows};
 
@@ -65,7 +65,7 @@ pub fn impose<R: Threads + Wait + Sync, W: World>(
 ) -> Ended<W>
     requires countable { (W.seen world).failures + 2 < u64.MAX }
     ensures ended { EndsProgram W.seen (map string_bytes words.now) paper_size.now (W.gives world) W.regular
-        (W.same world) (edge_of_world (W.tells world) W.seen W.Output.seen) result.request result.outcome world result.rest (shown W.Output.seen result.rest) }
+        (W.same world) (W.terminal world) (edge_of_world (W.tells world) W.seen W.Output.seen) result.request result.outcome world result.rest (shown W.Output.seen result.rest) }
     // If the request is refused, no output has been created, and the world is given back. If an output has been created, it has all bytes that were
     // to be written, or a write failed, or memory ran out.
     ensures created { IsCreatedFor result.outcome result.rest }
@@ -112,6 +112,7 @@ fn home_of<W: World>(paper_size: &[u8], world: &mut W) -> Paper
     ensures home { FindsHome paper_size.now (W.gives world.old) (W.regular world.old) (W.seen world.old) (W.seen world.new) result }
     ensures again { W.gives world.new ≡ W.gives world.old }
     ensures same { W.same world.new ≡ W.same world.old }
+    ensures terminal { W.terminal world.new ≡ W.terminal world.old }
     ensures tells { W.tells world.new ≡ W.tells world.old }
 {
     let mut front = [0; HOME_BYTES];
@@ -130,7 +131,7 @@ fn carry_out<R: Threads + Wait + Sync, W: World>(
 ) -> Attempt<W, Done>
     requires product { MayBeMade request.now.product request.now.layout }
     requires countable { (W.seen world).failures < u64.MAX }
-    ensures { CarriesOut W.seen request.now (W.gives world) (W.same world) is_foreign (edge_of_world (W.tells world) W.seen W.Output.seen) result.outcome world result.rest
+    ensures { CarriesOut W.seen request.now (W.gives world) (W.same world) (W.terminal world) is_foreign (edge_of_world (W.tells world) W.seen W.Output.seen) result.outcome world result.rest
         (shown W.Output.seen result.rest) }
 {
     match check_request(alloc, request) {
@@ -140,8 +141,14 @@ fn carry_out<R: Threads + Wait + Sync, W: World>(
     if is_drawn_over(request, &world) {
         return refused_before(ImposeFault::OverInput, world);
     }
+    if is_for_terminal(request, &world) {
+        return refused_before(ImposeFault::OnTerminal, world);
+    }
     if is_foreign {
         return refused_before(ImposeFault::OverDocument, world);
+    }
+    if request.infile.is_none() && !request.is_quiet {
+        world.announce(READING);
     }
     match roomy_input(alloc, name_of(&request.infile), &mut world) {
         Ok(input) => make(rt, alloc, request, input, world),
@@ -158,6 +165,19 @@ fn is_drawn_over<W: World>(request: &ImposeRequest, world: &W) -> bool
         Product::Picture(None) | Product::Sheets | Product::Specification | Product::Plan => false,
     }
 }
+
+/// Whether sheets would be written to standard output, and that is a terminal.
+fn is_for_terminal<W: World>(request: &ImposeRequest, world: &W) -> bool
+    ensures { IsForTerminal (W.terminal world.now) request.now.product (option_map string_bytes request.now.outfile) result }
+{
+    match (&request.product, &request.outfile) {
+        (Product::Sheets, None) => world.is_output_terminal(),
+        _ => false,
+    }
+}
+
+/// The line that says that a terminal is read.
+const READING: &str = "impose: reading the document from standard input\n";
 
 /// Makes the kind of output that the request asks for from this input, and writes it.
 fn make<R: Threads + Wait + Sync, W: World>(

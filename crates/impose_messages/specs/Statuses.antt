@@ -45,6 +45,7 @@ fault_status (fault.Run e) = run_status e
 fault_status (fault.Idle option) = 2
 fault_status fault.OverInput = 2
 fault_status fault.OverDocument = 2
+fault_status fault.OnTerminal = 2
 fault_status (fault.NoSuchPage place pages) = 1
 fault_status fault.OutOfReach = 1
 fault_status fault.NoSpecification = 1

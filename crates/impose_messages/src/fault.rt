@@ -48,6 +48,8 @@ pub enum ImposeFault {
     OverInput,
     /// The sheets would replace a document that shows no mark of impose.
     OverDocument,
+    /// The sheets would be printed on a terminal.
+    OnTerminal,
     /// The input couldn't be opened or read. The cause is the system's error, if the system gave one.
     Read(Option<io::Error>),
     /// The run was refused, or it failed. A failed write is reported as `Write`.

@@ -28,6 +28,9 @@ const SEVERAL_PAPERS: &str =
     "--print-spec: a specification has one paper, and not all pages have the document's: name one by --paper, or leave \
     --print-spec out";
 
+const ON_TERMINAL: &str =
+    "a terminal shows no sheets: name an OUTFILE, or print them by: impose .. | lp";
+
 /// The message about a fault, without a line end. It is empty for `RequestFault::Words`, because `words_text` makes the message about it. `request`
 /// is `None` if the command line was refused. The only error is running out of memory.
 pub fn fault_text(
@@ -49,6 +52,7 @@ pub fn fault_text(
         ImposeFault::Idle(option) => String::from_str(alloc, idle_message(*option)),
         ImposeFault::OverInput => over_input_text(context),
         ImposeFault::OverDocument => over_document_text(context),
+        ImposeFault::OnTerminal => String::from_str(alloc, ON_TERMINAL),
         ImposeFault::Read(cause) => read_text(context, cause),
         ImposeFault::Run(error) => run_text(context, error),
         ImposeFault::NoInput => context.on_input(NO_INPUT),

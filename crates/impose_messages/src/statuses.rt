@@ -12,8 +12,8 @@ use rows::RowError;
 use sheet_plan::MadeError;
 
 /// The exit status of a fault. It is 1 if the page ranges, specification, layout, document or plan is refused, or if no specification can be printed
-/// for the request. It is 2 if the command line or an option is refused, or if the input or another program's document would be overwritten. It is 3
-/// if memory or a thread was refused, or if reading or writing failed. It is 0 for help and version.
+/// for the request. It is 2 if the command line or an option is refused, if the input or another program's document would be overwritten, or if
+/// sheets would be printed on a terminal. It is 3 if memory or a thread was refused, or if reading or writing failed. It is 0 for help and version.
 pub fn fault_status(fault: &ImposeFault) -> u8
     ensures { result ≡ status_of_fault fault.now }
 {
@@ -25,6 +25,7 @@ pub fn fault_status(fault: &ImposeFault) -> u8
         ImposeFault::Read(_) | ImposeFault::Write { .. } => 3,
         ImposeFault::Run(error) => run_status(error),
         ImposeFault::Idle(_) | ImposeFault::OverInput | ImposeFault::OverDocument => 2,
+        ImposeFault::OnTerminal => 2,
         ImposeFault::Layout(_) | ImposeFault::Poster(_) | ImposeFault::Row(_) => 1,
         ImposeFault::NoSuchPage { .. } | ImposeFault::OutOfReach | ImposeFault::Sheets(_) => 1,
         ImposeFault::NoSpecification | ImposeFault::SeveralPapers | ImposeFault::NoInput => 1,

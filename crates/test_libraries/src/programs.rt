@@ -36,6 +36,7 @@ pub fn run<R: Threads + Wait + Sync>(
         "unflushed" => in_memory::unflushed(rt, out),
         "uncreated" => in_memory::uncreated(rt, out),
         "unread" => in_memory::unread(rt, out),
+        "on_terminal" => in_memory::on_terminal(rt, out),
         _ => return None,
     }
     Some(())
