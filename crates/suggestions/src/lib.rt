@@ -1,10 +1,13 @@
 //! Messages and tips about words and values that the command doesn't take.
 #![tactic(auto)]
 
+mod cell_values;
 mod clap_text;
+mod length_values;
 mod mistakes;
 mod nearest;
 mod other_programs;
+mod paper_values;
 mod shown;
 mod tips;
 mod values;
