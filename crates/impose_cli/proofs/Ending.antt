@@ -48,7 +48,7 @@ placed_as_named other s named page_paper sheet_paper pages text sides is h = abs
 
 pub finishes : (r : ImposeRequest) (input : List ℕ) (task : Task) (old new : Option (List ℕ)) (report : Report) → ((text : List ℕ) × IsSpecLayout r.layout text) → IsTask r input task
     → Accepted (run_asked task) (λ spec us. Appends old new (output (frame_of task.options) task.options.sides spec us) × Reports (frame_of task.options) task.options.sides spec us report)
-    → FinishesSpec r input old new (record { report = report; findings = task.findings })
+    → FinishesSpec r input old new (record { report = report; scales = None; findings = task.findings })
 finishes r input task old new report named is h =
     let spec = h.0 in
     let units = h.1 in
@@ -74,6 +74,7 @@ finishes r input task old new report named is h =
           (subst (λ (f : Frame). Appends old new (output f task.options.sides spec units)) frame h.3.0);
       report = subst (λ s. Reports (framed task.findings.page_paper r.border) s spec units report) p.1
           (subst (λ (f : Frame). Reports f task.options.sides spec units report) frame h.3.1);
+      unscaled = refl;
     }
 
 -- ---- what comes of a request
@@ -91,11 +92,11 @@ spec_stops r input tells f outcome world rest written named is none why =
 
 -- what comes of its run comes of the request
 pub spec_runs : {V O : Type 0} (r : ImposeRequest) (input : List ℕ) (t : Task) (tells : Edge V O) (outcome : Result Done ImposeFault) (left : Result Report ImposeFault) (world : V) (rest : Rest V O) (name written : Option (List ℕ))
-    → ((text : List ℕ) × IsSpecLayout r.layout text) → IsTask r input t → outcome ≡ reported_by t.findings left → name ≡ option_map string_bytes r.outfile
+    → ((text : List ℕ) × IsSpecLayout r.layout text) → IsTask r input t → outcome ≡ reported_by t.findings None left → name ≡ option_map string_bytes r.outfile
     → Comes (RefusesTaskRun t) (WritesTask t) name tells left world rest written → RunsRequest r input tells outcome world rest written
 spec_runs r input t tells outcome left world rest name written text is reports named h =
     subst (λ o. RunsRequest r input tells o world rest written) (sym reports)
-    (comes_reported (RefusesTaskRun t) (RefusesImposing r.layout r input) (WritesTask t) (IsImposed r input) t.findings (option_map string_bytes r.outfile) tells left world rest written
+    (comes_reported (RefusesTaskRun t) (RefusesImposing r.layout r input) (WritesTask t) (IsImposed r input) t.findings None (option_map string_bytes r.outfile) tells left world rest written
     (λ f why. by_spec r.layout text.0 r input f text.1 (inr (record { task = t; is_task = is; refused = why })))
     (λ old new report done. inl (finishes r input t old new report text is done))
     (subst (λ n. Comes (RefusesTaskRun t) (WritesTask t) n tells left world rest written) named h))

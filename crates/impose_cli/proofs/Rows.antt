@@ -29,6 +29,7 @@ use Rattle.dsc.specs.declared.parts.Parts.{Parts}
 use Rattle.impose_messages.specs.declared.finished.PaperOrigin.{PaperOrigin}
 use Rattle.impose_cli.specs.Claims.{IsToldBy}
 use Rattle.impose_messages.specs.declared.finished.Findings.{Findings}
+use Rattle.impose_messages.specs.declared.scales.Scales.{Scales}
 use Rattle.impose_cli.specs.Tasks.{FindsBySpec, HasPageCount, page_paper_found}
 use Rattle.impose_cli.specs.Refusals.{HasGoodName, RefusesDocument, RefusesFor, RefusesNamed, RefusesOptions, RefusesRowLayout, RefusesRowTask}
 use Rattle.impose_cli.specs.Reaches.{reach_in, reach_over}
@@ -235,9 +236,9 @@ refused_found r input f h = elim h [
   | inr spent ↦ let us = spent.1.0 in refused_after r input (row_paper r input us) f (us, spent.1.1, refl) (inl (inl spent.2))
 ]
 
-pub finishes_row : (r : ImposeRequest) (input : List ℕ) (t : RowTask) (old new : Option (List ℕ)) (report : Report) → IsRowTask r input t → ImposesTask r t old new report
-    → FinishesRow r input old new (record { report = report; findings = t.findings })
-finishes_row r input t old new report is h = record {
+pub finishes_row : (r : ImposeRequest) (input : List ℕ) (t : RowTask) (scales : Option Scales) (old new : Option (List ℕ)) (report : Report) → IsRowTask r input t → ImposesTask r t scales old new report
+    → FinishesRow r input old new (record { report = report; scales = scales; findings = t.findings })
+finishes_row r input t scales old new report is h = record {
   findings = is.findings;
   job = h.0;
   papers = subst (ArePapersOf r input) (sym h.1.papers) is.papers;
@@ -257,18 +258,18 @@ row_stops r input tells f outcome world rest written rows is none why =
     comes_refused (RefusesImposing r.layout r input) (IsImposed r input) _ tells f outcome world rest written is none (on_row r.layout r input f rows (inl why))
 
 -- what comes of its run comes of the request
-pub row_runs : {V O : Type 0} (r : ImposeRequest) (input : List ℕ) (t : RowTask) (tells : Edge V O) (outcome : Result Done ImposeFault) (left : Result Report ImposeFault) (world : V) (rest : Rest V O) (written : Option (List ℕ))
-    → LaysRows r.layout → IsRowTask r input t → outcome ≡ reported_by t.findings left
-    → Comes (RefusesRowTaskRun r t) (ImposesTask r t) (option_map string_bytes r.outfile) tells left world rest written → RunsRequest r input tells outcome world rest written
-row_runs r input t tells outcome left world rest written rows is reports h =
+pub row_runs : {V O : Type 0} (r : ImposeRequest) (input : List ℕ) (t : RowTask) (scales : Option Scales) (tells : Edge V O) (outcome : Result Done ImposeFault) (left : Result Report ImposeFault) (world : V) (rest : Rest V O) (written : Option (List ℕ))
+    → LaysRows r.layout → IsRowTask r input t → outcome ≡ reported_by t.findings scales left
+    → Comes (RefusesRowTaskRun r t) (ImposesTask r t scales) (option_map string_bytes r.outfile) tells left world rest written → RunsRequest r input tells outcome world rest written
+row_runs r input t scales tells outcome left world rest written rows is reports h =
     subst (λ o. RunsRequest r input tells o world rest written) (sym reports)
-    (comes_reported (RefusesRowTaskRun r t) (RefusesImposing r.layout r input) (ImposesTask r t) (IsImposed r input) t.findings (option_map string_bytes r.outfile) tells left world rest written
+    (comes_reported (RefusesRowTaskRun r t) (RefusesImposing r.layout r input) (ImposesTask r t scales) (IsImposed r input) t.findings scales (option_map string_bytes r.outfile) tells left world rest written
     (λ f why. on_row r.layout r input f rows (inr (record { task = t; is_task = is; refused = why })))
-    (λ old new report done. inr (finishes_row r input t old new report is done)) h)
+    (λ old new report done. inr (finishes_row r input t scales old new report is done)) h)
 
 -- what comes of its job comes of a task
-pub task_comes : {V O : Type 0} (r : ImposeRequest) (t : RowTask) (job : RowJob) (name other : Option (List ℕ)) (tells : Edge V O) (outcome : Result Report ImposeFault) (world : V) (rest : Rest V O) (written : Option (List ℕ))
-    → Comes (RefusesRowJob job) (Imposes job) name tells outcome world rest written → name ≡ other → IsJobOf r t job → Comes (RefusesRowTaskRun r t) (ImposesTask r t) other tells outcome world rest written
-task_comes r t job name other tells outcome world rest written h named is =
-    subst (λ n. Comes (RefusesRowTaskRun r t) (ImposesTask r t) n tells outcome world rest written) named
-    (comes_as (RefusesRowJob job) (RefusesRowTaskRun r t) (Imposes job) (ImposesTask r t) name tells outcome world rest written (λ f why. inr (job, is, why)) (λ old new report done. (job, is, done)) h)
+pub task_comes : {V O : Type 0} (r : ImposeRequest) (t : RowTask) (job : RowJob) (scales : Option Scales) (name other : Option (List ℕ)) (tells : Edge V O) (outcome : Result Report ImposeFault) (world : V) (rest : Rest V O) (written : Option (List ℕ))
+    → Comes (RefusesRowJob job) (Imposes job scales) name tells outcome world rest written → name ≡ other → IsJobOf r t job → Comes (RefusesRowTaskRun r t) (ImposesTask r t scales) other tells outcome world rest written
+task_comes r t job scales name other tells outcome world rest written h named is =
+    subst (λ n. Comes (RefusesRowTaskRun r t) (ImposesTask r t scales) n tells outcome world rest written) named
+    (comes_as (RefusesRowJob job) (RefusesRowTaskRun r t) (Imposes job scales) (ImposesTask r t scales) name tells outcome world rest written (λ f why. inr (job, is, why)) (λ old new report done. (job, is, done)) h)

@@ -38,6 +38,7 @@ use Rattle.impose_messages.specs.declared.finished.Done.{Done}
 use Rattle.impose_messages.specs.declared.finished.Done.TheVariants as done
 use Rattle.impose_messages.specs.declared.finished.Findings.{Findings}
 use Rattle.impose_messages.specs.declared.finished.Finished.{Finished}
+use Rattle.impose_messages.specs.declared.scales.Scales.{Scales}
 
 -- ---- what is written
 
@@ -172,10 +173,10 @@ RefusesRowRun r input f = RefusesRowTask r input f ⊎ RefusesInRow r input f
 
 -- ---- all of them
 
--- the outcome of a run, with what the request found before it; a fault stays as it is
-abbrev pub reported_by : Findings → Result Report ImposeFault → Result Done ImposeFault
-reported_by findings (Ok report) = Ok (done.Imposed (record { report = report; findings = findings }))
-reported_by findings (Err f) = Err f
+-- the outcome of a run, with the scales of its pages and what the request found before it; a fault stays as it is
+abbrev pub reported_by : Findings → Option Scales → Result Report ImposeFault → Result Done ImposeFault
+reported_by findings scales (Ok report) = Ok (done.Imposed (record { report = report; scales = scales; findings = findings }))
+reported_by findings scales (Err f) = Err f
 
 -- the request was carried out, by its specification or on its row
 abbrev pub Finishes : ImposeRequest → (input : List ℕ) → (old new : Option (List ℕ)) → Finished → Type 0

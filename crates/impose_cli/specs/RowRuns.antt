@@ -8,6 +8,8 @@ use Rattle.rules.specs.MadePlans.{made_layout}
 use Rattle.sheet_plan.specs.Places.{born_complete}
 use Rattle.dressing.specs.Numbered.{Drawn}
 use Rattle.imposer.specs.declared.outcome.Report.{Report}
+use Rattle.impose_messages.specs.Scales.{scales_of}
+use Rattle.impose_messages.specs.declared.scales.Scales.{Scales}
 use Rattle.row_runs.specs.SheetsRuns.{told_output}
 use Rattle.row_runs.specs.Runs.{ArePlanned, border_on, drawn_of, output_on}
 use Rattle.row_runs.specs.declared.run.RowJob.{RowJob}
@@ -21,10 +23,12 @@ pub record ReportsOn (border : Option Border) (drawn : Drawn) (all : List MadeSh
   pub swept_within : report.swept ≤ report.sheets
   pub byte_count : report.bytes ≡ length (told_output border drawn all us)
 
--- exactly the output of the sheets that are asked for was appended, and the report has its numbers: so these pages are
--- printed in this order, each at its place, and nothing else; but on posters and by a specification they lie inside and apart
-pub record Imposes (j : RowJob) (old new : Option (List ℕ)) (done : Report) : Type 0 where
+-- exactly the output of the sheets that are asked for was appended, and the report has its numbers and the scales of the pages on
+-- these sheets: so these pages are printed in this order, each at its place, and nothing else; but on posters and by a
+-- specification they lie inside and apart
+pub record Imposes (j : RowJob) (scales : Option Scales) (old new : Option (List ℕ)) (done : Report) : Type 0 where
   pub made : List MadeSheet
   pub planned : ArePlanned j made
   pub written : Appends old new (output_on j made)
   pub report : ReportsOn (border_on j) (drawn_of j) made j.document.now done
+  pub scaled : scales ≡ scales_of made

@@ -61,6 +61,7 @@ use Rattle.impose_messages.specs.declared.finished.Findings.{Findings}
 use Rattle.impose_messages.specs.declared.finished.Finished.{Finished}
 use Rattle.impose_messages.specs.declared.finished.PaperOrigin.{PaperOrigin}
 use Rattle.impose_messages.specs.declared.finished.PaperOrigin.TheVariants.{FirstPage}
+use Rattle.impose_messages.specs.declared.scales.Scales.{Scales}
 use Rattle.impose_cli.specs.declared.laying.RowLaying.{RowLaying}
 use Rattle.impose_cli.specs.declared.laying.RowLaying.TheVariants as row
 use Rattle.impose_cli.specs.declared.row_task.RowTask.{RowTask}
@@ -359,8 +360,8 @@ pub record IsJobOf (r : ImposeRequest) (t : RowTask) (job : RowJob) : Type 0 whe
   pub marks : job.marks ≡ r.marks
   pub swapped : job.swapped ≡ swaps_margins r.layout r.spacing
 
-abbrev pub ImposesTask : ImposeRequest → RowTask → (old new : Option (List ℕ)) → Report → Type 0
-ImposesTask r t old new report = (job : RowJob) × IsJobOf r t job × Imposes job old new report
+abbrev pub ImposesTask : ImposeRequest → RowTask → Option Scales → (old new : Option (List ℕ)) → Report → Type 0
+ImposesTask r t scales old new report = (job : RowJob) × IsJobOf r t job × Imposes job scales old new report
 
 -- the job is what the request asks for with this document, laid out for pages of this paper; and for none of its lengths,
 -- its cells, these papers and its options it had to be refused
@@ -384,4 +385,4 @@ pub record FinishesRow (r : ImposeRequest) (input : List ℕ) (old new : Option 
   pub job : RowJob
   pub papers : ArePapersOf r input job.papers.now
   pub is_job : IsRowJob r input done.findings.page_paper job
-  pub imposes : Imposes job old new done.report
+  pub imposes : Imposes job done.scales old new done.report

@@ -151,3 +151,4 @@ pub record FinishesSpec (r : ImposeRequest) (input : List ℕ) (old new : Option
   pub plan : plan_in None spec (length (pages units)) ≡ Ok (sheets spec (length (pages units)))
   pub written : Appends old new (output (frame_used r done) None spec units)
   pub report : Reports (frame_used r done) None spec units done.report
+  pub unscaled : done.scales ≡ None

@@ -18,7 +18,7 @@ mod task;
 
 pub use guard::RoomyText;
 pub use impose_messages::{
-    Claims, Compression, Done, Findings, Finished, ImposeFault, PaperOrigin, ReportText,
+    Claims, Compression, Done, Findings, Finished, ImposeFault, PaperOrigin, ReportText, Scales,
     command_text, fault_status, fault_text, text_of_fault, text_said, words_text,
 };
 pub use impose_words::{

@@ -35,7 +35,7 @@ use crate::task::{paper_of_pages, text_to_impose};
 use command_words::name_of;
 use dsc::{Document, Parts};
 use guard::RoomyText;
-use impose_messages::{Findings, ImposeFault, PaperOrigin, refused_document};
+use impose_messages::{Findings, ImposeFault, PaperOrigin, Scales, refused_document};
 use impose_words::{ImposeRequest, Layout, Turning};
 use imposer::{Report, RunError};
 use layouts::is_of_size;
@@ -396,7 +396,7 @@ fn paper_of_first(row: &[Option<u32>], papers: &[Paper], blank: &Paper) -> Paper
     }
 }
 
-/// Imposes a task. `parts` says where the pages and the trailer of the task's text begin.
+/// Imposes a task. `parts` says where the pages and the trailer of the task's text begin. Returns the scales of the pages too.
 pub(crate) fn impose_task<R: Threads + Wait + Sync, W: World>(
     rt: &R,
     alloc: Global,
@@ -404,18 +404,21 @@ pub(crate) fn impose_task<R: Threads + Wait + Sync, W: World>(
     task: &RowTask,
     parts: Parts,
     world: W,
-) -> Attempt<W, Report>
+) -> (Attempt<W, Report>, Option<Scales>)
     requires countable { (W.seen world).failures < u64.MAX }
     requires laid { MayBeLaidSo task.now.laying }
     requires options { HasOptions request.now }
     requires parts { Serve parts task.now.text.items }
-    ensures { Comes (RefusesRowTaskRun request.now task.now) (ImposesTask request.now task.now)
-        (option_map string_bytes request.now.outfile) (edge_of_world (W.tells world) W.seen W.Output.seen) result.outcome
-        world result.rest (shown W.Output.seen result.rest) }
+    ensures { Comes (RefusesRowTaskRun request.now task.now) (ImposesTask request.now task.now result.1)
+        (option_map string_bytes request.now.outfile) (edge_of_world (W.tells world) W.seen W.Output.seen) result.0.outcome
+        world result.0.rest (shown W.Output.seen result.0.rest) }
 {
     let document = match Document::from_parts(task.text.as_slice(), parts) {
         Ok(document) => document,
-        Err(error) => return refused_before(ImposeFault::Run(RunError::from(error)), world),
+        Err(error) => {
+            let fault = ImposeFault::Run(RunError::from(error));
+            return (refused_before(fault, world), None);
+        }
     };
     // Written out as in look.rt: with a function that makes the job for both, the prover isn't told which modules hold the types of its fields.
     let job = RowJob {

@@ -27,7 +27,7 @@ use crate::task::{Task, WORKERS, task_for};
 use command_words::name_of;
 use dsc::{Document, Parts};
 use guard::RoomyText;
-use impose_messages::{Done, Findings, Finished, ImposeFault};
+use impose_messages::{Done, Findings, Finished, ImposeFault, Scales};
 use impose_words::{ImposeRequest, Layout};
 use imposer::{Job, NoListener, Open, Report, RunError, Sink, run_plan};
 use pagespec::{Spec, read_spec};
@@ -78,38 +78,45 @@ fn run_row<R: Threads + Wait + Sync, W: World>(
         Ok(found) => found,
         Err(fault) => return refused_before(fault, world),
     };
-    let left = impose_task(rt, alloc, request, &task, parts, world);
+    let (left, scales) = impose_task(rt, alloc, request, &task, parts, world);
     Attempt {
-        outcome: reported(left.outcome, task.findings),
+        outcome: reported(left.outcome, scales, task.findings),
         rest: left.rest,
     }
 }
 
-/// Imposes the row of a job, and writes the sheets to the file of this name, or to standard output if there is no name.
+/// Imposes the row of a job, and writes the sheets to the file of this name, or to standard output if there is no name. Returns the scales of the
+/// pages too.
 pub(crate) fn impose_job<R: Threads + Wait + Sync, W: World>(
     rt: &R,
     alloc: Global,
     job: &RowJob<'_, '_>,
     name: Option<&str>,
     world: W,
-) -> Attempt<W, Report>
+) -> (Attempt<W, Report>, Option<Scales>)
     requires countable { (W.seen world).failures < u64.MAX }
     requires asked { MayBeAsked job.now.asked }
     requires border { IsTrue (is_border job.now.border) }
-    ensures { Comes (RefusesRowJob job.now) (Imposes job.now) (option_map (λ n. n.now) name.entry) (edge_of_world (W.tells world) W.seen W.Output.seen) result.outcome
-        world result.rest (shown W.Output.seen result.rest) }
+    ensures { Comes (RefusesRowJob job.now) (Imposes job.now result.1) (option_map (λ n. n.now) name.entry) (edge_of_world (W.tells world) W.seen W.Output.seen)
+        result.0.outcome world result.0.rest (shown W.Output.seen result.0.rest) }
 {
     let pages = job.document.pages();
     let (sheets, dress) = match job.lay(alloc) {
         Ok(laid) => laid,
-        Err(error) => return refused_before(asked_fault_of(error, pages), world),
+        Err(error) => return (refused_before(asked_fault_of(error, pages), world), None),
     };
     let plan = match Plan::of_sheets(alloc, pages, &sheets) {
         Ok(plan) => plan,
-        Err(error) => return refused_before(asked_fault_of(plan_error(error), pages), world),
+        Err(error) => {
+            let fault = asked_fault_of(plan_error(error), pages);
+            return (refused_before(fault, world), None);
+        }
     };
+    let count = plan.sheets();
+    let scales = Scales::of(&sheets, count);
     let made = Job::made(&plan, job.document, &sheets, job.border, job.inset, &dress);
-    write_job(rt, alloc, &made, name, world)
+    let left = write_job(rt, alloc, &made, name, world);
+    (left, scales)
 }
 
 // ---- runs by a specification
@@ -133,7 +140,7 @@ fn run_spec<R: Threads + Wait + Sync, W: World>(
     };
     let left = impose_by_spec(rt, alloc, &task, parts, name_of(&request.outfile), world);
     Attempt {
-        outcome: reported(left.outcome, task.findings),
+        outcome: reported(left.outcome, None, task.findings),
         rest: left.rest,
     }
 }
@@ -190,12 +197,20 @@ fn read_task<'t>(
     Ok((spec, document))
 }
 
-/// The outcome of a run. If the run finished, the report gets the facts that were found before. A fault stays as it is.
-fn reported(outcome: Result<Report, ImposeFault>, findings: Findings) -> Result<Done, ImposeFault>
-    ensures { result ≡ reported_by findings outcome }
+/// The outcome of a run. If the run finished, the report gets the scales of the pages, and the facts that were found before. A fault stays as it is.
+fn reported(
+    outcome: Result<Report, ImposeFault>,
+    scales: Option<Scales>,
+    findings: Findings,
+) -> Result<Done, ImposeFault>
+    ensures { result ≡ reported_by findings scales outcome }
 {
     match outcome {
-        Ok(report) => Ok(Done::Imposed(Finished { report, findings })),
+        Ok(report) => Ok(Done::Imposed(Finished {
+            report,
+            scales,
+            findings,
+        })),
         Err(fault) => Err(fault),
     }
 }

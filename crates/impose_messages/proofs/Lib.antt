@@ -1,4 +1,5 @@
 mod Short
+mod Folds
 mod Pieces
 mod Noted
 mod NoRoom

@@ -18,3 +18,8 @@ pub six : (o a b c d e f l m n p q t : List ℕ) → l ≡ o ++ a → m ≡ l ++
     → t ≡ o ++ (a ++ (b ++ (c ++ (d ++ (e ++ f)))))
 six o a b c d e f l m n p q t before one two_more three_more four_more last =
     two o a (b ++ (c ++ (d ++ (e ++ f)))) l t before (five l b c d e f m n p q t one two_more three_more four_more last)
+
+pub seven : (o a b c d e f g l m n p q r t : List ℕ) → l ≡ o ++ a → m ≡ l ++ b → n ≡ m ++ c → p ≡ n ++ d → q ≡ p ++ e → r ≡ q ++ f → t ≡ r ++ g
+    → t ≡ o ++ (a ++ (b ++ (c ++ (d ++ (e ++ (f ++ g))))))
+seven o a b c d e f g l m n p q r t before one two_more three_more four_more five_more last =
+    two o a (b ++ (c ++ (d ++ (e ++ (f ++ g))))) l t before (six l b c d e f g m n p q r t one two_more three_more four_more five_more last)

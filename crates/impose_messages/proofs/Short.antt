@@ -1,10 +1,10 @@
--- The text of a length is short.
+-- The texts of a length and of a scale are short.
 use Rattle.std.specs.Prelude.{ℤ, nat_abs, decimal, if◌then◌else◌}
 use Rattle.std.proofs.Common.{Bool, true, false, ◌≡◌, ℕ, zero, suc, ◌+◌, ◌*◌, ◌/◌, ◌%◌, ◌<◌, ◌≤◌, List, [], ◌∷◌, ◌++◌, length, refl, arith, length-append}
 use Rattle.std.proofs.Math.Nat.{div-le_self}
 use Rattle.std.proofs.lemmas.Fmt.{length-decimal-le_wide}
-use Rattle.lengths.specs.Ranges.{FitsGrains}
-use Rattle.rules.specs.Numbers.{signed, rounded, is_negative, decimals_of, fraction_text, sign_text, points_text}
+use Rattle.lengths.specs.Ranges.{FitsGrains, FitsNumber}
+use Rattle.rules.specs.Numbers.{signed, rounded, is_negative, decimals_of, fraction_text, sign_text, points_text, scale_text}
 use Rattle.rules.proofs.Printed.{decimals_few}
 
 abs_signed : (negative : Bool) (n : ℕ) → nat_abs (signed negative n) ≡ n
@@ -40,4 +40,18 @@ points_short g fits =
     let d = sign v in
     let h = length-append (sign_text v ++ decimal (nat_abs v / 100_000)) (fraction_text ds) in
     let i = length-append (sign_text v) (decimal (nat_abs v / 100_000)) in
+    omega (arith, a, b, c, d, h, i)
+
+-- a sign, five digits, a dot and nine decimals
+pub scale_short : (v : ℤ) → FitsNumber v → length (scale_text v) ≤ 20
+scale_short v fits =
+    let most : nat_abs v ≤ 99_999_999_999_999 = fits in
+    let whole : nat_abs v / 1_000_000_000 < 100_000 = omega (arith, most) in
+    let ds : List ℕ = decimals_of 9 (nat_abs v % 1_000_000_000) in
+    let a = length-decimal-le_wide 5 (nat_abs v / 1_000_000_000) (omega arith) whole (omega (arith, whole)) in
+    let b = decimals_few 9 (nat_abs v % 1_000_000_000) (omega arith) (omega arith) in
+    let c = fraction ds in
+    let d = sign v in
+    let h = length-append (sign_text v ++ decimal (nat_abs v / 1_000_000_000)) (fraction_text ds) in
+    let i = length-append (sign_text v) (decimal (nat_abs v / 1_000_000_000)) in
     omega (arith, a, b, c, d, h, i)

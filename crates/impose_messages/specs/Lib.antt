@@ -1,6 +1,7 @@
--- Read in this order: faults, also of inputs; with which status the program ends; what is said of its end, and the room for it.
+-- Read in this order: faults, also of inputs; with which status the program ends; how large pages become; what is said of its end, and the room for it.
 pub mod Faults
 pub mod Inputs
 pub mod Statuses
+pub mod Scales
 pub mod Said
 pub mod Rooms

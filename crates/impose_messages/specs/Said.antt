@@ -5,13 +5,14 @@ use Rattle.std.specs.Prelude.{◌+◌, ◌-◌, ◌*◌, ◌/◌, ℤ, pos, int_
 use Rattle.std.specs.Prelude.{String, length, map, min, take}
 use Rattle.std.specs.declared.alloc.Global.{Global}
 use Rattle.std.specs.List.{ends_with}
+use Rattle.std.specs.Ordering.{int_eq}
 use Rattle.std.specs.IoError.{error_kind}
 use Rattle.std.specs.declared.io.ErrorKind.{ErrorKind}
 use Rattle.std.specs.declared.io.ErrorKind.TheVariants.{BrokenPipe}
 use Rattle.clap.specs.Words.{kind_of}
 use Rattle.clap.specs.declared.error.Error.{Error as WordsError}
 use Rattle.rules.specs.Bytes.{line}
-use Rattle.rules.specs.Numbers.{points_text}
+use Rattle.rules.specs.Numbers.{points_text, scale_text}
 use Rattle.rules.specs.Papers.{Paper}
 use Rattle.layouts.specs.Grids.{cells_per_sheet, is_same}
 use Rattle.layouts.specs.Placed.{Room}
@@ -36,6 +37,7 @@ use Rattle.impose_words.specs.declared.request.Layout.TheVariants as layout
 use Rattle.impose_messages.specs.declared.finished.Dependence.{Dependence}
 use Rattle.impose_messages.specs.declared.finished.Dependence.TheVariants.{Hp2xx, Plplot, Setup, Xcircuit}
 use Rattle.impose_messages.specs.declared.finished.Finished.{Finished}
+use Rattle.impose_messages.specs.declared.scales.Scales.{Scales}
 use Rattle.impose_messages.specs.declared.finished.PaperOrigin.{PaperOrigin}
 use Rattle.impose_messages.specs.declared.finished.PaperOrigin.TheVariants as origin
 
@@ -104,11 +106,25 @@ sheet_text sheet = codes "; sheets of " ++ (paper_size_text sheet ++ codes " pt"
 abbrev pub sheets_text : (sheet page_paper : Paper) → List ℕ
 sheets_text sheet page_paper = if is_same sheet page_paper then [] else sheet_text sheet
 
--- the report: the counts, the size of the pages' paper with where it was found, and that of the sheets (RULES, 17)
+-- the scale of pages that don't keep their size, or the least and the greatest of several
+abbrev pub range_text : (least greatest : ℤ) → List ℕ
+range_text least greatest =
+    if int_eq least greatest then (if int_eq least (pos 1_000_000_000) then [] else codes "; scale " ++ scale_text least)
+    else codes "; scales from " ++ (scale_text least ++ (codes " to " ++ scale_text greatest))
+
+-- that of a layout, if a page is placed; a specification says its scales itself
+abbrev pub scales_told : Layout → Option Scales → List ℕ
+scales_told (layout.Spec specs) scales = []
+scales_told (layout.SpecRow specs signing) scales = []
+scales_told other None = []
+scales_told other (Some s) = range_text s.least s.greatest
+
+-- the report: the counts, the size of the pages' paper with where it was found, that of the sheets, and the scale (RULES, 17)
 abbrev pub report_text : Finished → ImposeRequest → List ℕ
 report_text finished r = let f = finished.findings in
     counts_text f.taken finished.report r ++ (codes "; pages of " ++ (paper_size_text f.page_paper
-    ++ (codes " pt, " ++ (origin_text f.origin ++ sheets_text (sheet_paper_for r.layout r.sheet_paper f.page_paper) f.page_paper))))
+    ++ (codes " pt, " ++ (origin_text f.origin ++ (sheets_text (sheet_paper_for r.layout r.sheet_paper f.page_paper) f.page_paper
+    ++ scales_told r.layout finished.scales)))))
 
 -- a byte of a name as it is shown: what isn't a printable one of ASCII is a question mark
 abbrev pub shown_byte : ℕ → ℕ

@@ -1,4 +1,5 @@
 //! The results of requests that have been carried out.
+use crate::scales::Scales;
 use crate::shown::ShownName;
 use imposer::Report;
 use lengths::Paper;
@@ -67,6 +68,8 @@ pub struct Findings {
 pub struct Finished {
     /// The counts of its run.
     pub report: Report,
+    /// The scales of the pages. `None` if no page is placed, and for `Layout::Spec`.
+    pub scales: Option<Scales>,
     pub findings: Findings,
 }
 

@@ -14,6 +14,7 @@ mod reports;
 mod rooms;
 mod run_lines;
 mod said;
+mod scales;
 mod shown;
 mod statuses;
 
@@ -23,6 +24,7 @@ pub use inputs::refused_document;
 pub use messages::{command_text, fault_text};
 pub use report_text::ReportText;
 pub use said::{text_of_fault, text_said};
+pub use scales::Scales;
 pub use shown::ShownName;
 pub use statuses::fault_status;
 pub use suggestions::words_text;

@@ -1,10 +1,10 @@
 //! The text of a report.
 ghost use Rattle.std.specs.Prelude.{◌≡◌, ◌+◌, ◌≤◌, ◌++◌, [], IfOk, decimal, length};
-ghost use Rattle.rules.specs.Numbers.{points_text};
+ghost use Rattle.rules.specs.Numbers.{points_text, scale_text};
 ghost use Rattle.impose_messages.specs.Rooms.{most_said};
 
 use itoa::Buffer;
-use lengths::{Grains, print_points};
+use lengths::{Grains, Number, print_points, print_scale};
 use std::alloc::{AllocError, Global};
 use std::marker::Model;
 
@@ -66,6 +66,20 @@ impl ReportText {
         // This call tells the prover that the length is in range, and so that its text is short.
         let _ = points.get();
         match print_points(points, &mut self.text) {
+            Ok(()) => {}
+            Err(_) => unreachable!(),
+        }
+    }
+
+    #[tactic(auto, using(crate::proofs::Short::scale_short))]
+    pub(crate) fn push_scale(&mut self, scale: Number)
+        requires room { length self.old + 20 ≤ most_said }
+        ensures text { self.new ≡ self.old ++ scale_text scale }
+        ensures short { length self.new ≤ length self.old + 20 }
+    {
+        // As in `push_points`.
+        let _ = scale.billionths();
+        match print_scale(scale, &mut self.text) {
             Ok(()) => {}
             Err(_) => unreachable!(),
         }

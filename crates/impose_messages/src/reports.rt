@@ -4,23 +4,25 @@ ghost use Rattle.impose_messages.specs.Rooms.{most_said};
 ghost use Rattle.impose_messages.specs.Said.{prints_leaves as are_sides_of, behind_message, blank_count as blanks_in, blanks_text, count_text, counts_text};
 ghost use Rattle.impose_messages.specs.Said.{corners_text, cut_message, cut_pages_text, cut_size_text, dependence_effect as effect_of, dependence_message, edges_text, leaf_count_text, note_text};
 ghost use Rattle.impose_messages.specs.Said.{origin_text as text_of_origin, others_text, places_per_sheet as places_in, reach_message, report_text};
+ghost use Rattle.impose_messages.specs.Said.{range_text, scales_told};
 ghost use Rattle.impose_messages.specs.Said.{sheet_text, sheets_text, sides_text, page_count_text, paper_size_text, some_pages_text, told_advice as advice_told, told_message, unknown_message};
 
 use crate::finished::{Dependence, Finished, PaperOrigin};
 use crate::report_text::ReportText;
+use crate::scales::Scales;
 use crate::shown::ShownName;
 use impose_words::{ImposeRequest, Layout};
 use imposer::Report;
 use layouts::is_of_size;
-use lengths::{Grains, Paper};
+use lengths::{Grains, Number, Paper};
 use papers::{Comment, Cut, Edges, Reach};
 
-/// Appends the report: the counts, the size of the pages' paper, where that paper is taken from, and the size of the sheets if it differs from that
-/// of the pages' paper. Both sizes are those before any turn.
+/// Appends the report: the counts, the size of the pages' paper, where that paper is taken from, the size of the sheets if it differs from that of
+/// the pages' paper, and the scale of the pages unless they keep their size. Both sizes are those before any turn.
 pub(crate) fn push_report(said: &mut ReportText, done: &Finished, request: &ImposeRequest)
-    requires room { length said.old + 693 ≤ most_said }
+    requires room { length said.old + 753 ≤ most_said }
     ensures text { said.new ≡ said.old ++ report_text done.now request.now }
-    ensures short { length said.new ≤ length said.old + 693 }
+    ensures short { length said.new ≤ length said.old + 753 }
 {
     let found = &done.findings;
     push_counts(said, found.taken, &done.report, request);
@@ -33,6 +35,39 @@ pub(crate) fn push_report(said: &mut ReportText, done: &Finished, request: &Impo
         &request.sheet_paper_for(&found.page_paper),
         &found.page_paper,
     );
+    push_scales(said, &request.layout, &done.scales);
+}
+
+/// Appends the scale of the pages, unless all pages keep their size. For pages of several scales, appends the least and the greatest one. A
+/// specification has its scales in its text, so `spec` gives none.
+fn push_scales(said: &mut ReportText, layout: &Layout, scales: &Option<Scales>)
+    requires room { length said.old + 60 ≤ most_said }
+    ensures text { said.new ≡ said.old ++ scales_told layout.now scales.now }
+    ensures short { length said.new ≤ length said.old + 60 }
+{
+    if matches!(layout, Layout::Spec(_) | Layout::SpecRow { .. }) {
+        return;
+    }
+    if let Some(scales) = scales {
+        push_range(said, scales.least, scales.greatest);
+    }
+}
+
+/// Appends a scale, unless it is 1, or two scales of which the second is greater.
+fn push_range(said: &mut ReportText, least: Number, greatest: Number)
+    requires room { length said.old + 60 ≤ most_said }
+    ensures text { said.new ≡ said.old ++ range_text least greatest }
+    ensures short { length said.new ≤ length said.old + 60 }
+{
+    if least != greatest {
+        said.push(b"; scales from ");
+        said.push_scale(least);
+        said.push(b" to ");
+        said.push_scale(greatest);
+    } else if least != Number::ONE {
+        said.push(b"; scale ");
+        said.push_scale(least);
+    }
 }
 
 /// Appends the size of the sheets, if it differs from that of the pages' paper.

@@ -18,9 +18,9 @@ use suggestions::shown_in_place;
 
 /// Appends all lines about a finished run, except the one about the name of the output file (`push_note_line`).
 pub(crate) fn push_lines(said: &mut ReportText, done: &Finished, request: &ImposeRequest)
-    requires room { length said.old + 2_477 ≤ most_said }
+    requires room { length said.old + 2_537 ≤ most_said }
     ensures text { said.new ≡ said.old ++ run_lines done.now request.now }
-    ensures short { length said.new ≤ length said.old + 2_477 }
+    ensures short { length said.new ≤ length said.old + 2_537 }
 {
     let found = &done.findings;
     push_report_line(said, done, request);
@@ -33,9 +33,9 @@ pub(crate) fn push_lines(said: &mut ReportText, done: &Finished, request: &Impos
 }
 
 fn push_report_line(said: &mut ReportText, done: &Finished, request: &ImposeRequest)
-    requires room { length said.old + 702 ≤ most_said }
+    requires room { length said.old + 762 ≤ most_said }
     ensures text { said.new ≡ said.old ++ line_of (Some (report_text done.now request.now)) }
-    ensures short { length said.new ≤ length said.old + 702 }
+    ensures short { length said.new ≤ length said.old + 762 }
 {
     said.push(b"impose: ");
     push_report(said, done, request);
