@@ -39,20 +39,6 @@ creating_is_three seen name old new (fault.Run e) why = ap (λ e. fault_exit_sta
 creating_is_three seen name old new (fault.Command e) why = absurd why
 creating_is_three seen name old new (fault.Read e) why = absurd why
 
--- an output wasn't created, and the fault is that of its error's kind
-pub not_created : {W : Type 0} (seen : W → WorldView) (name : Option (List ℕ)) (old new : W) (kind : ErrorKind) (f : Fault)
-    → ((new ≡ old) × (kind ≡ OutOfMemory)) ⊎ HasRefused (creating name) kind (seen old) (seen new)
-    → ((kind ≡ OutOfMemory) × (f ≡ fault.Run (run.NoMemory 0))) ⊎ (¬ (kind ≡ OutOfMemory) × (f ≡ fault.Create))
-    → IsCreating seen name old new f
-not_created seen name old new kind f (inl same) (inl memory) =
-    subst (IsCreating seen name old new) (sym memory.1) (refl, inl same.0)
-not_created seen name old new kind f (inl same) (inr other) = absurd (other.0 same.1)
-not_created seen name old new kind f (inr refused) (inl memory) =
-    subst (IsCreating seen name old new) (sym memory.1)
-    (refl, inr (subst (λ k. HasRefused (creating name) k (seen old) (seen new)) memory.0 refused))
-not_created seen name old new kind f (inr refused) (inr other) =
-    subst (IsCreating seen name old new) (sym other.1) (kind, other.0, refused)
-
 -- at status 0 the outcome's own status is 0
 said_zero : (quiet : Bool) (ended : Result Report RunError) (status : ℕ) (line : List ℕ) → status ≡ 0
     → IsLineOf quiet ended status line → outcome_status ended ≡ 0

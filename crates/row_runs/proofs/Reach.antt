@@ -45,11 +45,6 @@ pub unchanged_turn : (t : List PageTurn) (m : Option Room) (page : ℕ) → is_c
 unchanged_turn [] m page e = none_on page
 unchanged_turn (turn ∷ t) m page e = absurd (true≢false e)
 
-pub unchanged_room : (t : List PageTurn) (m : Option Room) → is_changed t m ≡ false → m ≡ None
-unchanged_room [] None e = refl
-unchanged_room [] (Some room) e = absurd (true≢false e)
-unchanged_room (turn ∷ t) m e = absurd (true≢false e)
-
 one_or_none : (b : Bool) → is_changed [] (if b then None else None) ≡ false
 one_or_none true = refl
 one_or_none false = refl
@@ -238,20 +233,6 @@ reach_refused j n m laid e count swap few asked h =
     (subst (λ r. IsNotReached j.turns.now r laid e) swap h)
 
 -- ---- numbers
-
--- few sheets are refused only if they are changed
-pub far_is_changed : (t : List PageTurn) (m : Option Room) (made : List MadeSheet) (e : SheetError) → length made ≤ most_sheets → IsNotReached t m made e → is_changed t m ≡ true
-far_is_changed t m made (error.Sheets plan.TooManySheets) few h = absurd (omega (arith, few, h))
-far_is_changed t m made (error.Sheets plan.TooManyPages) few h = absurd h
-far_is_changed t m made (error.Sheets (plan.SlotsOutOfRange sheet)) few h = absurd h
-far_is_changed t m made (error.Sheets plan.TooManyPlaces) few h = absurd h
-far_is_changed t m made (error.Sheets (plan.NoSuchPage sheet)) few h = absurd h
-far_is_changed t m made (error.Sheets plan.NoMemory) few h = absurd h
-far_is_changed t m made error.OutOfReach few h = h.0
-far_is_changed t m made (error.Row e) few h = absurd h
-far_is_changed t m made (error.Arrangement e) few h = absurd h
-far_is_changed t m made (error.Poster e) few h = absurd h
-far_is_changed t m made error.NoMemory few h = absurd h
 
 -- what a refusal of the numbers says of a run
 pub numbers_refused : (j : RowJob) (n : ℕ) (m : Option Room) (laid : List MadeSheet) (e : SheetError) → n ≡ page_count j → m ≡ swapped_room_for j

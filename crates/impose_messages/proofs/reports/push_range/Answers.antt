@@ -1,4 +1,4 @@
-use Rattle.std.proofs.Common.{◌≡◌, ◌++◌, rules}
+use Rattle.std.proofs.Common.{rules}
 use Rattle.std.specs.Prelude.{codes}
 use Rattle.rules.specs.Numbers.{scale_text}
 use Rattle.impose_messages.proofs.Pieces.{four}
