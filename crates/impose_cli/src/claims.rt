@@ -1,4 +1,4 @@
-//! What a document tells about itself.
+//! What a document states about itself.
 ghost use Rattle.std.specs.Prelude.{◌≡◌, ◌∷◌, ◌++◌, [], option_map};
 ghost use Rattle.rules.specs.Bytes.{colon};
 ghost use Rattle.papers.specs.Media.{comment_value, header};
@@ -13,7 +13,7 @@ use lengths::Paper;
 use papers::{Comment, document_paper, first_comment, first_name, is_at_end};
 use row_runs::declared_page_count;
 
-/// Facts that a document's comments and its setup tell, for the messages about the document. They are the number of pages that it declares, its paper's
+/// Facts that a document's comments and its setup state, for the messages about the document. They are the number of pages that it declares, its paper's
 /// name if no paper of this name is known, and why pages depend on the text before them. The paper's name is left out if the command line names a paper
 /// for the pages. No memory is allocated.
 pub(crate) fn claims_of(request: &ImposeRequest, input: &[u8]) -> Claims

@@ -11,7 +11,7 @@ use rows::{RowError, read_row};
 use std::alloc::Global;
 
 /// Makes the checks that don't need the document, so that a mistake is found before a byte is read. Refuses, in this order, a drawing with the name
-/// of the input, an option without effect, a layout that isn't possible, and a text that isn't page ranges.
+/// of the input, an option without effect, a layout that isn't possible, and page ranges that don't follow the grammar.
 pub fn check_request(alloc: Global, request: &ImposeRequest) -> Result<(), ImposeFault>
     ensures possible { OnOk result (MayBeRead request.now) }
     ensures refused { IfErr result (RefusesRequest request.now) }

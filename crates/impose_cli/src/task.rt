@@ -103,14 +103,11 @@ fn is_said(request: &ImposeRequest) -> bool
 /// The task of a request, with the specification that places pages as the request asks, and the parts of the task's text. The first of these faults
 /// is reported:
 ///
-/// A fault of the document.
-///
-/// `NoSpecification` for a row that isn't plain (`RowRequest::is_plain`), turned pages, marks, page numbers, one scale for all pages, or an inner
-/// margin of `nup`.
-///
-/// `SeveralPapers` for `nup` and `booklet`, if the pages don't all have the same paper.
-///
-/// `NoSpecification` for a layout that no specification can express and for a booklet with creep, or a fault of the layout.
+/// 1. A fault of the document.
+/// 2. `NoSpecification` for a row that isn't plain (`RowRequest::is_plain`), turned pages, marks, page numbers, one scale for all pages, or an inner
+///    margin of `nup`.
+/// 3. `SeveralPapers` for `nup` and `booklet`, if the pages don't all have the same paper.
+/// 4. `NoSpecification` for a layout that no specification can express and for a booklet with creep, or a fault of the layout.
 pub fn task_for(
     alloc: Global,
     request: &ImposeRequest,

@@ -32,7 +32,7 @@ pub enum Dependence {
     Setup,
 }
 
-/// Facts that a document's comments and its setup tell, for the messages about the document.
+/// Facts that a document's comments and its setup state, for the messages about the document.
 #[derive(Drop)]
 pub struct Claims {
     /// The number of pages that the document declares, if it declares one.

@@ -43,8 +43,8 @@ pub struct RowJob<'j, 'd> {
 
 impl<'j, 'd> RowJob<'j, 'd> {
     /// The sheets of the request, with pages shifted on backs and turned as the job requests, and the lines that report papers and draw marks and
-    /// numbers. The first fault is reported, in the order of the variants of `SheetError`. Not all sheets that this call returns can be planned, so a
-    /// caller should call `Plan::of_sheets` before it creates an output.
+    /// numbers. The first fault is reported, in the order of the variants of `SheetError`. A plan has limits that this call doesn't check, so call
+    /// `Plan::of_sheets` before an output is created.
     pub fn lay(&self, alloc: Global) -> Result<(MadeSheets, SheetExtras), SheetError>
         requires { MayBeAsked self.now.asked }
         ensures turned { IfOk result (λ laid. AreTurned self.now laid.0) }
