@@ -1,6 +1,6 @@
 -- Exit statuses, and what is said, worked out.
 use Rattle.std.proofs.Common.{◌≡◌, true, false, [], ◌∷◌, refl, map}
-use Rattle.std.specs.Prelude.{codes, neg_ℤ, pos, None, Some}
+use Rattle.std.specs.Prelude.{ℤ, List, codes, neg_ℤ, pos, None, Some}
 use Rattle.std.specs.Fmt.{digits}
 use Rattle.clap.specs.declared.error.kind.ErrorKind.TheVariants.{DisplayHelp, DisplayVersion, UnknownArgument}
 use Rattle.layouts.specs.Placed.{bare}
@@ -10,9 +10,12 @@ use Rattle.impose_messages.specs.declared.fault.Compression.TheVariants.{Gzip}
 use Rattle.impose_words.specs.declared.idle.IdleOption.TheVariants.{CutMarks}
 use Rattle.impose_words.specs.declared.fault.RequestFault.TheVariants as command
 use Rattle.impose_messages.specs.declared.finished.Dependence.TheVariants.{Hp2xx, Xcircuit}
+use Rattle.impose_messages.specs.Scales.{scales_of}
 use Rattle.impose_messages.specs.Statuses.{fault_status, words_status}
 use Rattle.impose_messages.specs.Said.{behind_text, blanks_text, cut_pages_text, dependence_text, edges_text, is_pdf_name, leaf_count_text, page_count_text, sheets_text, shown_name, paper_size_text, told_text, unknown_text}
+use Rattle.rules.specs.Made.{Blank, MadeSheet, MadeSlot, Placed}
 use Rattle.rules.specs.Papers.{points}
+use Rattle.rules.specs.Specification.{Upright, zero_points}
 
 -- Exit statuses.
 
@@ -137,3 +140,23 @@ pdf_in_both = refl
 
 pdf_before_the_end : is_pdf_name (codes "a.pdf.ps") ≡ false
 pdf_before_the_end = refl
+
+-- Scales of pages.
+
+abbrev on_a4 : List MadeSlot → MadeSheet
+on_a4 slots = record { paper = points 595 842; slots = slots }
+
+abbrev at_scale : ℤ → MadeSlot
+at_scale scale = Placed 0 (record { page = 0; from_end = false; turn = Upright; scale = scale; x = zero_points; y = zero_points }) (points 595 842)
+
+blank_sheets : scales_of (on_a4 (Blank ∷ []) ∷ on_a4 [] ∷ []) ≡ None
+blank_sheets = refl
+
+one_scale : scales_of (on_a4 (Blank ∷ at_scale (pos 707_000_000) ∷ []) ∷ []) ≡ Some (record { least = pos 707_000_000; greatest = pos 707_000_000 })
+one_scale = refl
+
+-- the greatest and the least are on different sheets, and neither first nor last
+several_scales : scales_of
+    (on_a4 (at_scale (pos 900_000_000) ∷ Blank ∷ at_scale (pos 1_200_000_000) ∷ []) ∷ on_a4 (at_scale (pos 500_000_000) ∷ at_scale (pos 1_000_000_000) ∷ []) ∷ [])
+    ≡ Some (record { least = pos 500_000_000; greatest = pos 1_200_000_000 })
+several_scales = refl

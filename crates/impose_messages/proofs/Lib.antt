@@ -1,5 +1,5 @@
 mod Short
-mod Folds
+mod OneByOne
 mod Pieces
 mod Noted
 mod NoRoom

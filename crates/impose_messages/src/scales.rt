@@ -1,10 +1,8 @@
 //! The scales of pages on sheets.
-ghost use Rattle.std.specs.Prelude.{◌≡◌, ◌<◌, length, slice_get, Some};
-ghost use Rattle.std.specs.List.{fold};
-ghost use Rattle.rules.specs.Made.{MadeSheet};
+ghost use Rattle.std.specs.Prelude.{ℤ, ◌≡◌, ◌<◌, ◌++◌, ◌∷◌, [], length, List, Some};
 ghost use Rattle.sheet_plan.specs.OfSheets.{placed_of, slots_at};
-ghost use Rattle.impose_messages.specs.Scales.{greater as greater_of, lesser as lesser_of, scales_of};
-ghost use Rattle.impose_messages.specs.Scales.{with_scale as scale_added, with_slot as slot_added};
+ghost use Rattle.row_sheets.specs.SameScale.{lesser as lesser_of};
+ghost use Rattle.impose_messages.specs.Scales.{extremes, greater as greater_of, scale_in, scales_in, scales_of};
 
 use lengths::Number;
 use sheet_plan::{MadeSheets, PlacedSlot};
@@ -30,10 +28,10 @@ impl Scales {
     }
 }
 
-/// The scales so far, with those of the pages on one more sheet.
+/// The least and the greatest of the scales seen so far and of the pages on one more sheet.
 fn with_sheet(so_far: Option<Scales>, sheets: &MadeSheets, sheet: u32) -> Option<Scales>
     requires { sheet < length sheets.now }
-    ensures { result ≡ fold slot_added so_far (slots_at sheets.now sheet) }
+    ensures { (seen : List ℤ) → so_far ≡ extremes seen → result ≡ extremes (seen ++ scales_in (slots_at sheets.now sheet)) }
 {
     let mut scales = so_far;
     for slot in 0..sheets.slots(sheet) {
@@ -42,9 +40,9 @@ fn with_sheet(so_far: Option<Scales>, sheets: &MadeSheets, sheet: u32) -> Option
     scales
 }
 
-/// The scales so far, with that of the page in one more slot. A blank slot adds none.
+/// The least and the greatest of the scales seen so far and of the page in one more slot. A blank slot adds none.
 fn with_slot(so_far: Option<Scales>, placed: Option<PlacedSlot<'_>>) -> Option<Scales>
-    ensures { result ≡ slot_added so_far (placed_of placed.entry) }
+    ensures { (seen : List ℤ) → so_far ≡ extremes seen → result ≡ extremes (seen ++ scale_in (placed_of placed.entry)) }
 {
     match placed {
         None => so_far,
@@ -52,9 +50,9 @@ fn with_slot(so_far: Option<Scales>, placed: Option<PlacedSlot<'_>>) -> Option<S
     }
 }
 
-/// The scales so far, with one more.
+/// The least and the greatest of the scales seen so far and of one more.
 fn with_scale(so_far: Option<Scales>, scale: Number) -> Scales
-    ensures { result ≡ scale_added so_far scale }
+    ensures { (seen : List ℤ) → so_far ≡ extremes seen → Some result ≡ extremes (seen ++ scale ∷ []) }
 {
     match so_far {
         None => Scales {

@@ -1,12 +1,15 @@
-use Rattle.std.proofs.Common.{◌∙◌, None, List, ap, arith}
-use Rattle.std.specs.List.{fold}
-use Rattle.rules.specs.Made.{MadeSlot}
-use Rattle.impose_messages.specs.Scales.{with_sheet, with_slot}
-use Rattle.impose_messages.proofs.Folds.{fold_one, slots_are, there}
+use Rattle.std.proofs.Common.{◌∙◌, List, ◌++◌, ap, arith, take}
+use Rattle.std.specs.Prelude.{flat_map}
+use Rattle.rules.specs.Made.{MadeSheet, MadeSlot}
+use Rattle.impose_messages.specs.Scales.{extremes, scales_in}
+use Rattle.impose_messages.proofs.OneByOne.{flat_one, slots_are, there}
 use Rattle.impose_messages.proofs.scales.Scales.of.Goals as goal
 
 pub loop-sheet-preserved : goal.loop-sheet-preserved
 loop-sheet-preserved c =
-    let here = there c.args.sheets.now c.loop-sheet.sheet (omega arith) in
-    fold_one with_sheet None _ _ c.args.sheets.now c.loop-sheet.sheet here.0 here.1 c.loop-sheet.invariant
-    (c.with_sheet-scales.ensures ∙ ap (λ (slots : List MadeSlot). fold with_slot c.loop-sheet.scales slots) (slots_are c.args.sheets.now c.loop-sheet.sheet here.0 here.1))
+    let all = c.args.sheets.now in
+    let here = there all c.loop-sheet.sheet (omega arith) in
+    let seen = flat_map (λ (sheet : MadeSheet). scales_in sheet.slots) (take c.loop-sheet.sheet all) in
+    c.with_sheet-scales.ensures seen c.loop-sheet.invariant
+    ∙ ap (λ (slots : List MadeSlot). extremes (seen ++ scales_in slots)) (slots_are all c.loop-sheet.sheet here.0 here.1)
+    ∙ ap extremes (flat_one (λ (sheet : MadeSheet). scales_in sheet.slots) all c.loop-sheet.sheet here.0 here.1)
