@@ -1,5 +1,5 @@
--- What clauses see of the shared table and of its seats. What holds of the seats of any history is in the crate
--- histories.
+-- What clauses see of the shared table and of its seats. What holds of the seats of any history is in
+-- rules (SeatCalls, SeatLaws).
 use Rattle.std.specs.Prelude.{List}
 use Rattle.atomic_table.specs.Seated.{TableId}
 use Rattle.rules.specs.Sheets.{Layout}

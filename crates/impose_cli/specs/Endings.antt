@@ -54,6 +54,7 @@ pub record Edge (W O : Type 0) : Type 0 where
   pub seen : W → WorldView
   pub shows : O → OutputView
 
+-- what clauses see of this world and of its outputs
 abbrev pub edge_of_world : {W O : Type 0} → Bool → (W → WorldView) → (O → OutputView) → Edge W O
 edge_of_world tells seen shows = record { tells = tells; seen = seen; shows = shows }
 

@@ -24,8 +24,8 @@ pub record ReportsOn (border : Option Border) (drawn : Drawn) (all : List MadeSh
   pub byte_count : report.bytes ≡ length (told_output border drawn all us)
 
 -- exactly the output of the sheets that are asked for was appended, and the report has its numbers and the scales of the pages on
--- these sheets: so these pages are printed in this order, each at its place, and nothing else; but on posters and by a
--- specification they lie inside and apart
+-- these sheets: so these pages are printed in this order, each at its place, and nothing else. Except on posters and by a
+-- specification, they lie inside and apart
 pub record Imposes (j : RowJob) (scales : Option Scales) (old new : Option (List ℕ)) (done : Report) : Type 0 where
   pub made : List MadeSheet
   pub planned : ArePlanned j made

@@ -25,8 +25,8 @@ abbrev pub begun_in : Layout → Spacing → Begun
 begun_in (layout.Cards cells) s = if s.skipped == 0 then begun.Pages 0 else begun.Cards (cells_per_sheet cells) s.skipped
 begun_in other s = begun.Pages s.skipped
 
--- how a row is put into so many: it goes on from cell to cell, unless the layout has another scheme. So do the entries of cards on a sheet that is begun,
--- each as often as its cards
+-- the scheme by which a row fills this number of cells: cell by cell, unless the layout has another one. If some cells are used already, cards are
+-- filled cell by cell too, each entry as often as it has cards
 abbrev pub scheme_in : Layout → Spacing → (cells : ℕ) → Scheme
 scheme_in (layout.Cards cells) s n = if s.skipped == 0 then scheme.Cards n else scheme.Grid n
 scheme_in (layout.Stack cells duplex) s n = if duplex then scheme.Leaves else scheme.Stack n

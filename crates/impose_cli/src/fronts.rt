@@ -38,7 +38,7 @@ pub(crate) fn front_of<W: World>(name: &str, front: &mut [u8], world: &mut W) ->
 const FRONT_BYTES: usize = 4_096;
 
 /// Whether the sheets would replace another program's document: OUTFILE exists, isn't the input, and begins as a document without a mark of impose
-/// does. False with `--replace`, if the sheets don't go to a file, and for a file that can't be read.
+/// does. False with `--replace`, if the sheets don't go to a file, and for a file that can't be read or isn't a regular one.
 pub(crate) fn finds_foreign<W: World>(request: &ImposeRequest, world: &mut W) -> bool
     requires countable { (W.seen world.old).failures < u64.MAX }
     ensures found { meaning.FindsForeign request.now (W.gives world.old) (W.regular world.old) (W.same world.old) (W.seen world.old) (W.seen world.new) result }

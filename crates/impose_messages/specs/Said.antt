@@ -245,7 +245,7 @@ dependence_text (Some dependence) pages = if depends dependence pages then Some 
 abbrev pub is_pdf_name : (name : List ℕ) → Bool
 is_pdf_name name = ends_with nat_eq name (codes ".pdf") || ends_with nat_eq name (codes ".PDF")
 
--- of a file that is named as something else than PostScript: that it is PostScript, and how to make that, but for the name
+-- for a file that isn't named as PostScript: that it holds PostScript, and how to make what its name promises
 abbrev pub advice_on : (name : List ℕ) → Option (List ℕ)
 advice_on name =
     if is_pdf_name name then Some (codes " holds PostScript, not a PDF; for a PDF use: impose .. | ps2pdf -dAutoRotatePages=/None - ")

@@ -71,7 +71,7 @@ abbrev pub wrong_among : List OptionId → (found : List Row) → Option Wrong
 wrong_among [] found = None
 wrong_among (option ∷ options) found = if is_value option found then wrong_among options found else Some (NoValue option)
 
--- the option that an error names has a value that is none, and without an error nothing is wrong
+-- if there is an error, the option that it names has a wrong value; otherwise nothing is wrong
 abbrev pub wrong_in : {A : Type 0} → Result A OptionId → Option Wrong
 wrong_in result = option_map (λ option. NoValue option) (result_err result)
 

@@ -30,7 +30,7 @@ abbrev pub lays_rows : Layout → Bool
 lays_rows (layout.Spec specs) = false
 lays_rows other = true
 
--- the file of the sheets, if what it holds isn't to be replaced whatever it is
+-- the file of the sheets, unless --replace lets any content be replaced
 abbrev pub spared : Product → (replaces : Bool) → (outfile : Option (List ℕ)) → Option (List ℕ)
 spared product.Sheets replaces outfile = if replaces then None else outfile
 spared other replaces outfile = None

@@ -33,6 +33,7 @@ pub record Request : Type 0 where
   pub spec : List ℕ
   pub input : List ℕ
 
+-- the request that these options, this specification and this input make
 abbrev pub request : Options → List ℕ → List ℕ → Request
 request options spec input = record { options = options; spec = spec; input = input }
 

@@ -40,8 +40,8 @@ IsMarkedAtFold t turned_backs creep made = (stand : LeavesStand t turned_backs c
     → AllByRecursion (IsAlong t.room stand.twice) (strokes_in at_folds (laying.InCells t (scheme.Booklet turned_backs creep))))
 
 -- in cells that are filled in turn each page is fitted into its own, and they read in order; a stack's, cut and laid, are
--- the row, and so are a zine's, folded and cut; booklets are marked at their fold; of a poster's pages each point is shown. How pages lie as they are
--- `StandAsLaid` says alone, and where they are by a specification it says itself
+-- the row, and so are a zine's, folded and cut; booklets are marked at their fold; of a poster's pages each point is shown. Of pages that are left
+-- as they are only `StandAsLaid` speaks; a specification itself says where its pages are
 abbrev pub StandInPlaces : Laying → List Paper → Row → List MadeSheet → Type 0
 StandInPlaces (laying.AsTheyAre blank) papers row made = ⊤
 StandInPlaces (laying.InCells t (scheme.Grid cells)) papers row made = All (StandsInCells t) made

@@ -24,8 +24,8 @@ pub record HoldsOnePage (sheet : MadeSheet) : Type 0 where
   pub stands : StandsInRoom (bare sheet.paper) sheet
 
 -- the sheets of a laying: in cells each page lies on what the margins leave of its sheet, and each two of a sheet are apart
--- by the gap, on zines to 10^-5 of a point; on leaves nothing crosses the fold; as they are, each lies alone. What is on the tiles of a poster is
--- said by laws of their own, and where pages are by a specification it says itself
+-- by the gap, on zines to 10^-5 of a point; on leaves nothing crosses the fold; a page that is left as it is lies alone. Other laws say
+-- what is on a poster's tiles; a specification itself says where its pages are
 abbrev pub StandAsLaid : Laying → List MadeSheet → Type 0
 StandAsLaid (laying.AsTheyAre blank) made = All HoldsOnePage made
 StandAsLaid (laying.InCells t (scheme.Booklet turned_backs creep)) made = LeavesStand t turned_backs creep made

@@ -43,7 +43,7 @@ pub fn written_as_laid()
 {}
 
 /// A page that lies in a cell still lies there when it is turned, if its offset is a whole multiple of 10^-5 of a point. If pages are trimmed, it may
-/// reach 10^-5 of a point past the cell.
+/// reach 10^-5 of a point farther past the cell than before.
 pub fn turned_stays_in_cell()
     ensures { TurnedStaysInCell }
 {}

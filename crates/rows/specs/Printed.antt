@@ -20,7 +20,7 @@ pub record RowAsked : Type 0 where
 abbrev pub asked_by : code.RowRequest → RowAsked
 asked_by r = record { choice = choice_of r.choice; signing = option_map signing_of r.signing; last_at_back = r.last_at_back; begun = r.begun }
 
--- a row begins after the used cells; cards, which have each entry in all cells of a sheet, are left out of these
+-- a row begins after the used cells; cards have each entry in all cells of a sheet, except in used ones
 abbrev pub begun_row : Begun → Row → Row
 begun_row (begun.Pages used) row = replicate used None ++ row
 begun_row (begun.Cards cells used) row = replicate used None ++ drop used (flat_map (replicate cells) row)
