@@ -32,8 +32,6 @@ DOCUMENTS = {
     "scan.pdf": ["page 595x842 times 4"],
     "cover.pdf": ["page 595x842 times 2"],
     "text.pdf": ["page 595x842 times 6"],
-    "notes.pdf": ["page 595x842 times 4"],
-    "rest.pdf": ["page 595x842 times 3"],
 }
 
 
