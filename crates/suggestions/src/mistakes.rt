@@ -224,7 +224,12 @@ fn tip_on_file(command: &str, behind: &[String]) -> &'static str {
     let first = behind.first().map_or("", |word| word.as_str());
     let second = behind.get(1).map_or("", |word| word.as_str());
     let ranges = behind.iter().filter(|word| is_range(word.as_str())).count();
-    if matches!(command, "booklet" | "zine") && is_range(first) {
+    if behind.iter().any(|word| word
+        .as_str()
+        .starts_with(|sign: char| matches!(sign, '–' | '—')))
+    {
+        "an option of several letters begins with two minus signs, not with a dash, as in: --quiet"
+    } else if matches!(command, "booklet" | "zine") && is_range(first) {
         "no number comes after booklet or zine, as in: impose zine in.ps out.ps; leaves are folded some at a time by --signature 16"
     } else if command == "select" && ranges > 1 {
         "ranges are one word, as in: impose select 1,3,5-8 in.ps out.ps"

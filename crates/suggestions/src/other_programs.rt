@@ -75,9 +75,9 @@ const OF_OTHERS: &[Tip] = tips! {
     "--landscape" | "--orientation" | "-f" =>
         "a sheet on its side is named so, as in: --sheet a4-landscape",
     "-l" =>
-        "pages that lie on their sides are laid by: impose nup 2 --turned left in.ps out.ps; a sheet on its side is named so, as in: --sheet a4-landscape",
+        "pages that lie on their sides are laid by: impose nup 2 --turned right in.ps out.ps; a sheet on its side is named so, as in: --sheet a4-landscape",
     "-r" =>
-        "pages that lie on their sides are laid by: impose nup 2 --turned right in.ps out.ps; all go backwards by --reverse",
+        "pages that lie on their sides are laid by: impose nup 2 --turned left in.ps out.ps; all go backwards by --reverse",
     "-R" | "--backwards" | "--reverse-order" | "--outputorder" =>
         "pages go backwards by --reverse, as in: impose select 1- --reverse in.ps out.ps",
     "-e" => "every second page is taken by --even, as in: impose select 1- --even in.ps out.ps",

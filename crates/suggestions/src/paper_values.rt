@@ -7,11 +7,13 @@ use impose_words::OptionId;
 use papers::{PaperError, read_paper};
 use std::alloc::{AllocError, Global};
 
-/// The wording about page ranges after `-p` or `--paper`. `-p` is psselect's option for page ranges, but here it names a paper.
+/// The wording about page ranges after `-p` or `--paper`. `-p` is psselect's option for page ranges, but here it names a paper. psselect takes `-5`
+/// for the pages up to the fifth; `select` wants their first page, too.
 pub(crate) fn ranges_wording(alloc: Global, text: &str) -> Result<Wording, AllocError> {
+    let first = if text.starts_with("-") { "1" } else { "" };
     let shown = shown_word(alloc, text)?;
     let behind = format!(in alloc;
-        "' after --paper is no paper: pages come after select, as in: impose select {shown} in.ps out.ps"
+        "' after --paper is no paper: pages come after select, as in: impose select {first}{shown} in.ps out.ps"
     )?;
     Wording::new(alloc, "'", behind)
 }
