@@ -108,7 +108,7 @@
 /* last */
 #define LAST(m, n, o) (MOST(MOST((m) & 15, (n) & 15), (o) & 15) - 1)
 
-/* What threads share. Setup::new, channel_of, gather_with_rule: channel, places and the queue of written sheets have room for a window. */
+/* What threads share. Setup::new, channel_of, Shared::gather: channel, places and the queue of written sheets have room for a window. */
 byte missing[S];
 chan q = [S] of { byte };                /* Ready; what a pass may put is advanced in each pass's room */
 #ifndef SPENT
@@ -184,7 +184,7 @@ inline go_on(turn, has)
 #define GIVE(turn) turn = false
 #endif
 
-/* RunInput::prepare, Shared::prepare_all, Shared::prepare_own_page, Shared::prepare_page. Each atomic has one access
+/* RunInput::prepare, Shared::prepare_all, Shared::prepare_page. Each atomic has one access
    to what threads share, and what follows from it for the thread alone. */
 proctype preparer(byte me; byte room)
 {
@@ -386,7 +386,7 @@ inline impose_sheet()
 	s = 0
 }
 
-/* Shared::find_sheet as far as the queue: Held::pop_before, Held::come_nearer, Held::is_empty */
+/* Shared::find_sheet as far as the queue: SheetSet::take_first_before, Held::come_nearer, SheetSet::is_empty */
 inline find_held()
 {
 	if
@@ -447,7 +447,7 @@ again:
 	:: !lifted -> atomic { end = wnext + W; find_held(); further() }
 	fi;
 take:
-	/* Shared::find_sheet at the queue: Ready::take, Held::push */
+	/* Shared::find_sheet at the queue: Ready::take, SheetSet::insert */
 	atomic {
 		if
 		:: q?s ->
@@ -792,7 +792,7 @@ init
 		:: else -> n = 0; break
 		od
 	};
-	/* put_blank_sheets, by a pass that has all shares */
+	/* Shared::begin, Shared::put_blank_sheets, by a pass that has all shares */
 	do
 	:: n < S ->
 		if
@@ -813,7 +813,7 @@ init
 		n++
 	:: else -> n = 0; break
 	od;
-	/* gather_on_threads, run_workers, start_preparers, start_imposers; each preparer's room by
+	/* Shared::gather, run_workers, start_preparers, start_imposers; each preparer's room by
 	   RunInput::split_preparer, Shared::room_for, most_puts, with_puts_of, Ready::split_with_room; an imposer has none
 	   (RunInput::split, Ready::split) */
 #ifdef F_START
@@ -848,7 +848,7 @@ init
 	};
 #endif
 
-	/* RunInput::collect, take_all, take_turn */
+	/* RunInput::collect, take_turn */
 	hand_to_sink(0, 0);
 	do
 	:: halted -> break
@@ -916,7 +916,7 @@ join:
 	:: !gathered -> assert(wrote == 0 && fault)
 	:: gathered && oom -> assert(fault)
 	:: gathered && !oom ->
-		/* gather_on_threads, finish, conclude, write_rest, write_next */
+		/* Shared::gather, conclude, write_rest, write_next */
 		do
 		:: !halted && next < S ->
 			if

@@ -26,6 +26,14 @@ pub(crate) struct CollectorState<'a, 'r, S> {
     pub(crate) progress: Progress,
 }
 
+/// The progress of a collector that has written nothing.
+pub(crate) const NOTHING_WRITTEN: Progress = Progress {
+    next: 0,
+    written: 0,
+    swept: 0,
+    halted: None,
+};
+
 impl<'s, 'r, 't, 'd, 'a, T: SheetTexts, G: Gate, S: Sink> Collector<CollectorState<'a, 'r, S>>
     for RunInput<'s, 'r, 't, 'd, T, G> {
     ghost reference = { λ input state. state.sink.ghost_name };
@@ -39,33 +47,17 @@ impl<'s, 'r, 't, 'd, 'a, T: SheetTexts, G: Gate, S: Sink> Collector<CollectorSta
         IsProgress input.shared.now.floor.job.now (S.seen old.sink.now) (S.seen new.sink.now) new.progress
         × IsDeskOf input.shared.now.floor.job.now new.desk.now };
 
+    /// Writes the header. Then takes finished sheets from the channel and writes them, until all imposers have ended or nothing more may be written.
     fn collect<R: Wait>(&self, rt: &R, state: &mut CollectorState<'a, 'r, S>) {
         state.progress = write_text(state.sink, state.progress, state.desk.header.as_slice());
-        if state.progress.halted.is_none() {
-            take_all(rt, self, state);
+        if state.progress.halted.is_some() {
+            return;
         }
-    }
-}
-
-/// Takes finished sheets from the channel and writes them, until all imposers have ended or nothing more may be written.
-fn take_all<'r, R: Wait, T: SheetTexts, G: Gate, S: Sink>(
-    rt: &R,
-    input: &RunInput<'_, 'r, '_, '_, T, G>,
-    state: &mut CollectorState<'_, 'r, S>,
-)
-    requires countable { IsCountable (S.seen state.old.sink.now) }
-    requires ticket { IsSeatAt (receives_on input.now.channel.now.receiver) state.old.desk.now.receiving }
-    requires going { state.old.progress.halted ≡ None }
-    requires desk { IsDeskOf input.now.shared.now.floor.job.now state.old.desk.now }
-    ensures desk { IsDeskOf input.now.shared.now.floor.job.now state.new.desk.now }
-    ensures same { state.new.sink.ghost_name ≡ state.old.sink.ghost_name }
-    ensures goes_on { GoesOn input.now.shared.now.floor.job.now (S.seen state.old.sink.now) (S.seen state.new.sink.now)
-        state.old.progress state.new.progress }
-{
-    let mut idling = input.shared.window.idling();
-    for _ in rt.forever() {
-        if !take_turn(rt, input, &mut idling, state) {
-            break;
+        let mut idling = self.shared.window.idling();
+        for _ in rt.forever() {
+            if !take_turn(rt, self, &mut idling, state) {
+                break;
+            }
         }
     }
 }

@@ -1,14 +1,11 @@
 //! The part of a run that uses threads: from the start of the workers to their end.
-ghost use Rattle.std.specs.Prelude.{◌≡◌, ℕ, ◌+◌, ◌-◌, ◌<◌, ◌≤◌, List, Option, None, Err, length, IfOk, IfErr, IfSome, IsNone};
+ghost use Rattle.std.specs.Prelude.{◌≡◌, ℕ, ◌+◌, ◌-◌, ◌<◌, ◌≤◌, List, None, length, IfOk, IfErr, IfSome, IsNone};
 ghost use Rattle.std.specs.Prelude.{IsSome, IsTrue, OnOk};
 ghost use Rattle.std.specs.Io.KnownBytes.{Appends};
-ghost use Rattle.crossbeam_channel.specs.Claims.{IsSeatAt};
-ghost use Rattle.crossbeam_channel.specs.Ends.{receives_on, sends_on};
 ghost use Rattle.rules.specs.Sheets.{layout};
 ghost use Rattle.rules.specs.Seats.{whole_share};
 ghost use Rattle.handover.specs.Passes.{IsPassOf};
 ghost use Rattle.handover.specs.Shelves.{IsOn};
-ghost use Rattle.imposer.specs.declared.outcome.RunError.TheVariants.{NoMemory};
 ghost use Rattle.sheet_text.specs.Jobs.{text_of, output_of};
 ghost use Rattle.imposer.specs.Workers.{AreWorkers};
 ghost use Rattle.imposer.specs.Outcomes.{FailedIn};
@@ -25,11 +22,11 @@ ghost use Rattle.imposer.specs.Gathering.{Concludes, EndsOn, HandsBackAll, Gives
 
 use crate::baton::Baton;
 use crate::channel::{RuledJob, SheetTexts, Ticket};
-use crate::collector::CollectorState;
+use crate::collector::{CollectorState, NOTHING_WRITTEN};
 use crate::gate::Gate;
 use crate::outcome::{Report, RunError};
 use crate::rooms::most_puts_in_all;
-use crate::setup::{CollectorParts, Setup};
+use crate::setup::Setup;
 use crate::shared::{RunInput, RunObjects, Shared};
 use crate::threads::{ThreadCounts, ThreadInputs, run_threads};
 use crate::tokens::{Tokens, WorkerTokens};
@@ -156,137 +153,114 @@ pub(crate) fn gather_objects<'d, R: Threads + Wait + Sync, G: Gate + Sync, S: Si
         preparing: Baton::new(page_len),
         imposing: Baton::new(page_len),
     };
-    gather_with_rule::<Brand, R, G, S>(rt, &shared, tokens, workers, sink)
+    shared.gather::<Brand, R, S>(rt, tokens, workers, sink)
 }
 
-/// Gathers as `gather` does. `T` gives the text of each sheet, for the rule of the channel.
-fn gather_with_rule<
-    'r,
-    'd,
-    T: SheetTexts + Send + Sync,
-    R: Threads + Wait + Sync,
-    G: Gate + Sync,
-    S: Sink,
->(
-    rt: &R,
-    shared: &Shared<'_, 'r, '_, 'd, G>,
-    tokens: Tokens,
-    workers: Workers,
-    sink: &mut S,
-) -> Gathered<'d>
-    requires texts { (s : ℕ) → T.text s ≡ text_of shared.now.floor.job.now s }
-    requires tokens { AreTokens shared.now.floor.table.now shared.now.floor.ready.now whole_share tokens × AreUnused tokens }
-    requires workers { AreWorkers workers }
-    requires room { IsTrue shared.now.by_right
-        → HasRoomForAll shared.now.floor.table.now.layout workers.preparers tokens.pass }
-    requires countable { IsCountable (S.seen sink.old) }
-    ensures { EndsOn shared.now.floor (IsTrue shared.now.by_right) (S.seen sink.old) (S.seen sink.new) result }
-{
-    let job = shared.floor.job;
-    let mut tokens = tokens;
-    put_blank_sheets(rt, shared, job.plan().born_complete(), &mut tokens.pass);
-    let Ok(setup) = Setup::<'r, T>::new(shared.floor.alloc, job, shared.window.len) else {
-        return out_of_memory(0);
-    };
-    let Setup {
-        mut desk,
-        channel,
-        sending,
-    } = setup;
-    let supplies = ThreadInputs {
-        crew: ThreadCounts {
-            alloc: shared.floor.alloc,
-            preparers: workers.preparers,
-            imposers: workers.imposers,
-        },
-        held: WorkerTokens {
-            tokens,
-            unshelved: None,
-        },
-        ticket: sending,
-    };
-    let ruled = RuledJob {
-        job: &*job,
-        of: PhantomData,
-    };
-    let input = RunInput {
-        shared: &*shared,
-        channel: &channel,
-        ruled: &ruled,
-    };
-    let gathered = gather_on_threads(rt, &input, &mut desk, supplies, sink);
-    // These are dropped by calls, so that the effect of dropping them is proved once, in the callee.
-    drop(desk);
-    drop(channel);
-    gathered
-}
+impl<'s, 'r, 't, 'd, G: Gate + Sync> Shared<'s, 'r, 't, 'd, G> {
+    /// Gathers as `gather` does: starts the workers, collects, and writes the remaining output. `T` gives the text of each sheet, for the rule of the
+    /// channel.
+    fn gather<T: SheetTexts + Send + Sync, R: Threads + Wait + Sync, S: Sink>(
+        &self,
+        rt: &R,
+        tokens: Tokens,
+        workers: Workers,
+        sink: &mut S,
+    ) -> Gathered<'d>
+        requires texts { (s : ℕ) → T.text s ≡ text_of self.now.floor.job.now s }
+        requires tokens { AreTokens self.now.floor.table.now self.now.floor.ready.now whole_share tokens × AreUnused tokens }
+        requires workers { AreWorkers workers }
+        requires room { IsTrue self.now.by_right
+            → HasRoomForAll self.now.floor.table.now.layout workers.preparers tokens.pass }
+        requires countable { IsCountable (S.seen sink.old) }
+        ensures { EndsOn self.now.floor (IsTrue self.now.by_right) (S.seen sink.old) (S.seen sink.new) result }
+    {
+        let alloc = self.floor.alloc;
+        let job = self.floor.job;
+        let Ok(setup) = Setup::<'r, T>::new(alloc, job, self.window.len) else {
+            return out_of_memory(0);
+        };
+        let Setup {
+            mut desk,
+            channel,
+            sending,
+        } = setup;
+        let supplies = self.begin(rt, tokens, workers, sending);
+        let ruled = RuledJob {
+            job: &*job,
+            of: PhantomData,
+        };
+        let input = RunInput {
+            shared: &*self,
+            channel: &channel,
+            ruled: &ruled,
+        };
+        let state = CollectorState {
+            sink,
+            desk: &mut desk,
+            progress: NOTHING_WRITTEN,
+        };
+        let mut ended = None;
+        let mut state = run_threads(rt, &input, &input, supplies, state, &mut ended);
+        let gathered = conclude(alloc, job, &mut state, ended);
+        // The state is taken apart, so that the proof sees how the sink has changed.
+        let CollectorState {
+            sink: _,
+            desk: _,
+            progress: _,
+        } = state;
+        // These are dropped by calls, so that the effect of dropping them is proved once, in the callee.
+        drop(desk);
+        drop(channel);
+        gathered
+    }
 
-/// Runs the workers and the collector, and then writes the remaining output. The sheets without pages must have been put on the queue before the
-/// call. The collector's state is taken apart at the end, so that the proof sees how the sink has changed.
-fn gather_on_threads<
-    'r,
-    'd,
-    T: SheetTexts + Send + Sync,
-    R: Threads + Wait + Sync,
-    G: Gate + Sync,
-    S: Sink,
->(
-    rt: &R,
-    input: &RunInput<'_, 'r, '_, 'd, T, G>,
-    desk: &mut CollectorParts<'r>,
-    supplies: ThreadInputs<WorkerTokens<'d>, Ticket<'r>>,
-    sink: &mut S,
-) -> Gathered<'d>
-    requires pages { HasPages input.now.shared.now.floor.table.now.layout }
-    requires crew { (0 < supplies.crew.preparers)
-        × (supplies.crew.preparers + supplies.crew.imposers < whole_share) }
-    requires held { IsHeld input.now.shared.now whole_share supplies.held }
-    requires blank_sheets { HavePutBlankSheets input.now.shared.now supplies.held.tokens }
-    requires enough { IsEnough input.now.shared.now supplies.crew.preparers 0 supplies.held }
-    requires sending { IsSeatAt (sends_on input.now.channel.now.sender) supplies.ticket }
-    requires receiving { IsSeatAt (receives_on input.now.channel.now.receiver) desk.old.receiving }
-    requires desk { IsDeskOf input.now.shared.now.floor.job.now desk.old }
-    requires countable { IsCountable (S.seen sink.old) }
-    ensures { EndsOn input.now.shared.now.floor (IsTrue input.now.shared.now.by_right) (S.seen sink.old) (S.seen sink.new)
-        result }
-{
-    let floor = &input.shared.floor;
-    let state = CollectorState {
-        sink,
-        desk,
-        progress: Progress {
-            next: 0,
-            written: 0,
-            swept: 0,
-            halted: None,
-        },
-    };
-    let mut ended = None;
-    let mut state = run_threads(rt, &*input, &*input, supplies, state, &mut ended);
-    let gathered = finish(floor.alloc, floor.job, &mut state, ended);
-    let CollectorState {
-        sink: _,
-        desk: _,
-        progress: _,
-    } = state;
-    gathered
-}
+    /// Begins the run: puts the sheets without pages on the queue, and returns the inputs of the threads.
+    fn begin<R: Wait>(
+        &self,
+        rt: &R,
+        tokens: Tokens,
+        workers: Workers,
+        sending: Ticket<'r>,
+    ) -> ThreadInputs<WorkerTokens<'d>, Ticket<'r>>
+        requires tokens { AreTokens self.now.floor.table.now self.now.floor.ready.now whole_share tokens × AreUnused tokens }
+        requires workers { AreWorkers workers }
+        requires room { IsTrue self.now.by_right
+            → HasRoomForAll self.now.floor.table.now.layout workers.preparers tokens.pass }
+        ensures pages { HasPages self.now.floor.table.now.layout }
+        ensures crew { (0 < result.crew.preparers) × (result.crew.preparers + result.crew.imposers < whole_share) }
+        ensures held { IsHeld self.now whole_share result.held }
+        ensures blank_sheets { HavePutBlankSheets self.now result.held.tokens }
+        ensures enough { IsEnough self.now result.crew.preparers 0 result.held }
+        ensures ticket { result.ticket ≡ sending.entry }
+    {
+        let mut tokens = tokens;
+        let sheets = self.floor.job.plan().born_complete();
+        self.put_blank_sheets(rt, sheets, &mut tokens.pass);
+        ThreadInputs {
+            crew: ThreadCounts {
+                alloc: self.floor.alloc,
+                preparers: workers.preparers,
+                imposers: workers.imposers,
+            },
+            held: WorkerTokens {
+                tokens,
+                unshelved: None,
+            },
+            ticket: sending,
+        }
+    }
 
-/// Puts the sheets without pages on the queue, since no preparer completes them. If the queue refuses one, the window loses its end.
-fn put_blank_sheets<R: Wait, G: Gate>(
-    rt: &R,
-    shared: &Shared<'_, '_, '_, '_, G>,
-    sheets: &[u32],
-    pass: &mut Pass,
-)
-    requires pass { IsPassOf shared.now.floor.ready.now pass.old }
-    ensures pass { IsPassOf shared.now.floor.ready.now pass.new }
-    ensures put { (back : List ℕ) × HandedOn shared.now.floor.ready.now sheets.now back pass.old pass.new }
-{
-    for k in 0..sheets.len() {
-        // If the queue refuses a sheet, the collector makes the sheet at the end. So imposers must not wait until it is written.
-        if shared.floor.ready.put(rt, pass, sheets[k]).is_err() {
-            shared.window.lift();
+    /// Puts the sheets without pages on the queue, since no preparer completes them. If the queue refuses one, the window loses its end.
+    fn put_blank_sheets<R: Wait>(&self, rt: &R, sheets: &[u32], pass: &mut Pass)
+        requires pass { IsPassOf self.now.floor.ready.now pass.old }
+        ensures pass { IsPassOf self.now.floor.ready.now pass.new }
+        ensures put { (back : List ℕ) × HandedOn self.now.floor.ready.now sheets.now back pass.old pass.new }
+    {
+        for sheet in sheets {
+            // If the queue refuses a sheet, the collector makes the sheet at the end. So imposers must not wait until it is written.
+            if self.floor.ready.put(rt, pass, *sheet).is_err() {
+                self.window.lift();
+            }
         }
     }
 }
@@ -302,9 +276,9 @@ fn out_of_memory<'d>(written: u64) -> Gathered<'d>
     }
 }
 
-/// The result once all workers have ended. If their results were lost (`ended` is None), the error is `NoMemory`. Otherwise the remaining output is
-/// written, unless writing has been halted.
-fn finish<'d, S: Sink>(
+/// Writes the remaining sheets and the trailer, unless writing has been halted, and returns the result of the run. All workers have ended. If their
+/// results were lost (`ended` is None), nothing is written, and the error is `NoMemory`.
+fn conclude<'d, S: Sink>(
     alloc: Global,
     job: &Job<'_, 'd>,
     state: &mut CollectorState<'_, '_, S>,
@@ -320,37 +294,18 @@ fn finish<'d, S: Sink>(
     ensures tokens { IfSome ended.entry (λ e. HandsBackAll e result) }
     ensures missing { IsNone ended.entry → GivesUp state.old.progress.written result
         × (S.seen state.new.sink.now ≡ S.seen state.old.sink.now) }
-{
-    match ended {
-        Some(ended) => conclude(alloc, job, state, ended),
-        None => out_of_memory(state.progress.written),
-    }
-}
-
-/// Writes the remaining sheets and the trailer, unless writing has been halted, and returns the result. All workers have ended.
-fn conclude<'d, S: Sink>(
-    alloc: Global,
-    job: &Job<'_, 'd>,
-    state: &mut CollectorState<'_, '_, S>,
-    ended: WorkerTokens<'d>,
-) -> Gathered<'d>
-    requires countable { state.old.progress.halted ≡ None → IsCountable (S.seen state.old.sink.now) }
-    requires next { state.old.progress.halted ≡ None → state.old.progress.next ≤ length job.now.plan.sheets }
-    requires desk { IsDeskOf job.now state.old.desk.now }
-    ensures same_sink { state.new.sink.ghost_name ≡ state.old.sink.ghost_name }
-    ensures ended { Concludes job.now (S.seen state.old.sink.now) (S.seen state.new.sink.now) state.old.progress
-        result.outcome }
-    ensures tokens { HandsBackAll ended.entry result }
 
     // The report counts as `swept` the sheets that hadn't come.
     ensures swept { IfOk result.outcome (λ report. report.swept ≡ not_come state.old.desk.now.early
         state.old.progress.next (length job.now.plan.sheets - state.old.progress.next)) }
 {
+    let Some(WorkerTokens { tokens, unshelved }) = ended else {
+        return out_of_memory(state.progress.written);
+    };
     let progress = state.progress;
     let desk = &*state.desk;
     let trailer = desk.trailer.as_slice();
     let rest = write_rest(alloc, job, state.sink, progress, &desk.early, trailer);
-    let WorkerTokens { tokens, unshelved } = ended;
     let Tokens { seat, pass } = tokens;
     let written = rest.written;
     match rest.halted {
@@ -359,17 +314,15 @@ fn conclude<'d, S: Sink>(
             unshelved,
             tokens: Some((seat, pass)),
         },
-        Some(why) => match why {
-            Halt::Failed => Gathered {
-                outcome: Err(RunError::Write { written }),
-                unshelved,
-                tokens: Some((seat, pass)),
-            },
-            Halt::NoMemory => Gathered {
-                outcome: Err(RunError::NoMemory { written }),
-                unshelved,
-                tokens: None,
-            },
+        Some(Halt::Failed) => Gathered {
+            outcome: Err(RunError::Write { written }),
+            unshelved,
+            tokens: Some((seat, pass)),
+        },
+        Some(Halt::NoMemory) => Gathered {
+            outcome: Err(RunError::NoMemory { written }),
+            unshelved,
+            tokens: None,
         },
     }
 }

@@ -1,9 +1,8 @@
 //! The window: the sheets that may be imposed now.
-ghost use Rattle.std.specs.Prelude.{◌≡◌, ◌<◌, ◌≤◌, ◌↔◌, IfSome, IfNone, OnOk, OnErr, IsTrue, false, length, min, ◌⊎◌};
+ghost use Rattle.std.specs.Prelude.{◌≡◌, ◌<◌, ◌≤◌, IsTrue, false, length, min, ◌⊎◌};
 ghost use Rattle.std.specs.Prelude.{if◌then◌else◌};
 ghost use Rattle.std.specs.FinSet as set;
 ghost use Rattle.std.specs.Duration.{as_nanos};
-ghost use Rattle.imposer.specs.SheetNumbers.{IsSmallest, HasNoneBelow};
 ghost use Rattle.rules.specs.Parts.{pages};
 ghost use Rattle.imposer.specs.Windows.{bytes_of_texts, bytes_together, window_len};
 
@@ -11,7 +10,7 @@ use crate::sheet_set::SheetSet;
 use crate::worker_counts::Workers;
 use crossbeam_utils::{Backoff, CachePadded};
 use sheet_text::Job;
-use std::alloc::{AllocError, Global};
+use std::alloc::Global;
 use std::sync::Wait;
 use std::sync::atomic::Ordering::SeqCst;
 use std::sync::atomic::{AtomicBool, AtomicU64};
@@ -188,7 +187,7 @@ pub(crate) fn bytes_of_pages(job: &Job<'_, '_>) -> (usize, usize)
 /// The sheets that an imposer holds: it took them off the queue while they were past the window.
 #[derive(Drop)]
 pub(crate) struct Held {
-    sheets: SheetSet,
+    pub(crate) sheets: SheetSet,
     /// The end of the window at the imposer's last look that found no held sheet in it.
     looked_to: u32,
 }
@@ -204,32 +203,6 @@ impl Held {
         }
     }
 
-    /// Whether no sheet is held.
-    pub(crate) fn is_empty(&self) -> bool
-        ensures { IsTrue result ↔ self.now.sheets ≡ set.empty }
-    {
-        self.sheets.is_empty()
-    }
-
-    /// Holds one more sheet. If memory is refused, the set is unchanged.
-    pub(crate) fn push(&mut self, sheet: u32) -> Result<(), AllocError>
-        ensures held { OnOk result (self.new.sheets ≡ set.insert self.old.sheets sheet) }
-        ensures refused { OnErr result (self.new.sheets ≡ self.old.sheets) }
-    {
-        self.sheets.insert(sheet)
-    }
-
-    /// Removes and returns the first held sheet, if it is before `end`. Otherwise returns None and changes nothing.
-    pub(crate) fn pop_before(&mut self, end: u32) -> Option<u32>
-        ensures first { IfSome result (IsSmallest self.old.sheets) }
-        ensures before { IfSome result (λ sheet. sheet < end) }
-        ensures taken { IfSome result (λ sheet. self.new.sheets ≡ set.remove self.old.sheets sheet) }
-        ensures none { IfNone result (HasNoneBelow self.old.sheets end) }
-        ensures same { IfNone result (self.new.sheets ≡ self.old.sheets) }
-    {
-        self.sheets.take_first_before(end)
-    }
-
     /// Whether sheets are held and the window has moved since the last call. If so, the imposer should wait for these sheets, and leave the sheets on
     /// the queue to other imposers.
     pub(crate) fn come_nearer(&mut self, end: u32) -> bool
@@ -241,6 +214,6 @@ impl Held {
     {
         let moved = self.looked_to != end;
         self.looked_to = end;
-        moved && !self.is_empty()
+        moved && !self.sheets.is_empty()
     }
 }

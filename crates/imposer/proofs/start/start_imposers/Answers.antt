@@ -11,7 +11,7 @@ loop-preserved g c =
       each = pushed
           (λ k h. h.promise.shared.now ≡ c.args.shared.now)
           (vec_items c.loop.handles) c.in_ok-handle.handle (vec_items c.push_reserved.new.self) c.loop.counter
-          c.push_reserved.ensures.items (search rules) was.each c.in_ok-handle.ensures;
+          c.push_reserved.ensures.items (search rules) was.each (search rules);
       held = c.split-theirs.ensures.held;
       share = (let e = c.split-theirs.ensures.share in let f = was.share in omega arith);
       gathered = λ first n had. c.split-theirs.ensures.gathered first n (was.gathered first n had);

@@ -11,7 +11,7 @@ loop-number-preserved g c =
       each = pushed
           (λ k h. IsPreparer c.args.shared.now c.args.crew.preparers k h.promise)
           (vec_items c.loop-number.handles) c.in_ok-handle.handle (vec_items c.push_reserved.new.self) c.loop-number.number
-          c.push_reserved.ensures.items (search rules) was.each c.in_ok-handle.ensures;
+          c.push_reserved.ensures.items (search rules) was.each (search rules);
       held = c.split_preparer-theirs.ensures.held;
       enough = c.split_preparer-theirs.ensures.enough;
       share = (let e = c.split_preparer-theirs.ensures.share in let f = was.share in omega arith);

@@ -5,7 +5,7 @@ use Rattle.imposer.proofs.ByRight.{room_for_page, unused_puts_all}
 use Rattle.imposer.proofs.Held.{unused_done}
 use Rattle.imposer.proofs.OwnPages.{done_all, done_next, none_before, own_first, own_next, room_first, room_here, room_next}
 use Rattle.imposer.proofs.shared.Shared.prepare_all.Goals as goal
-use Rattle.imposer.proofs.shared.Shared.prepare_all.Goals.{else-loop-page-test, then-loop-page-test+in_ok-prepare_own_page+else-page-step-pages}
+use Rattle.imposer.proofs.shared.Shared.prepare_all.Goals.{else-loop-page-test, then-loop-page-test+in_ok-prepare_page+else-page-step-pages}
 
 pub loop-page-init : goal.loop-page-init
 loop-page-init g c =
@@ -32,15 +32,15 @@ loop-page-preserved g c =
     let within : c.loop-page.page < layout.pages = subst (λ (l : Layout). c.loop-page.page < l.pages) (sym c.args.self.now.floor.same_plan) (omega (arith, c.pages-pages.ensures.value, ap (λ (plan : Plan). plan.pages) c.plan.ensures.value)) in
     record {
       own = own_next c.args.count c.args.number c.loop-page.page some own;
-      held = c.in_ok-prepare_own_page.ensures.held;
+      held = c.in_ok-prepare_page.ensures.held;
       done = λ none h.
-          let step = c.in_ok-prepare_own_page.ensures.done none in
+          let step = c.in_ok-prepare_page.ensures.done none in
           done_next h layout c.args.count c.args.number c.loop-page.page layout.pages _ _ some own within (c.loop-page.invariant.done step.0 h) (step.1 h);
-      put = c.in_ok-prepare_own_page.ensures.put c.loop-page.invariant.put;
+      put = c.in_ok-prepare_page.ensures.put c.loop-page.invariant.put;
       by_right = λ yes.
           let was = c.loop-page.invariant.by_right yes in
           let here = room_here layout c.args.count c.args.number c.loop-page.page c.loop-page.held.tokens within was.0 in
-          let puts = c.in_ok-prepare_own_page.ensures.by_right (room_for_page layout c.args.count c.args.number c.loop-page.page c.loop-page.held.tokens within own here) in
+          let puts = c.in_ok-prepare_page.ensures.by_right (room_for_page layout c.args.count c.args.number c.loop-page.page c.loop-page.held.tokens within own here) in
           (room_next layout c.args.count c.args.number c.loop-page.page _ _ some own within was.0 puts, puts.all was.1);
     }
 
@@ -60,20 +60,20 @@ returns-clause-prepared g c =
             order = c.loop-page.invariant.put;
             puts = λ yes. (c.loop-page.invariant.by_right yes).1;
           })
-      | then-loop-page-test+in_ok-prepare_own_page+else-page-step-pages w ↦
+      | then-loop-page-test+in_ok-prepare_page+else-page-step-pages w ↦
           let within : c.loop-page.page < layout.pages =
           subst (λ (l : Layout). c.loop-page.page < l.pages) (sym c.args.self.now.floor.same_plan) (omega (arith, pages, planned)) in
           let last : layout.pages ≤ c.loop-page.page + c.args.count =
           subst (λ (l : Layout). l.pages ≤ c.loop-page.page + c.args.count) (sym c.args.self.now.floor.same_plan) (omega (arith, pages, planned)) in
           subst (HasPrepared c.args.self.now c.args.count c.args.number) (sym w.held-is) (record {
             work = λ none h.
-                let step = w.in_ok-prepare_own_page.ensures.done none in
+                let step = w.in_ok-prepare_page.ensures.done none in
                 done_all h layout c.args.count c.args.number (c.loop-page.page + c.args.count) layout.pages _ last
                 (done_next h layout c.args.count c.args.number c.loop-page.page layout.pages _ _ some own within (c.loop-page.invariant.done step.0 h) (step.1 h));
-            order = w.in_ok-prepare_own_page.ensures.put c.loop-page.invariant.put;
+            order = w.in_ok-prepare_page.ensures.put c.loop-page.invariant.put;
             puts = λ yes.
                 let was = c.loop-page.invariant.by_right yes in
                 let here = room_here layout c.args.count c.args.number c.loop-page.page c.loop-page.held.tokens within was.0 in
-                (w.in_ok-prepare_own_page.ensures.by_right (room_for_page layout c.args.count c.args.number c.loop-page.page c.loop-page.held.tokens within own here)).all was.1;
+                (w.in_ok-prepare_page.ensures.by_right (room_for_page layout c.args.count c.args.number c.loop-page.page c.loop-page.held.tokens within own here)).all was.1;
           })
     ]
