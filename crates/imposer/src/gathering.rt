@@ -59,9 +59,9 @@ pub struct Gathered<'d> {
 /// end.
 ///
 /// The table must be one of the job's plan, the seat and the pass must be unused, and the queue must have room for every sheet. Each worker gets a
-/// seat and a pass of its own, and these are joined when the worker ends. If the pass has room for all puts of the run, those of sheets without pages
-/// included, each preparer gets the room that it needs, and the queue refuses no put. If the pass has less room, puts may be refused even though the
-/// queue isn't full, and the sheets of these puts are made at the end.
+/// seat and a pass of its own, and these are joined when the worker ends. If the pass has room for every put, including those of sheets without
+/// pages, each preparer gets the room that it needs, and the queue refuses none. With less room, the queue may refuse a put even though it isn't
+/// full. The sheet of such a put is made at the end.
 pub fn gather<'j, 'd, R: Threads + Wait + Sync, G: Gate + Sync, S: Sink>(
     rt: &R,
     alloc: Global,

@@ -6,11 +6,11 @@ use std::alloc::AllocError;
 use std::sync::Wait;
 use std::thread::Promise;
 
-/// The work of preparers, on an object that all threads share (`Self`). An `H` holds the tokens with which a worker makes its calls. The worker
-/// returns its `H` when its work ends. An `H` has shares. The caller begins with several shares, gives one to each worker, and has all of them back
-/// once all workers are joined, unless memory or a thread was refused.
-///
-/// The code that starts and joins threads sees no lifetime in `H` or `Self`. With a lifetime, the promise of a thread couldn't be proved.
+/// The work of preparers. `Self` is the object that all threads share. An `H` holds the tokens with which a worker makes its calls, and has shares of
+/// them. The caller splits off an `H` with one share for each worker, and joins it again when the worker ends. Unless memory or a thread was refused,
+/// the caller then has all shares back.
+// The prover can't show that a thread keeps a promise about a type with a lifetime. So the code that starts and joins threads is generic in `H` and
+// `Self`.
 pub trait Work<H> {
     // The `H` belongs to this shared object.
     ghost is_held: { Self → H → Type 0 };
