@@ -124,6 +124,7 @@ class Maker:
         self.pdf, self.seed, self.shapes = Pdf.new(), seed, list[Shape]()
         self.font = self.pdf.make_indirect(Dictionary(Type=Name.Font, Subtype=Name.Type1, BaseFont=Name.Helvetica))
         self.is_inherited, self.items, self.closed = False, list[tuple[int, Any]](), list[Any]()
+        self.above: dict[str, str] = {}
         self.saving: list[list[str]] = []
         self.repeated: list[int] = []
 
@@ -204,6 +205,10 @@ class Maker:
     def do_inherited(self) -> None:
         """Boxes, turn and resources of the first page stand in the node above all pages."""
         self.is_inherited = True
+
+    def do_above(self, key: str, value: str) -> None:
+        """An entry of the node above all pages, for those that don't have their own."""
+        self.above[key] = value
 
     def page(self, number: str) -> Any:
         return self.pdf.pages[int(number) - 1].obj
@@ -462,6 +467,8 @@ class Maker:
         self.outlines()
         if self.is_inherited:
             self.inherit()
+        for key, value in self.above.items():
+            self.pdf.Root.Pages[key] = pikepdf.Object.parse(value.encode())
         for number in self.repeated:
             self.shapes.append(self.shapes[number])
             self.pdf.Root.Pages.Kids.append(self.pdf.Root.Pages.Kids[number])
