@@ -19,7 +19,7 @@ from pikepdf import Array, Dictionary, Name, Pdf, String
 Box = tuple[float, float, float, float]
 Colour = tuple[int, int, int]
 PAGES_OF_A_ROUND = 60
-FLAGS = ("unbalanced", "shared", "blended", "filled", "empty", "in-rows", "from-upper-right")
+FLAGS = ("unbalanced", "shared", "blended", "filled", "empty", "in-rows", "from-upper-right", "as-painted")
 
 
 def numbers(text: str) -> list[float]:
@@ -136,7 +136,7 @@ class Maker:
     # Pages.
 
     def do_page(self, size: str, *words: str) -> None:
-        """`page WxH` with at, crop, trim, rotate, unit, times, streams, text; also FLAGS."""
+        """`page WxH` with at, crop, trim, rotate, unit, times, streams, text, paint; also FLAGS."""
         pairs, flags = {}, set()
         rest = list(words)
         while rest:
@@ -170,6 +170,11 @@ class Maker:
             content += b"q /D gs 0 .6 1 rg 250 250 100 100 re f Q\n"
         if "filled" in flags:
             content += b"1 0 0 rg 200 200 200 200 re f\n"
+        if "paint" in pairs:
+            # A form in this colour. It ends at 100,100, though what it draws is larger.
+            form = self.look(f"{pairs['paint']} rg 0 0 200 200 re f", 100, 100)
+            resources.XObject = Dictionary(X=form)
+            content += b"/X Do\n"
         if "unbalanced" in flags:
             content = b"q q " + content + b"Q Q Q q\n"
         parts = [content]
@@ -189,6 +194,8 @@ class Maker:
         if "shared" in flags:
             page.Contents = self.pdf.pages[-1].obj.Contents
             self.shapes[-1] = shape
+        elif "as-painted" in flags:
+            page.Contents = self.pdf.pages[-1].obj.Resources.XObject.X
         elif "in-rows" in flags:
             rows = Dictionary(Predictor=12, Columns=20)
             data = zlib.compress(in_rows(content, 20))
