@@ -126,6 +126,8 @@ class Source:
         fields = self.root.get("/AcroForm")
         if isinstance(fields, Dictionary) and fields.get("/NeedAppearances") is True:
             self.pdf.generate_appearance_streams()
+            for page, _ in self.pages:
+                notes.settle(page)
 
     def form(self, k: int) -> Any:
         """The form of a page, in the PDF that is made."""

@@ -1,8 +1,9 @@
 """Annotations of a page: its links, and notes and form fields as they print."""
 
+from contextlib import suppress
 from typing import Any
 
-from pikepdf import Array, Dictionary, Name, Stream
+from pikepdf import Array, Dictionary, Name, PdfError, Stream
 
 from impose_pdf.forms import Note
 from impose_pdf.pages import UPRIGHT, bounds, box_of, name_of, number_of, numbers
@@ -38,6 +39,14 @@ def drawn(notes: list[Any]) -> list[Note]:
         layer = note.get("/OC")
         made.append((form, matrix, layer if isinstance(layer, Dictionary) else None))
     return made
+
+
+def settle(page: Any) -> None:
+    """Gives the fields of a page what qpdf shows of them. It fills in values where it writes, but not in copies."""
+    for field in split(page)[1]:
+        if field.get("/Subtype") == Name.Widget and (form := appearance(field)) is not None:
+            with suppress(PdfError):
+                form.write(form.read_bytes())
 
 
 def appearance(note: Any) -> Any:
