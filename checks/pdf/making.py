@@ -232,7 +232,8 @@ class Maker:
         return Array([self.page(number), Name("/" + kind), *parts])
 
     def do_link(self, number: str, box: str, *target: str) -> None:
-        """`link PAGE L,B,R,T to PAGE KIND [VALUES]`, `goto ..`, `name NAME`, `old-name NAME`, `uri ADDRESS [PAGE ..]`."""
+        """`link PAGE L,B,R,T to PAGE KIND [VALUES]`, `goto ..`, `name NAME`, `old-name NAME`,
+        `file FILE`, `uri ADDRESS [PAGE ..]`."""
         left, bottom, right, top = numbers(box)
         link = Dictionary(Type=Name.Annot, Subtype=Name.Link, Rect=Array(numbers(box)), Border=Array([0, 0, 0]))
         link.QuadPoints = Array([left, top, right, top, left, bottom, right, bottom])
@@ -247,6 +248,8 @@ class Maker:
             link.Dest = String(rest[0])
         elif how == "old-name":
             link.Dest = self.named(rest[0])
+        elif how == "file":
+            link.A = Dictionary(S=Name.GoToR, F=String(rest[0]), D=Array([0, Name.Fit]))
         else:
             link.A = self.pdf.make_indirect(Dictionary(S=Name.URI, URI=String(rest[0])))
             if rest[1:] == ["again"]:
@@ -269,9 +272,10 @@ class Maker:
         names.Dests = tree
         self.pdf.Root.Names = names
 
-    def do_names_in_levels(self) -> None:
-        """The tree of the names above has a node for each, two levels below its root."""
-        names, add = list(self.pdf.Root.Names.Dests.Names), self.pdf.make_indirect
+    def do_names_in_levels(self, how: str = "") -> None:
+        """The tree of the names above has a node for each, two levels below its root; `direct` nodes are no objects."""
+        names = list(self.pdf.Root.Names.Dests.Names)
+        add: Callable[[Any], Any] = (lambda node: node) if how == "direct" else self.pdf.make_indirect
         pairs = [names[at : at + 2] for at in range(0, len(names), 2)]
         leaves = [add(Dictionary(Names=Array(pair), Limits=Array([pair[0], pair[0]]))) for pair in pairs]
         middle = add(Dictionary(Kids=Array(leaves), Limits=Array([names[0], names[-2]])))
