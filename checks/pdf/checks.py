@@ -130,6 +130,7 @@ def sound(output: Output) -> Iterator[str]:
     if not reading.Names(output.pdf).are_sorted:
         yield "names that aren't sorted"
     yield from reading.loose_corners(output.pdf)
+    yield from reading.loose_outlines(output.pdf)
 
 
 # How it ends.

@@ -300,6 +300,10 @@ class Maker:
         """The outline above is closed: those below it aren't shown."""
         self.closed.append(self.items[-1][1])
 
+    def do_tagged(self) -> None:
+        """The outline above leads to a structure element too."""
+        self.items[-1][1].SE = self.pdf.make_indirect(Dictionary(Type=Name.StructElem, S=Name.H1))
+
     def do_opens(self, *target: str) -> None:
         """Where the document opens: `opens PAGE KIND [VALUES]`, or `opens goto ..`."""
         is_action = target[0] == "goto"

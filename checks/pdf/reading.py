@@ -116,6 +116,27 @@ def outlines(pdf: Pdf) -> list[tuple[int, str, Goal | str | None]]:
     return list(below(pdf.Root.get("/Outlines", Dictionary()), 1))
 
 
+def loose_outlines(pdf: Pdf) -> Iterator[str]:
+    """Outlines that don't lead to the one above, the one before, or the last one below (ISO 32000, 12.3.3)."""
+    seen, left = set(), [pdf.Root.get("/Outlines", Dictionary())]
+    while left:
+        above = left.pop()
+        before, item = None, above.get("/First")
+        while isinstance(item, Dictionary) and item.objgen not in seen:
+            seen.add(item.objgen)
+            left.append(item)
+            if not are_same(item.get("/Parent"), above) or not are_same(item.get("/Prev"), before):
+                yield f"the outline {item.get('/Title')} has a wrong /Parent or /Prev"
+            before, item = item, item.get("/Next")
+        if not are_same(above.get("/Last"), before):
+            yield "an outline has a wrong /Last"
+
+
+def are_same(one: Any, other: Any) -> bool:
+    """Whether two are the same object, or both are missing."""
+    return one is other if one is None or other is None else bool(one.objgen == other.objgen)
+
+
 def actions(pdf: Pdf) -> list[str]:
     """The actions of each link, in the order in which they are done; of one that leads to a page also its number."""
     names = Names(pdf)
