@@ -442,7 +442,8 @@ class Maker:
             self.pdf.Root[key] = pikepdf.Object.parse(value.encode())
 
     def do_saved(self, *words: str) -> None:
-        """How it is saved: linearized, objects, plain, owner, user, no-print, broken-xref, before TEXT, cut BYTES."""
+        """How it is saved: linearized, objects, plain, owner, user, no-print, low-print, broken-xref, before TEXT, cut
+        BYTES."""
         self.saving.append(list(words))
 
     # The end.
@@ -493,8 +494,9 @@ class Maker:
     def saved(self) -> bytes:
         words = {line[0]: line[1:] for line in self.saving}
         how: dict[str, Any] = {"static_id": True, "deterministic_id": False}
-        if {"owner", "user", "no-print"} & words.keys():
-            allowed = pikepdf.Permissions(print_lowres="no-print" not in words, print_highres="no-print" not in words)
+        if {"owner", "user", "no-print", "low-print"} & words.keys():
+            is_high = not {"no-print", "low-print"} & words.keys()
+            allowed = pikepdf.Permissions(print_lowres="no-print" not in words, print_highres=is_high)
             user = words["user"][0] if "user" in words else ""
             how |= {"encryption": pikepdf.Encryption(owner="owner", user=user, allow=allowed), "static_id": False}
         if "objects" in words:
