@@ -2,6 +2,7 @@
 
 from __future__ import annotations
 
+import contextlib
 import os
 import re
 import resource
@@ -10,6 +11,7 @@ import shutil
 import signal
 import subprocess
 import tempfile
+import threading
 import time
 from collections.abc import Iterator
 from dataclasses import dataclass, field
@@ -22,7 +24,10 @@ from .making import Made
 
 ROOT = Path(__file__).resolve().parent.parent.parent
 PDFS = ROOT / "cases/pdfs"
-SETTINGS = ("stdin", "limit", "stdout", "signal", "user", "rights", "link", "file", "text", "papersize", "room")
+SETTINGS = (
+    *("stdin", "limit", "stdout", "signal", "user", "rights", "umask", "link", "file", "pipe", "text", "papersize"),
+    "room",
+)
 
 
 @dataclass
@@ -149,7 +154,11 @@ def read(path: Path) -> list[Case]:
 def prepared(case: Case, folder: Path) -> None:
     """Puts the files of a case into its folder."""
     for word, _ in case.inputs:
-        (folder / word).write_bytes(case.documents[word].data)
+        if ["pipe", word] in case.settings:
+            os.mkfifo(folder / word)
+            threading.Thread(target=fed, args=(folder / word, case.documents[word].data), daemon=True).start()
+        else:
+            (folder / word).write_bytes(case.documents[word].data)
     for kind, *rest in case.settings:
         if kind == "file":
             (folder / unescaped(rest[0])).write_bytes(case.documents[rest[1]].data)
@@ -160,6 +169,16 @@ def prepared(case: Case, folder: Path) -> None:
     for kind, *rest in case.settings:
         if kind == "rights":
             (folder / rest[0]).chmod(int(rest[1], 8))
+
+
+def fed(path: Path, data: bytes) -> None:
+    """Writes a document to a pipe, and nothing to whoever opens it again."""
+    with contextlib.suppress(OSError):
+        while True:
+            with open(os.open(path, os.O_WRONLY), "wb") as pipe:
+                pipe.write(data)
+            data = b""
+            time.sleep(0.1)
 
 
 def contents(folder: Path) -> dict[str, bytes]:
@@ -203,10 +222,12 @@ def ran(case: Case, programs: Programs, folder: Path) -> Run:
         programs = copied(programs, folder / "programs")
     prepared(case, inside)
     before = contents(inside)
-    limit = case.setting("limit")
+    limit, umask = case.setting("limit"), case.setting("umask")
 
     def limited() -> None:
         signal.signal(signal.SIGXFSZ, signal.SIG_IGN)
+        if umask:
+            os.umask(int(umask[0], 8))
         if limit:
             resource.setrlimit(resource.RLIMIT_FSIZE, (int(limit[0]), int(limit[0])))
 
