@@ -10,11 +10,14 @@ from PIL import Image
 
 
 def image(lines: list[str], name: str) -> bytes:
-    """A JPEG or PNG, by its name, as size, dpi, turned (of a photograph), colour, right (the colour of the right half), alpha, mode, chunks say."""
+    """A JPEG or PNG, by its name, as size, dpi, turned (of a photograph), colour, right (the colour of the right half), alpha, mode,
+    chunks, frames say."""
     values = dict(line.split() for line in lines)
     width, height = (int(side) for side in values["size"].split("x"))
     red, green, blue = (int(part) for part in values["colour"].split(","))
-    picture, out, how = Image.new("RGB", (width, height), (red, green, blue)), io.BytesIO(), dict[str, Any]()
+    is_black = values.get("mode") == "1"  # a bit a dot, so that a large one takes little room
+    picture = Image.new("1", (width, height)) if is_black else Image.new("RGB", (width, height), (red, green, blue))
+    out, how = io.BytesIO(), dict[str, Any]()
     if "right" in values:
         red, green, blue = (int(part) for part in values["right"].split(","))
         picture.paste((red, green, blue), (width // 2, 0, width, height))
@@ -27,7 +30,11 @@ def image(lines: list[str], name: str) -> bytes:
     if "alpha" in values:
         picture.putalpha(int(values["alpha"]))
     picture = picture.convert(values.get("mode", picture.mode))
-    picture.save(out, "PNG" if name.endswith(".png") else "JPEG", **how)
+    kind = "PNG" if name.endswith(".png") else "JPEG"
+    if "frames" in values:
+        kind, how["save_all"] = "MPO", True
+        how["append_images"] = [picture.resize((16, 16))] * (int(values["frames"]) - 1)
+    picture.save(out, kind, **how)
     data = out.getvalue()
     return in_chunks(data, int(values["chunks"])) if "chunks" in values else data
 

@@ -13,12 +13,13 @@ JPEG, PNG = b"\xff\xd8\xff", b"\x89PNG\r\n\x1a\n"
 USUAL = 96, 96  # dots per inch, where an image names none
 SPACES = {"1": Name.DeviceGray, "L": Name.DeviceGray, "RGB": Name.DeviceRGB, "CMYK": Name.DeviceCMYK}
 TURNS = {3: 180, 6: 90, 8: 270}  # by the orientation of a photograph
+Image.MAX_IMAGE_PIXELS = None  # most images aren't decoded
 
 
 def pdf_of(data: bytes) -> Pdf:
     """A PDF whose page is an image."""
     image, pdf = Image.open(io.BytesIO(data), formats=("JPEG", "PNG")), Pdf.new()
-    form = jpeg(pdf, image, data) if image.format == "JPEG" else png(pdf, image, data)
+    form = jpeg(pdf, image, data) if data.startswith(JPEG) else png(pdf, image, data)
     width, height = (pixels * 72 / (per_inch or 96) for pixels, per_inch in zip(image.size, dots_of(image)))
     contents = pdf.make_stream(f"{numerals(width)} 0 0 {numerals(height)} 0 0 cm /I Do".encode())
     resources = Dictionary(XObject=Dictionary(I=form))
