@@ -1,6 +1,7 @@
 """The forms that pages become: a single stream of contents is the form itself, neither decoded nor copied."""
 
 import zlib
+from copy import copy
 from typing import Any
 
 from pikepdf import Array, Dictionary, Name, Pdf, PdfError, Stream
@@ -21,7 +22,9 @@ def streams_of(page: Any) -> list[Any]:
 
 def isolated(group: Any) -> Any:
     """A group by itself, as a page's is and a form's need not be."""
-    return Dictionary({**dict(group.items()), "/I": True})
+    made = copy(group)
+    made.I = True
+    return made
 
 
 class Forms:
@@ -60,13 +63,14 @@ class Forms:
         """The contents of a page as one stream: the very one, unless there are several or it has another use."""
         if len(streams) == 1:
             (stream,) = streams
-            if stream.objgen not in self.used and not {"/Type", "/Subtype"} & stream.keys():
+            if stream.objgen not in self.used and "/Type" not in stream and "/Subtype" not in stream:
                 self.used.add(stream.objgen)
                 return stream
-            copy = self.pdf.make_stream(stream.read_raw_bytes())
-            for key in {"/Filter", "/DecodeParms"} & stream.keys():
-                copy[key] = stream[key]
-            return copy
+            own = self.pdf.make_stream(stream.read_raw_bytes())
+            for key in ("/Filter", "/DecodeParms"):
+                if key in stream:
+                    own[key] = stream[key]
+            return own
         try:
             data = b"\n".join(stream.read_bytes() for stream in streams)
         except (PdfError, RuntimeError):

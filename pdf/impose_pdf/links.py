@@ -8,7 +8,7 @@ from typing import Any
 
 from pikepdf import Array, Dictionary, Name, Object, Pdf, String
 
-from impose_pdf.pages import Box, Shape, array, bounds, keys_of, moved, name_of, numbers, numerals
+from impose_pdf.pages import Box, Shape, array, bounds, drop, keys_of, moved, name_of, numbers, numerals
 from impose_pdf.plan import Matrix
 from impose_pdf.trees import free, named
 
@@ -147,8 +147,7 @@ class Ways:
     def bare(self, thing: Any, lost: set[str]) -> Any:
         """A copy of a dictionary without some entries, in the PDF that is made."""
         made = copy(thing)
-        for key in made.keys() & lost:
-            del made[key]
+        drop(made, lost)
         return self.made.make_indirect(made) if self.source is self.made else self.brought(made)
 
     def link(self, annotation: Any, box: Box) -> Iterator[Link]:
@@ -162,8 +161,7 @@ class Ways:
         made = link.old
         if self.source is self.made and made.is_indirect and made.objgen not in self.changed:
             self.changed.add(made.objgen)
-            for key in made.keys() & LOST:
-                del made[key]
+            drop(made, LOST)
         else:
             made = self.bare(made, LOST)
         made.Rect = array(*bounds(link.box, matrix))

@@ -6,7 +6,7 @@ from pikepdf import Array, Dictionary, Name, String
 
 from impose_pdf import outlines
 from impose_pdf.document import Source
-from impose_pdf.pages import array, then
+from impose_pdf.pages import array, drop, keys_of, then
 from impose_pdf.plan import Matrix, Sheet
 from impose_pdf.sheets import drawing, label, preferences
 from impose_pdf.trees import add_layers, free, tree_of
@@ -120,17 +120,14 @@ class Making:
 
     def enter(self, entries: dict[str, Any]) -> None:
         """Gives the catalog its new entries, and takes away what isn't kept, the old pages too."""
-        for key in self.pdf.Root.keys() - KEPT:
-            del self.pdf.Root[key]
+        drop(self.pdf.Root, set(keys_of(self.pdf.Root)) - KEPT)
         for key, value in entries.items():
             if value is not None:
                 self.pdf.Root[key] = value
         for page, _ in self.sources[0].pages:  # whatever else refers to one keeps nothing of it in the file
-            for key in page.keys():
-                del page[key]
+            drop(page, set(keys_of(page)))
         if not isinstance(self.pdf.trailer.get("/Info", Dictionary()), Dictionary):
             del self.pdf.trailer.Info
         self.pdf.docinfo.Producer = String(PRODUCER)
         self.pdf.trailer.Size = 0  # without one, qpdf writes none
-        for key in self.pdf.trailer.keys() - KEPT_OF_TRAILER:
-            del self.pdf.trailer[key]
+        drop(self.pdf.trailer, set(keys_of(self.pdf.trailer)) - KEPT_OF_TRAILER)

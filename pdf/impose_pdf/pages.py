@@ -1,6 +1,6 @@
 """Pages of a PDF: their boxes, how they are held, and their sizes."""
 
-from collections.abc import Iterator
+from collections.abc import Iterable, Iterator
 from dataclasses import dataclass
 from typing import Any
 
@@ -95,6 +95,13 @@ def keys_of(values: Any) -> Iterator[str]:
             continue
         except StopIteration:
             return
+
+
+def drop(holder: Any, keys: Iterable[str]) -> None:
+    """Takes entries away from a dictionary that has them."""
+    for key in keys:
+        if key in holder:
+            del holder[key]
 
 
 def leaves(root: Any) -> Iterator[tuple[Any, dict[str, Any]]]:
