@@ -62,6 +62,8 @@ class Ways:
         if isinstance(dest, Array):
             if not (match := TARGET.match(dest.unparse(True))):
                 return None
+            if b" R" in match[3]:  # numbers that are objects of their own
+                match = TARGET.match(Array(list(dest)).unparse(True)) or match
             page, of_page, rest = match.groups()
             target = int(page) if of_page is None else self.numbers.get((int(page), int(of_page)), -1)
             return self.led(target, rest.split()) if target in self.first else None

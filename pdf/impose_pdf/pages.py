@@ -2,6 +2,7 @@
 
 from collections.abc import Iterable, Iterator
 from dataclasses import dataclass
+from math import isfinite
 from typing import Any
 
 from pikepdf import Array, Dictionary, Name, Object
@@ -63,7 +64,7 @@ def numbers(values: Any) -> list[float]:
 def box_of(values: Any) -> Box | None:
     """A rectangle as left, bottom, right, top."""
     found = numbers(values) if isinstance(values, Array) else []
-    if len(found) != 4:
+    if len(found) != 4 or not all(map(isfinite, found)):
         return None
     a, b, c, d = found
     return min(a, c), min(b, d), max(a, c), max(b, d)
@@ -78,11 +79,12 @@ def name_of(value: Any) -> str:
 
 
 def number_of(value: Any, default: float) -> float:
-    """A number of a dictionary's, or a default for what isn't one."""
+    """A number of a dictionary's, or a default for what isn't one, or is infinite for a computer."""
     try:
-        return float(value)
+        found = float(value)
     except (TypeError, ValueError):
         return default
+    return found if isfinite(found) else default
 
 
 def keys_of(values: Any) -> Iterator[str]:
@@ -112,12 +114,12 @@ def leaves(root: Any) -> Iterator[tuple[Any, dict[str, Any]]]:
         if not isinstance(node, Dictionary):
             continue
         entries = {**above, **{key: node[key] for key in INHERITED if key in node}}
-        kids = node.get("/Kids")
-        if isinstance(kids, Array) and node.get("/Type") != Name.Page:
+        kids, is_page = node.get("/Kids"), node.get("/Type") == Name.Page
+        if isinstance(kids, Array) and not is_page:
             if node.objgen == (0, 0) or node.objgen not in seen:
                 seen.add(node.objgen)
                 left += [(kid, entries) for kid in reversed(list(kids))]
-        elif kids is None:
+        elif kids is None or is_page:
             yield node, entries
 
 
