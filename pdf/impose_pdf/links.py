@@ -160,7 +160,7 @@ class Ways:
 
     def placed(self, link: Link, matrix: Matrix) -> Any:
         """A link at a place of its page. At the first it is the old one itself, which saves a third of the memory."""
-        made = link.old
+        made, has_look = link.old, "/AP" in link.old
         if self.source is self.made and made.is_indirect and made.objgen not in self.changed:
             self.changed.add(made.objgen)
             drop(made, LOST)
@@ -170,5 +170,8 @@ class Ways:
         if link.corners:
             points = zip(link.corners[::2], link.corners[1::2])
             made.QuadPoints = array(*(value for point in points for value in moved(*point, matrix)))
+        if has_look:  # which is drawn, and stands for a border
+            drop(made, {"/BS"})
+            made.Border = array(0, 0, 0)
         made[link.entry] = link.way
         return made
