@@ -40,7 +40,7 @@ class Forms:
         streams, group = streams_of(page), page.get("/Group")
         resources = resources if isinstance(resources, Dictionary) else Dictionary()
         group = isolated(group) if isinstance(group, Dictionary) else None
-        over = ((form.objgen, matrix, layer and layer.unparse()) for form, matrix, layer in notes)
+        over = ((form.objgen, matrix, None if layer is None else layer.unparse()) for form, matrix, layer in notes)
         parts = *(stream.objgen for stream in streams), *over
         key = (*parts, resources.unparse(), group and group.unparse(), shape.box, shape.matrix)
         if key not in self.made:

@@ -14,7 +14,8 @@ HIDDEN, PRINTED = 2, 4  # flags
 def split(page: Any) -> tuple[list[Any], list[Any]]:
     """The links among the annotations of a page, and what may be drawn: the others, and links that have a look."""
     found = page.get("/Annots")
-    notes = [note for note in found if isinstance(note, Dictionary)] if isinstance(found, Array) else []
+    all_notes = [note for note in found if isinstance(note, Dictionary)] if isinstance(found, Array) else []
+    notes = [note for note in all_notes if note.get("/Type") != Name.Page]
     kinds = [name_of(note.get("/Subtype")) for note in notes]
     links = [note for note, kind in zip(notes, kinds) if kind == "/Link"]
     return links, [note for note, kind in zip(notes, kinds) if kind != "/Popup" and (kind != "/Link" or "/AP" in note)]
