@@ -10,7 +10,7 @@ from PIL import Image
 
 
 def image(lines: list[str], name: str) -> bytes:
-    """A JPEG or PNG, by its name, as size, dpi, turned (of a photograph), colour, right (the colour of the right half), alpha, mode,
+    """A JPEG or PNG, by its name, as size, dpi, turned and exif-dpi (of a photograph), colour, right (the colour of the right half), alpha, mode,
     chunks, frames say."""
     values = dict(line.split() for line in lines)
     width, height = (int(side) for side in values["size"].split("x"))
@@ -23,9 +23,13 @@ def image(lines: list[str], name: str) -> bytes:
         picture.paste((red, green, blue), (width // 2, 0, width, height))
     if "dpi" in values:
         how["dpi"] = (int(values["dpi"]), int(values["dpi"]))
+    exif = Image.Exif()
     if "turned" in values:
-        exif = Image.Exif()
         exif[0x112] = int(values["turned"])
+    if "exif-dpi" in values:
+        exif[0x11A] = exif[0x11B] = float(values["exif-dpi"])
+        exif[0x128] = 2
+    if len(exif):
         how["exif"] = exif
     if "alpha" in values:
         picture.putalpha(int(values["alpha"]))

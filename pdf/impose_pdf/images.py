@@ -20,7 +20,7 @@ def pdf_of(data: bytes) -> Pdf:
     """A PDF whose page is an image."""
     image, pdf = Image.open(io.BytesIO(data), formats=("JPEG", "PNG")), Pdf.new()
     form = jpeg(pdf, image, data) if data.startswith(JPEG) else png(pdf, image, data)
-    width, height = (pixels * 72 / (per_inch or 96) for pixels, per_inch in zip(image.size, dots_of(image)))
+    width, height = (pixels * 72 / (float(per_inch) or 96) for pixels, per_inch in zip(image.size, dots_of(image)))
     contents = pdf.make_stream(f"{numerals(width)} 0 0 {numerals(height)} 0 0 cm /I Do".encode())
     resources = Dictionary(XObject=Dictionary(I=form))
     page = Dictionary(Type=Name.Page, MediaBox=array(0, 0, width, height), Resources=resources, Contents=contents)
