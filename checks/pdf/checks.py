@@ -123,7 +123,8 @@ def sound(output: Output) -> Iterator[str]:
     if not output.path.is_file():
         yield "no OUTFILE"
         return
-    if complaint := reading.complaint(output.path):
+    is_damaged = any(word == "damaged" for word, _, _ in output.case.wanted)
+    if not is_damaged and (complaint := reading.complaint(output.path)):
         yield f"qpdf --check: {complaint}"
     if left := reading.left_over(output.pdf):
         yield f"{left} pages left over"
@@ -382,6 +383,12 @@ def _labels(output: Output, _rest: str, below: list[str]) -> Iterator[str]:
 def _actions(output: Output, _rest: str, below: list[str]) -> Iterator[str]:
     """What each link does, one action after another, as `URI, GoTo 3`."""
     yield from differs("actions", reading.actions(output.pdf), below)
+
+
+@check("damaged")
+def _damaged(output: Output, _rest: str, _below: list[str]) -> Iterator[str]:
+    """A stream in it can't be decoded, as before, so `qpdf --check` isn't asked."""
+    return iter(())
 
 
 @check("plain")

@@ -6,7 +6,7 @@ import signal
 import stat
 from typing import Any
 
-from pikepdf import ObjectStreamMode, Pdf, PdfError, StreamDecodeLevel
+from pikepdf import DataDecodingError, ObjectStreamMode, Pdf, PdfError, StreamDecodeLevel
 
 from impose_pdf import images
 from impose_pdf.making import PRODUCER
@@ -131,7 +131,7 @@ class Outfile:
         try:
             try:
                 self.put(pdf, True)
-            except RuntimeError:  # a stream can't be unpacked
+            except (RuntimeError, DataDecodingError):  # a stream can't be unpacked
                 self.put(pdf, False)
         except BrokenPipeError:
             raise Refusal(3, "") from None  # a reader that leaves knows why
