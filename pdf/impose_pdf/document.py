@@ -11,7 +11,7 @@ from pikepdf import Array, Dictionary, Name, PasswordError, Pdf, PdfError
 from impose_pdf import images, notes
 from impose_pdf.forms import Forms
 from impose_pdf.links import Link, Ways
-from impose_pdf.pages import Box, bounds, box_of, leaves, meet, shape_of
+from impose_pdf.pages import Box, bounds, box_of, leaves, meet, number_of, shape_of
 from impose_pdf.plan import Matrix, Size
 from impose_pdf.trees import named
 from impose_pdf.words import pages_of, refusal, shown
@@ -95,7 +95,9 @@ class Source:
         try:
             self.pdf = opened(name)
             self.root = self.pdf.Root
-            self.pages = list(leaves(self.root.get("/Pages")))
+            tree = self.root.get("/Pages")
+            self.pages = list(leaves(tree))
+            self.counted = number_of(tree.get("/Count"), 0) if isinstance(tree, Dictionary) else 0
             self.shapes = [shape_of(page, entries) for page, entries in self.pages]
         except PdfError as error:
             raise refusal(1, f"{shown(name)} can't be read: {cause(error, name)}") from None
@@ -162,11 +164,12 @@ class Source:
                 yield bytes(name), self.ways.brought(file)
 
     def warning(self) -> str:
-        """A line on what was mended, or nothing."""
-        found = self.pdf.get_warnings()
-        more = f", and {len(found) - 1} more" if len(found) > 1 else ""
-        return (
-            f"impose-pdf: {shown(self.name)} is damaged, and was mended: {cause(found[0], self.name)}{more}\n"
-            if found
-            else ""
-        )
+        """A line on what was mended, and one on pages that are lost, or nothing."""
+        found, lines = self.pdf.get_warnings(), ""
+        if found:
+            more = f", and {len(found) - 1} more" if len(found) > 1 else ""
+            lines = f"impose-pdf: {shown(self.name)} is damaged, and was mended: {cause(found[0], self.name)}{more}\n"
+        if self.counted > len(self.pages):
+            told = f"counts {self.counted:g} pages, and {len(self.pages)} can be found"
+            lines += f"impose-pdf: {shown(self.name)} {told}\n"
+        return lines
