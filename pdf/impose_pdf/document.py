@@ -14,7 +14,7 @@ from impose_pdf.links import Link, Ways
 from impose_pdf.pages import Box, bounds, box_of, leaves, meet, number_of, shape_of
 from impose_pdf.plan import Matrix, Size
 from impose_pdf.trees import named
-from impose_pdf.words import pages_of, refusal, shown
+from impose_pdf.words import RANGES, pages_of, refusal, shown
 
 LEAST, MOST = 1, 100_000  # points: the sides of pages that impose knows
 
@@ -44,7 +44,9 @@ def opened(name: str) -> Pdf:
         held = content(name)
         first = start(name, held)
     except FileNotFoundError:
-        raise refusal(3, f"cannot read {shown(name)}: no such file (INFILE and OUTFILE come last)") from None
+        of_ranges = "ranges come after select, or after their INFILE"
+        hint = of_ranges if RANGES.fullmatch(name) else "INFILE and OUTFILE come last"
+        raise refusal(3, f"cannot read {shown(name)}: no such file ({hint})") from None
     except IsADirectoryError:
         raise refusal(3, f"cannot read {shown(name)}: it is a folder") from None
     except OSError as error:

@@ -67,6 +67,8 @@ def run(words: list[str], here: str) -> None:
         os.execv(imposer(here), [imposer(here), *words])
     if not request.infiles or not (request.outfile or request.looks):
         look_at_words(request, imposer(here))
+        if request.infiles:
+            raise refusal(2, f"OUTFILE is missing after {shown(request.infiles[0][0])}")
         raise refusal(2, said.WANTED)
     try:
         import pikepdf
