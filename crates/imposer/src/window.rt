@@ -153,6 +153,7 @@ impl Idling {
 
     /// The length of the nap to take now. If naps become longer, the next nap is twice as long, up to the longest.
     fn next_nap(&mut self) -> Duration
+        ensures least { 50_000 ≤ as_nanos result }
         ensures most { as_nanos result ≤ (if self.old.grows then 400_000 else 50_000) }
         ensures grows { self.new.grows ≡ self.old.grows }
     {
@@ -161,7 +162,7 @@ impl Idling {
         } else {
             SHORTEST_NAP
         };
-        let nap = self.nap.min(longest);
+        let nap = self.nap.max(SHORTEST_NAP).min(longest);
         self.nap = nap.saturating_mul(2);
         Duration::from_micros(nap)
     }
