@@ -58,7 +58,9 @@ def turn_to_read(request: Request, sheets: list[Sheet]) -> int:
     first = next((sheet.placed[0] for sheet in sheets if sheet.placed), None)
     if request.command not in ("nup", "notes", "cards") or first is None:
         return 0
-    lies = next((degrees for degrees, side in SIDES.items() if side == tuple((v > 0) - (v < 0) for v in first.matrix[:2])), 0)
+    lies = next(
+        (degrees for degrees, side in SIDES.items() if side == tuple((v > 0) - (v < 0) for v in first.matrix[:2])), 0
+    )
     turn = request.options.get("--turn")
     if turn == "wide" and first.paper[0] <= first.paper[1]:
         turn = None
