@@ -1,12 +1,9 @@
 -- How large pages become on their sheets.
-use Rattle.std.specs.Prelude.{ℤ, int_le, if◌then◌else◌, List, [], ◌∷◌, flat_map, Option, Some, None}
+use Rattle.std.specs.Prelude.{ℤ, List, [], ◌∷◌, flat_map, Option, Some, None}
 use Rattle.std.specs.List.{fold}
+use Rattle.std.specs.Int.{int_max, int_min}
 use Rattle.rules.specs.Made.{MadeSheet, MadeSlot, Blank, Placed}
-use Rattle.row_sheets.specs.SameScale.{lesser}
 use Rattle.impose_messages.specs.declared.scales.Scales.{Scales}
-
-abbrev pub greater : (one other : ℤ) → ℤ
-greater one other = if int_le one other then other else one
 
 -- the scale of the page in a slot
 abbrev pub scale_in : MadeSlot → List ℤ
@@ -20,7 +17,7 @@ scales_in slots = flat_map scale_in slots
 -- the least and the greatest of these scales; none if there is no scale
 abbrev pub extremes : List ℤ → Option Scales
 extremes [] = None
-extremes (scale ∷ others) = Some (record { least = fold lesser scale others; greatest = fold greater scale others })
+extremes (scale ∷ others) = Some (record { least = fold int_min scale others; greatest = fold int_max scale others })
 
 -- the least and the greatest scale of all pages on these sheets
 abbrev pub scales_of : List MadeSheet → Option Scales

@@ -1,8 +1,7 @@
 //! The scales of pages on sheets.
 ghost use Rattle.std.specs.Prelude.{ℤ, ◌≡◌, ◌<◌, ◌++◌, ◌∷◌, [], length, List, Some};
 ghost use Rattle.sheet_plan.specs.OfSheets.{placed_of, slots_at};
-ghost use Rattle.row_sheets.specs.SameScale.{lesser as lesser_of};
-ghost use Rattle.impose_messages.specs.Scales.{extremes, greater as greater_of, scale_in, scales_in, scales_of};
+ghost use Rattle.impose_messages.specs.Scales.{extremes, scale_in, scales_in, scales_of};
 
 use lengths::Number;
 use sheet_plan::{MadeSheets, PlacedSlot};
@@ -60,28 +59,8 @@ fn with_scale(so_far: Option<Scales>, scale: Number) -> Scales
             greatest: scale,
         },
         Some(scales) => Scales {
-            least: lesser(scales.least, scale),
-            greatest: greater(scales.greatest, scale),
+            least: scales.least.min(scale),
+            greatest: scales.greatest.max(scale),
         },
-    }
-}
-
-fn lesser(one: Number, other: Number) -> Number
-    ensures { result ≡ lesser_of one other }
-{
-    if one.billionths() <= other.billionths() {
-        one
-    } else {
-        other
-    }
-}
-
-fn greater(one: Number, other: Number) -> Number
-    ensures { result ≡ greater_of one other }
-{
-    if one.billionths() <= other.billionths() {
-        other
-    } else {
-        one
     }
 }

@@ -1,6 +1,7 @@
 -- What is made of a row depends on its pages' papers alone.
 use Rattle.std.specs.Prelude.{ℤ, pos, flat_map, option_map, fold, slice_index_or}
 use Rattle.std.specs.List.{AllByRecursion, range_with_len}
+use Rattle.std.specs.Int.{int_min}
 use Rattle.std.proofs.Common.{arith, ◌≡◌, ◌∙◌, ℕ, zero, suc, ◌+◌, ◌*◌, ◌<◌, Bool, true, false, List, [], ◌∷◌, ◌++◌, Option, Some, None, length, map, get_or, refl, sym, ap, subst}
 use Rattle.std.proofs.lemmas.List.{get_or_default, get_or_past, length-map, map-append}
 use Rattle.std.proofs.lemmas.Simd.{map-map}
@@ -15,7 +16,7 @@ use Rattle.layouts.specs.declared.setting.Setting.{Setting}
 use Rattle.row_sheets.specs.Creep.{creep_on, creeping, creeping_sheets, creeping_sides, creeping_slot}
 use Rattle.row_sheets.specs.Filled.{filled, grid_entry, is_turned, sides, slot_on}
 use Rattle.row_sheets.specs.RowSheets.{as_it_is, selected, selected_sheet}
-use Rattle.row_sheets.specs.SameScale.{least_with, lesser}
+use Rattle.row_sheets.specs.SameScale.{least_with}
 use Rattle.row_sheets.specs.Shapes.{cell_on, filling}
 use Rattle.row_sheets.specs.AsDocument.{AreLaidAlike, RowIsDocument, chosen_page, papers_at, renamed, renamed_slot}
 use Rattle.row_sheets.proofs.Filling.{sheet as sheet_of}
@@ -125,7 +126,7 @@ least_more : (t : Setting) (r : ℕ → ℕ) (papers others : List Paper) → Ar
 least_more t r papers others same None None = refl
 least_more t r papers others same (Some z) None = refl
 least_more t r papers others same None (Some k) = ap (λ q. Some (pos (scale_on t q))) (same t.room.paper k)
-least_more t r papers others same (Some z) (Some k) = ap (λ q. Some (lesser z (pos (scale_on t q)))) (same t.room.paper k)
+least_more t r papers others same (Some z) (Some k) = ap (λ q. Some (int_min z (pos (scale_on t q)))) (same t.room.paper k)
 
 least_named : (t : Setting) (r : ℕ → ℕ) (papers others : List Paper) → AreSame r papers others → (least : Option ℤ) (row : Row)
     → fold (least_with (filling t papers)) least (with_numbers r row) ≡ fold (least_with (filling t others)) least row

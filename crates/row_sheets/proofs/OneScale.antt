@@ -1,6 +1,7 @@
 -- One scale for all pages of a row.
 use Rattle.std.proofs.Common.{arith, rules, ◌≡◌, ◌⊎◌, ◌∙◌, inl, inr, ℕ, zero, suc, ◌≤◌, [], ◌∷◌, Bool, true, false, Option, Some, None, refl, sym, ap, subst, min}
-use Rattle.std.specs.Prelude.{pos, nat_le, ◌&&◌, if◌then◌else◌, option_map}
+use Rattle.std.specs.Prelude.{pos, nat_le, nat_lt, ◌&&◌, if◌then◌else◌, option_map}
+use Rattle.std.specs.Int.{int_min}
 use Rattle.std.specs.List.{fold}
 use Rattle.std.proofs.lemmas.Option.{none-some, same_Some}
 use Rattle.rules.specs.Signatures.{entry_of}
@@ -14,7 +15,7 @@ use Rattle.layouts.specs.Refusals.{error_unless, is_paper_reached, within_reach,
 use Rattle.layouts.proofs.Possible.{passed}
 use Rattle.layouts.proofs.Fitting.{fitted_stands}
 use Rattle.row_sheets.specs.Filled.{Filling}
-use Rattle.row_sheets.specs.SameScale.{own_scale, lesser, least_with, least_scale, at_one_scale, HaveOneScale, HaveScales, OneScaleStands}
+use Rattle.row_sheets.specs.SameScale.{own_scale, least_with, least_scale, at_one_scale, HaveOneScale, HaveScales, OneScaleStands}
 
 -- ---- the least, as a number
 
@@ -24,19 +25,19 @@ least f so_far (None ∷ row) = least f so_far row
 least f None (Some p ∷ row) = least f (Some (own_scale f p)) row
 least f (Some s) (Some p ∷ row) = least f (Some (min s (own_scale f p))) row
 
-by_test : (a b : ℕ) (test : Bool) → nat_le a b ≡ test → (if test then pos a else pos b) ≡ pos (min a b)
-by_test a b true e = let le : a ≤ b = search (rules, e) in ap pos (let m : a ≡ min a b = omega (arith, le) in m)
-by_test a b false e = let le : b ≤ a = search (rules, e) in ap pos (let m : b ≡ min a b = omega (arith, le) in m)
+by_test : (a b : ℕ) (test : Bool) → nat_lt b a ≡ test → (if test then pos b else pos a) ≡ pos (min a b)
+by_test a b true e = let le : b ≤ a = search (rules, e) in ap pos (let m : b ≡ min a b = omega (arith, le) in m)
+by_test a b false e = let le : a ≤ b = search (rules, e) in ap pos (let m : a ≡ min a b = omega (arith, le) in m)
 
-lesser_is : (a b : ℕ) → lesser (pos a) (pos b) ≡ pos (min a b)
-lesser_is a b = by_test a b (nat_le a b) refl
+least_is : (a b : ℕ) → int_min (pos a) (pos b) ≡ pos (min a b)
+least_is a b = by_test a b (nat_lt b a) refl
 
 counted : (f : Filling) (so_far : Option ℕ) (row : Row) → fold (least_with f) (option_map pos so_far) row ≡ option_map pos (least f so_far row)
 counted f so_far [] = refl
 counted f None (None ∷ row) = counted f None row
 counted f (Some s) (None ∷ row) = counted f (Some s) row
 counted f None (Some p ∷ row) = counted f (Some (own_scale f p)) row
-counted f (Some s) (Some p ∷ row) = ap (λ z. fold (least_with f) (Some z) row) (lesser_is s (own_scale f p)) ∙ counted f (Some (min s (own_scale f p))) row
+counted f (Some s) (Some p ∷ row) = ap (λ z. fold (least_with f) (Some z) row) (least_is s (own_scale f p)) ∙ counted f (Some (min s (own_scale f p))) row
 
 -- ---- which it is
 

@@ -1,5 +1,6 @@
 -- One scale for all pages of a row: that of the largest paper. All here is this project's own rules.
-use Rattle.std.specs.Prelude.{◌≡◌, ℕ, ◌<◌, ◌≤◌, ℤ, pos, int_le, if◌then◌else◌, length, Option, Some, None}
+use Rattle.std.specs.Prelude.{◌≡◌, ℕ, ◌<◌, ◌≤◌, ℤ, pos, length, Option, Some, None}
+use Rattle.std.specs.Int.{int_min}
 use Rattle.std.specs.List.{fold}
 use Rattle.rules.specs.Papers.{Paper}
 use Rattle.rules.specs.Signatures.{entry_of}
@@ -16,14 +17,11 @@ use Rattle.row_sheets.specs.FirstFault.{first_fault}
 abbrev pub own_scale : Filling → (page : ℕ) → ℕ
 own_scale f page = scale_on f.setting (f.paper_of page)
 
-abbrev pub lesser : (one other : ℤ) → ℤ
-lesser one other = if int_le one other then one else other
-
 -- the least scale so far, and that with one more entry
 abbrev pub least_with : Filling → (least : Option ℤ) → (entry : Option ℕ) → Option ℤ
 least_with f least None = least
 least_with f None (Some page) = Some (pos (own_scale f page))
-least_with f (Some least) (Some page) = Some (lesser least (pos (own_scale f page)))
+least_with f (Some least) (Some page) = Some (int_min least (pos (own_scale f page)))
 
 -- the least of the scales of a row's pages, which is that of the largest paper; none if the row has no page
 -- (RULES, 13.3)
@@ -44,7 +42,7 @@ abbrev pub why_no_own_scale : Filling → (entry : Option ℕ) → Option Arrang
 why_no_own_scale f None = None
 why_no_own_scale f (Some page) = why_no_scale_on f.setting (f.paper_of page)
 
--- why the first page of the row that has none has none
+-- the reason for the first page of the row without a scale of its own
 abbrev pub first_unscaled : Filling → Row → Option ArrangementError
 first_unscaled f row = first_fault (λ i. why_no_own_scale f (entry_of row i)) (length row)
 

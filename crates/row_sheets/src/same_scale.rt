@@ -1,7 +1,7 @@
 //! The one scale of all pages in a row.
 ghost use Rattle.std.specs.Prelude.{◌≡◌, IfErr, IfOk, None, OnOk, Some};
 ghost use Rattle.row_sheets.specs.Shapes.{filling};
-ghost use Rattle.row_sheets.specs.SameScale.{at_one_scale as setting_of, least_with, lesser as lesser_of};
+ghost use Rattle.row_sheets.specs.SameScale.{at_one_scale as setting_of, least_with};
 ghost use Rattle.row_sheets.specs.SameScale.{first_unscaled, why_no_own_scale};
 
 use crate::selecting::paper_or;
@@ -48,17 +48,7 @@ fn with_entry(
     };
     let scale = setting.scale(&paper_or(papers, page, &setting.room.paper))?;
     match least {
-        Some(least) => Ok(Some(lesser(least, scale))),
+        Some(least) => Ok(Some(least.min(scale))),
         None => Ok(Some(scale)),
-    }
-}
-
-fn lesser(one: Number, other: Number) -> Number
-    ensures { result ≡ lesser_of one other }
-{
-    if one.billionths() <= other.billionths() {
-        one
-    } else {
-        other
     }
 }
