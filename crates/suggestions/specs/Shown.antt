@@ -21,6 +21,10 @@ shown_text text = let letters = chars text in
 abbrev pub escaped_text : (text : List ℕ) → List ℕ
 escaped_text text = flat_map shown_char (chars text)
 
+-- these texts, with a word between them
+abbrev pub message_text : (before word behind : List ℕ) → List ℕ
+message_text before word behind = escaped_text before ++ shown_text word ++ escaped_text behind
+
 -- a message about a word: some text, the word as it is shown, and some text
 pub record IsMessageOn (word message : List ℕ) : Type 0 where
   pub before : List ℕ

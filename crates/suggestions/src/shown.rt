@@ -81,7 +81,8 @@ pub(crate) fn message_on(
     word: &str,
     behind: &str,
 ) -> Result<String, AllocError>
-    ensures { IfOk result (λ said. meaning.IsMessageOn word.now (string_bytes said)) }
+    ensures said { IfOk result (λ said. meaning.IsMessageOn word.now (string_bytes said)) }
+    ensures text { IfOk result (λ said. string_bytes said ≡ meaning.message_text before.now word.now behind.now) }
 {
     let mut said = String::new(alloc);
     push_escaped(&mut said, before)?;
