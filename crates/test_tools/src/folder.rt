@@ -109,6 +109,7 @@ impl<'a> World for Folder<'a> {
         requires countable { self.old.failures.count + failures_of source ≤ u64.MAX }
         ensures cause { result ≡ cause_of source.entry }
         ensures last { 0 < failures_of source.entry → self.new.failures.last ≡ option_map error_kind result }
+        ensures kept { failures_of source.entry ≡ 0 → self.new.failures.last ≡ self.old.failures.last }
         ensures asked { (⟦<Folder<'a> as World>⟧.seen self.new).asked ≡ (⟦<Folder<'a> as World>⟧.seen self.old).asked }
         ensures counted { self.new.failures.count ≡ self.old.failures.count + failures_of source.entry }
         ensures again { ⟦<Folder<'a> as World>⟧.gives self.new ≡ ⟦<Folder<'a> as World>⟧.gives self.old }

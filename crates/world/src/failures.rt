@@ -42,6 +42,7 @@ impl Failures {
         ensures cause { result ≡ cause_of source }
         ensures counted { self.new.count ≡ self.old.count + failures_of source }
         ensures last { 0 < failures_of source → self.new.last ≡ option_map error_kind result }
+        ensures kept { failures_of source ≡ 0 → self.new.last ≡ self.old.last }
     {
         self.count += source.failures();
         let cause = source.into_cause();

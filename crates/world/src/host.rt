@@ -79,6 +79,7 @@ impl<'a, R: Files> World for Host<'a, R> {
         requires countable { self.old.failures.count + failures_of source ≤ u64.MAX }
         ensures cause { result ≡ cause_of source }
         ensures last { 0 < failures_of source → self.new.failures.last ≡ option_map error_kind result }
+        ensures kept { failures_of source ≡ 0 → self.new.failures.last ≡ self.old.failures.last }
         ensures asked { (⟦<Host<'a, R> as World>⟧.seen self.new).asked ≡ (⟦<Host<'a, R> as World>⟧.seen self.old).asked }
         ensures counted { self.new.failures.count ≡ self.old.failures.count + failures_of source }
         ensures again { ⟦<Host<'a, R> as World>⟧.gives self.new ≡ ⟦<Host<'a, R> as World>⟧.gives self.old }

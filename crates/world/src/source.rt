@@ -1,5 +1,5 @@
 //! Sources, from which bytes are read.
-ghost use Rattle.std.specs.Prelude.{◌≡◌, ◌<◌, ◌≤◌, IfOk, is_some, length, true};
+ghost use Rattle.std.specs.Prelude.{◌≡◌, ◌<◌, ◌≤◌, IfOk, None, is_some, length, true};
 
 use std::io;
 use std::io::Read;
@@ -32,6 +32,7 @@ pub struct ReadSource<T> {
     failures: u64,
     cause: Option<io::Error>,
     ghost caused: { 0 < failures → is_some cause ≡ true },
+    ghost uncaused: { failures ≡ 0 → cause ≡ None },
 }
 
 impl<T: Read> ReadSource<T> {

@@ -1,6 +1,6 @@
 //! The files and standard streams around a program.
 ghost use Rattle.std.specs.Prelude.{◌≡◌, ◌+◌, ◌<◌, ◌≤◌, Bool, false, true, List, ℕ, None, Option, [], option_map, is_some};
-ghost use Rattle.std.specs.Prelude.{IfOk, IfErr, IfSome, MatchResult};
+ghost use Rattle.std.specs.Prelude.{IfOk, IfErr, IfSome, MatchResult, OnOk};
 ghost use Rattle.std.specs.IoError.{error_kind};
 ghost use Rattle.world.specs.Outputs.{fresh_output, told_if};
 ghost use Rattle.world.specs.Worlds.{HasGranted, HasRefused, WorldView, cause_of, creating, failures_of, opening};
@@ -47,6 +47,7 @@ pub trait World: Sized + Drop {
         ensures asked { MatchResult result
             (λ _. HasGranted (opening (option_map (λ n. n.now) name.entry)) (seen self.old) (seen self.new))
             (λ cause. HasRefused (opening (option_map (λ n. n.now) name.entry)) (error_kind cause) (seen self.old) (seen self.new)) }
+        ensures kept { OnOk result ((seen self.new).cause ≡ (seen self.old).cause) }
         // A file gives the same bytes as before this call. Standard input may give fewer, since it may have been read.
         ensures again { is_some name.entry ≡ true → gives self.new ≡ gives self.old }
         ensures same { same self.new ≡ same self.old }
@@ -59,6 +60,7 @@ pub trait World: Sized + Drop {
         requires countable { (seen self.old).failures + failures_of source ≤ u64.MAX }
         ensures cause { result ≡ cause_of source }
         ensures last { 0 < failures_of source → (seen self.new).cause ≡ option_map error_kind result }
+        ensures kept { failures_of source ≡ 0 → (seen self.new).cause ≡ (seen self.old).cause }
         ensures asked { (seen self.new).asked ≡ (seen self.old).asked }
         ensures counted { (seen self.new).failures ≡ (seen self.old).failures + failures_of source }
         ensures again { gives self.new ≡ gives self.old }
