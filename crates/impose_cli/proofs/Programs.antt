@@ -1,5 +1,5 @@
 -- What comes of a request.
-use Rattle.std.proofs.Common.{◌≡◌, ◌∙◌, ap, arith, ℕ, ◌+◌, ◌<◌, List, [], length, take, Bool, true, false, Option, Some, None, Result, Ok, Err, inl, inr, refl, subst, sym}
+use Rattle.std.proofs.Common.{◌≡◌, ◌∙◌, ap, arith, ℕ, ◌+◌, ◌<◌, ◌≤◌, List, [], length, take, Bool, true, false, Option, Some, None, Result, Ok, Err, inl, inr, refl, subst, sym}
 use Rattle.clap.specs.Words.{Row, Text}
 use Rattle.std.specs.Prelude.{⊤, ◌⊎◌, option_map, string_bytes}
 use Rattle.std.specs.Io.KnownBytes.{Appends}
@@ -80,7 +80,7 @@ wrote_text name text what e world output rest start began wrote steady is =
 
 -- a first part of it was
 pub wrote_part : {V O : Type 0} (name : Option (List ℕ)) (text : List ℕ) (what : Done) (e : Edge V O) (world : V) (output : O) (rest : Rest V O) (start : OutputView) (n : ℕ) (f : ImposeFault) (outcome : Result Done ImposeFault)
-    → start ≡ fresh_output (told_if e.tells name []) → n < length text → Appends start.bytes (e.shows output).bytes (take n text) → (e.shows output).failures ≡ start.failures + 1
+    → start ≡ fresh_output (told_if e.tells name []) → n ≤ length text → Appends start.bytes (e.shows output).bytes (take n text) → (e.shows output).failures ≡ start.failures + 1
     → rest ≡ Output output → f ≡ fault.Write n (e.shows output).cause → outcome ≡ Err f → Writes name text what e outcome world rest (shown e.shows rest)
 wrote_part name text what e world output rest start n f outcome began within wrote failed is named told =
     let appended = subst (λ (s : OutputView). Appends s.bytes (e.shows output).bytes (take n text)) began wrote in

@@ -1,5 +1,5 @@
 -- The whole program: what its words ask for, what it reads, what it creates and writes, and how it ends.
-use Rattle.std.specs.Prelude.{⊤, ◌≡◌, ◌⊎◌, ◌+◌, ◌<◌, ℕ, Bool, List, [], length, take, true, false, Option, Some, None, Result, Ok, Err, IfSome}
+use Rattle.std.specs.Prelude.{⊤, ◌≡◌, ◌⊎◌, ◌+◌, ◌<◌, ◌≤◌, ℕ, Bool, List, [], length, take, true, false, Option, Some, None, Result, Ok, Err, IfSome}
 use Rattle.std.specs.Prelude.{codes, option_map, string_bytes}
 use Rattle.std.specs.Io.KnownBytes.{Appends}
 use Rattle.std.specs.IoError.{error_kind}
@@ -83,9 +83,9 @@ HasGiven name old new = HasGranted (opening name) old new
 
 -- ---- texts
 
--- a write failed, and the fault says after how many bytes of the text, and why: these were written
+-- a write or the flush failed, and the fault says after how many bytes of the text, and why: these were written
 abbrev pub BreaksAt : {W O : Type 0} → (old new : Option (List ℕ)) → (text : List ℕ) → (edge : Edge W O) → ImposeFault → (rest : Rest W O) → Type 0
-BreaksAt old new text edge (fault.Write n cause) rest = (n < length text) × Appends old new (take n text) × HasFailed edge cause rest
+BreaksAt old new text edge (fault.Write n cause) rest = (n ≤ length text) × Appends old new (take n text) × HasFailed edge cause rest
 BreaksAt old new text edge other rest = ⊥
 
 -- a text wasn't written whole to the output of this name
@@ -94,7 +94,7 @@ abbrev pub FailsToWrite : {W O : Type 0} → (name : Option (List ℕ)) → (tex
 FailsToWrite name text edge f world rest written =
     IsUncreatedFault edge name (edge.seen world) f rest ⊎ BreaksAt (told_if edge.tells name []) written text edge f rest
 
--- What comes of a text that is written to the output of this name: the output tells its name and exactly the text, and hasn't
+-- What comes of a text that is written to the output of this name: the output shows its name and exactly the text, and hasn't
 -- failed; or a write failed.
 abbrev pub Writes : {W O : Type 0} → (name : Option (List ℕ)) → (text : List ℕ) → Done → (edge : Edge W O) → Result Done ImposeFault
     → (world : W) → (rest : Rest W O) → (written : Option (List ℕ)) → Type 0

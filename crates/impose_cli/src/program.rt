@@ -24,7 +24,9 @@ use papers::default_paper;
 use std::alloc::Global;
 use std::sync::Wait;
 use std::thread::Threads;
-use world::{Output, ReadFault, ReadSource, Rest, World, padding, read_input_behind, write_all};
+use world::{
+    Output, ReadFault, ReadSource, Rest, World, padding, read_input_behind, write_and_flush,
+};
 
 /// The end of the program, as its caller sees it.
 #[derive(Drop)]
@@ -310,7 +312,7 @@ fn show_input<W: World>(
     }
 }
 
-/// Creates the output, which is the file of this name, or standard output if there is no name, and writes a text to it.
+/// Creates the output, which is the file of this name, or standard output if there is no name, writes a text to it, and flushes it.
 fn create_with_text<W: World>(
     name: Option<&str>,
     text: &[u8],
@@ -331,7 +333,7 @@ fn create_with_text<W: World>(
             return refused_before(fault, refused.world);
         }
     };
-    match write_all(&mut output, text) {
+    match write_and_flush(&mut output, text) {
         Ok(()) => Attempt {
             outcome: Ok(done),
             rest: Rest::Output(output),

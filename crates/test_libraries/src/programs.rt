@@ -34,6 +34,7 @@ pub fn run<R: Threads + Wait + Sync>(
             in_memory::at_home(rt, out, paper_size, home, word(more, 2).is_none());
         }
         "unflushed" => in_memory::unflushed(rt, out),
+        "planned" => in_memory::planned(rt, out, pstops_calls::behaviour(word(more, 0)?)?),
         "uncreated" => in_memory::uncreated(rt, out),
         "unread" => in_memory::unread(rt, out),
         "on_terminal" => in_memory::on_terminal(rt, out),

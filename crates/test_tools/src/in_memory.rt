@@ -14,6 +14,8 @@ pub enum Takes {
     Bytes(usize),
     /// The output takes all bytes, but at most this number in each call.
     Pieces(usize),
+    /// The output takes all bytes, and passes them on only when it is flushed.
+    Held,
     /// The output takes all bytes, but can't be flushed.
     NoFlush,
     /// The output can't be created.
@@ -29,6 +31,8 @@ pub struct Written {
     pub name: Option<String>,
     pub bytes: Vec<u8>,
     takes: Takes,
+    /// The number of bytes that were written before the last flush.
+    flushed: usize,
 }
 
 impl Written {
@@ -45,8 +49,25 @@ impl Written {
             return Err(io::Error::from(ErrorKind::OutOfMemory));
         };
         match Vec::with_capacity(alloc, ROOM) {
-            Ok(bytes) => Ok(Written { name, bytes, takes }),
+            Ok(bytes) => Ok(Written {
+                name,
+                bytes,
+                takes,
+                flushed: 0,
+            }),
             Err(_) => Err(io::Error::from(ErrorKind::OutOfMemory)),
+        }
+    }
+
+    /// The bytes that have reached their destination: those that were flushed if `takes` is `Held`, and otherwise all that were written.
+    pub fn arrived(&self) -> &[u8] {
+        let bytes = self.bytes.as_slice();
+        match self.takes {
+            Takes::Held => {
+                let (flushed, _) = bytes.split_at(self.flushed.min(bytes.len()));
+                flushed
+            }
+            _ => bytes,
         }
     }
 }
@@ -74,7 +95,10 @@ impl Write for Written {
     fn flush(&mut self) -> io::Result<()> {
         match self.takes {
             Takes::NoFlush => Err(io::Error::from(ErrorKind::Other)),
-            _ => Ok(()),
+            _ => {
+                self.flushed = self.bytes.len();
+                Ok(())
+            }
         }
     }
 }

@@ -6,14 +6,32 @@ ghost use Rattle.world.specs.Outputs.{IsFrontOf, IsSteady};
 use crate::output::Output;
 use sheet_writer::{Sink, SinkFault};
 
-/// The error of a write that failed after the first `written` bytes of a text had been written.
+/// The error of a write or a flush that failed after the first `written` bytes of a text had been written.
 #[derive(Clone, Copy, Debug, PartialEq, Eq)]
 pub struct Broken {
     pub written: usize,
 }
 
+/// Writes all these bytes to the output, and flushes it. Stops at the first call that fails.
+pub fn write_and_flush<T: Output>(output: &mut T, bytes: &[u8]) -> Result<(), Broken>
+    requires countable { (T.seen output.old).failures < u64.MAX }
+    ensures whole { OnOk result (Appends (T.seen output.old).bytes (T.seen output.new).bytes bytes.now) }
+    ensures steady { OnOk result (IsSteady (T.seen output.old) (T.seen output.new)) }
+    ensures within { IfErr result (λ e. e.written ≤ length bytes.now) }
+    ensures part { IfErr result (λ e. Appends (T.seen output.old).bytes (T.seen output.new).bytes (take e.written bytes.now)) }
+    ensures failed { OnErr result ((T.seen output.new).failures ≡ (T.seen output.old).failures + 1) }
+{
+    write_all(output, bytes)?;
+    match output.flush() {
+        Ok(()) => Ok(()),
+        Err(_) => Err(Broken {
+            written: bytes.len(),
+        }),
+    }
+}
+
 /// Writes all these bytes to the output, in as many calls as are needed. Stops at the first call that fails.
-pub fn write_all<T: Output>(output: &mut T, bytes: &[u8]) -> Result<(), Broken>
+fn write_all<T: Output>(output: &mut T, bytes: &[u8]) -> Result<(), Broken>
     requires countable { (T.seen output.old).failures < u64.MAX }
     ensures whole { OnOk result (Appends (T.seen output.old).bytes (T.seen output.new).bytes bytes.now) }
     ensures steady { OnOk result (IsSteady (T.seen output.old) (T.seen output.new)) }

@@ -15,7 +15,7 @@ mod told;
 mod white_space;
 mod world;
 
-pub use buffered::{Broken, Buffered, write_all};
+pub use buffered::{Broken, Buffered, write_and_flush};
 pub use failures::Failures;
 pub use front::read_front;
 pub use host::{Host, HostInput, HostOutput};

@@ -3,12 +3,12 @@ ghost use Rattle.std.specs.Prelude.{◌≡◌};
 
 use crate::answer::Answer;
 use crate::programs::in_folder::asked_for;
-use impose_cli::{ReportText, Rest, impose, text_said};
+use impose_cli::{Done, ReportText, Rest, impose, text_said};
 use std::alloc::{AllocError, Global};
 use std::sync::Wait;
 use std::thread::Threads;
-use test_tools::{Folder, GivenFile, Takes};
-use world::World;
+use test_tools::{Folder, GivenFile, Takes, Written};
+use world::{World, WriteOutput};
 
 /// A document that has one page and names no paper.
 const PAGE: GivenFile<'static> = GivenFile {
@@ -44,6 +44,15 @@ pub fn unflushed<R: Threads + Wait + Sync>(rt: &R, out: &mut Answer) {
     report(rt, out, "", TO_FILE, world);
 }
 
+/// Prints the list of sheets that reaches an output with this behaviour, and the message of impose if the list can't be written.
+pub fn planned<R: Threads + Wait + Sync>(rt: &R, out: &mut Answer, takes: Takes) {
+    let world = Folder::new(out.alloc, &[PAGE], takes);
+    let words = &["impose", "nup", "1", "--plan", "in.ps"];
+    if let Some(Rest::Output(output)) = said_of(rt, out, "", words, world) {
+        out.lossy(output.writer.arrived());
+    }
+}
+
 /// Prints the message of impose about an output that can't be created, and the requests that the folder has received.
 pub fn uncreated<R: Threads + Wait + Sync>(rt: &R, out: &mut Answer) {
     let world = Folder::new(out.alloc, &[PAGE], Takes::Nothing);
@@ -73,12 +82,26 @@ fn report<'w, R: Threads + Wait + Sync>(
 )
     requires fresh { (⟦<Folder<'w> as World>⟧.seen world).failures ≡ 0 }
 {
+    if let Some(Rest::World(folder)) = said_of(rt, out, paper_size, words, world) {
+        asked_for(out, &folder);
+    }
+}
+
+/// Prints the report of impose with these words, or its message about a fault. Returns the output, or the folder if no output was created. None if
+/// memory runs out before impose runs.
+fn said_of<'w, R: Threads + Wait + Sync>(
+    rt: &R,
+    out: &mut Answer,
+    paper_size: &str,
+    words: &[&str],
+    world: Folder<'w>,
+) -> Option<Rest<Folder<'w>, WriteOutput<Written>>>
+    requires fresh { (⟦<Folder<'w> as World>⟧.seen world).failures ≡ 0 }
+{
     let alloc = out.alloc;
-    let Ok(words) = owned(alloc, words) else {
-        return out.note(false);
-    };
-    let Ok(report) = ReportText::new(alloc) else {
-        return out.note(false);
+    let (Ok(words), Ok(report)) = (owned(alloc, words), ReportText::new(alloc)) else {
+        out.note(false);
+        return None;
     };
     let ended = impose(rt, alloc, words.as_slice(), paper_size.as_bytes(), world);
     let said = text_said(
@@ -88,12 +111,10 @@ fn report<'w, R: Threads + Wait + Sync>(
         ended.request.as_ref(),
         words.as_slice(),
     );
-    // The message about a fault is missing only if memory runs out for it.
-    out.note(!said.is_empty());
+    // A list of sheets has no report. The message about a fault is missing only if memory runs out for it.
+    out.note(matches!(ended.outcome, Ok(Done::Shown)) || !said.is_empty());
     out.add_bytes(said.as_slice());
-    if let Rest::World(folder) = &ended.rest {
-        asked_for(out, folder);
-    }
+    Some(ended.rest)
 }
 
 fn owned(alloc: Global, words: &[&str]) -> Result<Vec<String>, AllocError> {

@@ -105,17 +105,23 @@ pub fn failing_input(out: &mut Answer, fails_at: u32, is_interrupted: bool) {
     out.labelled("calls", reader.calls);
 }
 
-/// Prints the outcome of running pstops with these words over a document with one page in the file `in.ps`: exit status, message, and output. If no
-/// output was created, prints the requests that the folder received. The first word says how the output behaves: `all`, `unflushed`, `nothing`, or
-/// the number of bytes that the output takes per call. `None` if this word isn't understood. The further words are those of pstops.
-pub fn ran<R: Threads + Wait + Sync>(rt: &R, out: &mut Answer, words: &[String]) -> Option<()> {
-    let (takes, words) = words.split_first()?;
-    let takes = match takes.as_str() {
+/// The behaviour of an output that this word names.
+pub fn behaviour(word: &str) -> Option<Takes> {
+    Some(match word {
         "all" => Takes::Bytes(100_000),
+        "held" => Takes::Held,
         "unflushed" => Takes::NoFlush,
         "nothing" => Takes::Nothing,
         most => Takes::Pieces(count_in(most)? as usize),
-    };
+    })
+}
+
+/// Prints the outcome of running pstops with these words over a document with one page in the file `in.ps`: exit status, message, and output. If no
+/// output was created, prints the requests that the folder received. The first word says how the output behaves: `all`, `held`, `unflushed`,
+/// `nothing`, or the number of bytes that the output takes per call. `None` if this word isn't understood. The further words are those of pstops.
+pub fn ran<R: Threads + Wait + Sync>(rt: &R, out: &mut Answer, words: &[String]) -> Option<()> {
+    let (takes, words) = words.split_first()?;
+    let takes = behaviour(takes)?;
     let files = [GivenFile {
         name: "in.ps",
         bytes: ONE_PAGE.as_bytes(),
@@ -128,7 +134,7 @@ pub fn ran<R: Threads + Wait + Sync>(rt: &R, out: &mut Answer, words: &[String])
     out.lossy(ended.line.as_slice());
     match &ended.rest {
         Rest::World(folder) => asked_for(out, folder),
-        Rest::Output(output) => out.lossy(output.writer.bytes.as_slice()),
+        Rest::Output(output) => out.lossy(output.writer.arrived()),
     }
     Some(())
 }

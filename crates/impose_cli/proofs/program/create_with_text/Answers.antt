@@ -4,16 +4,16 @@ use Rattle.impose_cli.specs.Endings.{edge_of_world, shown}
 use Rattle.impose_cli.proofs.Programs.{uncreated, wrote_part, wrote_text}
 use Rattle.impose_cli.proofs.program.create_with_text.Goals as goal
 
-pub returns-in-Ok-write_all : goal.returns-in-Ok-write_all
-returns-in-Ok-write_all g c =
+pub returns-in-Ok-write_and_flush : goal.returns-in-Ok-write_and_flush
+returns-in-Ok-write_and_flush g c =
     wrote_text (option_map (λ n. n.now) c.args.name) c.args.text.now c.args.done (edge_of_world (g.W.World.tells c.args.world) g.W.World.seen g.W.Output.Output.seen) c.args.world
-    c.write_all.new.output _ _ c.in-Ok.ensures.created c.in-Ok-write_all.ensures.whole c.in-Ok-write_all.ensures.steady.0 refl
+    c.write_and_flush.new.output _ _ c.in-Ok.ensures.created c.in-Ok-write_and_flush.ensures.whole c.in-Ok-write_and_flush.ensures.steady.0 refl
 
-pub returns-in-Err-write_all : goal.returns-in-Err-write_all
-returns-in-Err-write_all g c =
-    let broken = c.in-Err-write_all in
+pub returns-in-Err-write_and_flush : goal.returns-in-Err-write_and_flush
+returns-in-Err-write_and_flush g c =
+    let broken = c.in-Err-write_and_flush in
     wrote_part (option_map (λ n. n.now) c.args.name) c.args.text.now c.args.done (edge_of_world (g.W.World.tells c.args.world) g.W.World.seen g.W.Output.Output.seen) c.args.world
-    c.write_all.new.output _ _ broken.broken.written _ _ c.in-Ok.ensures.created broken.ensures.within broken.ensures.part broken.ensures.failed refl
+    c.write_and_flush.new.output _ _ broken.broken.written _ _ c.in-Ok.ensures.created broken.ensures.within broken.ensures.part broken.ensures.failed refl
     (ap (fault.Write broken.broken.written) c.cause.ensures) refl
 
 pub returns-in-Err : goal.returns-in-Err
