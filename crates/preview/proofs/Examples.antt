@@ -1,5 +1,5 @@
 -- Sheets as they are listed and drawn, worked out.
-use Rattle.std.proofs.Common.{◌≡◌, List, [], ◌∷◌, true, false, refl}
+use Rattle.std.proofs.Common.{◌≡◌, List, [], ◌∷◌, true, false, map, refl}
 use Rattle.std.specs.Prelude.{codes, pos}
 use Rattle.std.specs.Fmt.{digits}
 use Rattle.rules.specs.Papers.{Paper, Pt, points}
@@ -15,6 +15,7 @@ use Rattle.preview.specs.declared.reading.Places.TheVariants.{Cells}
 use Rattle.preview.specs.declared.reading.Reading.{Reading}
 use Rattle.preview.specs.Listing.{cells_text, plan_text, tile_name}
 use Rattle.preview.specs.Drawing.{slot_picture, square_at}
+use Rattle.preview.specs.Naming.{side_name}
 
 abbrev a4 : Paper
 a4 = points 595 842
@@ -42,6 +43,11 @@ leaves = record { sides = Both Short; places = Cells (beside true) plain_order }
 
 abbrev sheets : Reading
 sheets = record { sides = One; places = Cells (beside true) plain_order }
+
+-- the first sheet is the front of a leaf, and the second its back
+front_and_back : map (side_name (Both Short)) (0 ∷ 1 ∷ []) ≡ codes "leaf 1 front" ∷ codes "leaf 1 back" ∷ []
+unfolding digits
+front_and_back = refl
 
 -- the third sheet is a front without a back; the second has one page, and no other place
 listed : plan_text leaves 40 (side ∷ small ∷ side ∷ []) ≡ codes "leaf 1  front  8 | blank    back  1 | -\nleaf 2  front  8 | blank\nsheets 3, leaves 2, blanks 2\nprint on both sides, flip on the short edge\npages of 595 x 842 pt on sheets of 595 x 842 pt, scale 0.706650831\npages of 595 x 842 pt on sheets of 10 x 20 pt, scale 0.706650831\n"

@@ -1,6 +1,6 @@
 -- Worked examples: the marks and the lines of layings, how many leaves a signature has, and how many pages a document.
 use Rattle.std.proofs.Common.{◌≡◌, [], ◌∷◌, false, true, map, refl}
-use Rattle.std.specs.Prelude.{codes, pos, ℕ, ℤ, List, None, Some}
+use Rattle.std.specs.Prelude.{codes, pos, ◌*◌, ℕ, ℤ, List, None, Option, Some}
 use Rattle.std.specs.Fmt.{digits}
 use Rattle.rules.specs.Papers.{Paper, points}
 use Rattle.rules.specs.Specification.{Turn, Upright, Left, Half}
@@ -8,12 +8,15 @@ use Rattle.rules.specs.Rows.{Row, all_pages}
 use Rattle.rules.specs.Made.{MadeSlot, Blank, Placed, MadeSheet}
 use Rattle.rules.specs.Choice.{InOne, OfSides}
 use Rattle.pagespec.specs.declared.item.Turn.TheVariants as by
+use Rattle.rows.specs.declared.choices.Part.TheVariants as part
+use Rattle.rows.specs.declared.printed.Begun.TheVariants as begun
 use Rattle.layouts.specs.Cells.{in_points}
 use Rattle.layouts.specs.Grids.{plain_order}
 use Rattle.layouts.specs.Placed.{Room}
 use Rattle.layouts.specs.declared.setting.Setting.{Setting}
 use Rattle.row_sheets.specs.SameScale.{at_one_scale}
 use Rattle.row_sheets.specs.Shapes.{filling}
+use Rattle.row_sheets.specs.declared.poster.Poster.{Poster}
 use Rattle.sheet_text.specs.PageNumbers.{number_lines}
 use Rattle.sheet_text.specs.declared.numbers.Numbers.{Numbers}
 use Rattle.dressing.specs.Drawn.{stroke_line}
@@ -22,13 +25,14 @@ use Rattle.preview.specs.declared.guides.Guide.{Guide}
 use Rattle.preview.specs.declared.guides.GuideKind.{GuideKind}
 use Rattle.preview.specs.declared.guides.GuideKind.TheVariants.{Margin, Fold, Cut}
 use Rattle.row_runs.specs.declared.sheet_request.Laying.TheVariants as laying
+use Rattle.row_runs.specs.declared.sheet_request.SheetRequest.{SheetRequest}
 use Rattle.row_runs.specs.declared.sheet_request.Scheme.TheVariants as scheme
 use Rattle.row_runs.specs.Evened.{at_common_scale}
-use Rattle.row_runs.specs.Guides.{guides_in}
-use Rattle.row_runs.specs.Marked.{strokes_in}
+use Rattle.row_runs.specs.Guides.{guides_in, margin_lines}
+use Rattle.row_runs.specs.Marked.{strokes_in, tile_room}
 use Rattle.row_runs.specs.SwappedMargins.{swapped}
 use Rattle.row_runs.specs.Turning.{turn_on, turned_slot}
-use Rattle.row_runs.specs.Numbers.{below_middle}
+use Rattle.row_runs.specs.Numbers.{below_middle, numbers_asked}
 use Rattle.row_runs.specs.Sheets.{leaves_in, sheets_laid}
 use Rattle.row_runs.specs.DeclaredPages.{declared_page_count}
 
@@ -78,6 +82,34 @@ booklet_is_folded = refl
 
 leaves_are_cut : map kind_of (guides_in (laying.InCells halves scheme.Leaves)) ≡ Margin ∷ Margin ∷ Margin ∷ Margin ∷ Cut ∷ []
 leaves_are_cut = refl
+
+-- a zine is folded between all its cells, and not cut
+zine_is_folded : map kind_of (guides_in (laying.InCells (record halves { grid = record { rows = 2; columns = 4; turned = false } }) scheme.Zine))
+    ≡ Margin ∷ Margin ∷ Margin ∷ Margin ∷ Fold ∷ Fold ∷ Fold ∷ Fold ∷ []
+zine_is_folded = refl
+
+-- so many points, in grains
+abbrev in_grains : (count : ℕ) → ℤ
+in_grains count = pos (127_000_000_000 * count)
+
+-- margins of 10, 20, 30 and 40 points at the left, the right, the lower and the upper edge
+abbrev four_margins : Room
+four_margins = record halves.room { right = 2_000_000; bottom = 3_000_000; top = 4_000_000 }
+
+each_margin_is_drawn : margin_lines four_margins
+    ≡ record { kind = Margin; start = (in_grains 10, pos 0); end = (in_grains 10, in_grains 200) }
+    ∷ record { kind = Margin; start = (in_grains 80, pos 0); end = (in_grains 80, in_grains 200) }
+    ∷ record { kind = Margin; start = (pos 0, in_grains 30); end = (in_grains 100, in_grains 30) }
+    ∷ record { kind = Margin; start = (pos 0, in_grains 160); end = (in_grains 100, in_grains 160) }
+    ∷ []
+each_margin_is_drawn = refl
+
+-- a sheet of a poster has its margin along all edges
+abbrev poster : Poster
+poster = record { sheet = points 100 200; columns = 2; rows = 1; edge = 1_000_000; overlap = 0; scale = None }
+
+poster_margins : margin_lines (tile_room poster) ≡ margin_lines halves.room
+poster_margins = refl
 
 -- cards have one scale, if that is asked for
 cards_have_one : (papers : List Paper) (row : Row) → at_common_scale true (laying.InCells halves (scheme.Cards 2)) papers row
@@ -136,6 +168,22 @@ numbered_below : number_lines below_pages 0
     ∷ []
 unfolding digits
 numbered_below = refl
+
+-- the numbers of backs are moved as their pages are: with 20 points at the inner edge, those of the second sheet are 10 points nearer to the left edge
+abbrev two_sides : SheetRequest
+two_sides = record {
+  row = record { choice = record { ranges = None; part = part.All; backwards = false }; signing = None; last_at_back = false; begun = begun.Pages 0 };
+  laying = laying.InCells (record halves { room = bound; grid = record { rows = 1; columns = 1; turned = false } }) (scheme.Grid 1);
+  same_scale = false;
+}
+
+abbrev places_of : Option Numbers → List (List ℤ)
+places_of None = []
+places_of (Some numbers) = map (λ (sheet : MadeSheet). map across sheet.slots) numbers.places
+
+numbers_are_moved : places_of (numbers_asked 2 (points 70 180 ∷ points 70 180 ∷ []) two_sides (Some bound) (Some (record { size = pos 1_143_000_000_000; first = 1 })))
+    ≡ (pos 20_000_000_000 ∷ []) ∷ (pos 10_000_000_000 ∷ []) ∷ []
+numbers_are_moved = refl
 
 -- signatures of eight sides have two leaves each; one of twenty pages has five
 eight_sides : leaves_in (Some (OfSides 8)) (all_pages 20) ≡ 2
