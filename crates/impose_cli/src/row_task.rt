@@ -1,7 +1,6 @@
 //! The task of laying a row of pages on sheets.
 ghost use Rattle.std.specs.Prelude.{◌≡◌, ◌<◌, ◌&&◌, ◌⊎◌, ℕ, length, true, IfErr, IfOk, None, Ok};
-ghost use Rattle.std.specs.Prelude.{if◌then◌else◌, map, option_map, string_bytes};
-ghost use Rattle.impose_cli.specs.Endings.{Comes, RefusesRowTaskRun, edge_of_world, shown};
+ghost use Rattle.std.specs.Prelude.{if◌then◌else◌, map};
 ghost use Rattle.rules.specs.Parts.{bytes_of};
 ghost use Rattle.impose_messages.specs.Faults.{without_memory};
 ghost use Rattle.impose_cli.specs.Faults.{of_asked as asked_fault};
@@ -10,9 +9,9 @@ ghost use Rattle.impose_words.specs.Arranging.{turn_for as turn_by};
 ghost use Rattle.impose_words.specs.Choices.{choice_in};
 ghost use Rattle.impose_cli.specs.RowTasks.{guarded_in, first_paper as first_paper_of};
 ghost use Rattle.impose_cli.specs.Claims.{IsToldBy};
-ghost use Rattle.impose_cli.specs.RowTasks.{ArePapersOf, FindsForRow, HasOptions, HasTurns, ImposesTask, IsRowTask, LaysRows, counted_in};
+ghost use Rattle.impose_cli.specs.RowTasks.{ArePapersOf, FindsForRow, HasTurns, IsRowTask, LaysRows, counted_in};
 ghost use Rattle.std.specs.List.{list_all};
-ghost use Rattle.impose_cli.specs.RowTasks.{MayBeLaidSo, TellsOnePaper, has_cuts_apart as cuts_apart};
+ghost use Rattle.impose_cli.specs.RowTasks.{TellsOnePaper, has_cuts_apart as cuts_apart};
 ghost use Rattle.layouts.specs.Grids.{is_same as are_same};
 ghost use Rattle.impose_cli.specs.RowTasks.{counted_among, cut_by_named, cut_in, cut_on, paper_for, paper_turned, papers_in as papers_found, papers_to_place, row_paper, turns_in, turns_of};
 ghost use Rattle.impose_cli.specs.Reaches.{reach_in, reach_on, told_own};
@@ -21,33 +20,26 @@ ghost use Rattle.papers.specs.Own.{papers_of_each_page};
 ghost use Rattle.papers.specs.Reach.{page_boxes};
 ghost use Rattle.impose_cli.specs.Taken.{row_or_none, taken_in};
 ghost use Rattle.impose_cli.specs.Refusals.{RefusesDocument, RefusesRowTask};
-ghost use Rattle.impose_cli.specs.Tasks.{HasPageCount, page_paper_found};
+ghost use Rattle.impose_cli.specs.Tasks.{HasPageCount, page_paper_found, taken_text};
 ghost use Rattle.dsc.specs.PagesBehind.{pages_behind};
 ghost use Rattle.dsc.specs.Serving.{ArePartsOf, Serve};
+ghost use Rattle.dsc.specs.declared.parts.Parts.{Parts};
 
-use crate::attempt::{Attempt, refused_before};
 use crate::claims::claims_of;
-use crate::laying::{RowLaying, check_options, papers_for, row_asked, row_laying};
+use crate::laying::{RowLaying, check_options, papers_for, row_laying};
 use crate::reach::reach_of_row;
-use crate::runs::impose_job;
 use crate::taken::{papers_on_row, papers_taken, row_of_choice, taken_count};
-use crate::task::{paper_of_pages, text_to_impose};
-use command_words::name_of;
 use dsc::{Document, Parts};
 use guard::RoomyText;
-use impose_messages::{Findings, ImposeFault, PaperOrigin, Scales, refused_document};
+use impose_messages::{Findings, ImposeFault, PaperOrigin, refused_document};
 use impose_words::{ImposeRequest, Layout, Turning};
-use imposer::{Report, RunError};
 use layouts::is_of_size;
 use lengths::Paper;
 use pagespec::Turn;
-use papers::{Cut, Reach, cut_by, first_instead_of, merge_near_sizes, page_papers};
-use row_runs::{RowJob, SheetError, SheetRequest, turned_paper};
+use papers::{Cut, Reach, cut_by, document_paper, first_instead_of, merge_near_sizes, page_papers};
+use row_runs::{SheetError, turned_paper};
 use rows::RowError;
 use std::alloc::{AllocError, Global};
-use std::sync::Wait;
-use std::thread::Threads;
-use world::World;
 
 /// The task of imposing a row of pages.
 #[derive(Drop)]
@@ -396,46 +388,35 @@ fn paper_of_first(row: &[Option<u32>], papers: &[Paper], blank: &Paper) -> Paper
     }
 }
 
-/// Imposes a task. `parts` says where the pages and the trailer of the task's text begin. Returns the scales of the pages too.
-pub(crate) fn impose_task<R: Threads + Wait + Sync, W: World>(
-    rt: &R,
-    alloc: Global,
-    request: &ImposeRequest,
-    task: &RowTask,
-    parts: Parts,
-    world: W,
-) -> (Attempt<W, Report>, Option<Scales>)
-    requires countable { (W.seen world).failures < u64.MAX }
-    requires laid { MayBeLaidSo task.now.laying }
-    requires options { HasOptions request.now }
-    requires parts { Serve parts task.now.text.items }
-    ensures { Comes (RefusesRowTaskRun request.now task.now) (ImposesTask request.now task.now result.1)
-        (option_map string_bytes request.now.outfile) (edge_of_world (W.tells world) W.seen W.Output.seen) result.0.outcome
-        world result.0.rest (shown W.Output.seen result.0.rest) }
+/// The document, with the guard if `is_guarded`. `Document::from_parts` can read this text with the parts of `input`. The only error is refused
+/// memory.
+pub(crate) fn text_to_impose(
+    is_guarded: bool,
+    sheet_paper: &Paper,
+    input: RoomyText,
+) -> Result<RoomyText, AllocError>
+    ensures taken { IfOk result (λ text. text.items ≡ taken_text is_guarded sheet_paper.now input.items) }
+    ensures parts { IfOk result (λ text. (parts : Parts) → ArePartsOf input.items parts → Serve parts text.items) }
 {
-    let document = match Document::from_parts(task.text.as_slice(), parts) {
-        Ok(document) => document,
-        Err(error) => {
-            let fault = ImposeFault::Run(RunError::from(error));
-            return (refused_before(fault, world), None);
-        }
-    };
-    // Written out as in look.rt: with a function that makes the job for both, the prover isn't told which modules hold the types of its fields.
-    let job = RowJob {
-        document: &document,
-        turns: task.turns.as_slice(),
-        papers: task.papers.as_slice(),
-        asked: SheetRequest {
-            row: row_asked(request),
-            laying: task.laying.lent(),
-            same_scale: request.spacing.same_scale,
+    if !is_guarded {
+        return Ok(input);
+    }
+    let mut text = input;
+    text.put_guard(Some(sheet_paper))?;
+    Ok(text)
+}
+
+/// The paper of the pages, and where it is taken from: the command line, or else the document, or else the user's default paper.
+pub(crate) fn paper_of_pages(request: &ImposeRequest, input: &[u8]) -> (Paper, PaperOrigin)
+    ensures { result ≡ page_paper_found request.now.page_paper request.now.default_paper input.now }
+{
+    match request.page_paper {
+        Some(page_paper) => (page_paper, PaperOrigin::Named),
+        None => match document_paper(input, &request.default_paper) {
+            Some((page_paper, comment)) => (page_paper, PaperOrigin::ByComment(comment)),
+            None => (request.default_paper, PaperOrigin::ByDefault),
         },
-        swapped: request.swaps_margins(),
-        border: request.border,
-        inset: request.spacing.free.trim,
-        marks: request.marks,
-    };
-    impose_job(rt, alloc, &job, name_of(&request.outfile), world)
+    }
 }
 
 /// The fault that reports why a row of a document of `pages` pages can't be imposed.

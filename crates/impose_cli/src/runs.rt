@@ -14,15 +14,15 @@ ghost use Rattle.row_runs.specs.Sheets.{MayBeAsked};
 ghost use Rattle.dsc.specs.Serving.{Serve};
 ghost use Rattle.impose_cli.specs.Tasks.{IsSpecLayout, run_asked};
 ghost use Rattle.impose_cli.specs.RowRuns.{Imposes};
-ghost use Rattle.impose_cli.specs.RowTasks.{LaysRows};
-ghost use Rattle.impose_cli.specs.Endings.{Comes, RefusesRowJob, RefusesTaskRun, RunsRequest, edge_of_world, reported_by, shown};
+ghost use Rattle.impose_cli.specs.RowTasks.{HasOptions, ImposesTask, LaysRows, MayBeLaidSo};
+ghost use Rattle.impose_cli.specs.Endings.{Comes, RefusesRowJob, RefusesRowTaskRun, RefusesTaskRun, RunsRequest, edge_of_world, reported_by, shown};
 ghost use Rattle.impose_cli.specs.Endings.{BreaksOff, Holds, IsNotCreated, IsSaidOf, WritesJob, WritesTask};
 ghost use Rattle.impose_messages.specs.declared.fault.ImposeFault.TheVariants as faults;
 ghost use Rattle.world.specs.declared.rest.Rest.TheVariants as rests;
 
 use crate::attempt::{Attempt, refused_before};
-use crate::laying::is_drawn;
-use crate::row_task::{asked_fault_of, impose_task, row_task};
+use crate::laying::{is_drawn, row_asked};
+use crate::row_task::{RowTask, asked_fault_of, row_task};
 use crate::task::{Task, WORKERS, task_for};
 use command_words::name_of;
 use dsc::{Document, Parts};
@@ -31,7 +31,7 @@ use impose_messages::{Done, Findings, Finished, ImposeFault, Scales};
 use impose_words::{ImposeRequest, Layout};
 use imposer::{Job, NoListener, Open, Report, RunError, Sink, run_plan};
 use pagespec::{Spec, read_spec};
-use row_runs::{RowJob, plan_error};
+use row_runs::{RowJob, SheetRequest, plan_error};
 use sheet_plan::Plan;
 use std::alloc::Global;
 use std::io::ErrorKind;
@@ -85,9 +85,51 @@ fn run_row<R: Threads + Wait + Sync, W: World>(
     }
 }
 
+/// Imposes the task of a row. `parts` says where the pages and the trailer of the task's text begin. Returns the scales of the pages too.
+fn impose_task<R: Threads + Wait + Sync, W: World>(
+    rt: &R,
+    alloc: Global,
+    request: &ImposeRequest,
+    task: &RowTask,
+    parts: Parts,
+    world: W,
+) -> (Attempt<W, Report>, Option<Scales>)
+    requires countable { (W.seen world).failures < u64.MAX }
+    requires laid { MayBeLaidSo task.now.laying }
+    requires options { HasOptions request.now }
+    requires parts { Serve parts task.now.text.items }
+    ensures { Comes (RefusesRowTaskRun request.now task.now) (ImposesTask request.now task.now result.1)
+        (option_map string_bytes request.now.outfile) (edge_of_world (W.tells world) W.seen W.Output.seen) result.0.outcome
+        world result.0.rest (shown W.Output.seen result.0.rest) }
+{
+    let document = match Document::from_parts(task.text.as_slice(), parts) {
+        Ok(document) => document,
+        Err(error) => {
+            let fault = ImposeFault::Run(RunError::from(error));
+            return (refused_before(fault, world), None);
+        }
+    };
+    // Written out as in look.rt: with a function that makes the job for both, the prover isn't told which modules hold the types of its fields.
+    let job = RowJob {
+        document: &document,
+        turns: task.turns.as_slice(),
+        papers: task.papers.as_slice(),
+        asked: SheetRequest {
+            row: row_asked(request),
+            laying: task.laying.lent(),
+            same_scale: request.spacing.same_scale,
+        },
+        swapped: request.swaps_margins(),
+        border: request.border,
+        inset: request.spacing.free.trim,
+        marks: request.marks,
+    };
+    impose_job(rt, alloc, &job, name_of(&request.outfile), world)
+}
+
 /// Imposes the row of a job, and writes the sheets to the file of this name, or to standard output if there is no name. Returns the scales of the
 /// pages too.
-pub(crate) fn impose_job<R: Threads + Wait + Sync, W: World>(
+fn impose_job<R: Threads + Wait + Sync, W: World>(
     rt: &R,
     alloc: Global,
     job: &RowJob<'_, '_>,

@@ -3,7 +3,6 @@ ghost use Rattle.std.specs.Prelude.{◌≡◌, ◌⊎◌, ℕ, List, ◌<◌, �
 ghost use Rattle.std.specs.Ordering.{int_eq};
 ghost use Rattle.rules.specs.Run.{most_pages};
 ghost use Rattle.dsc.specs.Serving.{ArePartsOf, Serve};
-ghost use Rattle.dsc.specs.declared.parts.Parts.{Parts};
 ghost use Rattle.rules.specs.Choice.{sides_for};
 ghost use Rattle.rows.specs.Sewing.{signing_of};
 ghost use Rattle.layouts.specs.Grids.{bound};
@@ -12,8 +11,8 @@ ghost use Rattle.layouts.specs.Refusals.{why_not_bound};
 ghost use Rattle.layouts.specs.declared.error.ArrangementError.{ArrangementError};
 ghost use Rattle.impose_messages.specs.Faults.{without_memory};
 ghost use Rattle.impose_cli.specs.RowTasks.{has_specification as is_made_for};
-ghost use Rattle.impose_cli.specs.Tasks.{ComesToSpec, FindsBySpec, HasPageCount, IsTask, IsWritten, page_paper_found};
-ghost use Rattle.impose_cli.specs.Tasks.{is_said as says, taken_text};
+ghost use Rattle.impose_cli.specs.Tasks.{ComesToSpec, FindsBySpec, HasPageCount, IsTask, IsWritten};
+ghost use Rattle.impose_cli.specs.Tasks.{is_said as says};
 ghost use Rattle.impose_cli.specs.Refusals.{HasNoFault, HasOnePaper, HasOtherPapers, IsSpecification, RefusesDocument, RefusesFor, RefusesSpecification, RefusesTask, why_not_specified};
 ghost use Rattle.impose_cli.specs.Precheck.{IsPossible, RefusesUnread, named_cells_paper};
 ghost use Rattle.impose_words.specs.declared.request.Layout.TheVariants as layout;
@@ -22,19 +21,18 @@ ghost use Rattle.impose_messages.specs.declared.fault.ImposeFault.TheVariants as
 use crate::claims::claims_of;
 use crate::laying::{check_sheets, laying_for, papers_for, row_asked, spec_named};
 use crate::reach::reach_over;
-use crate::row_task::has_one_paper;
+use crate::row_task::{has_one_paper, paper_of_pages, text_to_impose};
 use crate::taken::{row_of_choice, taken_count};
 use dsc::{Document, Parts};
 use guard::RoomyText;
-use impose_messages::{Findings, ImposeFault, PaperOrigin, refused_document};
+use impose_messages::{Findings, ImposeFault, refused_document};
 use impose_words::{ImposeRequest, Layout, Spacing, Turning};
 use imposer::{Options, Workers};
 use layouts::{Binding, Cells, Papers, arrange, bind};
 use lengths::Paper;
 use pagespec::{Spec, Turn, write_spec};
-use papers::document_paper;
 use rows::{Signing, auto_sides};
-use std::alloc::{AllocError, Global};
+use std::alloc::Global;
 
 /// The task of imposing a document by a specification.
 #[derive(Drop)]
@@ -174,37 +172,6 @@ fn has_specification(layout: &Layout) -> bool
     ensures { result ≡ is_made_for layout.now }
 {
     matches!(layout, Layout::NUp(_) | Layout::Booklet { .. })
-}
-
-/// The document, with the guard if `is_guarded`. `Document::from_parts` can read this text with the parts of `input`. The only error is refused
-/// memory.
-pub(crate) fn text_to_impose(
-    is_guarded: bool,
-    sheet_paper: &Paper,
-    input: RoomyText,
-) -> Result<RoomyText, AllocError>
-    ensures taken { IfOk result (λ text. text.items ≡ taken_text is_guarded sheet_paper.now input.items) }
-    ensures parts { IfOk result (λ text. (parts : Parts) → ArePartsOf input.items parts → Serve parts text.items) }
-{
-    if !is_guarded {
-        return Ok(input);
-    }
-    let mut text = input;
-    text.put_guard(Some(sheet_paper))?;
-    Ok(text)
-}
-
-/// The paper of the pages, and where it is taken from: the command line, or else the document, or else the user's default paper.
-pub(crate) fn paper_of_pages(request: &ImposeRequest, input: &[u8]) -> (Paper, PaperOrigin)
-    ensures { result ≡ page_paper_found request.now.page_paper request.now.default_paper input.now }
-{
-    match request.page_paper {
-        Some(page_paper) => (page_paper, PaperOrigin::Named),
-        None => match document_paper(input, &request.default_paper) {
-            Some((page_paper, comment)) => (page_paper, PaperOrigin::ByComment(comment)),
-            None => (request.default_paper, PaperOrigin::ByDefault),
-        },
-    }
 }
 
 /// Facts about a document's pages, which are all placed by one paper, their number, and the document's parts. Fails only if the document or memory is

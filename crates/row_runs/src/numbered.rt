@@ -11,7 +11,7 @@ use crate::error::SheetError;
 use crate::evened::at_common_scale;
 use crate::reaching::check_reach;
 use crate::sheet_request::{Laying, SheetRequest, lay_row, leaves_in};
-use crate::swapped_margins::swapped_sheets;
+use crate::turning::swapped_sheets;
 use dressing::Numbering;
 use layouts::{Room, cell_size, grains};
 use lengths::{Grains, Paper};

@@ -1,17 +1,14 @@
 //! Exchanges left and right margins on backs. Leaves are printed on both sides, so sheets are fronts and backs in turn.
-ghost use Rattle.std.specs.Prelude.{◌≡◌, ◌^◌, ◌≤◌, [], IfOk, IfSome, is_some, length, nat_abs, true};
-ghost use Rattle.rules.specs.Run.{most_sheets};
-ghost use Rattle.pagespec.specs.Items.{item_of};
+ghost use Rattle.std.specs.Prelude.{◌≡◌, ◌^◌, ◌≤◌, IfSome, is_some, nat_abs, pos, true};
+ghost use Rattle.pagespec.specs.Items.{item_of, measure_of};
 ghost use Rattle.row_runs.specs.SwappedMargins as meaning;
-ghost use Rattle.row_runs.specs.Reaching.{are_reached, is_moved_near};
-ghost use Rattle.row_runs.specs.Turning.{turn_on};
+ghost use Rattle.row_runs.specs.Reaching.{is_moved_near, is_writable_offset};
+ghost use Rattle.row_runs.specs.Turning.{shifted as shifted_by};
 
 use crate::sheet_request::Laying;
-use crate::turning::{shifted, turned_sheets};
 use layouts::Room;
-use pagespec::Item;
-use sheet_plan::MadeSheets;
-use std::alloc::{AllocError, Global};
+use lengths::Number;
+use pagespec::{Item, Measure};
 
 /// The room of a laying in cells, if its left and right margins are exchanged on backs. None otherwise.
 pub(crate) fn swapped_room_in(swapped: bool, laying: &Laying<'_>) -> Option<Room>
@@ -21,19 +18,6 @@ pub(crate) fn swapped_room_in(swapped: bool, laying: &Laying<'_>) -> Option<Room
         Laying::InCells { setting, .. } if swapped => Some(setting.room),
         _ => None,
     }
-}
-
-/// These sheets, with left and right margins exchanged on backs if `swap` is given. Pages on backs are shifted by the difference of the margins.
-pub(crate) fn swapped_sheets(
-    alloc: Global,
-    swap: &Option<Room>,
-    sheets: MadeSheets,
-) -> Result<MadeSheets, AllocError>
-    requires few { length sheets ≤ most_sheets }
-    requires reached { are_reached (turn_on []) swap.now sheets ≡ true }
-    ensures { IfOk result (λ made. made ≡ meaning.swapped swap.now sheets) }
-{
-    turned_sheets(alloc, &[], swap, sheets)
 }
 
 /// The room whose left and right margins are exchanged on this sheet (counted from 0). None on sheets with even numbers, since only sheets with odd
@@ -69,4 +53,21 @@ fn swap_shift(room: &Room) -> i64
     ensures in_range { nat_abs result ≤ 10 ^ 17 }
 {
     room.right as i64 - room.left as i64
+}
+
+/// The measure increased by `by` times 10^-5 of its unit. None if the size of the result would be 100,000 units or more.
+pub(crate) fn shifted(by: i64, measure: Measure) -> Option<Measure>
+    requires { nat_abs by ≤ 10 ^ 17 }
+    ensures value { IfSome result (λ moved. measure_of moved ≡ shifted_by by (measure_of measure)) }
+    ensures near { is_some result ≡ is_writable_offset (shifted_by by (measure_of measure)) }
+    ensures stays { by ≡ pos 0 → is_some result ≡ true }
+{
+    let number = i128::from(measure.number.billionths()) + 10_000 * i128::from(by);
+    match i64::try_from(number) {
+        Ok(number) => Some(Measure {
+            number: Number::new(number)?,
+            unit: measure.unit,
+        }),
+        Err(_) => None,
+    }
 }

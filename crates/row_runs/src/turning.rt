@@ -1,20 +1,20 @@
 //! Turns pages before they are placed.
-ghost use Rattle.std.specs.Prelude.{◌≡◌, ◌^◌, ◌<◌, ◌≤◌, IfOk, IfSome, IsTrue, OnOk, false, is_some, length, map, nat_abs, pos, true};
+ghost use Rattle.std.specs.Prelude.{◌≡◌, ◌^◌, ◌<◌, ◌≤◌, [], IfOk, IfSome, IsTrue, OnOk, false, is_some, length, map, nat_abs, pos, true};
 ghost use Rattle.std.specs.List.{list_all};
 ghost use Rattle.rules.specs.Papers.{is_side};
 ghost use Rattle.rules.specs.Placement.{turned as turned_point};
 ghost use Rattle.rules.specs.Run.{most_sheets};
 ghost use Rattle.rules.specs.Specification.{Upright};
-ghost use Rattle.pagespec.specs.Items.{item_of, measure_of, turn_of};
+ghost use Rattle.pagespec.specs.Items.{item_of, turn_of};
 ghost use Rattle.sheet_plan.specs.OfSheets.{placed_of, slot_of, slots_at};
 ghost use Rattle.row_runs.specs.SwappedMargins.{swapped, moved_item as moved_of, moved_slot};
 ghost use Rattle.row_runs.specs.Reaching as reaching;
 ghost use Rattle.row_runs.specs.Turning as meaning;
 
-use crate::swapped_margins::{moved_item, swapped_room_on};
+use crate::swapped_margins::{moved_item, shifted, swapped_room_on};
 use layouts::Room;
 use lengths::{Grains, Number, Paper};
-use pagespec::{Item, Measure, Turn};
+use pagespec::{Item, Turn};
 use sheet_plan::{MadeSheets, MadeSlot, PlacedSlot};
 use std::alloc::{AllocError, Global};
 
@@ -54,6 +54,19 @@ pub(crate) fn turned_sheets(
         None if turns.is_empty() => Ok(sheets),
         _ => all_sheets(alloc, turns, swap, &sheets),
     }
+}
+
+/// These sheets, with left and right margins exchanged on backs if `swap` is given. Pages on backs are shifted by the difference of the margins.
+pub(crate) fn swapped_sheets(
+    alloc: Global,
+    swap: &Option<Room>,
+    sheets: MadeSheets,
+) -> Result<MadeSheets, AllocError>
+    requires few { length sheets ≤ most_sheets }
+    requires reached { reaching.are_reached (meaning.turn_on []) swap.now sheets ≡ true }
+    ensures { IfOk result (λ made. made ≡ swapped swap.now sheets) }
+{
+    turned_sheets(alloc, &[], swap, sheets)
 }
 
 fn all_sheets(
@@ -214,21 +227,4 @@ fn scaled_length(scale: Number, side: Grains) -> i64
 {
     let length = u128::from(scale.billionths().unsigned_abs()) * side.get().unsigned_abs();
     ((length + 1_269_999_999_999_999) / 1_270_000_000_000_000) as i64
-}
-
-/// The measure increased by `by` times 10^-5 of its unit. None if the size of the result would be 100,000 units or more.
-pub(crate) fn shifted(by: i64, measure: Measure) -> Option<Measure>
-    requires { nat_abs by ≤ 10 ^ 17 }
-    ensures value { IfSome result (λ moved. measure_of moved ≡ meaning.shifted by (measure_of measure)) }
-    ensures near { is_some result ≡ reaching.is_writable_offset (meaning.shifted by (measure_of measure)) }
-    ensures stays { by ≡ pos 0 → is_some result ≡ true }
-{
-    let number = i128::from(measure.number.billionths()) + 10_000 * i128::from(by);
-    match i64::try_from(number) {
-        Ok(number) => Some(Measure {
-            number: Number::new(number)?,
-            unit: measure.unit,
-        }),
-        Err(_) => None,
-    }
 }

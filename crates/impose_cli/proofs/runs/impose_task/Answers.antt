@@ -5,7 +5,7 @@ use Rattle.impose_cli.specs.Refusals.{IsDocumentRefused}
 use Rattle.impose_cli.specs.RowTasks.{ImposesTask}
 use Rattle.impose_cli.proofs.Coming.{comes_refused}
 use Rattle.impose_cli.proofs.Rows.{task_comes}
-use Rattle.impose_cli.proofs.row_task.impose_task.Goals as goal
+use Rattle.impose_cli.proofs.runs.impose_task.Goals as goal
 
 pub returns-in-Err : goal.returns-in-Err
 returns-in-Err g c =

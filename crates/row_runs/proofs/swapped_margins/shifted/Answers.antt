@@ -7,7 +7,7 @@ use Rattle.rules.specs.Specification.{Measure}
 use Rattle.lengths.specs.Ranges.{FitsNumber}
 use Rattle.lengths.specs.Units.{length_unit}
 use Rattle.row_runs.proofs.Reach.{is_far_if, is_near_if, unmoved_near}
-use Rattle.row_runs.proofs.turning.shifted.Goals as goal
+use Rattle.row_runs.proofs.swapped_margins.shifted.Goals as goal
 
 abbrev in_unit : ℤ → LengthUnit → Measure
 in_unit z unit = record { number = z; unit = unit }
