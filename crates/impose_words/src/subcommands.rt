@@ -206,7 +206,7 @@ const BOOKLET: [Argument; 13] = [
     Argument::Valued(
         "signature",
         "SIDES",
-        "Fold the leaves in parts of this number of sides, a multiple of four; auto makes parts of at most eight leaves [default: one part]",
+        "Fold the leaves in signatures of this number of sides, a multiple of four; auto makes signatures of at most eight leaves [default: one signature]",
     ),
     Argument::Valued(
         "creep",
