@@ -60,30 +60,30 @@ edge_of_world tells seen shows = record { tells = tells; seen = seen; shows = sh
 
 -- the world is back, and has refused an output of this name with an error of this kind
 abbrev pub Refused : {W O : Type 0} → Edge W O → (name : Option (List ℕ)) → ErrorKind → (before : WorldView) → Rest W O → Type 0
-Refused {W} edge_of_world name cause before rest = (left : W) × (rest ≡ World left) × HasRefused (creating name) cause before (edge_of_world.seen left)
+Refused {W} edge name cause before rest = (left : W) × (rest ≡ World left) × HasRefused (creating name) cause before (edge.seen left)
 
 -- the world is back, and the same is seen of it: it was asked for nothing
 abbrev pub IsBack : {W O : Type 0} → Edge W O → (before : WorldView) → Rest W O → Type 0
-IsBack {W} edge_of_world before rest = (left : W) × (rest ≡ World left) × (edge_of_world.seen left ≡ before)
+IsBack {W} edge before rest = (left : W) × (rest ≡ World left) × (edge.seen left ≡ before)
 
 -- no output of this name could be created: the fault says so, with the world's cause
 abbrev pub IsUncreatedFault : {W O : Type 0} → Edge W O → (name : Option (List ℕ)) → (before : WorldView) → ImposeFault → Rest W O → Type 0
-IsUncreatedFault edge_of_world name before (fault.Write n (Some cause)) rest = (n ≡ 0) × Refused edge_of_world name (error_kind cause) before rest
-IsUncreatedFault edge_of_world name before other rest = ⊥
+IsUncreatedFault edge name before (fault.Write n (Some cause)) rest = (n ≡ 0) × Refused edge name (error_kind cause) before rest
+IsUncreatedFault edge name before other rest = ⊥
 
 -- or memory ran out before there was a byte to write: then the world was asked for nothing, or has refused for want of memory
 abbrev pub IsNotCreated : {W O : Type 0} → Edge W O → (name : Option (List ℕ)) → (before : WorldView) → ImposeFault → Rest W O → Type 0
-IsNotCreated edge_of_world name before f rest =
-    ((f ≡ without_memory) × (IsBack edge_of_world before rest ⊎ Refused edge_of_world name OutOfMemory before rest)) ⊎ IsUncreatedFault edge_of_world name before f rest
+IsNotCreated edge name before f rest =
+    ((f ≡ without_memory) × (IsBack edge before rest ⊎ Refused edge name OutOfMemory before rest)) ⊎ IsUncreatedFault edge name before f rest
 
 -- the output is there, and hasn't failed
 abbrev pub IsUnfailed : {W O : Type 0} → Edge W O → Rest W O → Type 0
-IsUnfailed {W} {O} edge_of_world rest = (output : O) × (rest ≡ Output output) × ((edge_of_world.shows output).failures ≡ 0)
+IsUnfailed {W} {O} edge rest = (output : O) × (rest ≡ Output output) × ((edge.shows output).failures ≡ 0)
 
 -- the output is there, and has failed, for this cause
 abbrev pub HasFailed : {W O : Type 0} → Edge W O → Option Error → Rest W O → Type 0
-HasFailed {W} {O} edge_of_world cause rest =
-    (output : O) × (rest ≡ Output output) × (0 < (edge_of_world.shows output).failures) × (cause ≡ (edge_of_world.shows output).cause)
+HasFailed {W} {O} edge cause rest =
+    (output : O) × (rest ≡ Output output) × (0 < (edge.shows output).failures) × (cause ≡ (edge.shows output).cause)
 
 -- what is said of an output after so many bytes: its failure, or if it hasn't failed and has taken a byte, that memory ran out
 abbrev pub IsSaidOf : OutputView → (n : ℕ) → ImposeFault → Type 0
@@ -97,35 +97,35 @@ HasFirst old new text n = IfSome old (λ start. (n ≤ length text) × (new ≡ 
 
 -- an output of this name is there, with as many of the first bytes of this text as the fault says
 abbrev pub IsBroken : {W O : Type 0} → Edge W O → (name : Option (List ℕ)) → (text : List ℕ) → ImposeFault → Rest W O → Type 0
-IsBroken {W} {O} edge_of_world name text f rest =
-    (output : O) × (rest ≡ Output output) × (n : ℕ) × IsSaidOf (edge_of_world.shows output) n f
-    × HasFirst (told_if edge_of_world.tells name []) (edge_of_world.shows output).bytes text n
+IsBroken {W} {O} edge name text f rest =
+    (output : O) × (rest ≡ Output output) × (n : ℕ) × IsSaidOf (edge.shows output) n f
+    × HasFirst (told_if edge.tells name []) (edge.shows output).bytes text n
 
--- the output is there, with all that its sink told, and failed as often
+-- the output is there, with all that its sink took, and failed as often
 abbrev pub Holds : {W O : Type 0} → Edge W O → SinkView → Rest W O → Type 0
-Holds {W} {O} edge_of_world sink rest =
-    (output : O) × (rest ≡ Output output) × Keeps sink.bytes (edge_of_world.shows output).bytes × ((edge_of_world.shows output).failures ≡ sink.failures)
+Holds {W} {O} edge sink rest =
+    (output : O) × (rest ≡ Output output) × Keeps sink.bytes (edge.shows output).bytes × ((edge.shows output).failures ≡ sink.failures)
 
--- Memory ran out or a write failed, when the sink had taken so many bytes and told these: none was created, or an output of
+-- Memory ran out or a write failed, when the sink had taken so many bytes and reported these: none was created, or an output of
 -- this name is there, with all of them but some that wait.
 abbrev pub BreaksOff : {W O : Type 0} → Edge W O → (name : Option (List ℕ)) → (before : WorldView) → (taken : ℕ)
     → (told : Option (List ℕ)) → ImposeFault → Rest W O → Type 0
-BreaksOff {W} {O} edge_of_world name before taken told f rest =
-    IsNotCreated edge_of_world name before f rest
-    ⊎ ((output : O) × (rest ≡ Output output) × (waiting : List ℕ) × IsSaidOf (edge_of_world.shows output) (taken - length waiting) f
-    × (told ≡ append_known (named (edge_of_world.shows output).bytes) waiting))
+BreaksOff {W} {O} edge name before taken told f rest =
+    IsNotCreated edge name before f rest
+    ⊎ ((output : O) × (rest ≡ Output output) × (waiting : List ℕ) × IsSaidOf (edge.shows output) (taken - length waiting) f
+    × (told ≡ append_known (named (edge.shows output).bytes) waiting))
 
 -- What comes of what is to be written to the output of this name. It was written whole, without a failure; or it is refused, and
 -- this very world is back; or a whole output would have this text, and none was created, or one has its front. `Refuses` says why it is
 -- refused, and `Wrote` what a whole output was before and is now.
 abbrev pub Comes : {T W O : Type 0} → (Refuses : ImposeFault → Type 0) → (Wrote : (old new : Option (List ℕ)) → T → Type 0)
-    → (name : Option (List ℕ)) → (edge_of_world : Edge W O) → Result T ImposeFault → (world : W) → (rest : Rest W O) → (written : Option (List ℕ)) → Type 0
-Comes {T} Refuses Wrote name edge_of_world (Ok what) world rest written =
-    Wrote (told_if edge_of_world.tells name []) written what × IsUnfailed edge_of_world rest
-Comes {T} Refuses Wrote name edge_of_world (Err f) world rest written =
+    → (name : Option (List ℕ)) → (edge : Edge W O) → Result T ImposeFault → (world : W) → (rest : Rest W O) → (written : Option (List ℕ)) → Type 0
+Comes {T} Refuses Wrote name edge (Ok what) world rest written =
+    Wrote (told_if edge.tells name []) written what × IsUnfailed edge rest
+Comes {T} Refuses Wrote name edge (Err f) world rest written =
     (Refuses f × (rest ≡ World world))
     ⊎ ((text : List ℕ) × (what : T) × Wrote (Some []) (Some text) what
-    × (IsNotCreated edge_of_world name (edge_of_world.seen world) f rest ⊎ IsBroken edge_of_world name text f rest))
+    × (IsNotCreated edge name (edge.seen world) f rest ⊎ IsBroken edge name text f rest))
 
 -- ---- the sheets of a job
 
@@ -194,7 +194,7 @@ RefusesImposing (layout.Spec specs) r input f = RefusesSpecRun r input f
 RefusesImposing other r input f = RefusesRowRun r input f
 
 -- what comes of a request to impose this input
-abbrev pub RunsRequest : {W O : Type 0} → ImposeRequest → (input : List ℕ) → (edge_of_world : Edge W O) → Result Done ImposeFault
+abbrev pub RunsRequest : {W O : Type 0} → ImposeRequest → (input : List ℕ) → (edge : Edge W O) → Result Done ImposeFault
     → (world : W) → (rest : Rest W O) → (written : Option (List ℕ)) → Type 0
-RunsRequest r input edge_of_world outcome world rest written =
-    Comes (RefusesImposing r.layout r input) (IsImposed r input) (option_map string_bytes r.outfile) edge_of_world outcome world rest written
+RunsRequest r input edge outcome world rest written =
+    Comes (RefusesImposing r.layout r input) (IsImposed r input) (option_map string_bytes r.outfile) edge outcome world rest written

@@ -8,7 +8,7 @@ use Rattle.impose_cli.specs.declared.task.Task.{Task}
 
 -- ---- words
 
--- a specification as it stands between quotes. One that begins with a minus has its modulo, as pstops would take it for an
+-- a specification as it is written between quotes. One that begins with a minus has its modulo, as pstops would take it for an
 -- option
 abbrev pub quoted_spec : (spec : List ℕ) → List ℕ
 quoted_spec spec = text_if (begins_with_minus spec) (codes "1:") ++ spec

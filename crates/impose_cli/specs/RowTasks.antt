@@ -119,7 +119,7 @@ has_even_margins f = int_eq f.left f.right && int_eq f.bottom f.top
 abbrev pub has_one_margin : Free → Bool
 has_one_margin f = has_even_margins f && int_eq f.left f.bottom
 
--- margins are as even as the layout needs them: what is behind a part of a sheet, or turned by half, needs even ones
+-- margins are as even as the layout needs them: leaves, and sheets that are turned by half, need even ones
 abbrev pub is_even_enough : Layout → Free → Bool
 is_even_enough (layout.Stack cells duplex) f = not duplex || has_even_margins f
 is_even_enough (layout.Poster cells) f = has_one_margin f

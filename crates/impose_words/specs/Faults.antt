@@ -184,7 +184,7 @@ RefusesFound name found f = SaysWrong found f (first (wrong_sizes found) (wrong_
     ⊎ ((layout : Layout) × AsksFor name found layout × (wrong_sizes found ≡ None) × SaysWrong found f (wrong_for layout found))
 
 -- what a refusal says of the words: clap's own faults are those of the words, or a call for help or for the version. All others
--- come only if the command takes the words, so that help is told as nothing else
+-- come only if the command takes the words, so help is never reported as another fault
 abbrev pub RefusesCommand : (words : List Text) → RequestFault → Type 0
 RefusesCommand words (fault.Words error) = IsAmong (kind_of error) (fault_of impose words)
 RefusesCommand words fault.NoText = ⊥

@@ -51,8 +51,8 @@ abbrev pub has_two_left : Layout → Spacing → Bool
 has_two_left (layout.NUp cells) s = is_some s.inner && not (int_eq s.free.left (pos 0))
 has_two_left other s = false
 
--- the first such option: a file for sheets that are only shown; a paper for sheets that keep their own; a margin at an edge that
--- there isn't, or that has another; marks that aren't where that margin is; and marks outside of pages that have no room for them
+-- the first option that would do nothing: a file, though sheets are only shown; a paper, though sheets keep their own; an inner
+-- margin without an inner edge, or with a left margin too; cut marks with an inner margin, or without margins to hold them
 -- (RULES, 16, step 4)
 abbrev pub idle_option : ImposeRequest → Option IdleOption
 idle_option r = if shows_sheets r.product && is_some r.outfile then Some Outfile

@@ -9,7 +9,7 @@ abbrev pub held_upright : Paper → Paper
 held_upright paper = if int_lt paper.height paper.width then record { width = paper.height; height = paper.width } else paper
 
 -- the paper of the sheets of a layout, for pages of this paper: that of the pages. A booklet's sheets are held upright, so that two
--- pages stand side by side in their halves
+-- pages are side by side in their halves
 abbrev pub paper_for_pages : Layout → (page_paper : Paper) → Paper
 paper_for_pages (layout.Booklet signing long_edge) page_paper = held_upright page_paper
 paper_for_pages other page_paper = page_paper

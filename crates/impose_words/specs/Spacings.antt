@@ -72,7 +72,7 @@ zine_in s = record (plain (Exactly 4 2)) {
 }
 
 -- the inner edge of each half is at the fold, so the gap there has that margin on both sides; what is no length gives none
--- (RULES, 14.1)
+-- (RULES, 13.1)
 abbrev pub fold_gap : (gap inner : ℤ) → ℤ
 fold_gap gap inner = if is_length gap && is_length inner then gap +ℤ (inner +ℤ inner) else negsuc 0
 

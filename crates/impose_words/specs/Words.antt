@@ -86,7 +86,7 @@ opt_id opt.Preview = codes "preview"
 abbrev pub given : OptionId → (found : List Row) → Option Text
 given option found = first_of (opt_id option) found
 
--- what the text after an option asks for; without one something stands in its place, and a text may mean nothing
+-- what the text after an option asks for; without one a default; a text may mean nothing
 abbrev pub asked : {A : Type 0} → (unasked : A) → (Text → Option A) → Option Text → Option A
 asked unasked named None = Some unasked
 asked unasked named (Some text) = named text

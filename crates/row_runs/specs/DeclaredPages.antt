@@ -44,7 +44,7 @@ behind_trailer all (line ∷ more) =
 abbrev pub last_lines : (text : List ℕ) → List (List ℕ)
 last_lines text = behind_trailer (contents text) (contents text)
 
--- how many embedded documents are open behind a line
+-- how many embedded documents are open after a line
 abbrev pub depth_behind : ℕ → (line : List ℕ) → ℕ
 depth_behind depth line =
     if has_key (codes "%%BeginDocument" ∷ []) line then depth + 1

@@ -13,7 +13,7 @@ use Rattle.row_runs.specs.Numbers.{below_middle}
 use Rattle.row_runs.specs.declared.sheet_request.Laying.TheVariants as laying
 use Rattle.row_runs.specs.declared.sheet_request.Scheme.TheVariants as scheme
 
--- the number of the page in a slot stands at the foot of this cell, in its middle, as pages of this turn are held
+-- the number of the page in a slot is at the foot of this cell, in its middle, as pages of this turn are held
 abbrev pub SlotIsNumbered : Turn → Cell → (below : Option ℤ) → MadeSlot → Type 0
 SlotIsNumbered turn cell below Blank = ⊤
 SlotIsNumbered turn cell below (Placed place item paper) = IsAtFoot turn cell (number_point below paper item)

@@ -100,7 +100,7 @@ pub record IsLittle (z : ℤ) : Type 0 where
   pub some : pos 0 ≤ℤ z
   pub less : (z +ℤ pos 1) ≤ℤ fine 1
 
--- what is drawn is the turned page: each of its points stands where a page of the turned paper has that point, but for what
+-- what is drawn is the turned page: each of its points is where a page of the turned paper has that point, but for what
 -- is rounded
 pub record IsDrawnTurned (turn : Turn) (page : Paper) (item : Item) (width height scale : ℕ) : Type 0 where
   pub little : IsLittle (excess scale width) × IsLittle (excess scale height)

@@ -47,11 +47,11 @@ NoneIsTurned j = (page : ℕ) → turn_on j.turns.now page ≡ Upright
 
 -- ---- as they are laid
 
--- each sheet stands in the room of its side
+-- each sheet is in the room of its side
 abbrev pub StandOnSides : Room → List MadeSheet → Type 0
 StandOnSides room made = (s : ℕ) (d : MadeSheet) → s < length made → StandsInRoom (room_on room s) (slice_index_or made s d)
 
--- the sheets of a laying stand as it lays them; where left and right margins are exchanged on backs, pages in cells stand between
+-- the sheets of a laying are as it lays them; where left and right margins are exchanged on backs, pages in cells are between
 -- the margins of their own side. The margins of booklets and zines are even, so there is nothing to exchange
 abbrev pub StandAsWritten : (exchanged : Bool) → Laying → List MadeSheet → Type 0
 StandAsWritten true (laying.InCells t (scheme.Grid cells)) made = StandOnSides t.room made
@@ -157,7 +157,7 @@ WrittenInCells = (j : RowJob) (made : List MadeSheet) → (are : AreTurned j mad
 
 -- ---- between the margins and apart, also turned
 
--- if nothing is trimmed, and no page is left as it is, each sheet stands in the room of its side: its pages lie between the margins,
+-- if nothing is trimmed, and no page is left as it is, each sheet is in the room of its side: its pages lie between the margins,
 -- and are apart by the gap
 abbrev pub KeepRoom : (exchanged : Bool) → Setting → List MadeSheet → Type 0
 KeepRoom exchanged t made = t.room.trim ≡ 0 → ((page : Paper) → is_whole t page ≡ false)

@@ -48,7 +48,7 @@ abbrev pub read_bound : (right_to_left : Bool) → (leaves : ℕ) → List Face 
 read_bound right_to_left leaves all signature = read_signature leaves (map (as_bound right_to_left) all) signature
 
 -- a row that is put into signatures of m leaves, and on the sides of a booklet's leaves, is read in its order: leaf by leaf,
--- signature by signature, whichever way it is bound, whether backs are turned, and however far leaves creep. Behind its end
+-- signature by signature, whichever way it is bound, whether backs are turned, and however far leaves creep. After its end
 -- are the blanks that fill up the last signature: a law (RULES, 14.1)
 abbrev pub BookletIsRead : Type 0
 BookletIsRead = (f : Filling) (turned_backs : Bool) (creep m : ℕ) (row : Row) →

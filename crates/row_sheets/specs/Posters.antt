@@ -142,7 +142,7 @@ abbrev pub why_no_tiles : Poster → List Paper → (entry : Option ℕ) → Opt
 why_no_tiles p papers None = None
 why_no_tiles p papers (Some page) = why_no_poster (poster_paper p papers page) p
 
--- why the first page of the row that can't be one can't
+-- the reason for the first page of the row that can't be a poster
 abbrev pub first_no_poster : Poster → List Paper → Row → Option PosterError
 first_no_poster p papers row = first_fault (λ i. why_no_tiles p papers (entry_of row i)) (length row)
 

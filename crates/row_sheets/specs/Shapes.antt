@@ -78,7 +78,7 @@ abbrev pub why_no_place : Filling → (entry : Option ℕ) → Option Arrangemen
 why_no_place f None = None
 why_no_place f (Some page) = why_not_fitted f.setting (f.paper_of page)
 
--- why the first page of the row that can't lie in a cell can't, whatever sheet it is on (RULES, 16, step 12)
+-- the reason for the first page of the row that can't lie in a cell, whatever sheet it is on (RULES, 16, step 12)
 abbrev pub first_refused : Filling → Row → Option ArrangementError
 first_refused f row = first_fault (λ i. why_no_place f (entry_of row i)) (length row)
 

@@ -27,7 +27,7 @@ pub fn value_text(alloc: Global, option: OptionId, text: &str) -> Result<String,
     )
 }
 
-/// What a message says before and behind the text that it is about.
+/// What a message says before and after the text that it is about.
 #[derive(Drop)]
 pub(crate) struct Wording {
     pub(crate) before: String,

@@ -10,9 +10,9 @@ use std::alloc::Global;
 use std::io;
 use std::io::ErrorKind;
 
-/// Creates the output of this name (None for standard output), behind a buffer of `capacity` bytes. An error returns the world and the cause. If
-/// memory for the buffer is refused, the world is unchanged and the cause is `OutOfMemory`. If the world refuses to create the output, it has counted
-/// this failure and gives the cause.
+/// Creates the output of this name (None for standard output), with a buffer of `capacity` bytes in front of it. An error returns the world and the
+/// cause. If memory for the buffer is refused, the world is unchanged and the cause is `OutOfMemory`. If the world refuses to create the output, it
+/// has counted this failure and gives the cause.
 pub fn created<W: World>(
     alloc: Global,
     capacity: usize,
