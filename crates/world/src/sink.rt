@@ -26,12 +26,9 @@ pub fn created<W: World>(
     ensures refused { IfErr result (λ refused.
         IsUncreated W.seen (option_map (λ n. n.now) name.entry) world refused.world refused.cause) }
 {
-    let buffer = match Vec::with_capacity(alloc, capacity) {
-        Ok(buffer) => buffer,
-        Err(_) => {
-            let cause = io::Error::from(ErrorKind::OutOfMemory);
-            return Err(Refused { world, cause });
-        }
+    let Ok(buffer) = Vec::with_capacity(alloc, capacity) else {
+        let cause = io::Error::from(ErrorKind::OutOfMemory);
+        return Err(Refused { world, cause });
     };
     let output = world.create(name)?;
     Ok(Buffered::new(buffer, output))
