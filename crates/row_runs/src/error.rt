@@ -1,11 +1,13 @@
 //! The reasons why a row can't be imposed.
 ghost use Rattle.std.specs.Prelude.{◌≡◌};
 ghost use Rattle.row_runs.specs.Errors.{of_made_plan};
+ghost use Rattle.row_runs.specs.declared.error.SheetError.TheVariants.{NoMemory};
 
 use layouts::ArrangementError;
 use row_sheets::PosterError;
 use rows::RowError;
 use sheet_plan::MadeError;
+use std::alloc::AllocError;
 use thiserror::Error;
 
 /// The reason why a row can't be imposed. The variants are in the order in which `RowJob::lay` checks a row; memory may be refused at any point.
@@ -29,6 +31,14 @@ pub enum SheetError {
     /// Memory was refused, or the printed row would have more than 4,000,000 copies of its entries.
     #[error("out of memory")]
     NoMemory,
+}
+
+impl From<AllocError> for SheetError {
+    ghost from_gives = { λ _ error. error ≡ NoMemory };
+
+    fn from(_error: AllocError) -> SheetError {
+        SheetError::NoMemory
+    }
 }
 
 /// Converts an error of the plan to a `SheetError`. Refused memory becomes `SheetError::NoMemory`.

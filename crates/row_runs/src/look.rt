@@ -30,10 +30,8 @@ pub fn row_plan(alloc: Global, job: &RowJob<'_, '_>, most: u32) -> Result<Vec<u8
     let sheets = planned_sheets(alloc, job)?;
     let swap = swapped_room_in(job.swapped, &job.asked.laying);
     let reading = reading_of(&swap, &job.asked.laying);
-    match plan_text(alloc, &sheets, &reading, most) {
-        Ok(text) => Ok(text),
-        Err(_) => Err(SheetError::NoMemory),
-    }
+    let text = plan_text(alloc, &sheets, &reading, most)?;
+    Ok(text)
 }
 
 /// A drawing of the sheets that a run would impose, as SVG. Margins, cuts, folds and lines for notes are also drawn, unless margins are exchanged on
@@ -44,10 +42,8 @@ pub fn row_preview(alloc: Global, job: &RowJob<'_, '_>, most: u32) -> Result<Vec
     ensures refused { IfErr result (RefusesRun job.now) }
 {
     let sheets = planned_sheets(alloc, job)?;
-    match drawn(alloc, &sheets, job, most) {
-        Ok(text) => Ok(text),
-        Err(_) => Err(SheetError::NoMemory),
-    }
+    let text = drawn(alloc, &sheets, job, most)?;
+    Ok(text)
 }
 
 /// The drawing of these sheets of a job.
@@ -90,11 +86,9 @@ fn planned_sheets(alloc: Global, job: &RowJob<'_, '_>) -> Result<MadeSheets, She
     let sheets = make_sheets(alloc, count, job.papers, &job.asked)?;
     let swap = swapped_room_in(job.swapped, &job.asked.laying);
     check_reach(job.turns, &swap, &sheets)?;
-    let Ok(sheets) = turned_sheets(alloc, job.turns, &swap, sheets) else {
-        return Err(SheetError::NoMemory);
-    };
-    match check_plan(alloc, count, &sheets) {
-        Ok(()) => Ok(sheets),
+    let turned = turned_sheets(alloc, job.turns, &swap, sheets)?;
+    match check_plan(alloc, count, &turned) {
+        Ok(()) => Ok(turned),
         Err(error) => Err(plan_error(error)),
     }
 }

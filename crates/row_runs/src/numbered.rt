@@ -41,19 +41,15 @@ pub(crate) fn numbers_on(
     let Some(how) = how else {
         return Ok(None);
     };
-    let Ok(places) = places_of(alloc, pages, papers, asked) else {
-        return Err(SheetError::NoMemory);
-    };
+    let places = places_of(alloc, pages, papers, asked)?;
     let Ok(()) = check_reach(&[], swap, &places) else {
         return Err(SheetError::OutOfReach);
     };
-    let Ok(places) = swapped_sheets(alloc, swap, places) else {
-        return Err(SheetError::NoMemory);
-    };
+    let swapped = swapped_sheets(alloc, swap, places)?;
     Ok(Some(Numbers {
         size: how.size,
         first: how.first,
-        places,
+        places: swapped,
         below: below_middle(&asked.laying),
     }))
 }
@@ -105,10 +101,7 @@ fn named_at(row: &[Option<u32>], place: u32) -> Option<u32>
     requires { place < length row.now }
     ensures { (entry : Option ℕ) → slice_get row.now place ≡ Some entry → result ≡ place_named place entry }
 {
-    match row[place as usize] {
-        Some(_) => Some(place),
-        None => None,
-    }
+    row[place as usize].map(|_| place)
 }
 
 /// The papers of the row's entries, in the order of the row. A blank, or a page whose paper isn't known, has the paper `other`.

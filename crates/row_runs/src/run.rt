@@ -56,17 +56,11 @@ impl<'j, 'd> RowJob<'j, 'd> {
         let sheets = make_sheets(alloc, count, self.papers, &self.asked)?;
         let swap = swapped_room_in(self.swapped, &self.asked.laying);
         check_reach(self.turns, &swap, &sheets)?;
-        let Ok(strokes) = strokes_of(alloc, self.marks, &self.asked.laying) else {
-            return Err(SheetError::NoMemory);
-        };
+        let strokes = strokes_of(alloc, self.marks, &self.asked.laying)?;
         let numbering = self.marks.numbers;
         let numbers = numbers_on(alloc, count, self.papers, &self.asked, &swap, numbering)?;
-        let Ok(sheets) = turned_sheets(alloc, self.turns, &swap, sheets) else {
-            return Err(SheetError::NoMemory);
-        };
-        match dress_of(alloc, &sheets, strokes.as_slice(), numbers) {
-            Ok(dress) => Ok((sheets, dress)),
-            Err(_) => Err(SheetError::NoMemory),
-        }
+        let turned = turned_sheets(alloc, self.turns, &swap, sheets)?;
+        let dress = dress_of(alloc, &turned, strokes.as_slice(), numbers)?;
+        Ok((turned, dress))
     }
 }

@@ -126,10 +126,7 @@ pub fn make_sheets(
         Err(error) => return Err(row_error(error)),
     };
     let leaves = leaves_in(asked.row.signing, row.as_slice());
-    let printed = match asked.row.printed(alloc, row) {
-        Ok(printed) => printed,
-        Err(_) => return Err(SheetError::NoMemory),
-    };
+    let printed = asked.row.printed(alloc, row)?;
     let entries = printed.as_slice();
     let laying = match at_common_scale(asked.same_scale, &asked.laying, papers, entries) {
         Ok(laying) => laying,
@@ -201,10 +198,7 @@ pub(crate) fn lay_row(
         return Err(over_limit(laying, papers, row, limit));
     }
     match laying {
-        Laying::AsTheyAre { blank } => match select(alloc, row, papers, blank) {
-            Ok(sheets) => Ok(sheets),
-            Err(_) => Err(SheetError::NoMemory),
-        },
+        Laying::AsTheyAre { blank } => Ok(select(alloc, row, papers, blank)?),
         Laying::InCells { setting, scheme } => {
             match lay_in_cells(alloc, setting, scheme, leaves, papers, row) {
                 Ok(sheets) => Ok(sheets),

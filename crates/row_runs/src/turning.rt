@@ -32,10 +32,7 @@ pub fn turned_paper(turn: Turn, paper: &Paper) -> Paper
 fn turn_on(turns: &[Turn], page: u32) -> Turn
     ensures { turn_of result ≡ meaning.turn_on turns.now page }
 {
-    match turns.get(page as usize) {
-        Some(turn) => *turn,
-        None => Turn::None,
-    }
+    turns.get(page as usize).copied().unwrap_or(Turn::None)
 }
 
 /// These sheets, with each page turned. The sheets must have been laid for pages with the turned papers. If `swap` is given, its left and right

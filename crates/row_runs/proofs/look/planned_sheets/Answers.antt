@@ -24,14 +24,14 @@ returns-in_err-check_reach-clause-refused c =
 pub returns-in-Err-clause-refused : goal.returns-in-Err-clause-refused
 returns-in-Err-clause-refused c =
     let j = c.args.job.now in
-    let are : AreTurned j c.in-Ok.sheets = record {
+    let are : AreTurned j c.in_ok-turned.turned = record {
       may = c.requires.asked;
       laid = c.in_ok-sheets.sheets;
       asked = subst (λ n. AreAsked n j.papers.now j.asked c.in_ok-sheets.sheets) c.pages-count.ensures.count c.in_ok-sheets.ensures.made;
       stand = c.in_ok-sheets.ensures.stands;
       reached = subst (λ m. are_reached (turn_on j.turns.now) m c.in_ok-sheets.sheets ≡ true) c.swapped_room_in-swap.ensures c.in_ok-check_reach.ensures.reached;
-      turned = c.in-Ok.ensures ∙ ap (λ m. map (turned_sheet (turn_on j.turns.now)) (swapped m c.in_ok-sheets.sheets)) c.swapped_room_in-swap.ensures;
+      turned = c.in_ok-turned.ensures ∙ ap (λ m. map (turned_sheet (turn_on j.turns.now)) (swapped m c.in_ok-sheets.sheets)) c.swapped_room_in-swap.ensures;
     } in
     subst (RefusesRun j) (sym c.plan_error.ensures)
-    (sheets_refused j c.in-Ok.sheets c.in-Err.error are
-    (subst (λ n. RefusesMade n c.in-Ok.sheets c.in-Err.error) c.pages-count.ensures.count c.in-Err.ensures.refused))
+    (sheets_refused j c.in_ok-turned.turned c.in-Err.error are
+    (subst (λ n. RefusesMade n c.in_ok-turned.turned c.in-Err.error) c.pages-count.ensures.count c.in-Err.ensures.refused))

@@ -11,17 +11,17 @@ use Rattle.row_runs.proofs.sheet_request.lay_row.Goals as goal
 pub returns-in-Some-clause-refused : goal.returns-in-Some-clause-refused
 returns-in-Some-clause-refused c = c.over_limit.ensures c.args.leaves
 
-pub returns-in-Ok-clause-stands : goal.returns-in-Ok-clause-stands
-returns-in-Ok-clause-stands c =
-    subst (λ l. StandAsLaid l c.in-Ok.sheets) (sym c.in-AsTheyAre.is)
-    (subst (All HoldsOnePage) (sym c.in-Ok.ensures) (selected_alone c.args.papers.now c.in-AsTheyAre.blank c.args.row.now))
+pub returns-in_ok-select-in-AsTheyAre-clause-stands : goal.returns-in_ok-select-in-AsTheyAre-clause-stands
+returns-in_ok-select-in-AsTheyAre-clause-stands c =
+    subst (λ l. StandAsLaid l c.in_ok-select-in-AsTheyAre.field-0) (sym c.in-AsTheyAre.is)
+    (subst (All HoldsOnePage) (sym c.in_ok-select-in-AsTheyAre.ensures) (selected_alone c.args.papers.now c.in-AsTheyAre.blank c.args.row.now))
 
-pub returns-in-Err-lay_in_cells-clause-refused : goal.returns-in-Err-lay_in_cells-clause-refused
-returns-in-Err-lay_in_cells-clause-refused c =
+pub returns-in-Err-clause-refused : goal.returns-in-Err-clause-refused
+returns-in-Err-clause-refused c =
     let papers = c.args.papers.now in
     let row = c.args.row.now in
-    cells_told c.args.laying.now c.args.leaves papers row (why_not_in c.in-InCells.scheme (filling c.in-InCells.setting papers) c.args.leaves row) c.in-Err-lay_in_cells.error
-    c.arrangement_error.result (ap (λ l. why_not_laid l c.args.leaves papers row) c.in-InCells.is) c.arrangement_error.ensures c.in-Err-lay_in_cells.ensures.refused
+    cells_told c.args.laying.now c.args.leaves papers row (why_not_in c.in-InCells.scheme (filling c.in-InCells.setting papers) c.args.leaves row) c.in-Err.error
+    c.arrangement_error.result (ap (λ l. why_not_laid l c.args.leaves papers row) c.in-InCells.is) c.arrangement_error.ensures c.in-Err.ensures.refused
 
 pub returns-in-Err-poster_row_sheets-clause-refused : goal.returns-in-Err-poster_row_sheets-clause-refused
 returns-in-Err-poster_row_sheets-clause-refused c =

@@ -36,22 +36,22 @@ returns-in_err-numbers-clause-refused c =
     (numbers_refused c.args.self.now c.pages-count.result c.swapped_room_in-swap.result c.in_ok-sheets.sheets c.in_err-numbers.field-0.0 c.pages-count.ensures.count
     c.swapped_room_in-swap.ensures c.in_ok-sheets.ensures.made c.in_err-numbers.ensures.refused)
 
-pub returns-in-Ok-dress_of-clause-turned : goal.returns-in-Ok-dress_of-clause-turned
-returns-in-Ok-dress_of-clause-turned c = record {
+pub returns-clause-turned : goal.returns-clause-turned
+returns-clause-turned c = record {
   may = c.requires;
   laid = c.in_ok-sheets.sheets;
   asked = rw c.pages-count.ensures.count at c.in_ok-sheets.ensures.made;
   stand = c.in_ok-sheets.ensures.stands;
   reached = subst (λ m. are_reached (turn_on c.args.self.now.turns.now) m c.in_ok-sheets.sheets ≡ true) c.swapped_room_in-swap.ensures c.in_ok-check_reach.ensures.reached;
-  turned = c.in-Ok-turned_sheets.ensures
+  turned = c.in_ok-turned.ensures
       ∙ ap (λ m. map (turned_sheet (turn_on c.args.self.now.turns.now)) (swapped m c.in_ok-sheets.sheets)) c.swapped_room_in-swap.ensures;
 }
 
-pub returns-in-Ok-dress_of-clause-dressed : goal.returns-in-Ok-dress_of-clause-dressed
-returns-in-Ok-dress_of-clause-dressed c =
+pub returns-clause-dressed : goal.returns-clause-dressed
+returns-clause-dressed c =
     let j = c.args.self.now in
-    let strokes = c.as_slice.ensures.value ∙ c.in-Ok.ensures in
+    let strokes = c.as_slice.ensures.value ∙ c.in_ok-strokes.ensures in
     let numbers = c.in_ok-numbers.ensures.made
     ∙ ap₂ (λ (n : ℕ) (m : Option Room). numbers_asked n j.papers.now j.asked m j.marks.numbers) c.pages-count.ensures.count c.swapped_room_in-swap.ensures in
-    c.in-Ok-dress_of.ensures
-    ∙ ap₂ (λ (s : List Stroke) (n : Option Numbers). drawn_on (record { strokes = s; numbers = n }) (telling c.in-Ok-turned_sheets.sheets)) strokes numbers
+    c.in_ok-dress.ensures
+    ∙ ap₂ (λ (s : List Stroke) (n : Option Numbers). drawn_on (record { strokes = s; numbers = n }) (telling c.in_ok-turned.turned)) strokes numbers
