@@ -20,4 +20,4 @@ pub use fault::{CellCommand, OptionId, ProductOption, RequestFault};
 pub use idle::IdleOption;
 pub use request::{ImposeRequest, Layout, PageChoice, Product, Spacing, Turning};
 pub use signature::{signing_named, whole_number};
-pub use sizes::{border_with_unit, lacks_unit, length_with_unit, parse_number, size_named};
+pub use sizes::{lacks_unit, length_with_unit, parse_number, size_named};

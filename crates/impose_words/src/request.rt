@@ -114,14 +114,13 @@ impl Spacing {
         ensures { result ≡ nothing_kept }
     {
         let plain = Arrangement::plain(Cells::AtLeast(1));
-        let free = plain.free;
         Spacing {
-            free,
+            free: plain.free,
             inner: None,
-            creep: free.trim,
-            overlap: free.trim,
+            creep: Grains::ZERO,
+            overlap: Grains::ZERO,
             order: plain.order,
-            scale: plain.scale,
+            scale: None,
             same_scale: false,
             skipped: 0,
         }

@@ -52,7 +52,7 @@ pub fn length_with_unit(text: &str) -> Option<Grains>
 
 /// The width of a border that the text names. `Some(None)` if the width is 0, which means no border. `None` if the text isn't a length, lacks a unit
 /// that it needs, or names a negative length.
-pub fn border_with_unit(text: &str) -> Option<Option<Grains>>
+pub(crate) fn border_with_unit(text: &str) -> Option<Option<Grains>>
     ensures { result ≡ meaning.border_with_unit text.now }
 {
     if lacks_unit(text, false) {
