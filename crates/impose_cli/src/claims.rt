@@ -35,13 +35,10 @@ fn unknown_paper(request: &ImposeRequest, input: &[u8]) -> Option<ShownName>
     ensures { result
         ≡ option_map shown_name (meaning.unknown_paper request.now.page_paper request.now.default_paper input.now) }
 {
-    match request.page_paper {
-        Some(_) => None,
-        None => match unknown_name(&request.default_paper, input) {
-            Some(name) => Some(ShownName::of(name)),
-            None => None,
-        },
+    if request.page_paper.is_some() {
+        return None;
     }
+    unknown_name(&request.default_paper, input).map(|name| ShownName::of(name))
 }
 
 /// The first name in the header's `%%DocumentPaperSizes:` (DSC 2.1). `None` if there is no such name, or if the document's paper is found in a

@@ -115,10 +115,7 @@ pub(crate) fn spec_named(alloc: Global, specs: &str) -> Result<Spec, ImposeFault
     ensures taken { IfOk result (λ spec. Takes most_slots specs.now spec) }
     ensures refused { IfErr result (RefusesSpecification specs.now) }
 {
-    match read_spec(alloc, specs) {
-        Ok(spec) => Ok(spec),
-        Err(error) => Err(ImposeFault::Run(RunError::from(error))),
-    }
+    read_spec(alloc, specs).map_err(|error| ImposeFault::Run(RunError::from(error)))
 }
 
 /// The way in which the layout lays pages on sheets. `None` if the layout is a specification. The error says why the pages can't be laid in this way.
@@ -169,10 +166,7 @@ pub(crate) fn check_sheets(
     let Some(free) = kept_free(layout, spacing) else {
         return Ok(());
     };
-    match check_room(sheet, &free) {
-        Ok(()) => Ok(()),
-        Err(error) => Err(ImposeFault::Layout(error)),
-    }
+    check_room(sheet, &free).map_err(ImposeFault::Layout)
 }
 
 /// The margins, gaps and trim of a layout that has cells. `None` for a layout without cells.
@@ -401,10 +395,7 @@ fn named_signing(layout: &Layout) -> Option<Signing>
 pub(crate) fn is_drawn(border: Option<Grains>) -> bool
     ensures { result ≡ is_border border }
 {
-    match border {
-        Some(width) => width.get() > 0,
-        None => true,
-    }
+    border.is_none_or(|width| width.get() > 0)
 }
 
 /// Whether a signature may have the number of sides that `signing` names. True if `signing` names no number.

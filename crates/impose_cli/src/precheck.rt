@@ -32,10 +32,7 @@ fn option_fault(request: &ImposeRequest) -> Option<ImposeFault>
     {
         return Some(ImposeFault::OverInput);
     }
-    match request.idle_option() {
-        Some(option) => Some(ImposeFault::Idle(option)),
-        None => None,
-    }
+    request.idle_option().map(ImposeFault::Idle)
 }
 
 /// Whether two files have the same name. False if one of them has no name.

@@ -76,11 +76,11 @@ pub fn impose<R: Threads + Wait + Sync, W: World>(
         Ok(read) => {
             let request = at_home(read, home_of(paper_size, &mut world));
             let is_foreign = finds_foreign(&request, &mut world);
-            let left = carry_out(rt, alloc, &request, is_foreign, world);
+            let attempt = carry_out(rt, alloc, &request, is_foreign, world);
             Ended {
                 request: Some(request),
-                outcome: left.outcome,
-                rest: left.rest,
+                outcome: attempt.outcome,
+                rest: attempt.rest,
             }
         }
         Err(fault) => Ended {

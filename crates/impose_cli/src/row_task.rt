@@ -272,10 +272,7 @@ fn counted_paper(
     match layout {
         Layout::Selection => {
             let counted = merge_near_sizes(alloc, taken, &[*paper])?;
-            match counted.first() {
-                Some(counted) => Ok(*counted),
-                None => Ok(*paper),
-            }
+            Ok(*counted.first().unwrap_or(paper))
         }
         _ => Ok(*paper),
     }
@@ -380,10 +377,7 @@ fn paper_of_first(row: &[Option<u32>], papers: &[Paper], blank: &Paper) -> Paper
     ensures { result ≡ first_paper_of (Ok row.now) papers.now blank.now }
 {
     match row.first() {
-        Some(Some(page)) => match papers.get(*page as usize) {
-            Some(paper) => *paper,
-            None => *blank,
-        },
+        Some(Some(page)) => *papers.get(*page as usize).unwrap_or(blank),
         _ => *blank,
     }
 }

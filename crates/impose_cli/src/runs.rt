@@ -78,10 +78,10 @@ fn run_row<R: Threads + Wait + Sync, W: World>(
         Ok(found) => found,
         Err(fault) => return refused_before(fault, world),
     };
-    let (left, scales) = impose_task(rt, alloc, request, &task, parts, world);
+    let (attempt, scales) = impose_task(rt, alloc, request, &task, parts, world);
     Attempt {
-        outcome: reported(left.outcome, scales, task.findings),
-        rest: left.rest,
+        outcome: reported(attempt.outcome, scales, task.findings),
+        rest: attempt.rest,
     }
 }
 
@@ -157,8 +157,8 @@ fn impose_job<R: Threads + Wait + Sync, W: World>(
     let count = plan.sheets();
     let scales = Scales::of(&sheets, count);
     let made = Job::made(&plan, job.document, &sheets, job.border, job.inset, &dress);
-    let left = write_job(rt, alloc, &made, name, world);
-    (left, scales)
+    let attempt = write_job(rt, alloc, &made, name, world);
+    (attempt, scales)
 }
 
 // ---- runs by a specification
@@ -180,10 +180,10 @@ fn run_spec<R: Threads + Wait + Sync, W: World>(
         Ok(found) => found,
         Err(fault) => return refused_before(fault, world),
     };
-    let left = impose_by_spec(rt, alloc, &task, parts, name_of(&request.outfile), world);
+    let attempt = impose_by_spec(rt, alloc, &task, parts, name_of(&request.outfile), world);
     Attempt {
-        outcome: reported(left.outcome, None, task.findings),
-        rest: left.rest,
+        outcome: reported(attempt.outcome, None, task.findings),
+        rest: attempt.rest,
     }
 }
 
@@ -247,14 +247,11 @@ fn reported(
 ) -> Result<Done, ImposeFault>
     ensures { result ≡ reported_by findings scales outcome }
 {
-    match outcome {
-        Ok(report) => Ok(Done::Imposed(Finished {
-            report,
-            scales,
-            findings,
-        })),
-        Err(fault) => Err(fault),
-    }
+    outcome.map(|report| Done::Imposed(Finished {
+        report,
+        scales,
+        findings,
+    }))
 }
 
 // ---- writing the sheets

@@ -71,13 +71,7 @@ fn push_paper(papers: &mut Vec<Paper>, own: &[Paper], entry: &Option<u32>) -> Re
 fn paper_of_entry(own: &[Paper], entry: Option<u32>) -> Option<Paper>
     ensures { result ≡ option_and_then (slice_get own.now) entry }
 {
-    match entry {
-        Some(page) => match own.get(page as usize) {
-            Some(paper) => Some(*paper),
-            None => None,
-        },
-        None => None,
-    }
+    own.get(entry? as usize).copied()
 }
 
 /// The papers `own` of a document's pages, where `other` replaces the paper of each page that isn't in the row.

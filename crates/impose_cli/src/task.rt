@@ -79,10 +79,8 @@ fn check_spec(alloc: Global, specs: &str) -> Result<(), ImposeFault>
     ensures possible { OnOk result (IsSpecification specs.now) }
     ensures refused { IfErr result (RefusesSpecification specs.now) }
 {
-    match spec_named(alloc, specs) {
-        Ok(_) => Ok(()),
-        Err(fault) => Err(fault),
-    }
+    spec_named(alloc, specs)?;
+    Ok(())
 }
 
 /// Whether a specification can express the request, apart from its layout and creep. The request must have a plain row, and must not turn pages, or
@@ -272,10 +270,7 @@ fn named_placing(
     ensures refused { IfErr result (λ f. f ≡ without_memory) }
 {
     let text = String::from_str(alloc, specs)?;
-    match signing {
-        Some(how) => Ok((text, Some(signature_sides(how, pages)))),
-        None => Ok((text, None)),
-    }
+    Ok((text, signing.map(|how| signature_sides(how, pages))))
 }
 
 fn nup_placing(
@@ -291,10 +286,8 @@ fn nup_placing(
     ensures refused { IfErr result (RefusesFor
         (why_not_specified (layout.NUp cells) spacing.now papers.now.page papers.now.sheet)) }
 {
-    match arrange(alloc, papers, &spacing.arrangement(cells)) {
-        Ok(spec) => written(alloc, &spec, None),
-        Err(error) => Err(ImposeFault::from(error)),
-    }
+    let spec = arrange(alloc, papers, &spacing.arrangement(cells))?;
+    written(alloc, &spec, None)
 }
 
 fn booklet_placing(
@@ -311,10 +304,8 @@ fn booklet_placing(
     ensures refused { IfErr result (λ f. (f ≡ without_memory) ⊎ ((e : ArrangementError)
         × (f ≡ faults.Layout e) × (why_not_bound papers.now.page papers.now.sheet binding.now ≡ Some e))) }
 {
-    match bind(alloc, papers, binding) {
-        Ok(spec) => written(alloc, &spec, Some(sides)),
-        Err(error) => Err(ImposeFault::from(error)),
-    }
+    let spec = bind(alloc, papers, binding)?;
+    written(alloc, &spec, Some(sides))
 }
 
 /// The text of a specification, with this number of sides of a signature. The only error is refused memory.

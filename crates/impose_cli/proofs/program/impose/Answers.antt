@@ -8,14 +8,14 @@ use Rattle.impose_cli.proofs.program.impose.Goals as goal
 
 pub returns-in-Ok : goal.returns-in-Ok
 returns-in-Ok g c =
-    let left = c.carry_out-left.result in
+    let attempt = c.carry_out-attempt.result in
     let foreign = c.finds_foreign-is_foreign.result in
     let found = c.finds_foreign-is_foreign.new.world in
     let edge = edge_of_world (g.W.World.tells c.args.world) g.W.World.seen g.W.Output.Output.seen in
-    let carried = at_home g.W.World.seen c.at_home-request.result (g.W.World.gives c.args.world) _ (g.W.World.same c.args.world) _ (g.W.World.terminal c.args.world) _ foreign edge _ left.outcome found left.rest
-    (shown g.W.Output.Output.seen left.rest) (c.finds_foreign-is_foreign.ensures.again ∙ c.home_of.ensures.again) (c.finds_foreign-is_foreign.ensures.same ∙ c.home_of.ensures.same)
+    let carried = at_home g.W.World.seen c.at_home-request.result (g.W.World.gives c.args.world) _ (g.W.World.same c.args.world) _ (g.W.World.terminal c.args.world) _ foreign edge _ attempt.outcome found attempt.rest
+    (shown g.W.Output.Output.seen attempt.rest) (c.finds_foreign-is_foreign.ensures.again ∙ c.home_of.ensures.again) (c.finds_foreign-is_foreign.ensures.same ∙ c.home_of.ensures.same)
     (c.finds_foreign-is_foreign.ensures.terminal ∙ c.home_of.ensures.terminal)
-    (ap (λ t. edge_of_world t g.W.World.seen g.W.Output.Output.seen) (c.finds_foreign-is_foreign.ensures.tells ∙ c.home_of.ensures.tells)) c.carry_out-left.ensures in record {
+    (ap (λ t. edge_of_world t g.W.World.seen g.W.Output.Output.seen) (c.finds_foreign-is_foreign.ensures.tells ∙ c.home_of.ensures.tells)) c.carry_out-attempt.ensures in record {
       ended = (
         entered_at_home (map string_bytes c.args.words.now) c.in-Ok.read c.at_home-request.result c.home_of.result c.at_home-request.ensures c.in-Ok.ensures.read,
         c.home_of.new.world,
@@ -27,10 +27,10 @@ returns-in-Ok g c =
             c.finds_foreign-is_foreign.ensures.found,
         carried,
       );
-      created = created_for g.W.World.seen c.at_home-request.result (g.W.World.gives c.args.world) (g.W.World.same c.args.world) (g.W.World.terminal c.args.world) foreign edge left.outcome found left.rest
-          (shown g.W.Output.Output.seen left.rest) carried;
+      created = created_for g.W.World.seen c.at_home-request.result (g.W.World.gives c.args.world) (g.W.World.same c.args.world) (g.W.World.terminal c.args.world) foreign edge attempt.outcome found attempt.rest
+          (shown g.W.Output.Output.seen attempt.rest) carried;
     }
 
-pub carry_out-left-requires-clause-product : goal.carry_out-left-requires-clause-product
-carry_out-left-requires-clause-product g c κs bounds =
+pub carry_out-attempt-requires-clause-product : goal.carry_out-attempt-requires-clause-product
+carry_out-attempt-requires-clause-product g c κs bounds =
     may_be_made_at_home (map string_bytes c.args.words.now) c.in-Ok.read c.at_home-request.result c.home_of.result c.at_home-request.ensures c.in-Ok.ensures.read

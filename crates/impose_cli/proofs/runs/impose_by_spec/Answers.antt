@@ -13,9 +13,9 @@ returns-in-Err g c =
 
 pub returns-in-Err-new : goal.returns-in-Err-new
 returns-in-Err-new g c =
-    let left = c.refused_before-in-Err-new in
+    let attempt = c.refused_before-in-Err-new in
     comes_refused (RefusesTaskRun c.args.task.now) (WritesTask c.args.task.now) _ (edge_of_world (g.W.World.tells c.args.world) g.W.World.seen g.W.Output.Output.seen) (fault.Run c.from.result)
-    left.result.outcome c.args.world left.result.rest (shown g.W.Output.Output.seen left.result.rest) left.ensures.outcome left.ensures.rest
+    attempt.result.outcome c.args.world attempt.result.rest (shown g.W.Output.Output.seen attempt.result.rest) attempt.ensures.outcome attempt.ensures.rest
     (plan_refused c.args.task.now c.in-Ok.read.0 c.in-Ok.read.1 c.pages.result c.in-Err-new.error (fault.Run c.from.result) c.from.result refl c.from.ensures c.requires.sides
     c.in-Ok.ensures.options c.in-Ok.ensures.spec c.in-Ok.ensures.document c.pages.ensures.count c.in-Err-new.ensures.refused)
 

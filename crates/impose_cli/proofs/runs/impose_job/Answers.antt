@@ -26,9 +26,9 @@ returns-in-Err-of_sheets g c =
     let made = c.in-Ok.laid.0 in
     let error = c.in-Err-of_sheets.error in
     let count = c.pages-pages.ensures.count in
-    let left = c.refused_before-in-Err-of_sheets in
+    let attempt = c.refused_before-in-Err-of_sheets in
     comes_refused (RefusesRowJob job) (Imposes job None) _ (edge_of_world (g.W.World.tells c.args.world) g.W.World.seen g.W.Output.Output.seen) c.asked_fault_of-fault.result
-    left.result.outcome c.args.world left.result.rest (shown g.W.Output.Output.seen left.result.rest) left.ensures.outcome left.ensures.rest (
+    attempt.result.outcome c.args.world attempt.result.rest (shown g.W.Output.Output.seen attempt.result.rest) attempt.ensures.outcome attempt.ensures.rest (
       of_made_plan error,
       c.asked_fault_of-fault.ensures ∙ ap₂ of_asked count c.plan_error.ensures,
       sheets_refused job made error c.in-Ok.ensures.turned (subst (λ n. RefusesMade n made error) count c.in-Err-of_sheets.ensures.refused),
@@ -44,7 +44,7 @@ returns g c =
     let planned = c.in-Ok-of_sheets.ensures in
     let count = c.pages-pages.ensures.count in
     made_comes (RefusesRowJob job) (Imposes job c.of-scales.result) c.made-made.result c.in-Ok-of_sheets.plan c.pages-pages.result (border_on job) (dress_in c.in-Ok.laid.1) (drawn_of job) sheets job.document.now
-    (option_map (λ n. n.now) c.args.name) (edge_of_world (g.W.World.tells c.args.world) g.W.World.seen g.W.Output.Output.seen) c.write_job-left.result.outcome c.args.world c.write_job-left.result.rest (shown g.W.Output.Output.seen c.write_job-left.result.rest)
+    (option_map (λ n. n.now) c.args.name) (edge_of_world (g.W.World.tells c.args.world) g.W.World.seen g.W.Output.Output.seen) c.write_job-attempt.result.outcome c.args.world c.write_job-attempt.result.rest (shown g.W.Output.Output.seen c.write_job-attempt.result.rest)
     (ap (λ (j : JobView). j.plan) c.made-made.ensures.value) planned.planned planned.layout count c.made-made.ensures.output c.in-Ok.ensures.dressed
     (λ old new report wrote told. record {
       made = sheets;
@@ -52,4 +52,4 @@ returns g c =
       written = wrote;
       report = told;
       scaled = c.of-scales.ensures;
-    }) c.write_job-left.ensures
+    }) c.write_job-attempt.ensures

@@ -9,6 +9,6 @@ returns-in-Err g c =
 
 pub returns : goal.returns
 returns g c =
-    let left = c.impose_task-left.result.0 in
-    row_runs c.args.request.now c.args.input.items c.in-Ok.found.0 c.impose_task-left.result.1 (edge_of_world (g.W.World.tells c.args.world) g.W.World.seen g.W.Output.Output.seen) c.reported.result left.outcome c.args.world left.rest
-    (shown g.W.Output.Output.seen left.rest) c.requires.rows c.in-Ok.ensures.is_task c.reported.ensures c.impose_task-left.ensures
+    let attempt = c.impose_task-attempt.result.0 in
+    row_runs c.args.request.now c.args.input.items c.in-Ok.found.0 c.impose_task-attempt.result.1 (edge_of_world (g.W.World.tells c.args.world) g.W.World.seen g.W.Output.Output.seen) c.reported.result attempt.outcome c.args.world attempt.rest
+    (shown g.W.Output.Output.seen attempt.rest) c.requires.rows c.in-Ok.ensures.is_task c.reported.ensures c.impose_task-attempt.ensures

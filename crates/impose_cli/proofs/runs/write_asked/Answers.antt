@@ -26,8 +26,8 @@ returns-in-Err-write_out g c =
 
 pub returns-in-Err-run_plan : goal.returns-in-Err-run_plan
 returns-in-Err-run_plan g c =
-    let left = c.broken_off-in-Err-run_plan in
+    let attempt = c.broken_off-in-Err-run_plan in
     let part = taken_of c.args.job.now c.in-Err-run_plan.error c.taken_before.result _ _ c.taken_before.ensures c.in-Err-run_plan.ensures.written in
-    job_broke c.args.job.now g.B.Before.name (edge_of_world (g.W.World.tells c.args.asked.world) g.W.World.seen g.W.Output.Output.seen) g.B.Before.seen c.taken_before.result left.result.outcome c.args.asked.world left.result.rest
-    (shown g.W.Output.Output.seen left.result.rest) _ _ _ c.requires.seen (c.new-sink.ensures.told ∙ ap (λ (v : OutputView). v.bytes) c.new.ensures.fresh) part.0 part.1
-    (Keeps-refl _) left.ensures
+    job_broke c.args.job.now g.B.Before.name (edge_of_world (g.W.World.tells c.args.asked.world) g.W.World.seen g.W.Output.Output.seen) g.B.Before.seen c.taken_before.result attempt.result.outcome c.args.asked.world attempt.result.rest
+    (shown g.W.Output.Output.seen attempt.result.rest) _ _ _ c.requires.seen (c.new-sink.ensures.told ∙ ap (λ (v : OutputView). v.bytes) c.new.ensures.fresh) part.0 part.1
+    (Keeps-refl _) attempt.ensures
