@@ -192,10 +192,7 @@ fn gather<R: Threads + Wait + Abort + Sync>(
         fates.stopped.load(SeqCst),
     ];
     assert_that(rt, counts == [0, 0, 1] && state.times == 1);
-    match ended {
-        Some(held) => Some(held.shares),
-        None => None,
-    }
+    ended.map(|held| held.shares)
 }
 
 // If every worker finds memory, all shares come back; otherwise none do.

@@ -5,7 +5,6 @@ ghost use Rattle.imposer.specs.Gathering.{IsFreshPass};
 use super::{WHOLE, table_and_shelf};
 use crate::tests::checks::{assert_bytes, assert_that, done};
 use dsc::Document;
-use gather_table::Seat;
 use handover::{Pass, Ready};
 use imposer::{Gate, Gathered, Job, MemorySink, Open, Report, RunError, Workers, gather};
 use lengths::a4;
@@ -84,16 +83,8 @@ fn gather_at<R: Threads + Wait + Sync + Abort, G: Gate + Sync>(
     Gathering {
         outcome,
         is_unshelved: unshelved.is_some(),
-        shares: shares_of(tokens),
+        shares: tokens.map(|(seat, pass)| (seat.share(), pass.share())),
         sink,
-    }
-}
-
-/// The shares of the seat and of the pass, if these came back.
-fn shares_of(tokens: Option<(Seat, Pass)>) -> Option<(u64, u64)> {
-    match tokens {
-        Some((seat, pass)) => Some((seat.share(), pass.share())),
-        None => None,
     }
 }
 

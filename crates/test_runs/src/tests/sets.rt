@@ -5,12 +5,9 @@ use imposer::SheetSet;
 /// For one pair after the other, takes the smallest number from the set if it is below the pair's end. Returns whether each answer is the one in its
 /// pair; `None` means that no number is taken.
 fn are_taken(set: &mut SheetSet, wanted: &[(u32, Option<u32>)]) -> bool {
-    for (end, number) in wanted {
-        if set.take_first_before(*end) != *number {
-            return false;
-        }
-    }
-    true
+    wanted
+        .iter()
+        .all(|(end, number)| set.take_first_before(*end) == *number)
 }
 
 // Numbers that are inserted after larger ones were taken also come out in order.

@@ -107,9 +107,7 @@ fn put<'d, R: Wait>(
         return show("no such page", answer);
     }
     let raw = document.page(page);
-    let Ok(body) = prepare(alloc, raw) else {
-        return Err(AllocError);
-    };
+    let body = prepare(alloc, raw).map_err(|_| AllocError)?;
     let known = Known {
         page,
         raw,
@@ -150,24 +148,6 @@ fn put_ahead<'d, R: Wait>(
     is_put
 }
 
-/// Imposes a sheet and appends the outcome.
-fn show_outcome(
-    alloc: Global,
-    gatherer: &mut Gatherer<'_, '_, '_, '_>,
-    sheet: u32,
-    answer: &mut Vec<u8>,
-) -> Result<(), AllocError> {
-    show(outcome_of(alloc, gatherer, sheet)?, answer)
-}
-
-/// The number of the page that the shelf shows at an index. `None` if the shelf shows no page there.
-fn shown_at(shelf: &Shelf<'_>, index: u32) -> Option<u32> {
-    match shelf.at(index) {
-        Some(page) => Some(page.page()),
-        None => None,
-    }
-}
-
 impl<'s, 'j, 't, 'd, R: Wait> Called<R> for Gatherer<'s, 'j, 't, 'd> {
     fn call(
         &mut self,
@@ -184,10 +164,10 @@ impl<'s, 'j, 't, 'd, R: Wait> Called<R> for Gatherer<'s, 'j, 't, 'd> {
             "mark" => show(self.mark(first, second.min(65_535) as u16), answer),
             "look" => show(self.look(first), answer),
             "page" => show(self.page_at(first), answer),
-            "impose" => show_outcome(alloc, self, first, answer),
+            "impose" => show(outcome_of(alloc, self, first)?, answer),
             "take" => show(self.take(rt), answer),
             "hand_on" => show(self.hand_on(rt, first), answer),
-            "shown" => show(shown_at(self.shelf, first), answer),
+            "shown" => show(self.shelf.at(first).map(|page| page.page()), answer),
             "ahead" => put_ahead(rt, alloc, self.shelf, self.job, first, answer),
             _ => put(rt, alloc, self.shelf, self.job, first, answer),
         }

@@ -99,8 +99,5 @@ pub(crate) fn show<T: Debug + Drop>(value: T, answer: &mut Vec<u8>) -> Result<()
 
 /// Appends a text.
 pub(crate) fn say<D: Display + Drop>(text: D, answer: &mut Vec<u8>) -> Result<(), AllocError> {
-    match write!(answer, "{text}") {
-        Ok(()) => Ok(()),
-        Err(_) => Err(AllocError),
-    }
+    write!(answer, "{text}").map_err(|_| AllocError)
 }
