@@ -11,8 +11,8 @@ from pikepdf import Array, Dictionary, Name, PasswordError, Pdf, PdfError
 from impose_pdf import images, notes
 from impose_pdf.forms import Forms
 from impose_pdf.links import Link, Ways
-from impose_pdf.pages import Box, bounds, box_of, leaves, meet, number_of, shape_of
-from impose_pdf.plan import Matrix, Size
+from impose_pdf.pages import Box, bounds, box_of, leaves, meet, number_of, shape_of, then
+from impose_pdf.plan import Matrix, Placed, Size
 from impose_pdf.trees import named
 from impose_pdf.words import RANGES, pages_of, refusal, shown
 
@@ -151,11 +151,16 @@ class Source:
         if found := [link for old, box in boxed if box for link in self.ways.link(old, box)]:
             self.links[k] = found
 
-    def links_at(self, k: int, matrix: Matrix, paper: Size) -> Iterator[Any]:
-        """The links of a page on a sheet of this paper, without those that aren't seen there."""
-        sheet: Box = (0, 0, *paper)
+    def matrix(self, k: int, placed: Placed) -> Matrix:
+        """The matrix of a page from its own space to the sheet on which it is placed."""
+        return then(self.shapes[k].matrix, placed.matrix)
+
+    def links_at(self, k: int, placed: Placed, sheet: Size) -> Iterator[Any]:
+        """The links of a page on a sheet of this size, without those that aren't seen there."""
+        shape, matrix = self.shapes[k], self.matrix(k, placed)
+        seen: Box = (0, 0, min(shape.size[0], placed.paper[0]), min(shape.size[1], placed.paper[1]))
         for link in self.links.get(k, ()):
-            if meet(link.box, self.shapes[k].box) and meet(bounds(link.box, matrix), sheet):
+            if meet(bounds(link.box, shape.matrix), seen) and meet(bounds(link.box, matrix), (0, 0, *sheet)):
                 yield self.ways.placed(link, matrix)
 
     def attachments(self) -> Iterator[tuple[bytes, Any]]:

@@ -6,8 +6,8 @@ from pikepdf import Array, Dictionary, Name, String
 
 from impose_pdf import outlines
 from impose_pdf.document import Source
-from impose_pdf.pages import array, drop, keys_of, then
-from impose_pdf.plan import Matrix, Sheet
+from impose_pdf.pages import array, drop, keys_of
+from impose_pdf.plan import Sheet
 from impose_pdf.sheets import drawing, label, preferences
 from impose_pdf.trees import add_layers, free, tree_of
 
@@ -70,7 +70,7 @@ class Making:
         made = self.pdf.make_indirect(made)
         for placed in sheet.placed:
             source, k = self.row[placed.page]
-            source.ways.first.setdefault(k, (made, self.matrix(placed.page, placed.matrix)))
+            source.ways.first.setdefault(k, (made, source.matrix(k, placed)))
         return made
 
     def form(self, number: int) -> Any:
@@ -78,17 +78,12 @@ class Making:
         source, k = self.row[number]
         return source.form(k)
 
-    def matrix(self, number: int, matrix: Matrix) -> Matrix:
-        """The matrix of a page of the row from its own space to a sheet."""
-        source, k = self.row[number]
-        return then(source.shapes[k].matrix, matrix)
-
     def links(self, sheet: Sheet) -> list[Any]:
         """The links on a sheet."""
         made: list[Any] = []
         for placed in sheet.placed:
             source, k = self.row[placed.page]
-            made += source.links_at(k, self.matrix(placed.page, placed.matrix), sheet.paper)
+            made += source.links_at(k, placed, sheet.paper)
         return made
 
     def outlines(self) -> Any:
