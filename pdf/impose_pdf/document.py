@@ -141,7 +141,8 @@ class Source:
         if k not in self.put:
             page, entries = self.pages[k]
             self.annotations[k], others = notes.split(page)
-            form = self.forms.of(k, page, entries.get("/Resources"), self.shapes[k], notes.drawn(others))
+            over = notes.drawn(others, self.shapes[k].matrix)
+            form = self.forms.of(k, page, entries.get("/Resources"), self.shapes[k], over)
             self.put[k] = self.ways.brought(form)
         return self.put[k]
 

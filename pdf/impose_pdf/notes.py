@@ -1,14 +1,16 @@
 """Annotations of a page: its links, and notes and form fields as they print."""
 
 from contextlib import suppress
+from math import hypot
 from typing import Any
 
 from pikepdf import Array, Dictionary, Name, PdfError, Stream
 
 from impose_pdf.forms import Note
-from impose_pdf.pages import UPRIGHT, bounds, box_of, name_of, number_of, numbers
+from impose_pdf.pages import UPRIGHT, bounds, box_of, name_of, number_of, numbers, then
+from impose_pdf.plan import Matrix
 
-HIDDEN, PRINTED = 2, 4  # flags
+HIDDEN, PRINTED, NOT_TURNED = 2, 4, 16  # flags
 
 
 def split(page: Any) -> tuple[list[Any], list[Any]]:
@@ -21,8 +23,8 @@ def split(page: Any) -> tuple[list[Any], list[Any]]:
     return links, [note for note, kind in zip(notes, kinds) if kind != "/Popup" and (kind != "/Link" or "/AP" in note)]
 
 
-def drawn(notes: list[Any]) -> list[Note]:
-    """What is printed of annotations: the form of each, the matrix that puts it into its rectangle, and its layer."""
+def drawn(notes: list[Any], page: Matrix) -> list[Note]:
+    """What is printed of annotations of a page: the form of each, the matrix to its place, and its layer."""
     made = []
     for note in notes:
         form, rectangle = appearance(note), box_of(note.get("/Rect"))
@@ -37,9 +39,23 @@ def drawn(notes: list[Any]) -> list[Note]:
         across, up = (rectangle[2] - rectangle[0]) / (right - left), (rectangle[3] - rectangle[1]) / (top - bottom)
         form.Type, form.Subtype = Name.XObject, Name.Form
         matrix = across, 0.0, 0.0, up, rectangle[0] - across * left, rectangle[1] - up * bottom
+        if flags_of(note) & NOT_TURNED:
+            matrix = then(matrix, turned_back(rectangle[0], rectangle[3], page))
         layer = note.get("/OC")
         made.append((form, matrix, layer if isinstance(layer, Dictionary) else None))
     return made
+
+
+def turned_back(x: float, y: float, page: Matrix) -> Matrix:
+    """The turn about a point that takes back that of a page."""
+    unit = hypot(page[0], page[1])
+    cos, sin = page[0] / unit, -page[1] / unit
+    return cos, sin, -sin, cos, x - cos * x + sin * y, y - sin * x - cos * y
+
+
+def flags_of(note: Any) -> int:
+    """The flags of an annotation."""
+    return int(number_of(note.get("/F"), 0))
 
 
 def settle(page: Any) -> None:
@@ -55,7 +71,7 @@ def appearance(note: Any) -> Any:
     looks = note.get("/AP")
     if not isinstance(looks, Dictionary):
         return None
-    flags = int(number_of(note.get("/F"), 0))
+    flags = flags_of(note)
     normal = looks.get("/N")
     if isinstance(normal, Dictionary):
         state = note.get("/AS")
