@@ -4,7 +4,7 @@ import zlib
 from copy import copy
 from typing import Any
 
-from pikepdf import Array, Dictionary, Name, Pdf, PdfError, Stream
+from pikepdf import Array, Dictionary, Name, Pdf, PdfError, Stream, StreamDecodeLevel
 
 from impose_pdf.pages import UPRIGHT, Shape, array, numerals
 from impose_pdf.plan import Matrix
@@ -72,7 +72,7 @@ class Forms:
                     own[key] = stream[key]
             return own
         try:
-            data = b"\n".join(stream.read_bytes() for stream in streams)
+            data = b"\n".join(stream.read_bytes(StreamDecodeLevel.specialized) for stream in streams)
         except (PdfError, RuntimeError):
             raise refusal(1, f"{self.name}: the contents of page {number + 1} can't be decoded") from None
         return self.pdf.make_stream(zlib.compress(data), Filter=Name.FlateDecode)
