@@ -124,7 +124,7 @@ class Maker:
         self.pdf, self.seed, self.shapes = Pdf.new(), seed, list[Shape]()
         self.font = self.pdf.make_indirect(Dictionary(Type=Name.Font, Subtype=Name.Type1, BaseFont=Name.Helvetica))
         self.is_inherited, self.items, self.closed = False, list[tuple[int, Any]](), list[Any]()
-        self.above: dict[str, str] = {}
+        self.above, self.spare = dict[str, str](), 0
         self.saving: list[list[str]] = []
         self.repeated: list[int] = []
 
@@ -209,9 +209,9 @@ class Maker:
         """A page stands in the tree of pages once more, at its end."""
         self.repeated.append(int(number) - 1)
 
-    def do_inherited(self) -> None:
-        """Boxes, turn and resources of the first page stand in the node above all pages."""
-        self.is_inherited = True
+    def do_inherited(self, spare: str = "0") -> None:
+        """Boxes, turn and resources of the first page stand in the node above all pages, with so many spare fonts."""
+        self.is_inherited, self.spare = True, int(spare)
 
     def do_above(self, key: str, value: str) -> None:
         """An entry of the node above all pages, for those that don't have their own."""
@@ -471,6 +471,8 @@ class Maker:
 
     def inherit(self) -> None:
         tree, first = self.pdf.Root.Pages, self.pdf.pages[0].obj
+        for number in range(self.spare):
+            first.Resources.Font[f"/S{number}"] = self.font
         for key in ("/MediaBox", "/CropBox", "/Rotate", "/Resources"):
             if key in first:
                 tree[key] = first[key]

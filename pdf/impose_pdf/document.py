@@ -98,7 +98,7 @@ class Source:
             self.pdf = opened(name)
             self.root = self.pdf.Root
             tree = self.root.get("/Pages")
-            self.pages = list(leaves(tree))
+            self.pages = list(leaves(self.pdf))
             self.counted = number_of(tree.get("/Count"), 0) if isinstance(tree, Dictionary) else 0
             self.shapes = [shape_of(page, entries) for page, entries in self.pages]
         except PdfError as error:

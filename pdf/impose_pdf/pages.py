@@ -5,7 +5,7 @@ from dataclasses import dataclass
 from math import isfinite
 from typing import Any
 
-from pikepdf import Array, Dictionary, Name, Object
+from pikepdf import Array, Dictionary, Name, Object, Pdf
 
 from impose_pdf.plan import Matrix, Size
 
@@ -106,9 +106,9 @@ def drop(holder: Any, keys: Iterable[str]) -> None:
             del holder[key]
 
 
-def leaves(root: Any) -> Iterator[tuple[Any, dict[str, Any]]]:
-    """The pages below a node of the page tree, in order, each with what it inherits. Loops are passed over."""
-    seen, left = set(), [(root, dict[str, Any]())]
+def leaves(pdf: Pdf) -> Iterator[tuple[Any, dict[str, Any]]]:
+    """The pages of a PDF, in order, each with what it has or inherits. Loops of the page tree are passed over."""
+    seen, left = set(), [(pdf.Root.get("/Pages"), dict[str, Any]())]
     while left:
         node, above = left.pop()
         if not isinstance(node, Dictionary):
@@ -118,6 +118,8 @@ def leaves(root: Any) -> Iterator[tuple[Any, dict[str, Any]]]:
         if isinstance(kids, Array) and not is_page:
             if node.objgen == (0, 0) or node.objgen not in seen:
                 seen.add(node.objgen)
+                if isinstance(held := entries.get("/Resources"), Dictionary) and not held.is_indirect:
+                    entries["/Resources"] = pdf.make_indirect(held)  # one for all pages below
                 left += [(kid, entries) for kid in reversed(list(kids))]
         elif kids is None or is_page:
             yield node, entries
