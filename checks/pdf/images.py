@@ -10,8 +10,8 @@ from PIL import Image
 
 
 def image(lines: list[str], name: str) -> bytes:
-    """A JPEG or PNG, by its name, as size, dpi, turned and exif-dpi (of a photograph), colour, right (the colour of the right half), alpha, mode,
-    chunks, frames say."""
+    """A JPEG or PNG, by its name, as size, dpi, turned and exif-dpi (of a photograph), colour, right (the colour of the
+    right half), alpha, mode, packed (how hard), chunks (their length), frames say."""
     values = dict(line.split() for line in lines)
     width, height = (int(side) for side in values["size"].split("x"))
     red, green, blue = (int(part) for part in values["colour"].split(","))
@@ -23,6 +23,8 @@ def image(lines: list[str], name: str) -> bytes:
         picture.paste((red, green, blue), (width // 2, 0, width, height))
     if "dpi" in values:
         how["dpi"] = (int(values["dpi"]), int(values["dpi"]))
+    if "packed" in values:
+        how["compress_level"] = int(values["packed"])
     exif = Image.Exif()
     if "turned" in values:
         exif[0x112] = int(values["turned"])
@@ -44,10 +46,12 @@ def image(lines: list[str], name: str) -> bytes:
 
 
 def in_chunks(png: bytes, length: int) -> bytes:
-    """A PNG whose one chunk of data is parted into some of this length."""
+    """A PNG whose chunks of data are parted into some of this length."""
     at = png.index(b"IDAT") - 4
-    end = at + 8 + int.from_bytes(png[at : at + 4], "big")
-    data = png[at + 8 : end]
+    end, data = at, b""
+    while png[end + 4 : end + 8] == b"IDAT":
+        size = int.from_bytes(png[end : end + 4], "big")
+        end, data = end + 12 + size, data + png[end + 8 : end + 8 + size]
     parts = [b"IDAT" + data[k : k + length] for k in range(0, len(data), length)]
     chunks = [(len(part) - 4).to_bytes(4, "big") + part + zlib.crc32(part).to_bytes(4, "big") for part in parts]
-    return png[:at] + b"".join(chunks) + png[end + 4 :]
+    return png[:at] + b"".join(chunks) + png[end:]

@@ -66,9 +66,10 @@ def png(pdf: Pdf, image: Any, data: bytes) -> Any:
 
 def pixel_rows(data: bytes) -> bytes:
     """The compressed rows of a PNG, which lie in one chunk or several."""
-    at, rows = len(PNG), b""
+    at, rows = len(PNG), list[bytes]()
     while at < len(data):
         end = at + 8 + int.from_bytes(data[at : at + 4], "big")
-        rows += data[at + 8 : end] if data[at + 4 : at + 8] == b"IDAT" else b""
+        if data[at + 4 : at + 8] == b"IDAT":
+            rows.append(data[at + 8 : end])
         at = end + 4
-    return rows
+    return b"".join(rows)
