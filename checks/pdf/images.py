@@ -10,8 +10,8 @@ from PIL import Image
 
 
 def image(lines: list[str], name: str) -> bytes:
-    """A JPEG or PNG, by its name, as size, dpi, turned and exif-dpi (of a photograph), colour, right (the colour of the
-    right half), alpha, mode, packed (how hard), chunks (their length), frames say."""
+    """A JPEG or PNG, by its name, as size, dpi, turned, exif-dpi and exif (of a photograph), colour, right (the colour of
+    the right half), alpha, mode, packed (how hard), chunks (their length), frames say."""
     values = dict(line.split() for line in lines)
     width, height = (int(side) for side in values["size"].split("x"))
     red, green, blue = (int(part) for part in values["colour"].split(","))
@@ -33,6 +33,8 @@ def image(lines: list[str], name: str) -> bytes:
         exif[0x128] = 2
     if len(exif):
         how["exif"] = exif
+    if "exif" in values:
+        how["exif"] = b"Exif\0\0" + bytes.fromhex(values["exif"])
     if "alpha" in values:
         picture.putalpha(int(values["alpha"]))
     picture = picture.convert(values.get("mode", picture.mode))

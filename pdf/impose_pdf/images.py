@@ -1,7 +1,9 @@
 """JPEG and PNG files as PDFs of one page, in their own resolution. Data that a PDF can have stays as it is."""
 
 import io
+import struct
 import zlib
+from contextlib import suppress
 from typing import Any
 
 from pikepdf import Array, Dictionary, Name, Page, Pdf
@@ -19,6 +21,8 @@ Image.MAX_IMAGE_PIXELS = None  # most images aren't decoded
 def pdf_of(data: bytes) -> Pdf:
     """A PDF whose page is an image."""
     image, pdf = Image.open(io.BytesIO(data), formats=("JPEG", "PNG")), Pdf.new()
+    with suppress(struct.error, SyntaxError):  # of broken EXIF data, which Pillow tells once, and takes for none then
+        image.getexif()
     form = jpeg(pdf, image, data) if data.startswith(JPEG) else png(pdf, image, data)
     width, height = (pixels * 72 / (float(per_inch) or 96) for pixels, per_inch in zip(image.size, dots_of(image)))
     contents = pdf.make_stream(f"{numerals(width)} 0 0 {numerals(height)} 0 0 cm /I Do".encode())

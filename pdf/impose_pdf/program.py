@@ -4,6 +4,7 @@ import os
 import re
 import shutil
 import signal
+import warnings
 
 from impose_pdf import words as said
 from impose_pdf.plan import Imposer, usual
@@ -39,6 +40,7 @@ def say(text: str) -> None:
 def main(words: list[str], here: str) -> int:
     """Runs the program, and gives its exit status."""
     signal.signal(signal.SIGINT, signal.SIG_DFL)
+    warnings.simplefilter("ignore")  # of libraries, for programmers
     try:
         run(words, here)
     except Refusal as refused:
