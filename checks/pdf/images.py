@@ -10,8 +10,8 @@ from PIL import Image
 
 
 def image(lines: list[str], name: str) -> bytes:
-    """A JPEG or PNG, by its name, as size, dpi, turned, exif-dpi and exif (of a photograph), colour, right (the colour of
-    the right half), alpha, mode, packed (how hard), chunks (their length), frames say."""
+    """A JPEG or PNG, by its name, as size, dpi, turned, exif-dpi and exif (of a photograph), colour, right and lower
+    (the colours of these halves), alpha, mode, packed (how hard), chunks (their length), frames say."""
     values = dict(line.split() for line in lines)
     width, height = (int(side) for side in values["size"].split("x"))
     red, green, blue = (int(part) for part in values["colour"].split(","))
@@ -21,6 +21,9 @@ def image(lines: list[str], name: str) -> bytes:
     if "right" in values:
         red, green, blue = (int(part) for part in values["right"].split(","))
         picture.paste((red, green, blue), (width // 2, 0, width, height))
+    if "lower" in values:
+        red, green, blue = (int(part) for part in values["lower"].split(","))
+        picture.paste((red, green, blue), (0, height // 2, width, height))
     if "dpi" in values:
         how["dpi"] = (int(values["dpi"]), int(values["dpi"]))
     if "packed" in values:

@@ -14,7 +14,8 @@ from impose_pdf.pages import array, numerals
 JPEG, PNG = b"\xff\xd8\xff", b"\x89PNG\r\n\x1a\n"
 USUAL = 96, 96  # dots per inch, where an image names none
 SPACES = {"1": Name.DeviceGray, "L": Name.DeviceGray, "RGB": Name.DeviceRGB, "CMYK": Name.DeviceCMYK}
-TURNS = {3: 180, 6: 90, 8: 270}  # by the orientation of a photograph
+TURNS = {3: 180, 4: 180, 5: 270, 6: 90, 7: 90, 8: 270}  # by the orientation of a photograph
+MIRRORED = {2, 4, 5, 7}  # orientations that are mirrored first
 Image.MAX_IMAGE_PIXELS = None  # most images aren't decoded
 
 
@@ -25,10 +26,12 @@ def pdf_of(data: bytes) -> Pdf:
         image.getexif()
     form = jpeg(pdf, image, data) if data.startswith(JPEG) else png(pdf, image, data)
     width, height = (pixels * 72 / (float(per_inch) or 96) for pixels, per_inch in zip(image.size, dots_of(image)))
-    contents = pdf.make_stream(f"{numerals(width)} 0 0 {numerals(height)} 0 0 cm /I Do".encode())
+    orientation = image.getexif().get(0x112) or 0
+    right = width if orientation in MIRRORED else 0
+    contents = pdf.make_stream(f"{numerals(width - 2 * right, 0, 0, height, right, 0)} cm /I Do".encode())
     resources = Dictionary(XObject=Dictionary(I=form))
     page = Dictionary(Type=Name.Page, MediaBox=array(0, 0, width, height), Resources=resources, Contents=contents)
-    page.Rotate = TURNS.get(image.getexif().get(0x112) or 0, 0)
+    page.Rotate = TURNS.get(orientation, 0)
     pdf.pages.append(Page(pdf.make_indirect(page)))
     return pdf
 
