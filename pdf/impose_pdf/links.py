@@ -112,31 +112,31 @@ class Ways:
         return self.lead(dest) if isinstance(dest, Array) else None
 
     def lead_action(self, action: Any, depth: int = 0, done: set[tuple[int, int]] | None = None) -> Any:
-        """An action that leads to sheets or out of the PDF, or None for one that isn't kept, or was done before."""
+        """An action and those after it, as far as they are new, and lead to sheets or out of the PDF; or None."""
         done = set() if done is None else done
-        is_new = isinstance(action, Dictionary) and depth < DEEPEST and action.objgen not in done
-        kind = name_of(action.get("/S")) if is_new else ""
-        if is_new and action.is_indirect:
+        if not isinstance(action, Dictionary) or depth == DEEPEST or action.objgen in done:
+            return None
+        if action.is_indirect:
             done.add(action.objgen)
+        after = action.get("/Next")
+        all_after = list(after) if isinstance(after, Array) else [after]
+        led = [self.lead_alone(action), *(self.lead_action(each, depth + 1, done) for each in all_after)]
+        first, *others = [each for each in led if each is not None] or [None]
+        if others:  # they come after those that are after the first
+            first.Next = Array([*first.get("/Next", ()), *others])
+        return first
+
+    def lead_alone(self, action: Any) -> Any:
+        """An action without those after it, or None if it isn't kept."""
+        kind = name_of(action.get("/S"))
         if kind == "/GoTo":
             dest = self.lead(action.get("/D"))
-            if dest is None:
-                return None
-            made = Dictionary(S=Name.GoTo, D=dest)
-        elif kind in KEPT_ACTIONS:
-            made = copy(action)
-            if "/Next" in made:
-                del made["/Next"]
-            made = self.brought(made)
-        else:
+            return None if dest is None else Dictionary(S=Name.GoTo, D=dest)
+        if kind not in KEPT_ACTIONS:
             return None
-        if "/Next" in action:
-            following = action.get("/Next")
-            all_following = list(following) if isinstance(following, Array) else [following]
-            led = [self.lead_action(each, depth + 1, done) for each in all_following]
-            if kept := [each for each in led if each is not None]:
-                made.Next = Array(kept)
-        return made
+        made = copy(action)
+        drop(made, {"/Next"})
+        return self.brought(made)
 
     def lead_holder(self, holder: Any) -> tuple[str, Any] | None:
         """The entry by which a link or an outline item leads to a sheet, and where; or None."""
