@@ -13,6 +13,7 @@ Box = tuple[float, float, float, float]
 INHERITED = ("/Resources", "/MediaBox", "/CropBox", "/Rotate")
 LETTER: Box = (0, 0, 612, 792)
 UPRIGHT: Matrix = (1, 0, 0, 1, 0, 0)
+FARTHEST = 1e9  # points: beyond all sheets, and within what readers count
 
 
 def then(m: Matrix, n: Matrix) -> Matrix:
@@ -23,8 +24,9 @@ def then(m: Matrix, n: Matrix) -> Matrix:
 
 
 def moved(x: float, y: float, m: Matrix) -> tuple[float, float]:
-    """A point, moved by a matrix."""
-    return m[0] * x + m[2] * y + m[4], m[1] * x + m[3] * y + m[5]
+    """A point, moved by a matrix, or the farthest one that way."""
+    across, up = m[0] * x + m[2] * y + m[4], m[1] * x + m[3] * y + m[5]
+    return max(-FARTHEST, min(FARTHEST, across)), max(-FARTHEST, min(FARTHEST, up))
 
 
 def bounds(box: Box, m: Matrix) -> Box:
