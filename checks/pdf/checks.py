@@ -446,6 +446,13 @@ def _title(output: Output, rest: str, _: list[str]) -> Iterator[str]:
         yield from differs("dc:title", str(meta.get("dc:title", rest)), rest)
 
 
+@check("forms")
+def _forms(output: Output, rest: str, _below: list[str]) -> Iterator[str]:
+    """How many forms OUTFILE has: those that pages became, and those that these draw."""
+    found = [one for one in output.pdf.objects if isinstance(one, Stream) and one.get("/Subtype") == Name.Form]
+    yield from differs("forms", len(found), int(rest))
+
+
 @check("streams")
 def _streams(output: Output, _rest: str, _below: list[str]) -> Iterator[str]:
     """Each page's content is there byte for byte, if it is one stream."""

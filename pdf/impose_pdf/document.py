@@ -9,7 +9,7 @@ from typing import Any
 from pikepdf import Array, Dictionary, Name, PasswordError, Pdf, PdfError
 
 from impose_pdf import images, notes
-from impose_pdf.forms import Forms
+from impose_pdf.forms import Forms, pictures_of
 from impose_pdf.links import Link, Ways
 from impose_pdf.pages import Box, bounds, box_of, leaves, meet, number_of, shape_of, then
 from impose_pdf.plan import Matrix, Placed, Size
@@ -135,6 +135,11 @@ class Source:
             self.pdf.generate_appearance_streams()
             for page, _ in self.pages:
                 notes.settle(page)
+
+    def find_unshown(self, shown: set[tuple["Source", int]]) -> None:
+        """Finds the forms and images of pages that aren't shown."""
+        others = (entries for k, (_, entries) in enumerate(self.pages) if (self, k) not in shown)
+        self.forms.unshown = {held for entries in others for held in pictures_of(entries.get("/Resources"))}
 
     def form(self, k: int) -> Any:
         """The form of a page, in the PDF that is made."""

@@ -4,9 +4,9 @@ import zlib
 from copy import copy
 from typing import Any
 
-from pikepdf import Array, Dictionary, Name, Pdf, PdfError, Stream, StreamDecodeLevel
+from pikepdf import Array, Dictionary, Name, Pdf, PdfError, Stream, StreamDecodeLevel, parse_content_stream
 
-from impose_pdf.pages import UPRIGHT, Shape, array, numerals
+from impose_pdf.pages import UPRIGHT, Shape, array, keys_of, name_of, numerals
 from impose_pdf.plan import Matrix
 from impose_pdf.words import refusal
 
@@ -27,11 +27,35 @@ def isolated(group: Any) -> Any:
     return made
 
 
+def pictures_of(resources: Any) -> set[tuple[int, int]]:
+    """The objects by which pages may share forms and images among their resources."""
+    pictures = resources.get("/XObject") if isinstance(resources, Dictionary) else None
+    held = (resources, pictures) if isinstance(pictures, Dictionary) else ()
+    return {one.objgen for one in held if one.is_indirect}
+
+
+def drawn_by(form: Any) -> dict[str, Any] | None:
+    """The forms and images that a form draws, if these can be told."""
+    try:
+        names = {name_of(name) for operands, _ in parse_content_stream(form, "Do") for name in operands}
+    except PdfError:
+        return None
+    drawn = {name: form.Resources.XObject[name] for name in names if name and name in form.Resources.XObject}
+    are_all = "" not in names and all(isinstance(one, Stream) and is_whole(one) for one in drawn.values())
+    return drawn if are_all else None
+
+
+def is_whole(picture: Any) -> bool:
+    """Whether an image or a form needs nothing of its page: a form without resources has those of the page."""
+    return picture.get("/Subtype") != Name.Form or "/Resources" in picture
+
+
 class Forms:
     """The forms that pages of a PDF become."""
 
     def __init__(self, pdf: Pdf, name: str):
         self.pdf, self.name = pdf, name
+        self.unshown: set[tuple[int, int]] = set()  # objects that hold forms and images of pages that aren't shown
         self.used: set[tuple[int, int]] = set()  # streams that are forms now
         self.made: dict[tuple[object, ...], Any] = {}
 
@@ -45,6 +69,9 @@ class Forms:
         key = (*parts, resources.unparse(), group and group.unparse(), shape.box, shape.matrix)
         if key not in self.made:
             form = self.form(self.contents(streams, number), resources, shape)
+            looks = [look for look, _, _ in notes]
+            if all(map(is_whole, looks)):
+                self.leave_out([form, *looks])
             if notes:
                 form.Matrix = array(*UPRIGHT)
                 form = self.noted(form, notes, shape)
@@ -52,6 +79,15 @@ class Forms:
                 form.Group = group
             self.made[key] = form
         return self.made[key]
+
+    def leave_out(self, forms: list[Any]) -> None:
+        """Takes from the resources of forms, and of those that they draw, what only pages draw that aren't shown."""
+        while forms:
+            form = forms.pop()
+            if pictures_of(form.get("/Resources")) & self.unshown and (drawn := drawn_by(form)) is not None:
+                own = {key: form.Resources[key] for key in keys_of(form.Resources)}
+                form.Resources = Dictionary({**own, "/XObject": Dictionary(drawn)})
+                forms += drawn.values()
 
     def form(self, stream: Any, resources: Any, shape: Shape) -> Any:
         """A stream made a form of a page's shape."""

@@ -31,6 +31,9 @@ class Making:
 
     def make(self, sheets: list[Sheet], turned: int, flip: str) -> None:
         """Puts sheets in place of the pages, and leads everything to them."""
+        shown = {self.row[placed.page] for sheet in sheets for placed in sheet.placed}
+        for source in self.sources:
+            source.find_unshown(shown)
         pages = [self.page(sheet, turned) for sheet in sheets]
         taken: set[bytes] = set()
         for source in self.sources:
