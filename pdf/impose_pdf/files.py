@@ -80,7 +80,7 @@ def is_foreign(name: str) -> bool:
         try:
             with Pdf.open(stream) as pdf:
                 return str(pdf.docinfo.get("/Producer")) != PRODUCER
-        except (PdfError, AttributeError):  # /Info may be anything
+        except (PdfError, AttributeError, ValueError):  # /Info may be anything
             return True
 
 
