@@ -183,6 +183,6 @@ class Source:
             more = f", and {len(found) - 1} more" if len(found) > 1 else ""
             lines = f"impose-pdf: {shown(self.name)} is damaged, and was mended: {cause(found[0], self.name)}{more}\n"
         if self.counted > len(self.pages):
-            told = f"counts {self.counted:g} pages, and {len(self.pages)} can be found"
+            told = f"counts {self.counted:.0f} pages, and {len(self.pages)} can be found"
             lines += f"impose-pdf: {shown(self.name)} {told}\n"
         return lines
