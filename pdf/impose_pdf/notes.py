@@ -34,9 +34,10 @@ def drawn(notes: list[Any], page: Matrix) -> list[Note]:
         own = numbers(form.get("/Matrix"))
         a, b, c, d, e, f = own if len(own) == 6 else UPRIGHT
         left, bottom, right, top = bounds(box, (a, b, c, d, e, f))
-        if left == right or bottom == top:
+        width, height = rectangle[2] - rectangle[0], rectangle[3] - rectangle[1]
+        if 0 in (width, height, right - left, top - bottom):
             continue
-        across, up = (rectangle[2] - rectangle[0]) / (right - left), (rectangle[3] - rectangle[1]) / (top - bottom)
+        across, up = width / (right - left), height / (top - bottom)
         form.Type, form.Subtype = Name.XObject, Name.Form
         matrix = across, 0.0, 0.0, up, rectangle[0] - across * left, rectangle[1] - up * bottom
         if flags_of(note) & NOT_TURNED:
