@@ -124,9 +124,9 @@ class Source:
         self.forms, self.ways = Forms(self.pdf, shown(self.name)), Ways(
             self.pdf, made, [p for p, _ in self.pages], self.shapes
         )
-        if made is not self.pdf:  # whose tree of pages qpdf goes through for each copy
-            pages = list({page.objgen: page for page, _ in self.pages if page.is_indirect}.values())
-            self.root.Pages = self.pdf.make_indirect(Dictionary(Type=Name.Pages, Kids=Array(pages), Count=len(pages)))
+        # A tree without loops, which qpdf goes through for copies and fields.
+        pages = list({page.objgen: page for page, _ in self.pages if page.is_indirect}.values())
+        self.root.Pages = self.pdf.make_indirect(Dictionary(Type=Name.Pages, Kids=Array(pages), Count=len(pages)))
         self.put: dict[int, Any] = {}
         self.links: dict[int, list[Link]] = {}
         self.annotations: dict[int, list[Any]] = {}
