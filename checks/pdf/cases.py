@@ -26,7 +26,7 @@ ROOT = Path(__file__).resolve().parent.parent.parent
 PDFS = ROOT / "cases/pdfs"
 SETTINGS = (
     *("stdin", "limit", "stdout", "signal", "user", "rights", "umask", "link", "file", "pipe", "text", "papersize"),
-    "room",
+    *("room", "open"),
 )
 
 
@@ -222,7 +222,7 @@ def ran(case: Case, programs: Programs, folder: Path) -> Run:
         programs = copied(programs, folder / "programs")
     prepared(case, inside)
     before = contents(inside)
-    limit, umask = case.setting("limit"), case.setting("umask")
+    limit, umask, may_open = case.setting("limit"), case.setting("umask"), case.setting("open")
 
     def limited() -> None:
         signal.signal(signal.SIGXFSZ, signal.SIG_IGN)
@@ -230,6 +230,8 @@ def ran(case: Case, programs: Programs, folder: Path) -> Run:
             os.umask(int(umask[0], 8))
         if limit:
             resource.setrlimit(resource.RLIMIT_FSIZE, (int(limit[0]), int(limit[0])))
+        if may_open:
+            resource.setrlimit(resource.RLIMIT_NOFILE, (int(may_open[0]), int(may_open[-1])))
 
     impose, papersize, stdin = programs.impose, case.setting("papersize") or ["a4"], case.setting("stdin")
     if case.setting("signal"):

@@ -49,8 +49,6 @@ def opened(name: str) -> Pdf:
         raise refusal(3, f"cannot read {shown(name)}: no such file ({hint})") from None
     except IsADirectoryError:
         raise refusal(3, f"cannot read {shown(name)}: it is a folder") from None
-    except OSError as error:
-        raise refusal(3, f"cannot read {shown(name)}: {(error.strerror or '').lower()}") from None
     if not first:
         raise refusal(1, f"{shown(name)} is empty")
     if first.startswith((images.JPEG, images.PNG)):
@@ -103,6 +101,8 @@ class Source:
             self.shapes = [shape_of(page, entries) for page, entries in self.pages]
         except PdfError as error:
             raise refusal(1, f"{shown(name)} can't be read: {cause(error, name)}") from None
+        except OSError as error:
+            raise refusal(3, f"cannot read {shown(name)}: {(error.strerror or '').lower()}") from None
         if not self.pages:
             raise refusal(1, f"{shown(name)} has no pages")
 

@@ -2,6 +2,7 @@
 
 import os
 import re
+import resource
 import shutil
 import signal
 import warnings
@@ -11,6 +12,7 @@ from impose_pdf.plan import Imposer, usual
 from impose_pdf.words import Refusal, Request, refusal, shown
 
 A4 = 595.0, 842.0
+MOST_OPEN = 65_536  # files: INFILEs stay open
 OPENED: dict[str, object] = {}  # PDFs, which stay open to the end
 
 
@@ -41,6 +43,8 @@ def main(words: list[str], here: str) -> int:
     """Runs the program, and gives its exit status."""
     signal.signal(signal.SIGINT, signal.SIG_DFL)
     warnings.simplefilter("ignore")  # of libraries, for programmers
+    now, most = resource.getrlimit(resource.RLIMIT_NOFILE)
+    resource.setrlimit(resource.RLIMIT_NOFILE, (max(now, min(most, MOST_OPEN)), most))
     try:
         run(words, here)
     except Refusal as refused:
