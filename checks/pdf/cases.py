@@ -26,7 +26,7 @@ ROOT = Path(__file__).resolve().parent.parent.parent
 PDFS = ROOT / "cases/pdfs"
 SETTINGS = (
     *("stdin", "limit", "stdout", "signal", "user", "rights", "umask", "link", "file", "pipe", "text", "papersize"),
-    *("room", "open"),
+    *("room", "open", "impose"),
 )
 
 
@@ -234,6 +234,8 @@ def ran(case: Case, programs: Programs, folder: Path) -> Run:
             resource.setrlimit(resource.RLIMIT_NOFILE, (int(may_open[0]), int(may_open[-1])))
 
     impose, papersize, stdin = programs.impose, case.setting("papersize") or ["a4"], case.setting("stdin")
+    if named := case.setting("impose"):
+        impose = Path(named[0])
     if case.setting("signal"):
         impose = folder / "sleeper"
         impose.write_text(f"#!/bin/sh\necho $$ >{folder}/asleep\nexec sleep 30\n")

@@ -127,6 +127,11 @@ def stub(sizes: Sequence[Size], paper: Size) -> bytes:
     return f"{comments}{''.join(pages)}%%Trailer\n%%EOF\n".encode()
 
 
+def cannot_run(program: str, error: OSError) -> Refusal:
+    """The refusal where impose can't be run."""
+    return refusal(3, f"cannot run {shown(program)}: {(error.strerror or '').lower()}")
+
+
 class Imposer:
     """impose with the words of a request, over a stub of pages of these sizes."""
 
@@ -141,7 +146,7 @@ class Imposer:
         try:
             done = subprocess.run(words, input=self.stub, capture_output=True)
         except OSError as error:
-            raise refusal(3, f"cannot run {self.program}: {error.strerror}") from None
+            raise cannot_run(self.program, error) from None
         told = done.stderr.decode(errors="replace")
         if done.returncode:
             told = re.sub(r"\bimpose (.*)in\.ps out\.ps", r"impose-pdf \1in.pdf out.pdf", told)

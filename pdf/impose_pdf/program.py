@@ -8,7 +8,7 @@ import signal
 import warnings
 
 from impose_pdf import words as said
-from impose_pdf.plan import Imposer, usual
+from impose_pdf.plan import Imposer, cannot_run, usual
 from impose_pdf.words import Refusal, Request, refusal, shown
 
 A4 = 595.0, 842.0
@@ -70,7 +70,11 @@ def run(words: list[str], here: str) -> None:
         return
     request = said.read(words)
     if words[0] in ("help", "-V", "--version") or "--help" in request.options:
-        os.execv(imposer(here), [imposer(here), *words])
+        program = imposer(here)
+        try:
+            os.execv(program, [program, *words])
+        except OSError as error:
+            raise cannot_run(program, error) from None
     if not request.infiles or not (request.outfile or request.looks):
         look_at_words(request, imposer(here))
         if request.infiles:
