@@ -121,9 +121,8 @@ class Source:
 
     def prepare(self, made: Pdf) -> None:
         """Gets ready for sheets of a PDF."""
-        self.forms, self.ways = Forms(self.pdf, shown(self.name)), Ways(
-            self.pdf, made, [p for p, _ in self.pages], self.shapes
-        )
+        self.forms = Forms(self.pdf, shown(self.name))
+        self.ways = Ways(self.pdf, made, [page for page, _ in self.pages], self.shapes)
         # A tree without loops, which qpdf goes through for copies and fields.
         pages = list({page.objgen: page for page, _ in self.pages if page.is_indirect}.values())
         self.root.Pages = self.pdf.make_indirect(Dictionary(Type=Name.Pages, Kids=Array(pages), Count=len(pages)))

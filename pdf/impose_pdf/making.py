@@ -1,5 +1,6 @@
 """The PDF of sheets: that of the first INFILE, with sheets in place of its pages, and with what others have."""
 
+from collections.abc import Iterator
 from typing import Any
 
 from pikepdf import Array, Dictionary, Name, String
@@ -7,7 +8,7 @@ from pikepdf import Array, Dictionary, Name, String
 from impose_pdf import outlines
 from impose_pdf.document import Source
 from impose_pdf.pages import array, drop, keys_of
-from impose_pdf.plan import Sheet
+from impose_pdf.plan import Placed, Sheet
 from impose_pdf.sheets import drawing, label, preferences
 from impose_pdf.trees import add_layers, free, tree_of
 
@@ -31,7 +32,7 @@ class Making:
 
     def make(self, sheets: list[Sheet], turned: int, flip: str) -> None:
         """Puts sheets in place of the pages, and leads everything to them."""
-        shown = {self.row[placed.page] for sheet in sheets for placed in sheet.placed}
+        shown = {(source, k) for sheet in sheets for source, k, _ in self.placed(sheet)}
         for source in self.sources:
             source.find_unshown(shown)
         pages = [self.page(sheet, turned) for sheet in sheets]
@@ -60,9 +61,14 @@ class Making:
             }
         )
 
+    def placed(self, sheet: Sheet) -> Iterator[tuple[Source, int, Placed]]:
+        """The pages on a sheet: the INFILE and the number there of each, and how it is placed."""
+        for placed in sheet.placed:
+            yield *self.row[placed.page], placed
+
     def page(self, sheet: Sheet, turned: int) -> Any:
         """A sheet as a page, without links, which need to know where all pages are."""
-        forms = {f"/P{placed.page}": self.form(placed.page) for placed in sheet.placed}
+        forms = {f"/P{placed.page}": source.form(k) for source, k, placed in self.placed(sheet)}
         resources = Dictionary(XObject=Dictionary(forms))
         if sheet.numbers:
             resources.Font = self.font
@@ -71,23 +77,14 @@ class Making:
         if turned:
             made.Rotate = turned
         made = self.pdf.make_indirect(made)
-        for placed in sheet.placed:
-            source, k = self.row[placed.page]
+        for source, k, placed in self.placed(sheet):
             source.ways.first.setdefault(k, (made, source.matrix(k, placed)))
         return made
 
-    def form(self, number: int) -> Any:
-        """The form of a page of the row."""
-        source, k = self.row[number]
-        return source.form(k)
-
     def links(self, sheet: Sheet) -> list[Any]:
         """The links on a sheet."""
-        made: list[Any] = []
-        for placed in sheet.placed:
-            source, k = self.row[placed.page]
-            made += source.links_at(k, placed, sheet.paper)
-        return made
+        pages = self.placed(sheet)
+        return [link for source, k, placed in pages for link in source.links_at(k, placed, sheet.paper)]
 
     def outlines(self) -> Any:
         """The outlines of all INFILEs, one after the other."""
