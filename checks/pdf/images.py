@@ -6,12 +6,13 @@ import io
 import zlib
 from typing import Any
 
-from PIL import Image
+from PIL import Image, ImageCms
 
 
 def image(lines: list[str], name: str) -> bytes:
     """A JPEG or PNG, by its name, as size, dpi, turned, exif-dpi and exif (of a photograph), colour, right and lower
-    (the colours of these halves), alpha, mode, packed (how hard), chunks (their length), frames say."""
+    (the colours of these halves), profile (in which red and green are swapped), alpha, mode, packed (how hard), chunks
+    (their length), frames say."""
     values = dict(line.split() for line in lines)
     width, height = (int(side) for side in values["size"].split("x"))
     red, green, blue = (int(part) for part in values["colour"].split(","))
@@ -36,6 +37,8 @@ def image(lines: list[str], name: str) -> bytes:
         exif[0x128] = 2
     if len(exif):
         how["exif"] = exif
+    if "profile" in values:
+        how["icc_profile"] = swapped()
     if "exif" in values:
         how["exif"] = b"Exif\0\0" + bytes.fromhex(values["exif"])
     if "alpha" in values:
@@ -48,6 +51,12 @@ def image(lines: list[str], name: str) -> bytes:
     picture.save(out, kind, **how)
     data = out.getvalue()
     return in_chunks(data, int(values["chunks"])) if "chunks" in values else data
+
+
+def swapped() -> bytes:
+    """The profile of sRGB, with its red for green."""
+    profile = ImageCms.ImageCmsProfile(ImageCms.createProfile("sRGB")).tobytes()
+    return profile.replace(b"rXYZ", b"tXYZ").replace(b"gXYZ", b"rXYZ").replace(b"tXYZ", b"gXYZ")
 
 
 def in_chunks(png: bytes, length: int) -> bytes:

@@ -13,7 +13,8 @@ from impose_pdf.pages import array, numerals
 
 JPEG, PNG = b"\xff\xd8\xff", b"\x89PNG\r\n\x1a\n"
 USUAL = 96, 96  # dots per inch, where an image names none
-SPACES = {"1": Name.DeviceGray, "L": Name.DeviceGray, "RGB": Name.DeviceRGB, "CMYK": Name.DeviceCMYK}
+COMPONENTS = {"L": 1, "RGB": 3, "CMYK": 4}
+SPACES = {1: (Name.DeviceGray, b"GRAY"), 3: (Name.DeviceRGB, b"RGB "), 4: (Name.DeviceCMYK, b"CMYK")}
 TURNS = {3: 180, 4: 180, 5: 270, 6: 90, 7: 90, 8: 270}  # by the orientation of a photograph
 MIRRORED = {2, 4, 5, 7}  # orientations that are mirrored first
 Image.MAX_IMAGE_PIXELS = None  # most images aren't decoded
@@ -43,6 +44,13 @@ def dots_of(image: Any) -> tuple[float, float]:
     return dots
 
 
+def space_of(pdf: Pdf, image: Any, components: int) -> Any:
+    """The colours of an image with so many components: those of its own profile, if that has as many."""
+    plain, kind = SPACES[components]
+    profile = image.info.get("icc_profile") or b""
+    return Array([Name.ICCBased, pdf.make_stream(profile, N=components)]) if profile[16:20] == kind else plain
+
+
 def stream(pdf: Pdf, size: tuple[int, int], data: bytes, space: Any, bits: int = 8, **entries: Any) -> Any:
     """An image of a PDF."""
     head = {"Type": Name.XObject, "Subtype": Name.Image, "Width": size[0], "Height": size[1], "ColorSpace": space}
@@ -52,7 +60,8 @@ def stream(pdf: Pdf, size: tuple[int, int], data: bytes, space: Any, bits: int =
 def jpeg(pdf: Pdf, image: Any, data: bytes) -> Any:
     """The image of a JPEG. Inks are upside down where Adobe's mark is."""
     upside_down = {"Decode": Array([1, 0] * 4)} if image.mode == "CMYK" and "adobe" in image.info else {}
-    return stream(pdf, image.size, data, SPACES[image.mode], Filter=Name.DCTDecode, **upside_down)
+    space = space_of(pdf, image, COMPONENTS[image.mode])
+    return stream(pdf, image.size, data, space, Filter=Name.DCTDecode, **upside_down)
 
 
 def png(pdf: Pdf, image: Any, data: bytes) -> Any:
@@ -64,12 +73,12 @@ def png(pdf: Pdf, image: Any, data: bytes) -> Any:
         pixels = image.convert("RGBA")
         mask = stream(pdf, image.size, zlib.compress(pixels.getchannel("A").tobytes()), Name.DeviceGray)
         colour = zlib.compress(pixels.convert("RGB").tobytes())
-        return stream(pdf, image.size, colour, Name.DeviceRGB, SMask=mask)
+        return stream(pdf, image.size, colour, space_of(pdf, image, 3), SMask=mask)
     rows = Dictionary(Predictor=15, Colors=3 if colours == 2 else 1, BitsPerComponent=bits, Columns=image.width)
-    space: Any = Name.DeviceRGB if colours == 2 else Name.DeviceGray
+    space = space_of(pdf, image, 3 if colours in (2, 3) else 1)
     if colours == 3:
         palette = bytes(image.getpalette())
-        space = Array([Name.Indexed, Name.DeviceRGB, len(palette) // 3 - 1, pdf.make_stream(palette)])
+        space = Array([Name.Indexed, space, len(palette) // 3 - 1, pdf.make_stream(palette)])
     return stream(pdf, image.size, pixel_rows(data), space, bits, DecodeParms=rows)
 
 
