@@ -1,4 +1,4 @@
--- Where numbers of pages stand: in the middle of their cells, 18 points above the foot. All here is this project's own rules.
+-- Where page numbers are: in the middle of their cells, 18 points above the foot. All here is this project's own rules.
 use Rattle.std.specs.Prelude.{◌≡◌, ℕ, ◌+◌, ◌*◌, ◌≤◌, ℤ, pos, ◌+ℤ◌, ◌-ℤ◌, ◌*ℤ◌, ◌≤ℤ◌, Option, Some}
 use Rattle.rules.specs.Papers.{Paper}
 use Rattle.rules.specs.Placement.{Point, moved, offset, turned}
@@ -32,7 +32,7 @@ abbrev pub IsHalfOf : (twice grains : ℤ) → Type 0
 IsHalfOf twice grains = ((pos 2 *ℤ grains) ≤ℤ ((pos 1_270_000 *ℤ twice) +ℤ pos 5_080_000))
     × ((pos 1_270_000 *ℤ twice) ≤ℤ ((pos 2 *ℤ grains) +ℤ pos 5_080_000))
 
--- a number whose line begins at this point stands at the foot of the cell, in its middle; what is drawn on that line up to 18 points
+-- a number whose line begins at this point is at the foot of the cell, in its middle; what is drawn on that line up to 18 points
 -- high is in the cell, but for 2 * 10^-5 of a point, if the cell is 36 points high
 pub record IsAtFoot (turn : Turn) (cell : Cell) (p : Point) : Type 0 where
   pub across : IsHalfOf (twice_foot turn cell).x p.x

@@ -6,7 +6,7 @@ use Rattle.sheet_text.specs.Jobs.{JobView}
 use Rattle.sheet_writer.specs.Writing.{AreEarly}
 use Rattle.imposer.specs.declared.setup.CollectorParts.{CollectorParts}
 
--- on it lie the texts round the job's sheets, and no sheet with a text that isn't its own
+-- it has the texts around the job's sheets, and each sheet on it has its own text
 pub record IsDeskOf (job : JobView) (desk : CollectorParts) : Type 0 where
   pub header : desk.header.items ≡ dressed_preamble (length job.plan.sheets) job.header job.units
   pub trailer : desk.trailer.items ≡ trailer_text job.units

@@ -42,11 +42,11 @@ pub record ReportsOf (job : JobView) (report : Report) : Type 0 where
 abbrev pub WrotePartOf : JobView → (old new : SinkView) → RunError → Type 0
 WrotePartOf job old new e = AfterError e ⊥ (WroteFirst job old new) (WroteFirst job old new)
 
--- the tokens come back, but after out of memory
+-- the tokens come back, except after out of memory
 abbrev pub HandsBackTokens : {T : Type 0} → RunError → Option T → Type 0
 HandsBackTokens e tokens = AfterError e ⊥ (λ written. IsNone tokens) (λ written. IsSomeAnd tokens (λ t. ⊤))
 
--- the tokens of a gathering come back, but after out of memory
+-- the tokens of a gathering come back, except after out of memory
 abbrev pub TokensComeBack : Gathered → Type 0
 TokensComeBack gathered = MatchResult gathered.outcome (λ _. IsSomeAnd gathered.tokens (λ t. ⊤))
     (λ e. HandsBackTokens e gathered.tokens)
@@ -88,7 +88,7 @@ pub record EndsOn {G : Type 0} (floor : RunObjects G) (HasRoom : Type 0) (old ne
 abbrev pub Concludes : JobView → (old new : SinkView) → Progress → Result Report RunError → Type 0
 Concludes job old new p outcome = (start : SinkView) → IsProgress job start old p → Answers job start new outcome
 
--- what the workers had comes back, but after out of memory
+-- what the workers had comes back, except after out of memory
 pub record HandsBackAll (ended : WorkerTokens) (gathered : Gathered) : Type 0 where
   pub tokens : TokensComeBack gathered
   pub same : IfSome gathered.tokens (λ t. (t.0 ≡ ended.tokens.seat) × (t.1 ≡ ended.tokens.pass))

@@ -6,13 +6,13 @@ use Rattle.std.specs.Prelude.{ℕ, ◌+◌, Option, IfSome}
 abbrev pub StaysGathered : {H : Type 0} → (H → ℕ → ℕ → H → Type 0) → (old new : H) → Type 0
 StaysGathered gathered old new = (first : _) (count : ℕ) → gathered first count 0 old → gathered first count 0 new
 
--- the next preparer's part makes the number of joined preparers one greater
+-- joining the next preparer raises the number of joined preparers by one
 abbrev pub GainsPreparer : {H : Type 0} → (H → ℕ → ℕ → H → Type 0) → (ℕ → ℕ → H → Type 0)
     → (all theirs new : H) → Type 0
 GainsPreparer gathered prepared all theirs new =
     (first : _) (count k : ℕ) → gathered first count k all → prepared count k theirs → gathered first count (k + 1) new
 
--- an imposer's part leaves that number as it is
+-- joining an imposer leaves that number as it is
 abbrev pub GainsImposer : {H : Type 0} → (H → ℕ → ℕ → H → Type 0) → (H → Type 0) → (all theirs new : H) → Type 0
 GainsImposer gathered imposed all theirs new =
     (first : _) (count k : ℕ) → gathered first count k all → imposed theirs → gathered first count k new

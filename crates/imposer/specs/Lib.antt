@@ -1,4 +1,4 @@
--- Read in this order: a run; a run on planned sheets, of which who asks what `gather` leaves may stop after `Listening`; its
+-- Read in this order: a run; a run on planned sheets (if you only want to know what `gather` leaves, stop after `Listening`); its
 -- workers; their threads, which know no pages; numbers that an imposer holds. What a delivery and an imposition call is in
 -- `run_steps`.
 pub mod Options

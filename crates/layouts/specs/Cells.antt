@@ -2,7 +2,7 @@
 -- Sides of cells and offsets are whole numbers of 10^-5 of a point, which are 1,270,000 grains: with these a shift is
 -- printed exactly. Both are rounded down, and so is the scale, in 10^-9; so a page is never larger than its cell, nor
 -- the grid than what the margins leave of the sheet.
--- The gap is no part of the pages, so it isn't scaled: it is added to the side once, as if one more gap came behind the
+-- The gap is no part of the pages, so it isn't scaled: it is added to the side once, as if one more gap came after the
 -- last cell, the side is cut into equal parts, and each part gives up one gap.
 use Rattle.std.specs.Prelude.{ℕ, ◌+◌, ◌-◌, ◌*◌, ◌/◌, ◌%◌, min, ℤ, pos, ◌+ℤ◌, ◌-ℤ◌, ◌*ℤ◌, nat_abs, Bool, true}
 use Rattle.std.specs.Prelude.{false, ◌==◌, if◌then◌else◌, [], ◌∷◌, map}
@@ -115,7 +115,7 @@ cells_up g = if g.turned then g.columns else g.rows
 
 -- ---- pages in cells
 
--- what counts of a page's side, in grains (RULES, 13.3)
+-- what counts of a page's side, in grains (RULES, 13.1)
 abbrev pub trimmed_side : Room → (side : ℤ) → ℕ
 trimmed_side room side = nat_abs side - 2_540_000 * room.trim
 
@@ -142,7 +142,7 @@ exact_scale page room g =
     min (exact_along (held_across g.turned room) (held_width g.turned room.paper) g.columns (trimmed_side room page.width))
     (exact_along (held_down g.turned room) (held_height g.turned room.paper) g.rows (trimmed_side room page.height))
 
--- ---- where they stand
+-- ---- where pages are
 
 -- half of what a scaled side leaves of its cell, in 10^-5 of a point (RULES, 13.4)
 abbrev pub slack : (cell side scale : ℕ) → ℕ
@@ -158,7 +158,7 @@ slack_y page room g s = slack (high room g) (trimmed_side room page.height) s
 abbrev pub trimmed : Room → (scale : ℕ) → ℕ
 trimmed room s = s * room.trim / 1_000_000_000
 
--- where the corner of what counts of the page comes to stand, about which it is turned, if it is in this row and column
+-- where the corner of what counts of the page comes to lie, about which it is turned, if it is in this row and column
 abbrev pub corner_x : (page : Paper) → Room → Grid → (scale row column : ℕ) → ℕ
 corner_x page room g s row column =
     if g.turned then kept_length room.trim room.left + row * step_down room g + (high room g - slack_y page room g s)

@@ -80,7 +80,7 @@ pub record IsFitted (t : Setting) (page : Paper) (k : ℕ) (item : Item) : Type 
   pub scale_is : item.scale ≡ pos scale
   pub large : (s : ℕ) → t.scale ≡ None → IsNotTiny page t.room → Allows page t.room t.grid s → s < scale + 1_000
 
--- a page that nothing refuses stands so: a law
+-- a page that isn't refused is placed in this way: a law
 abbrev pub FittedStands : Type 0
 FittedStands =
     (t : Setting) (page : Paper) (k : ℕ) → IsPaper page → IsPaper t.room.paper → k < size t.grid
@@ -115,7 +115,7 @@ ArrangedIsFitted = (page sheet : Paper) (a : Arrangement) → why_not_arranged p
 
 -- ---- leaves
 
--- whatever their papers, pages in the one half lie before a line across the sheet, and pages in the other behind it, each
+-- whatever their papers, pages in the one half lie before a line across the sheet, and pages in the other beyond it, each
 -- by half of the gap. It is one line for them all, twice as far up as said: the fold, in the middle of the sheet to 10^-5
 -- of a point. If the sheet is turned by half, so is the fold
 pub record HaveOneFold (t : Setting) (right_to_left : Bool) : Type 0 where

@@ -58,7 +58,7 @@ abbrev pub ComesInRunBefore : FillOrder → Room → Turned → (right_to_left :
 ComesInRunBefore Rows room t right_to_left page one page' other = IsAbove room t page one page' other
 ComesInRunBefore Columns room t right_to_left page one page' other = IsBeside room t right_to_left page one page' other
 
--- as one reads the sheet, page k is the (k % run)th of its run, and stands in the (k / run)th
+-- as one reads the sheet, page k is the (k % run)th of its run, and is in the (k / run)th
 abbrev pub GridIsInOrder : Type 0
 GridIsInOrder =
     (page page' : Paper) (room : Room) (g : Grid) (o : Order) (s s' k l : ℕ) → IsPaper page → IsPaper page'
@@ -278,7 +278,7 @@ AreSidesIn page room o true scale spec =
     × ArePages 2 2 back × AllZip (IsHalfTurnOf page room.paper) front back
     × IsLaidOut page room o Left scale 2 front × IsLaidOut page room o Right scale 2 back
 
--- the page lies before a line across the sheet, or behind it, by half of the gap; the line is twice as far up as said
+-- the page lies before a line across the sheet, or beyond it, by half of the gap; the line is twice as far up as said
 abbrev pub LiesBefore : Room → (twice : ℕ) → (page : Paper) → Item → Type 0
 LiesBefore room twice page item = (p : Point) → IsOfPage room.trim page p
     → ((pos 2 *ℤ (stands page item p).y) +ℤ fine room.gutter_up) ≤ℤ fine twice
@@ -287,7 +287,7 @@ abbrev pub LiesBehind : Room → (twice : ℕ) → (page : Paper) → Item → T
 LiesBehind room twice page item = (p : Point) → IsOfPage room.trim page p
     → (fine twice +ℤ fine room.gutter_up) ≤ℤ (pos 2 *ℤ (stands page item p).y)
 
--- a line across the sheet, in its middle to 10^-5 of a point, with the one page before it and the other behind it, each by
+-- a line across the sheet, in its middle to 10^-5 of a point, with the one page before it and the other beyond it, each by
 -- half of the gap: nothing crosses the fold
 pub record KeepsFold (page : Paper) (room : Room) (one other : Item) : Type 0 where
   pub twice : ℕ
@@ -296,12 +296,12 @@ pub record KeepsFold (page : Paper) (room : Room) (one other : Item) : Type 0 wh
   pub before : LiesBefore room twice page one
   pub behind : LiesBehind room twice page other
 
--- the two pages of a side, of which the second comes first if they stand from the right
+-- the two pages of a side, of which the second comes first if they are placed from the right
 abbrev pub AreFolded : (page : Paper) → Room → (right_to_left : Bool) → List Item → Type 0
 AreFolded page room false items = (one other : Item) × (items ≡ one ∷ other ∷ []) × KeepsFold page room one other
 AreFolded page room true items = (one other : Item) × (items ≡ one ∷ other ∷ []) × KeepsFold page room other one
 
--- on a leaf with even margins the first page lies before the fold, and the second behind it; from the right it is the other
+-- on a leaf with even margins the first page lies before the fold, and the second beyond it; from the right it is the other
 -- way
 abbrev pub LeafKeepsFold : Type 0
 LeafKeepsFold = (page : Paper) (room : Room) (right_to_left : Bool) (s : ℕ) → IsPaper page → IsPaper room.paper
@@ -309,7 +309,7 @@ LeafKeepsFold = (page : Paper) (room : Room) (right_to_left : Bool) (s : ℕ) �
     → KeepsFold page room (item_in_cell page room (beside true) (leaf_order right_to_left) s (if right_to_left then 1 else 0))
     (item_in_cell page room (beside true) (leaf_order right_to_left) s (if right_to_left then 0 else 1))
 
--- bound at the right a page stands where the other one stands in a booklet that is bound at the left, and differs in
+-- bound at the right a page is where the other one is in a booklet that is bound at the left, and differs in
 -- nothing else
 abbrev pub RightToLeftIsMirror : Type 0
 RightToLeftIsMirror = (page : Paper) (room : Room) (s k : ℕ) → k < 2

@@ -1,4 +1,4 @@
--- Where the pages of a layout stand on their sheet, and how they stand to one another. A page and a sheet each have a
+-- Where the pages of a layout are on their sheet, and how they lie to one another. A page and a sheet each have a
 -- paper. A sheet is measured here in 10^-9 of a grain: a scale, in 10^-9, times a whole number of grains is a whole
 -- number of these.
 use Rattle.std.specs.Prelude.{◌≡◌, ℕ, ◌*◌, ℤ, pos, ◌+ℤ◌, ◌*ℤ◌, neg_ℤ, ◌≤ℤ◌, ◌⊎◌, nat_abs}
@@ -19,11 +19,11 @@ finer p = multiplied (pos 1_000_000_000) p
 abbrev pub fine : ℕ → ℤ
 fine n = pos (1_270_000_000_000_000 * n)
 
--- where a point of the page, in grains, stands on the sheet: it is scaled, then turned, then moved
+-- where a point of the page, in grains, is on the sheet: it is scaled, then turned, then moved
 abbrev pub stands : (page : Paper) → Item → Point → Point
 stands page item p = moved (finer (offset page item)) (turned item.turn (multiplied item.scale p))
 
--- a whole point of the page stands where the item puts it: a law
+-- a whole point of the page is where the item puts it: a law
 abbrev pub StandsWherePut : Type 0
 StandsWherePut = (page : Paper) (item : Item) (p : Point)
     → stands page item (multiplied (pos 127_000_000_000) p) ≡ finer (put page item p)
@@ -106,7 +106,7 @@ read_turned sideways.Upright p = p
 read_turned sideways.Left p = held Right p
 read_turned sideways.Right p = held Left p
 
--- as one reads the sheet, the one page stands left of the other, or above it, by the gap
+-- as one reads the sheet, the one page is left of the other, or above it, by the gap
 abbrev pub IsLeftOf : Room → Turned → (page : Paper) → (one : Item) → (page' : Paper) → (other : Item) → Type 0
 IsLeftOf room r page one page' other = ComesFirst (λ p. across (read_turned r (held one.turn p))) room page one page' other
 

@@ -18,7 +18,7 @@ most_on_sheet = 1_024
 abbrev pub is_count : ℕ → Bool
 is_count n = nat_le 1 n && nat_le n most_on_sheet
 
--- a side that is out of reach has 100,000 points or more: offsets are of at most 99,999 points and five nines behind
+-- a side that is out of reach has 100,000 points or more: offsets are of at most 99,999 points, with five nines after
 -- the dot
 abbrev pub out_of_reach : ℕ
 out_of_reach = 12_700_000_000_000_000
@@ -45,7 +45,7 @@ folds_short page room =
 
 -- ---- arrangements
 
--- a length from 0 to 99,999 points and five nines behind the dot
+-- a length from 0 to 99,999 points, with five nines after the dot
 abbrev pub is_length : ℤ → Bool
 is_length z = int_le (pos 0) z && nat_lt (nat_abs z) out_of_reach
 
@@ -54,7 +54,7 @@ are_lengths f =
     (is_length f.left && is_length f.right && (is_length f.bottom && is_length f.top))
     && (is_length f.across && is_length f.up && is_length f.trim)
 
--- as much is kept free along opposite edges (RULES, 14.1)
+-- as much is kept free along opposite edges (RULES, 13.1)
 abbrev pub is_even : Room → Bool
 is_even room = (room.left == room.right) && (room.bottom == room.top)
 
@@ -71,7 +71,7 @@ within_reach room s = nat_lt (whole_parts (nat_abs room.paper.width) + trimmed r
 abbrev pub error_unless : Bool → ArrangementError → Option ArrangementError → Option ArrangementError
 error_unless holds e next = if holds then next else Some e
 
--- why pages can't have this scale in cells that take so large ones at most (RULES, 16, step 9)
+-- why pages can't have this scale in cells with this largest scale (RULES, 16, step 9)
 abbrev pub why_no_scale : Room → (scale largest : ℕ) → Option ArrangementError
 why_no_scale room s largest =
     error_unless (nat_le 1 largest) (why.NoRoom room)

@@ -44,7 +44,7 @@ referred name = None
 abbrev pub null_object : Object
 null_object = Plain (Bound (null_tag ∷ []))
 
--- it says of a composite that it can't be changed any more
+-- it says of a composite that it can't be changed
 abbrev pub frozen_key : List ℕ
 frozen_key = 262 ∷ []
 

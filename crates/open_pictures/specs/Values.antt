@@ -268,7 +268,7 @@ make_procedure (Some c) os given =
     putting (record { dictionary = c.number; key = frozen_key; value = Truth true } ∷ []) (Procedure (procedure_of given.store c) ∷ os) given
     else None
 
--- `cvx` of an array: nothing is put into that any more, as the procedure has the elements of now
+-- `cvx` of an array: nothing can be put into that array afterwards, because the procedure has its present elements
 abbrev pub make_executable : List Object → Given → Option Change
 make_executable (Plain (Bound name) ∷ os) given = make_procedure (referred name) os given
 make_executable os given = None

@@ -3,7 +3,7 @@ use Rattle.std.proofs.Common.{◌≡◌, ℕ, List, [], ◌∷◌, Some, None, B
 use Rattle.std.specs.Prelude.{codes, option_map}
 use Rattle.rules.specs.Papers.{Paper, points}
 use Rattle.lengths.specs.Reading.{number_at}
-use Rattle.papers.specs.AsOne.{merge_near_sizes, first_instead_of}
+use Rattle.papers.specs.AsOne.{first_instead_of, largest_of, merge_near_sizes}
 use Rattle.papers.specs.Media.{edges_of}
 use Rattle.papers.specs.Reach.{Placing, placing, reach_of, paper_edges}
 
@@ -21,6 +21,10 @@ no_chain = refl
 
 no_chain_in_order : counted (points 100 200 ∷ points 120 200 ∷ points 110 200 ∷ []) ≡ points 100 200 ∷ points 120 200 ∷ points 120 200 ∷ []
 no_chain_in_order = refl
+
+-- a wide paper is larger than a high one
+widest : largest_of (points 700 900 ∷ points 800 500 ∷ points 800 400 ∷ []) ≡ Some (points 800 500)
+widest = refl
 
 -- the widest is made higher
 two_sides : counted (points 600 800 ∷ points 590 810 ∷ []) ≡ points 600 810 ∷ points 600 810 ∷ []

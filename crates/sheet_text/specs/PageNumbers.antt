@@ -11,7 +11,7 @@ use Rattle.sheet_text.specs.declared.numbers.Numbers.{Numbers}
 abbrev pub number_point_text : (x y : ℤ) → List ℕ
 number_point_text x y = points_text x ++ (codes " " ++ points_text y)
 
--- a number stands 18 points above the foot of its cell; in grains (RULES, 15)
+-- a number is 18 points above the foot of its cell; in grains (RULES, 15)
 abbrev pub above_foot : ℕ
 above_foot = 2_286_000_000_000
 
@@ -19,7 +19,7 @@ above_foot = 2_286_000_000_000
 abbrev pub middle : (scale side : ℤ) → ℕ
 middle scale side = nat_abs scale * nat_abs side / 2_000_000_000
 
--- how far a number stands above the page's lower edge, as one holds the page upright. The page is in the middle of its cell,
+-- how far a number is above the page's lower edge, as one holds the page upright. The page is in the middle of its cell,
 -- whose foot is so far below that middle; one that has no other cell is its own
 abbrev pub rise : (below : Option ℤ) → Paper → Item → ℤ
 rise None paper item = pos above_foot
