@@ -43,9 +43,9 @@ pub fn range_place(text: &str, start: usize) -> usize {
     let Some((_, range)) = text.split_at_checked(start) else {
         return start;
     };
-    let first = behind_place(range);
+    let first = after_place(range);
     let left = match first.strip_prefix("-") {
-        Some(second) if is_place(range, first) => behind_place(second),
+        Some(second) if is_place(range, first) => after_place(second),
         _ => first,
     };
     text.len().saturating_sub(left.len())
@@ -53,12 +53,12 @@ pub fn range_place(text: &str, start: usize) -> usize {
 
 /// The text after the page at its start: a number, `_` with or without a number, `last` or `blank`. A text that begins with none of these is returned
 /// whole.
-fn behind_place(text: &str) -> &str {
-    if let Some(behind) = text.strip_prefix("last") {
-        return behind;
+fn after_place(text: &str) -> &str {
+    if let Some(after) = text.strip_prefix("last") {
+        return after;
     }
-    if let Some(behind) = text.strip_prefix("blank") {
-        return behind;
+    if let Some(after) = text.strip_prefix("blank") {
+        return after;
     }
     let digits = match text.strip_prefix("_") {
         Some(digits) => digits,
@@ -75,16 +75,16 @@ fn is_place(text: &str, left: &str) -> bool {
 
 /// The place at which an item of a specification begins. Items are counted from 0 through all groups.
 pub fn item_place(text: &str, item: u32) -> usize {
-    place_behind(text.as_bytes(), item, true)
+    place_after(text.as_bytes(), item, true)
 }
 
 /// The place at which a group of a specification begins. Groups are counted from 0.
 pub fn group_place(text: &str, group: u32) -> usize {
-    place_behind(text.as_bytes(), group, false)
+    place_after(text.as_bytes(), group, false)
 }
 
 /// The place after the modulo and the first `count` items. If `of_items` is false, it is the place after the modulo and the first `count` groups.
-fn place_behind(text: &[u8], count: u32, of_items: bool) -> usize {
+fn place_after(text: &[u8], count: u32, of_items: bool) -> usize {
     let mut start = 0usize;
     let mut left = count;
     let mut is_inside = false;

@@ -6,7 +6,7 @@ use Rattle.rules.proofs.CutUnits.{same_ok}
 use Rattle.rules.specs.Parts.{NestedUnit, begins_page, nested, nested_from}
 use Rattle.dsc.specs.Views.{at_depth}
 use Rattle.dsc.specs.Filters.{of_units}
-use Rattle.dsc.specs.PagesBehind.{page_lines}
+use Rattle.dsc.specs.PagesAfter.{page_lines}
 use Rattle.dsc.specs.Units.{faulty_block, or_none, units_of}
 use Rattle.dsc.specs.Walks.{WalkPlace, past_unit, IsPieceOf}
 use Rattle.dsc.proofs.Cut.{cut_fault}

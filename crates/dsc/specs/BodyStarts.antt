@@ -40,8 +40,8 @@ none_sought = record { found = []; current = 0; was = false; in_pages = false; e
 
 -- where a body begins after one more unit: a dropped unit moves it past itself if nothing was kept before, and
 -- otherwise leaves it without a start
-abbrev pub body_start_after : (dropped : Bool) → (start at behind : ℕ) → ℕ
-body_start_after dropped start at behind = if dropped then (if start == at then behind else 0) else start
+abbrev pub body_start_after : (dropped : Bool) → (start at after : ℕ) → ℕ
+body_start_after dropped start at after = if dropped then (if start == at then after else 0) else start
 
 -- the start counts if the page ends with a line end
 abbrev pub closed : (line : Bool) → (start : ℕ) → ℕ
@@ -51,10 +51,10 @@ abbrev pub starts_in : Sought → List ℕ
 starts_in s = if s.in_pages then s.found ++ closed s.line s.current ∷ [] else s.found
 
 -- one more page has begun, by these bytes, which end before this one
-abbrev pub with_page : Sought → (behind : ℕ) → List ℕ → Sought
-with_page s behind bytes = record {
+abbrev pub with_page : Sought → (after : ℕ) → List ℕ → Sought
+with_page s after bytes = record {
   found = starts_in s;
-  current = behind;
+  current = after;
   was = s.was;
   in_pages = true;
   ended = s.ended;
@@ -62,14 +62,14 @@ with_page s behind bytes = record {
 }
 
 -- what is found with one more unit, which has these bytes and begins at the byte `at`
-abbrev pub noted : Sought → (at behind : ℕ) → (page ends dropped : Bool) → List ℕ → Sought
-noted s at behind page ends dropped bytes =
+abbrev pub noted : Sought → (at after : ℕ) → (page ends dropped : Bool) → List ℕ → Sought
+noted s at after page ends dropped bytes =
     if s.ended || (s.in_pages && ends)
     then record { found = s.found; current = s.current; was = dropped; in_pages = s.in_pages; ended = true; line = s.line }
     else (if page
     then record {
       found = starts_in s;
-      current = behind;
+      current = after;
       was = dropped;
       in_pages = true;
       ended = false;
@@ -77,7 +77,7 @@ noted s at behind page ends dropped bytes =
     }
     else record {
       found = s.found;
-      current = body_start_after dropped s.current at behind;
+      current = body_start_after dropped s.current at after;
       was = dropped;
       in_pages = s.in_pages;
       ended = false;

@@ -1,4 +1,4 @@
--- For what the calls promise, read `Units`, `Views`, `Faults`, `Bodies`, `TrailerBoxes`, `PagesBehind`, `Serving` and `Laws`,
+-- For what the calls promise, read `Units`, `Views`, `Faults`, `Bodies`, `TrailerBoxes`, `PagesAfter`, `Serving` and `Laws`,
 -- in this order; the others are about parts of the code.
 pub mod Bodies
 pub mod Plain
@@ -17,5 +17,5 @@ pub mod Serving
 pub mod Filters
 pub mod Strings
 pub mod TrailerBoxes
-pub mod PagesBehind
+pub mod PagesAfter
 pub mod Header

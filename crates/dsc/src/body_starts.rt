@@ -70,7 +70,7 @@ impl BodyStarts {
             (is_dropped PageSetup self.old.was (at_depth step.now.depth (unit_of step.now.unit))) step.now.unit.bytes.now) }
     {
         let at = step.at as u32;
-        let behind = (step.at + step.unit.bytes.len()) as u32;
+        let after = (step.at + step.unit.bytes.len()) as u32;
         let dropped = drops_unit(Drops::PageSetup, self.was_dropped, &step.unit, step.depth);
         self.was_dropped = dropped;
         if self.ended || (self.in_pages && step.meaning.is_trailer) {
@@ -78,23 +78,23 @@ impl BodyStarts {
             return Ok(());
         }
         if step.meaning.is_page {
-            return self.begin_page(behind, step.unit.bytes);
+            return self.begin_page(after, step.unit.bytes);
         }
         self.line_ended = ends_line(self.line_ended, step.unit.bytes);
-        self.current = moved(dropped, self.current, at, behind);
+        self.current = moved(dropped, self.current, at, after);
         Ok(())
     }
 
-    /// Notes a `%%Page:` line that ends just before the byte `behind`. The line begins a page, and ends the page
+    /// Notes a `%%Page:` line that ends just before the byte `after`. The line begins a page, and ends the page
     /// before it if there is one.
-    fn begin_page(&mut self, behind: u32, line: &[u8]) -> Result<(), AllocError>
-        ensures { OnOk result (self.new ≡ with_page self.old behind line.now) }
+    fn begin_page(&mut self, after: u32, line: &[u8]) -> Result<(), AllocError>
+        ensures { OnOk result (self.new ≡ with_page self.old after line.now) }
     {
         if self.in_pages {
             self.found.push(closed(self.line_ended, self.current))?;
         }
         self.in_pages = true;
-        self.current = behind;
+        self.current = after;
         self.line_ended = ends_line(false, line);
         Ok(())
     }
@@ -119,15 +119,15 @@ impl BodyStarts {
 }
 
 /// The start of the current page's body after a unit, which begins at the byte `at` and ends just before the byte
-/// `behind`. A kept unit leaves the start as it is. A dropped unit moves the start to `behind` if nothing was kept
+/// `after`. A kept unit leaves the start as it is. A dropped unit moves the start to `after` if nothing was kept
 /// before it; otherwise the body has no start.
-fn moved(dropped: bool, current: u32, at: u32, behind: u32) -> u32
-    ensures { result ≡ body_start_after dropped current at behind }
+fn moved(dropped: bool, current: u32, at: u32, after: u32) -> u32
+    ensures { result ≡ body_start_after dropped current at after }
 {
     if !dropped {
         current
     } else if current == at {
-        behind
+        after
     } else {
         0
     }

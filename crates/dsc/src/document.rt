@@ -10,7 +10,7 @@ ghost use Rattle.dsc.specs.Units.{units_of};
 ghost use Rattle.dsc.specs.Views.{GivesUnlessShort};
 ghost use Rattle.dsc.specs.Faults.{fault_told, PassedFirstChecks};
 ghost use Rattle.dsc.specs.Laws.{HasBody};
-ghost use Rattle.dsc.specs.PagesBehind.{pages_behind};
+ghost use Rattle.dsc.specs.PagesAfter.{pages_after};
 ghost use Rattle.dsc.specs.Serving.{ArePartsOf, Serve};
 ghost use Rattle.dsc.specs.declared.errors.DscError.TheVariants.{TooLong};
 
@@ -222,8 +222,8 @@ impl<'d> Document<'d> {
             v.items ≡ dressed_preamble sheets rows self.now) }
     {
         let line_len = line_end_after(self.text, content_end(self.text));
-        let (line, behind) = self.text.split_at(line_len);
-        let (rest, _) = behind.split_at(entry(self.starts.as_slice(), 0) - line_len);
+        let (line, after) = self.text.split_at(line_len);
+        let (rest, _) = after.split_at(entry(self.starts.as_slice(), 0) - line_len);
         let alloc = *self.starts.allocator();
         let header = with_count(alloc, line, sheets, lines, rest.len())?;
         let mut text = filter_header(header, drops_with(lines), rest)?;
@@ -246,8 +246,8 @@ impl<'d> Document<'d> {
 
     /// The number of `%%Page:` lines after the first line of the trailer, outside embedded documents and data blocks.
     /// They begin pages that don't belong to the document, for example because another document was appended to it.
-    pub fn pages_behind_trailer(&self) -> usize
-        ensures { result ≡ pages_behind self.now }
+    pub fn pages_after_trailer(&self) -> usize
+        ensures { result ≡ pages_after self.now }
     {
         let (_, trailer) = self.text.split_at(self.stop);
         page_lines(trailer)

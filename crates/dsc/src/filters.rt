@@ -134,7 +134,7 @@ impl<'d> Kept<'d> {
             return Ok(());
         }
         let (ended, _) = self.run.split_at(self.run_len);
-        let (_, behind) = self.run.split_at(self.run_len + len);
+        let (_, after) = self.run.split_at(self.run_len + len);
         if !ended.is_empty() {
             copy(
                 &mut self.copied,
@@ -143,7 +143,7 @@ impl<'d> Kept<'d> {
             )?;
             self.held = ended;
         }
-        self.run = behind;
+        self.run = after;
         self.run_len = 0;
         Ok(())
     }

@@ -1,6 +1,6 @@
 //! Counts the pages that begin in a text.
 ghost use Rattle.std.specs.Prelude.{◌≡◌};
-ghost use Rattle.dsc.specs.PagesBehind.{page_lines as lines_that_begin_pages};
+ghost use Rattle.dsc.specs.PagesAfter.{page_lines as lines_that_begin_pages};
 ghost use Rattle.dsc.specs.Units.{units_of};
 
 use crate::walk::Walk;

@@ -65,8 +65,8 @@ pub fn string_characters(alloc: Global, text: &[u8]) -> Result<Vec<u8>, AllocErr
     while let Some((first, others)) = rest.split_first() {
         let (character, len) = character_at(*first, others);
         characters.push(character)?;
-        let (_, behind) = others.split_at(len);
-        rest = behind;
+        let (_, after) = others.split_at(len);
+        rest = after;
     }
     Ok(characters)
 }

@@ -36,20 +36,20 @@ fn data_heading(content: &[u8]) -> Option<(&[u8], bool)>
     if comment_letter(content) != Some(b'B') {
         return None;
     }
-    if let Some(behind) = content.strip_prefix(b"%%BeginData:") {
-        return Some((behind, true));
+    if let Some(after) = content.strip_prefix(b"%%BeginData:") {
+        return Some((after, true));
     }
     match content.strip_prefix(b"%%BeginBinary:") {
-        Some(behind) => Some((behind, false)),
+        Some(after) => Some((after, false)),
         None => None,
     }
 }
 
-/// Whether the third field after `%%BeginData:` is `Lines`. `behind` is the text after the first field.
-fn third_is_lines(behind: &[u8]) -> bool
-    ensures { result ≡ third_is (codes "Lines") (fields_in behind.now) }
+/// Whether the third field after `%%BeginData:` is `Lines`. `after` is the text after the first field.
+fn third_is_lines(after: &[u8]) -> bool
+    ensures { result ≡ third_is (codes "Lines") (fields_in after.now) }
 {
-    match next_field(behind) {
+    match next_field(after) {
         None => false,
         Some((_, rest)) => match next_field(rest) {
             None => false,
@@ -58,14 +58,14 @@ fn third_is_lines(behind: &[u8]) -> bool
     }
 }
 
-/// The number of bytes of the data in a block. `behind` is the text after the colon of the block's first line, and
+/// The number of bytes of the data in a block. `after` is the text after the colon of the block's first line, and
 /// `rest` is the text after that line. `may_count_lines` says whether the data may be counted in lines. Fails with the
 /// fault of the block, if it has one.
-fn data_len(behind: &[u8], may_count_lines: bool, rest: &[u8]) -> Result<usize, UnitError>
-    ensures length { ReadsAs (λ n. n) block_fault result (data_in may_count_lines rest.now (fields_in behind.now)) }
+fn data_len(after: &[u8], may_count_lines: bool, rest: &[u8]) -> Result<usize, UnitError>
+    ensures length { ReadsAs (λ n. n) block_fault result (data_in may_count_lines rest.now (fields_in after.now)) }
     ensures within { IfOk result (λ n. n ≤ length rest.now) }
 {
-    let (count, after) = match next_field(behind) {
+    let (count, after) = match next_field(after) {
         None => return Err(UnitError::BadCount),
         Some(found) => found,
     };
@@ -105,9 +105,9 @@ pub(crate) fn first_unit(text: &[u8]) -> Result<LineOrBlock<'_>, UnitError>
                 is_block: false,
             })
         }
-        Some((behind, may_count_lines)) => {
+        Some((after, may_count_lines)) => {
             let (_, rest) = text.split_at(line_len);
-            let len = data_len(behind, may_count_lines, rest)?;
+            let len = data_len(after, may_count_lines, rest)?;
             let (bytes, _) = text.split_at(line_len + len);
             Ok(LineOrBlock {
                 content,

@@ -24,8 +24,8 @@ before_first_page = refl
 before_text : put_in one (codes "%!\n%%A\n% b\n%%Page: 1 1\n") ≡ codes "%!\n%%A\nx\n% b\n%%Page: 1 1\n"
 before_text = refl
 
-behind_first_line : put_in one (codes "%!\r\n1 2 add\n") ≡ codes "%!\r\nx\n1 2 add\n"
-behind_first_line = refl
+after_first_line : put_in one (codes "%!\r\n1 2 add\n") ≡ codes "%!\r\nx\n1 2 add\n"
+after_first_line = refl
 
 -- a file that ends before it has pages
 before_end_of_file : put_in one (codes "%!\n%%A\n%%EOF\n%%B\n") ≡ codes "%!\n%%A\nx\n%%EOF\n%%B\n"

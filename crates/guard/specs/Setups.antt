@@ -89,8 +89,8 @@ called l token =
     else l
 
 -- any token
-abbrev pub behind : Level → List ℕ → Level
-behind l token =
+abbrev pub after : Level → List ℕ → Level
+after l token =
     if bytes_eq token (codes "{") then record { procedures = l.procedures + 1; saves = l.saves; moved = l.moved }
     else if bytes_eq token (codes "}") then record { procedures = l.procedures - 1; saves = l.saves; moved = l.moved }
     else if nat_lt 0 l.procedures then l else called l token
@@ -101,7 +101,7 @@ ends_setup token = is_comment (codes "%%Page") token || begins_block token
 
 abbrev pub at_end : Level → List (List ℕ) → Level
 at_end l [] = l
-at_end l (token ∷ rest) = if ends_setup token then l else at_end (behind l token) rest
+at_end l (token ∷ rest) = if ends_setup token then l else at_end (after l token) rest
 
 abbrev pub outermost : Level
 outermost = record { procedures = 0; saves = 0; moved = None }

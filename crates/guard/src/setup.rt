@@ -32,7 +32,7 @@ pub fn places_pages(text: &[u8]) -> bool
         if ends_setup(token) {
             return level.moved.is_some();
         }
-        level = level.behind(token);
+        level = level.after(token);
         rest = others;
     }
     level.moved.is_some()
@@ -40,10 +40,10 @@ pub fn places_pages(text: &[u8]) -> bool
 
 impl Level {
     /// What is open after this token.
-    fn behind(self, token: &[u8]) -> Level
+    fn after(self, token: &[u8]) -> Level
         requires procedures { self.procedures < usize.MAX }
         requires saves { self.saves < usize.MAX }
-        ensures value { result ≡ meaning.behind self token.now }
+        ensures value { result ≡ meaning.after self token.now }
         ensures procedures { result.procedures ≤ self.procedures + 1 }
         ensures saves { result.saves ≤ self.saves + 1 }
     {

@@ -23,7 +23,7 @@ use Rattle.pagespec.specs.declared.item.Turn.TheVariants as by
 use Rattle.impose_words.specs.declared.request.Turning.TheVariants as turning
 use Rattle.paper_names.specs.Names.{paper_named}
 use Rattle.impose_messages.specs.Faults.{without_memory}
-use Rattle.dsc.specs.PagesBehind.{pages_behind}
+use Rattle.dsc.specs.PagesAfter.{pages_after}
 use Rattle.dsc.specs.Serving.{ArePartsOf, Serve}
 use Rattle.dsc.specs.declared.parts.Parts.{Parts}
 use Rattle.impose_messages.specs.declared.finished.PaperOrigin.{PaperOrigin}
@@ -135,31 +135,31 @@ pub has_turns : (r : ImposeRequest) (input : List ℕ) (us : List NestedUnit) (t
 has_turns r input us turns read e = (us, read, e ∙ ap (λ t. turns_in r t us) (whole input us read))
 
 pub finds_for_row : (r : ImposeRequest) (input : List ℕ) (us : List NestedUnit) (f : Findings) → document_of input ≡ Ok us → (f.page_paper, f.origin) ≡ row_paper r (bytes_of us) us → f.cut ≡ cut_in r (bytes_of us) us
-    → f.reach ≡ reach_in (has_cuts_apart r.layout) r (counted_in r (bytes_of us) us) (bytes_of us) us → f.behind ≡ pages_behind us → f.taken ≡ taken_in r us → IsToldBy r (bytes_of us) f.told
+    → f.reach ≡ reach_in (has_cuts_apart r.layout) r (counted_in r (bytes_of us) us) (bytes_of us) us → f.after_trailer ≡ pages_after us → f.taken ≡ taken_in r us → IsToldBy r (bytes_of us) f.claims
     → FindsForRow r input f
-finds_for_row r input us f read paper cut reach behind taken told = let same = whole input us read in
+finds_for_row r input us f read paper cut reach after_trailer taken claims = let same = whole input us read in
     record {
       units = us;
       document = read;
       page_paper = paper ∙ ap (λ t. row_paper r t us) same;
       cut = cut ∙ ap (λ t. cut_in r t us) same;
       reach = reach ∙ ap (λ t. reach_in (has_cuts_apart r.layout) r (counted_in r t us) t us) same;
-      behind = behind;
+      after_trailer = after_trailer;
       taken = taken;
-      told = subst (λ t. IsToldBy r t f.told) same told;
+      claims = subst (λ t. IsToldBy r t f.claims) same claims;
     }
 
 pub finds_by_spec : (r : ImposeRequest) (input : List ℕ) (us : List NestedUnit) (f : Findings) → document_of input ≡ Ok us → (f.page_paper, f.origin) ≡ page_paper_found r.page_paper r.default_paper input → f.cut ≡ None
-    → f.reach ≡ reach_over r f.page_paper (bytes_of us) us → f.behind ≡ pages_behind us → f.taken ≡ taken_in r us → IsToldBy r input f.told → FindsBySpec r input f
-finds_by_spec r input us f read paper cut reach behind taken told = record {
+    → f.reach ≡ reach_over r f.page_paper (bytes_of us) us → f.after_trailer ≡ pages_after us → f.taken ≡ taken_in r us → IsToldBy r input f.claims → FindsBySpec r input f
+finds_by_spec r input us f read paper cut reach after_trailer taken claims = record {
   units = us;
   document = read;
   page_paper = paper;
   cut = cut;
   reach = reach ∙ ap (λ t. reach_over r f.page_paper t us) (whole input us read);
-  behind = behind;
+  after_trailer = after_trailer;
   taken = taken;
-  told = told;
+  claims = claims;
 }
 
 -- a document's own parts serve for it, and are those of its text

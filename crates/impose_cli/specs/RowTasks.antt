@@ -50,7 +50,7 @@ use Rattle.impose_words.specs.declared.request.Turning.{Turning}
 use Rattle.impose_words.specs.declared.request.Turning.TheVariants as turning
 use Rattle.row_runs.specs.Turning.{turned_paper}
 use Rattle.impose_cli.specs.Tasks.{page_paper_found, taken_text}
-use Rattle.dsc.specs.PagesBehind.{pages_behind}
+use Rattle.dsc.specs.PagesAfter.{pages_after}
 use Rattle.impose_words.specs.SheetPapers.{sheet_paper_for}
 use Rattle.impose_messages.specs.declared.fault.ImposeFault.{ImposeFault}
 use Rattle.impose_messages.specs.declared.fault.ImposeFault.TheVariants as fault
@@ -327,9 +327,9 @@ pub record FindsForRow (r : ImposeRequest) (input : List ℕ) (f : Findings) : T
   pub page_paper : (f.page_paper, f.origin) ≡ row_paper r input units
   pub cut : f.cut ≡ cut_in r input units
   pub reach : f.reach ≡ reach_in (has_cuts_apart r.layout) r (counted_in r input units) input units
-  pub behind : f.behind ≡ pages_behind units
+  pub after_trailer : f.after_trailer ≡ pages_after units
   pub taken : f.taken ≡ taken_in r units
-  pub told : IsToldBy r input f.told
+  pub claims : IsToldBy r input f.claims
 
 -- the layout lays rows on sheets
 abbrev pub LaysRows : Layout → Type 0

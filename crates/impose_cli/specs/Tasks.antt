@@ -7,7 +7,7 @@ use Rattle.rules.specs.Admissible.{Takes, most_slots}
 use Rattle.rules.specs.Parts.{NestedUnit, pages}
 use Rattle.rules.specs.Run.{document_of, plan_in}
 use Rattle.rules.specs.Sheets.{sheets}
-use Rattle.dsc.specs.PagesBehind.{pages_behind}
+use Rattle.dsc.specs.PagesAfter.{pages_after}
 use Rattle.impose_cli.specs.Claims.{IsToldBy}
 use Rattle.impose_cli.specs.Reaches.{reach_over}
 use Rattle.impose_cli.specs.RowsAsked.{row_asked}
@@ -67,9 +67,9 @@ pub record FindsBySpec (r : ImposeRequest) (input : List ℕ) (f : Findings) : T
   pub page_paper : (f.page_paper, f.origin) ≡ page_paper_found r.page_paper r.default_paper input
   pub cut : f.cut ≡ None
   pub reach : f.reach ≡ reach_over r f.page_paper input units
-  pub behind : f.behind ≡ pages_behind units
+  pub after_trailer : f.after_trailer ≡ pages_after units
   pub taken : f.taken ≡ taken_in r units
-  pub told : IsToldBy r input f.told
+  pub claims : IsToldBy r input f.claims
 
 -- the text is the canonical one of the specification, and is read as that
 abbrev pub IsWritten : Spec → (text : List ℕ) → Type 0

@@ -25,7 +25,7 @@ use std::alloc::Global;
 use std::sync::Wait;
 use std::thread::Threads;
 use world::{
-    Output, ReadFault, ReadSource, Rest, World, padding, read_input_behind, write_and_flush,
+    Output, ReadFault, ReadSource, Rest, World, padding, read_input_after, write_and_flush,
 };
 
 /// The end of the program, as its caller sees it.
@@ -249,7 +249,7 @@ fn read_from<W: World>(
     ensures tells { W.tells world.new ≡ W.tells world.old }
 {
     let mut source = ReadSource::new(input);
-    let read = read_input_behind(alloc, ROOM, &mut source);
+    let read = read_input_after(alloc, ROOM, &mut source);
     let cause = world.close(source);
     match read {
         Ok(bytes) => Ok(roomy_document(bytes)),

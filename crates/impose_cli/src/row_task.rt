@@ -21,7 +21,7 @@ ghost use Rattle.papers.specs.Reach.{page_boxes};
 ghost use Rattle.impose_cli.specs.Taken.{row_or_none, taken_in};
 ghost use Rattle.impose_cli.specs.Refusals.{RefusesDocument, RefusesRowTask};
 ghost use Rattle.impose_cli.specs.Tasks.{HasPageCount, page_paper_found, taken_text};
-ghost use Rattle.dsc.specs.PagesBehind.{pages_behind};
+ghost use Rattle.dsc.specs.PagesAfter.{pages_after};
 ghost use Rattle.dsc.specs.Serving.{ArePartsOf, Serve};
 ghost use Rattle.dsc.specs.declared.parts.Parts.{Parts};
 
@@ -165,9 +165,9 @@ fn pages_in(
     ensures reach { IfOk result (λ found.
         found.findings.reach ≡ reach_in (cuts_apart request.now.layout) request.now (counted_in request.now (bytes_of document.now) document.now)
         (bytes_of document.now) document.now) }
-    ensures behind { IfOk result (λ found. found.findings.behind ≡ pages_behind document.now) }
+    ensures after_trailer { IfOk result (λ found. found.findings.after_trailer ≡ pages_after document.now) }
     ensures taken { IfOk result (λ found. found.findings.taken ≡ taken_in request.now document.now) }
-    ensures told { IfOk result (λ found. IsToldBy request.now (bytes_of document.now) found.findings.told) }
+    ensures claims { IfOk result (λ found. IsToldBy request.now (bytes_of document.now) found.findings.claims) }
     ensures row { IfOk result (λ found.
         found.row.items ≡ row_or_none (row_of (length found.papers.items) (choice_in request.now.choice) None)) }
 {
@@ -202,9 +202,9 @@ fn pages_in(
             origin,
             cut,
             reach,
-            behind: document.pages_behind_trailer(),
+            after_trailer: document.pages_after_trailer(),
             taken: count,
-            told: claims_of(request, document.text()),
+            claims: claims_of(request, document.text()),
         },
     })
 }

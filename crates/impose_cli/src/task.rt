@@ -201,9 +201,9 @@ fn findings_of(
         origin,
         cut: None,
         reach,
-        behind: document.pages_behind_trailer(),
+        after_trailer: document.pages_after_trailer(),
         taken,
-        told: claims_of(request, input),
+        claims: claims_of(request, input),
     };
     Ok((findings, pages, document.into_parts()))
 }

@@ -12,7 +12,7 @@ use Rattle.impose_words.specs.declared.fault.RequestFault.TheVariants as command
 use Rattle.impose_messages.specs.declared.finished.Dependence.TheVariants.{Hp2xx, Xcircuit}
 use Rattle.impose_messages.specs.Scales.{scales_of}
 use Rattle.impose_messages.specs.Statuses.{fault_status, words_status}
-use Rattle.impose_messages.specs.Said.{behind_text, blanks_text, cut_pages_text, dependence_text, edges_text, is_pdf_name, leaf_count_text, page_count_text, sheets_text, shown_name, paper_size_text, told_text, unknown_text}
+use Rattle.impose_messages.specs.Said.{pages_after_text, blanks_text, cut_pages_text, dependence_text, edges_text, is_pdf_name, leaf_count_text, page_count_text, sheets_text, shown_name, paper_size_text, told_text, unknown_text}
 use Rattle.rules.specs.Made.{Blank, MadeSheet, MadeSlot, Placed}
 use Rattle.rules.specs.Papers.{points}
 use Rattle.rules.specs.Specification.{Upright, zero_points}
@@ -84,13 +84,13 @@ before_the_corner : edges_text (record { left = neg_ℤ (pos 635_000_000_000); b
 unfolding digits
 before_the_corner = refl
 
-none_behind : behind_text 0 ≡ None
+none_behind : pages_after_text 0 ≡ None
 none_behind = refl
 
-one_behind : behind_text 1 ≡ Some (codes "1 page follows %%Trailer or %%EOF and is not imposed")
+one_behind : pages_after_text 1 ≡ Some (codes "1 page follows %%Trailer or %%EOF and is not imposed")
 one_behind = refl
 
-two_behind : behind_text 2 ≡ Some (codes "2 pages follow %%Trailer or %%EOF and are not imposed")
+two_behind : pages_after_text 2 ≡ Some (codes "2 pages follow %%Trailer or %%EOF and are not imposed")
 unfolding digits
 two_behind = refl
 

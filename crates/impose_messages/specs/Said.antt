@@ -82,8 +82,8 @@ prints_leaves (layout.Stack cells duplex) s = duplex
 prints_leaves other s = swaps_margins other s
 
 -- so many of something: a text of its own for one, or else the number with these texts before and after it
-abbrev pub count_text : (count : ℕ) → (one before behind : List ℕ) → List ℕ
-count_text count one before behind = if count == 1 then one else before ++ (decimal count ++ behind)
+abbrev pub count_text : (count : ℕ) → (one before after : List ℕ) → List ℕ
+count_text count one before after = if count == 1 then one else before ++ (decimal count ++ after)
 
 abbrev pub leaf_count_text : (leaves : ℕ) → List ℕ
 leaf_count_text leaves = count_text leaves (codes " (1 leaf)") (codes " (") (codes " leaves)")
@@ -195,13 +195,13 @@ reach_text None = None
 reach_text (Some reach) = Some (reach_message reach)
 
 -- of pages that follow the document's trailer
-abbrev pub behind_message : (pages : ℕ) → List ℕ
-behind_message pages = count_text pages (codes "1 page follows %%Trailer or %%EOF and is not imposed") (codes "")
+abbrev pub pages_after_message : (pages : ℕ) → List ℕ
+pages_after_message pages = count_text pages (codes "1 page follows %%Trailer or %%EOF and is not imposed") (codes "")
     (codes " pages follow %%Trailer or %%EOF and are not imposed")
 
 -- if there are some
-abbrev pub behind_text : (pages : ℕ) → Option (List ℕ)
-behind_text pages = if pages == 0 then None else Some (behind_message pages)
+abbrev pub pages_after_text : (pages : ℕ) → Option (List ℕ)
+pages_after_text pages = if pages == 0 then None else Some (pages_after_message pages)
 
 -- pages are missing, or there are more than the document says
 abbrev pub told_advice : (told found : ℕ) → List ℕ
@@ -326,9 +326,9 @@ AddsText Holds before after = (text : List ℕ) × Holds text × (after ≡ befo
 -- that pages depend on the text before them
 abbrev pub run_lines : Finished → ImposeRequest → List ℕ
 run_lines finished r = let f = finished.findings in
-    line_of (Some (report_text finished r)) ++ line_of (unknown_text f.told.unknown)
-    ++ line_of (cut_text f.cut f.page_paper) ++ line_of (reach_text f.reach) ++ line_of (behind_text f.behind)
-    ++ line_of (told_text f.told.pages finished.report.pages) ++ line_of (dependence_text f.told.dependence finished.report.pages)
+    line_of (Some (report_text finished r)) ++ line_of (unknown_text f.claims.unknown)
+    ++ line_of (cut_text f.cut f.page_paper) ++ line_of (reach_text f.reach) ++ line_of (pages_after_text f.after_trailer)
+    ++ line_of (told_text f.claims.pages finished.report.pages) ++ line_of (dependence_text f.claims.dependence finished.report.pages)
 
 -- a line that the output is PostScript comes after what was said before, if it is named as something else
 abbrev pub AddsNote : (outfile : Option (List ℕ)) → (before after : List ℕ) → Type 0

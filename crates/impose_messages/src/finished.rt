@@ -56,11 +56,11 @@ pub struct Findings {
     /// The imposed pages that reach more than one point beyond the papers by which they are placed on sheets. `None` if no page does.
     pub reach: Option<Reach>,
     /// The number of pages after the document's trailer, which aren't imposed.
-    pub behind: usize,
+    pub after_trailer: usize,
     /// The number of the document's pages that are imposed. A page that is imposed several times counts once.
     pub taken: u32,
     /// The statements that the document makes about itself.
-    pub told: Claims,
+    pub claims: Claims,
 }
 
 /// A request whose sheets have been written.

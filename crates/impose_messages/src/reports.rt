@@ -1,7 +1,7 @@
 //! The report on a finished run, and its parts.
 ghost use Rattle.std.specs.Prelude.{◌≡◌, ◌+◌, ◌/◌, ◌≤◌, ◌++◌, if◌then◌else◌, [], length};
 ghost use Rattle.impose_messages.specs.Rooms.{most_said};
-ghost use Rattle.impose_messages.specs.Said.{prints_leaves as are_sides_of, behind_message, blank_count as blanks_in, blanks_text, count_text, counts_text};
+ghost use Rattle.impose_messages.specs.Said.{prints_leaves as are_sides_of, pages_after_message, blank_count as blanks_in, blanks_text, count_text, counts_text};
 ghost use Rattle.impose_messages.specs.Said.{corners_text, cut_message, cut_pages_text, cut_size_text, dependence_effect as effect_of, dependence_message, edges_text, leaf_count_text, note_text};
 ghost use Rattle.impose_messages.specs.Said.{origin_text as text_of_origin, others_text, places_per_sheet as places_in, reach_message, report_text};
 ghost use Rattle.impose_messages.specs.Said.{range_text, scales_told};
@@ -175,11 +175,11 @@ fn push_leaves(said: &mut ReportText, request: &ImposeRequest, sheets: u32)
     push_counted(said, u128::from(leaves), b" (1 leaf)", b" (", b" leaves)");
 }
 
-/// Appends a count: the text `one` if the count is 1, otherwise the number between the texts `before` and `behind`.
-fn push_counted(said: &mut ReportText, count: u128, one: &[u8], before: &[u8], behind: &[u8])
-    requires few { length one.now + length before.now + length behind.now ≤ 120 }
+/// Appends a count: the text `one` if the count is 1, otherwise the number between the texts `before` and `after`.
+fn push_counted(said: &mut ReportText, count: u128, one: &[u8], before: &[u8], after: &[u8])
+    requires few { length one.now + length before.now + length after.now ≤ 120 }
     requires room { length said.old + 160 ≤ most_said }
-    ensures text { said.new ≡ said.old ++ count_text count one.now before.now behind.now }
+    ensures text { said.new ≡ said.old ++ count_text count one.now before.now after.now }
     ensures short { length said.new ≤ length said.old + 160 }
 {
     match count {
@@ -187,7 +187,7 @@ fn push_counted(said: &mut ReportText, count: u128, one: &[u8], before: &[u8], b
         _ => {
             said.push(before);
             said.push_number(count);
-            said.push(behind);
+            said.push(after);
         }
     }
 }
@@ -362,9 +362,9 @@ fn push_others(said: &mut ReportText, pages: usize)
 }
 
 /// Appends the message about the pages after the document's trailer, which aren't imposed.
-pub(crate) fn push_behind(said: &mut ReportText, pages: usize)
+pub(crate) fn push_pages_after(said: &mut ReportText, pages: usize)
     requires room { length said.old + 160 ≤ most_said }
-    ensures text { said.new ≡ said.old ++ behind_message pages }
+    ensures text { said.new ≡ said.old ++ pages_after_message pages }
     ensures short { length said.new ≤ length said.old + 160 }
 {
     push_counted(

@@ -1,13 +1,13 @@
 //! The lines that are printed about a finished run.
 ghost use Rattle.std.specs.Prelude.{◌≡◌, ◌+◌, ◌≤◌, ◌++◌, IfSome, Some, length, option_map, string_bytes};
 ghost use Rattle.impose_messages.specs.Rooms.{most_said};
-ghost use Rattle.impose_messages.specs.Said.{AddsNote, advice_on as advice_by_name, behind_text, cut_text, line_of, note_text as text_of_note};
+ghost use Rattle.impose_messages.specs.Said.{AddsNote, advice_on as advice_by_name, pages_after_text, cut_text, line_of, note_text as text_of_note};
 ghost use Rattle.impose_messages.specs.Said.{depends as depends_on, dependence_text, reach_text, report_text, run_lines, told_text, unknown_text};
 
 use crate::finished::{Dependence, Finished};
 use crate::report_text::ReportText;
 use crate::reports::{
-    push_behind, push_cut, push_dependence, push_note, push_reach, push_report, push_told,
+    push_cut, push_dependence, push_note, push_pages_after, push_reach, push_report, push_told,
     push_unknown,
 };
 use crate::shown::ShownName;
@@ -24,12 +24,12 @@ pub(crate) fn push_lines(said: &mut ReportText, done: &Finished, request: &Impos
 {
     let found = &done.findings;
     push_report_line(said, done, request);
-    push_unknown_line(said, &found.told.unknown);
+    push_unknown_line(said, &found.claims.unknown);
     push_cut_line(said, &found.cut, &found.page_paper);
     push_reach_line(said, &found.reach);
-    push_behind_line(said, found.behind);
-    push_told_line(said, found.told.pages, done.report.pages);
-    push_dependence_line(said, found.told.dependence, done.report.pages);
+    push_pages_after_line(said, found.after_trailer);
+    push_told_line(said, found.claims.pages, done.report.pages);
+    push_dependence_line(said, found.claims.dependence, done.report.pages);
 }
 
 fn push_report_line(said: &mut ReportText, done: &Finished, request: &ImposeRequest)
@@ -81,16 +81,16 @@ fn push_reach_line(said: &mut ReportText, reach: &Option<Reach>)
     said.push(b"\n");
 }
 
-fn push_behind_line(said: &mut ReportText, pages: usize)
+fn push_pages_after_line(said: &mut ReportText, pages: usize)
     requires room { length said.old + 169 ≤ most_said }
-    ensures text { said.new ≡ said.old ++ line_of (behind_text pages) }
+    ensures text { said.new ≡ said.old ++ line_of (pages_after_text pages) }
     ensures short { length said.new ≤ length said.old + 169 }
 {
     if pages == 0 {
         return;
     }
     said.push(b"impose: ");
-    push_behind(said, pages);
+    push_pages_after(said, pages);
     said.push(b"\n");
 }
 

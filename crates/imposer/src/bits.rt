@@ -52,7 +52,7 @@ pub(crate) fn cover(words: &mut Vec<u64>, number: u32) -> Result<(), AllocError>
 pub(crate) fn next_filled(words: &[u64], from: usize, end: u32) -> usize
     ensures forward { from ≤ result }
     ensures blank { (k : ℕ) → 64 * from ≤ k → k < 64 * result → bit words.now k ≡ false }
-    ensures behind { get_or words.now result 0 ≡ 0 → result < length words.now → end ≤ 64 * result }
+    ensures after { get_or words.now result 0 ≡ 0 → result < length words.now → end ≤ 64 * result }
 {
     let stop = words.len().min(end as usize / BITS + 1);
     let mut word = from;

@@ -56,7 +56,7 @@ pub fn print_number(number: Number, out: &mut Vec<u8>) -> Result<(), AllocError>
     let whole = size / 1_000_000_000;
     let mut whole_digits = Buffer::new();
     let mut part_digits = Buffer::new();
-    let decimals = decimals_behind_one(
+    let decimals = decimals_after_one(
         part_digits
             .format(1_000_000_000 + size % 1_000_000_000)
             .as_bytes(),
@@ -100,7 +100,7 @@ fn decimals_of_part(digits: &mut Buffer, places: u32, part: u64) -> &[u8]
     if part == 0 {
         return &[];
     }
-    decimals_behind_one(digits.format(10u64.pow(places) + part).as_bytes())
+    decimals_after_one(digits.format(10u64.pow(places) + part).as_bytes())
 }
 
 /// The digits of the integer part `whole`, or no digits if it is 0 and decimals follow.
@@ -118,7 +118,7 @@ fn unless_dot_follows<'a>(whole: u64, digits: &'a [u8], decimals: &[u8]) -> &'a 
 
 /// The decimals of a fraction, without zeros at the end. `one_and_part` has a 1 before the fraction's digits, so that it also has the zeros at the
 /// start of the fraction.
-fn decimals_behind_one(one_and_part: &[u8]) -> &[u8]
+fn decimals_after_one(one_and_part: &[u8]) -> &[u8]
     ensures value { result.now ≡ without_last_zeros (drop 1 one_and_part.now) }
     ensures no_longer { length result.now ≤ length one_and_part.now }
 {

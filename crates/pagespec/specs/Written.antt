@@ -10,7 +10,7 @@ use Rattle.pagespec.specs.declared.groups.ParsedGroups.{ParsedGroups}
 -- the modulo of a text with this after its colon, and what is left to read
 abbrev pub ModuloRead : List ℕ → Option (List ℕ) → ℕ → List ℕ → Type 0
 ModuloRead bytes None modulo rest = (modulo ≡ 1) × (rest ≡ bytes)
-ModuloRead bytes (Some behind) modulo rest = (modulo ≡ min least_large (number_of (digits bytes))) × (rest ≡ behind)
+ModuloRead bytes (Some after) modulo rest = (modulo ≡ min least_large (number_of (digits bytes))) × (rest ≡ after)
 
 -- the groups that were parsed of a text, by its meaning
 pub record WrittenRead (bytes : List ℕ) (modulo : ℕ) (parsed : ParsedGroups) : Type 0 where

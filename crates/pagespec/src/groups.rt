@@ -107,14 +107,14 @@ fn read_groups(alloc: Global, bytes: &[u8]) -> Result<(ParsedGroups, Rest<'_>), 
     let mut lengths = Vec::new(alloc);
     let mut rest = bytes;
     for _ in 0..bytes.len() + 1 {
-        let (length, behind) = read_group(rest, &mut items)?;
+        let (length, after) = read_group(rest, &mut items)?;
         match lengths.push(length) {
             Ok(_) => (),
             Err(_) => return Err(Stop::NoMemory),
         }
-        match read_byte(b',', behind.text) {
+        match read_byte(b',', after.text) {
             Some(next) => rest = next,
-            None => return Ok((ParsedGroups { items, lengths }, behind)),
+            None => return Ok((ParsedGroups { items, lengths }, after)),
         }
     }
     Err(Stop::Stuck(ParseStop { left: 0 }))
@@ -129,10 +129,10 @@ fn read_group<'t>(bytes: &'t [u8], items: &mut Vec<ParsedItem>) -> Result<(usize
 {
     let mut rest = bytes;
     for i in 0..bytes.len() + 1 {
-        let behind = append_item(rest, items)?;
-        match read_byte(b'+', behind.text) {
+        let after = append_item(rest, items)?;
+        match read_byte(b'+', after.text) {
             Some(next) => rest = next,
-            None => return Ok((i + 1, behind)),
+            None => return Ok((i + 1, after)),
         }
     }
     Err(Stop::Stuck(ParseStop { left: 0 }))

@@ -89,8 +89,8 @@ pub(crate) fn read_item(bytes: &[u8]) -> Result<(ParsedItem, Rest<'_>), ParseSto
 {
     let (from_end, body) = split_minus(bytes);
     match read_digits(body) {
-        Some((page, behind)) => {
-            let (modifiers, rest) = read_modifiers(behind);
+        Some((page, after)) => {
+            let (modifiers, rest) = read_modifiers(after);
             let item = ParsedItem {
                 from_end,
                 page,
@@ -123,9 +123,9 @@ pub(crate) fn read_modifiers(bytes: &[u8]) -> (Modifiers, Rest<'_>)
     let mut rest = bytes;
     for _ in 0..bytes.len() {
         match read_modifier(rest) {
-            Ok((modifier, behind)) => {
+            Ok((modifier, after)) => {
                 modifiers = modifiers.and(modifier);
-                rest = behind;
+                rest = after;
             }
             Err(stuck) => return (modifiers, Rest { text: rest, stuck }),
         }

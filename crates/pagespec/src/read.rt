@@ -64,11 +64,11 @@ fn read_written(alloc: Global, bytes: &[u8]) -> Result<(u32, ParsedGroups), Stop
 fn split_modulo(bytes: &[u8]) -> (u32, &[u8])
     ensures { ModuloRead bytes.now (past_modulo bytes.now) result.0 result.1.now }
 {
-    let (modulo, behind) = match read_digits(bytes) {
+    let (modulo, after) = match read_digits(bytes) {
         Some(found) => found,
         None => return (1, bytes),
     };
-    match read_byte(b':', behind) {
+    match read_byte(b':', after) {
         Some(rest) => (modulo, rest),
         None => (1, bytes),
     }

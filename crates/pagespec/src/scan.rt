@@ -94,21 +94,21 @@ fn read_offset(bytes: &[u8]) -> Result<(Modifier, &[u8]), ParseStop>
         (λ x. (m : WrittenModifier) × (offset_at bytes.now ≡ Some (m, x.1.now)) × StandsFor x.0 m)
         (λ stuck. StuckIn (λ t m. IsModifier (opening_parenthesis ∷ t) m) offset_at bytes.now stuck.left) }
 {
-    let (x, behind_x) = match read_measure(bytes) {
+    let (x, after_x) = match read_measure(bytes) {
         Ok(found) => found,
         Err(stuck) => return Err(stuck),
     };
-    let second = match read_byte(b',', behind_x.text) {
+    let second = match read_byte(b',', after_x.text) {
         Some(second) => second,
-        None => return Err(behind_x.stuck),
+        None => return Err(after_x.stuck),
     };
-    let (y, behind_y) = match read_measure(second) {
+    let (y, after_y) = match read_measure(second) {
         Ok(found) => found,
         Err(stuck) => return Err(stuck),
     };
-    match read_byte(b')', behind_y.text) {
+    match read_byte(b')', after_y.text) {
         Some(rest) => Ok((offset_of(x, y), rest)),
-        None => Err(behind_y.stuck),
+        None => Err(after_y.stuck),
     }
 }
 

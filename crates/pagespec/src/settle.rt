@@ -21,9 +21,9 @@ pub(crate) fn settled_groups(
     let mut groups = Vec::new(alloc);
     let mut rest = parsed;
     for length in lengths {
-        let (front, behind) = rest.split_at(*length);
+        let (front, after) = rest.split_at(*length);
         groups.push(settled_group(alloc, front)?)?;
-        rest = behind;
+        rest = after;
     }
     Ok(groups)
 }

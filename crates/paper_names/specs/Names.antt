@@ -71,8 +71,8 @@ after_word (w ∷ ws) [] = None
 after_word (w ∷ ws) (b ∷ text) = if small b == w then after_word ws text else None
 
 -- what follows the word for its makers, if a name begins with one
-abbrev pub behind_maker : List ℕ → List ℕ
-behind_maker text =
+abbrev pub after_maker : List ℕ → List ℕ
+after_maker text =
     unwrap_or (after_word (codes "din") text) (unwrap_or (after_word (codes "iso") text) (unwrap_or (after_word (codes "us") text) text))
 
 -- what comes before this ending of a text, which may have capitals
@@ -91,7 +91,7 @@ upright_part text = first_text (before_ending (codes "landscape") text) (before_
 -- ---- the paper with a name (RULES, 12.1)
 
 abbrev pub upright_named : List ℕ → Option Paper
-upright_named name = paper_among papers (behind_maker (letters name))
+upright_named name = paper_among papers (after_maker (letters name))
 
 abbrev pub named_by : (upright : Option (List ℕ)) → (name : List ℕ) → Option Paper
 named_by (Some front) name = option_map turned (upright_named front)

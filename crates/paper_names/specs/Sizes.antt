@@ -71,17 +71,17 @@ abbrev pub x_at : List ℕ → ℕ
 x_at text = prefix_len (λ b. not (is_cross b)) text
 
 -- what follows this byte in a text that begins with it
-abbrev pub behind_second : List ℕ → Option (List ℕ)
-behind_second [] = None
-behind_second (b ∷ rest) = if b == 151 then Some rest else None
+abbrev pub after_second : List ℕ → Option (List ℕ)
+after_second [] = None
+after_second (b ∷ rest) = if b == 151 then Some rest else None
 
 -- what follows the sign that a text begins with
-abbrev pub behind_cross : List ℕ → Option (List ℕ)
-behind_cross [] = None
-behind_cross (b ∷ rest) = if b == 195 then behind_second rest else Some rest
+abbrev pub after_cross : List ℕ → Option (List ℕ)
+after_cross [] = None
+after_cross (b ∷ rest) = if b == 195 then after_second rest else Some rest
 
 abbrev pub size_of : List ℕ → Result Paper PaperError
-size_of text = size_of_both (side_of (take (x_at text) text)) (option_and_then side_of (behind_cross (drop (x_at text) text)))
+size_of text = size_of_both (side_of (take (x_at text) text)) (option_and_then side_of (after_cross (drop (x_at text) text)))
 
 -- what follows the last underscore that isn't the end, or else what was kept
 abbrev pub last_part : (kept text : List ℕ) → List ℕ

@@ -76,7 +76,7 @@ pub fn name_list() -> &'static str
 pub(crate) fn upright_paper(name: &[u8]) -> Option<Paper>
     ensures { result ≡ meaning.upright_named name.now }
 {
-    paper_in(&PAPERS, behind_maker(name))
+    paper_in(&PAPERS, after_maker(name))
 }
 
 /// The paper of the first row that has this name, compared as in `is_named`. None if no row has the name.
@@ -115,8 +115,8 @@ fn has_no_letter(text: &[u8]) -> bool
 
 /// The name without the `din`, `iso` or `us` that it begins with, compared as in `after_word`. A name that begins with none of them is returned
 /// whole.
-fn behind_maker(name: &[u8]) -> &[u8]
-    ensures { letters result.now ≡ meaning.behind_maker (letters name.now) }
+fn after_maker(name: &[u8]) -> &[u8]
+    ensures { letters result.now ≡ meaning.after_maker (letters name.now) }
 {
     match after_word(name, b"din") {
         Some(rest) => rest,

@@ -73,7 +73,7 @@ fn size_of(text: &[u8]) -> Result<Paper, PaperError>
     ensures { result ≡ meaning.size_of text.now }
 {
     let (width, rest) = text.split_at(x_at(text));
-    size_of_both(side_of(width), side_behind(rest))
+    size_of_both(side_of(width), side_after(rest))
 }
 
 /// The index of the first `x`, `X`, `*` or byte 0xC3, with which a `×` begins in UTF-8. It is the length of the text if the text has none of these.
@@ -88,29 +88,29 @@ fn x_at(text: &[u8]) -> usize
 
 /// The side after the `x`, `X`, `*` or `×` with which this text begins, unless it is empty. None if the text is empty, if it has only the first byte
 /// of a `×`, or if no side follows.
-fn side_behind(text: &[u8]) -> Option<Side>
+fn side_after(text: &[u8]) -> Option<Side>
     ensures { option_map (λ s. (s.number, option_map length_unit s.unit)) result
-        ≡ option_and_then meaning.side_of (meaning.behind_cross text.now) }
+        ≡ option_and_then meaning.side_of (meaning.after_cross text.now) }
 {
-    side_of(behind_cross(text)?)
+    side_of(after_cross(text)?)
 }
 
 /// The text after the `x`, `X`, `*` or `×` at its start. Of a `×`, which has two bytes, only the second is tested, since the caller has found the
 /// first. None if the text is empty, or if this second byte is missing.
-fn behind_cross(text: &[u8]) -> Option<&[u8]>
-    ensures { option_map (λ rest. rest.now) result ≡ meaning.behind_cross text.now }
+fn after_cross(text: &[u8]) -> Option<&[u8]>
+    ensures { option_map (λ rest. rest.now) result ≡ meaning.after_cross text.now }
 {
     let (first, rest) = text.split_first()?;
     if *first == 0xC3 {
-        behind_second(rest)
+        after_second(rest)
     } else {
         Some(rest)
     }
 }
 
 /// The text after the second byte of a `×`, which has two bytes in UTF-8. None if the text doesn't begin with that byte.
-fn behind_second(text: &[u8]) -> Option<&[u8]>
-    ensures { option_map (λ rest. rest.now) result ≡ meaning.behind_second text.now }
+fn after_second(text: &[u8]) -> Option<&[u8]>
+    ensures { option_map (λ rest. rest.now) result ≡ meaning.after_second text.now }
 {
     let (second, rest) = text.split_first()?;
     if *second == 0x97 { Some(rest) } else { None }

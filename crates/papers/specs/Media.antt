@@ -241,9 +241,9 @@ document_told usual text = or_named usual (header text) (trailer_lines (units_of
 -- ---- a paper that the setup asks for
 
 -- what follows the first /PageSize of a line
-abbrev pub behind_key : List ℕ → Option (List ℕ)
-behind_key [] = None
-behind_key (b ∷ rest) = if starts_with nat_eq (b ∷ rest) (codes "/PageSize") then Some (drop 9 (b ∷ rest)) else behind_key rest
+abbrev pub after_key : List ℕ → Option (List ℕ)
+after_key [] = None
+after_key (b ∷ rest) = if starts_with nat_eq (b ∷ rest) (codes "/PageSize") then Some (drop 9 (b ∷ rest)) else after_key rest
 
 -- the length of what is before the first closing bracket
 abbrev pub open_len : List ℕ → ℕ
@@ -260,11 +260,11 @@ two_sides (width ∷ height ∷ []) = paper_meant (points_of width) (points_of h
 two_sides other = None
 
 -- the paper that a line asks for: two numbers in brackets after the first /PageSize
-abbrev pub size_behind : List ℕ → Option Paper
-size_behind text = option_and_then (λ inside. two_sides (fields_in inside)) (in_brackets (drop (prefix_len is_blank text) text))
+abbrev pub size_after : List ℕ → Option Paper
+size_after text = option_and_then (λ inside. two_sides (fields_in inside)) (in_brackets (drop (prefix_len is_blank text) text))
 
 abbrev pub size_asked : (content : List ℕ) → Option Paper
-size_asked content = option_and_then size_behind (behind_key content)
+size_asked content = option_and_then size_after (after_key content)
 
 -- that of the first line before the first page that asks for one
 abbrev pub set_size : List (List ℕ) → Option Paper

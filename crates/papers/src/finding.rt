@@ -10,7 +10,7 @@ ghost use Rattle.papers.specs.Named.{known_paper};
 
 use crate::known_media::KnownMedia;
 use crate::media::document_told;
-use crate::page_heads::{behind_first_line, medium_name, value_in_head};
+use crate::page_heads::{after_first_line, medium_name, value_in_head};
 use crate::paper_of_box;
 use crate::setup::usual_in;
 use dsc::{Document, header_len};
@@ -103,7 +103,7 @@ fn told_by_page(
 ) -> Result<Option<Paper>, AllocError>
     ensures { IfOk result (λ paper. paper ≡ told (known_paper known.now) other.now (page_head page.now)) }
 {
-    let head = behind_first_line(page);
+    let head = after_first_line(page);
     let named = named_paper(alloc, known, head)?;
     match named {
         Some(paper) => Ok(Some(paper)),

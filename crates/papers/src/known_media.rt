@@ -9,7 +9,7 @@ ghost use Rattle.papers.specs.Named.{IsNameKept, KnowsAll, found_at, is_name_mis
 
 use crate::fields::{name_and_rest, name_meant};
 use crate::media::sides_paper;
-use crate::page_heads::{behind_first_line, medium_name};
+use crate::page_heads::{after_first_line, medium_name};
 use crate::{continuation, first_comment};
 use dsc::Document;
 use lengths::Paper;
@@ -65,7 +65,7 @@ impl KnownMedia {
         ensures kept { OnOk result (IsNameKept self.new page.now) }
         ensures still { OnOk result ((at : List ℕ) → found_at self.old at ≡ Some None → found_at self.new at ≡ Some None) }
     {
-        match medium_name(behind_first_line(page)) {
+        match medium_name(after_first_line(page)) {
             Some(name) => {
                 let kept = name_meant(alloc, name)?;
                 self.put(kept, None)

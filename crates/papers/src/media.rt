@@ -97,11 +97,11 @@ fn named_in(header: &[u8]) -> Option<Paper>
         (meaning.comment_values (codes "%%DocumentPaperSizes") (meaning.contents header.now)) }
 {
     let (value, others) = first_comment(header, b"%%DocumentPaperSizes", b"%%DocumentPaperSizes:")?;
-    first_named(value).or_else(|| named_behind(others))
+    first_named(value).or_else(|| named_in_rest(others))
 }
 
 /// The paper of the first known name in the `%%+` lines at the start of the text. None if they have no known name.
-fn named_behind(text: &[u8]) -> Option<Paper>
+fn named_in_rest(text: &[u8]) -> Option<Paper>
     ensures { result ≡ meaning.paper_of_first_name_in (meaning.continued (meaning.contents text.now)) }
 {
     let mut rest = text;

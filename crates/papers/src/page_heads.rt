@@ -11,11 +11,11 @@ use crate::fields::{name_and_rest, name_in};
 use dsc::{first_content, is_header, key_of, line_end_after};
 
 /// The text after its first line.
-pub(crate) fn behind_first_line(text: &[u8]) -> &[u8]
+pub(crate) fn after_first_line(text: &[u8]) -> &[u8]
     ensures { result.now ≡ drop (line_len text.now) text.now }
 {
-    let (_, behind) = text.split_at(line_end_after(text, first_line_len(text)));
-    behind
+    let (_, after) = text.split_at(line_end_after(text, first_line_len(text)));
+    after
 }
 
 /// The length of the first line without its line end. The first line of a page is short, so the bytes are tested one

@@ -9,7 +9,7 @@ ghost use Rattle.papers.specs.Reach as meaning;
 use crate::boxes::{Edges, edges_of};
 use crate::cuts::is_cut;
 use crate::media::box_of;
-use crate::page_heads::{behind_first_line, value_in_head};
+use crate::page_heads::{after_first_line, value_in_head};
 use dsc::{Document, header_len};
 use lengths::{Grains, Paper};
 
@@ -18,7 +18,7 @@ use lengths::{Grains, Paper};
 fn page_box(page: &[u8], other: Option<&[u8]>) -> Option<Edges>
     ensures { result ≡ meaning.page_box (option_map (λ v. fields_in v.now) other.entry) page.now }
 {
-    let head = behind_first_line(page);
+    let head = after_first_line(page);
     match value_in_head(head, b"%%PageBoundingBox", b"%%PageBoundingBox:") {
         Some(own) => edges_of(own),
         None => unless_medium(head, other).and_then(edges_of),

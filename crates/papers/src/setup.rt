@@ -47,21 +47,21 @@ fn begins_page(content: &[u8]) -> bool
 fn size_asked(content: &[u8]) -> Option<Paper>
     ensures { result ≡ meaning.size_asked content.now }
 {
-    size_behind(behind_key(content)?)
+    size_after(after_key(content)?)
 }
 
 /// The paper in brackets at the start of this text, which follows `/PageSize`. Blanks may come before the opening
 /// bracket. None if there is no such bracket, or if `two_sides` finds no paper in the brackets.
-fn size_behind(text: &[u8]) -> Option<Paper>
-    ensures { result ≡ meaning.size_behind text.now }
+fn size_after(text: &[u8]) -> Option<Paper>
+    ensures { result ≡ meaning.size_after text.now }
 {
     let (_, text) = text.split_at(leading_blanks(text));
     two_sides(in_brackets(text)?)
 }
 
 /// The text after the first `/PageSize` of a line. None if the line has no `/PageSize`.
-fn behind_key(content: &[u8]) -> Option<&[u8]>
-    ensures { option_map (λ text. text.now) result ≡ meaning.behind_key content.now }
+fn after_key(content: &[u8]) -> Option<&[u8]>
+    ensures { option_map (λ text. text.now) result ≡ meaning.after_key content.now }
 {
     let mut rest = content;
     while let Some((_, others)) = rest.split_first() {

@@ -15,9 +15,9 @@ pub(crate) fn append_ranges(row: &mut Vec<Option<u32>>, pages: u32, text: &[u8])
 {
     let mut left = Some(text);
     while let Some(rest) = left {
-        let (piece, behind) = split_at_byte(b',', rest);
+        let (piece, after) = split_at_byte(b',', rest);
         append_range_if(row, read_range(pages, piece));
-        left = behind;
+        left = after;
     }
 }
 

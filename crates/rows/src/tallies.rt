@@ -56,12 +56,12 @@ fn tally_ranges(pages: u32, text: &[u8]) -> Result<Tally, usize>
     let mut left = Some(text);
     while let Some(rest) = left {
         let at = text.len() - rest.len();
-        let (piece, behind) = split_at_byte(b',', rest);
+        let (piece, after) = split_at_byte(b',', rest);
         match read_range(pages, piece) {
             Some(range) => tally = with_range(tally, at, range),
             None => return Err(at),
         }
-        left = behind;
+        left = after;
     }
     Ok(tally)
 }

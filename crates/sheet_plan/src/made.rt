@@ -288,7 +288,7 @@ fn keep_slot(
             placing: 0,
         },
         MadeSlot::Placed { page, item, paper } => {
-            let near = number_behind(slots.as_slice());
+            let near = number_after(slots.as_slice());
             let placing = Placing {
                 item: *item,
                 paper: *paper,
@@ -306,7 +306,7 @@ fn keep_slot(
 
 /// The index after that of the last slot's placing, or 0 if this slot is blank or there is no slot. Sheets with the same layout use placings one
 /// after the other, so the next slot often has the placing at this index.
-fn number_behind(slots: &[KeptSlot]) -> u32 {
+fn number_after(slots: &[KeptSlot]) -> u32 {
     match slots.last() {
         Some(slot) => slot.placing,
         None => 0,

@@ -14,15 +14,15 @@ pub(crate) fn cells_wording(
     let (name, example) = command_with_example(command);
     if looks_like_file(text) {
         let (before, what) = missing_cells(command);
-        let behind = format!(in alloc;
+        let after = format!(in alloc;
             "': {what} after {name}, as in: impose {name} {example} in.ps out.ps"
         )?;
-        return Wording::new(alloc, before, behind);
+        return Wording::new(alloc, before, after);
     }
     let (what, advice) = bad_cells(command, text.contains("x"));
     Ok(Wording {
         before: format!(in alloc; "{what} '")?,
-        behind: format!(in alloc; "' after {name}: give {advice}")?,
+        after: format!(in alloc; "' after {name}: give {advice}")?,
     })
 }
 

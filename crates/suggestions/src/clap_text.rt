@@ -58,7 +58,7 @@ pub(crate) const POINTER: &str = "For more information";
 
 /// The text between the first two single quotes, if there are two.
 fn between_quotes(text: &str) -> Option<&str> {
-    let (_, behind) = text.split_once("'")?;
-    let (word, _) = behind.split_once("'")?;
+    let (_, after) = text.split_once("'")?;
+    let (word, _) = after.split_once("'")?;
     Some(word)
 }

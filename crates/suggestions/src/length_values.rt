@@ -56,10 +56,10 @@ fn no_unit_wording(
     } else {
         format!(in alloc; "{shown} in '")?
     };
-    let behind = format!(in alloc;
+    let after = format!(in alloc;
         "' after --{id} has no unit: write {shown}cm, {shown}mm, {shown}in or {shown}pt{units}"
     )?;
-    Ok(Wording { before, behind })
+    Ok(Wording { before, after })
 }
 
 /// The wording about a text that doesn't give margins. If the text names an edge twice, the message names this edge.
@@ -68,16 +68,16 @@ pub(crate) fn margin_wording(alloc: Global, text: &str) -> Result<Wording, Alloc
         return length_wording(alloc, OptionId::Margin, text);
     };
     let edge = shown_word(alloc, edge)?;
-    let behind = format!(in alloc; "' after --margin names {edge} twice: name each edge once")?;
-    Wording::new(alloc, "'", behind)
+    let after = format!(in alloc; "' after --margin names {edge} twice: name each edge once")?;
+    Wording::new(alloc, "'", after)
 }
 
 /// The first edge that a text names twice. `None` if there is no such edge.
 fn edge_named_twice(text: &str) -> Option<&str> {
     text.split(',').enumerate().find_map(|(place, part)| {
         let edge = edge_of(part)?;
-        let mut behind = text.split(',').skip(place).skip(1);
-        behind
+        let mut after = text.split(',').skip(place).skip(1);
+        after
             .any(|part| edge_of(part) == Some(edge))
             .then_some(edge)
     })

@@ -61,17 +61,17 @@ fn with_tip(alloc: Global, text: &str, tip: &str, keeps_usage: bool) -> Result<S
     let mut out = String::new(alloc);
     let tip_line = format!(in alloc; "  tip: {tip}")?;
     let mut is_told = tip.is_empty();
-    let mut is_behind_blank = false;
+    let mut follows_blank = false;
     for line in text.lines() {
         let is_usage = line.starts_with(USAGE);
-        if is_tip_left_out(line) || line.is_empty() && is_behind_blank || is_usage && !keeps_usage {
+        if is_tip_left_out(line) || line.is_empty() && follows_blank || is_usage && !keeps_usage {
             continue;
         }
         let is_due = !is_told && (is_usage || line.starts_with(POINTER));
         push_tip(&mut out, tip_line.as_str(), is_due)?;
         is_told |= is_due;
         push_line(&mut out, line)?;
-        is_behind_blank = line.is_empty();
+        follows_blank = line.is_empty();
     }
     Ok(out)
 }
@@ -106,7 +106,7 @@ fn likeness(alloc: Global, kind: ErrorKind, quoted: Quoted<'_>) -> Result<String
 /// The tip on a mistake of this kind, if one is known that is better than clap's. `word` is the word that clap refuses, and `words` is the command
 /// line.
 fn tip(kind: ErrorKind, word: &str, words: &[String]) -> Option<&'static str> {
-    let [_, command, behind @ ..] = words else {
+    let [_, command, after @ ..] = words else {
         return None;
     };
     let command = command.as_str();
@@ -114,9 +114,9 @@ fn tip(kind: ErrorKind, word: &str, words: &[String]) -> Option<&'static str> {
         ErrorKind::InvalidSubcommand => tip_on_command(word),
         ErrorKind::UnknownArgument if !COMMANDS.contains(&command) => tip_on_command(word),
         ErrorKind::UnknownArgument if word.starts_with("-") => {
-            tip_on_option(command, behind, word)
+            tip_on_option(command, after, word)
         }
-        ErrorKind::UnknownArgument => Some(tip_on_file(command, behind)),
+        ErrorKind::UnknownArgument => Some(tip_on_file(command, after)),
         ErrorKind::MissingRequiredArgument => tip_in(MISSING, command),
         _ => None,
     }
@@ -149,17 +149,14 @@ fn is_command_and_number(word: &str) -> bool {
     })
 }
 
-/// The tip on an unknown option, if one is known. `word` is the option as clap names it, and `behind` has the words after the command.
-fn tip_on_option(command: &str, behind: &[String], word: &str) -> Option<&'static str> {
-    let (before, whole) = in_place(behind, word);
+/// The tip on an unknown option, if one is known. `word` is the option as clap names it, and `after` has the words after the command.
+fn tip_on_option(command: &str, after: &[String], word: &str) -> Option<&'static str> {
+    let (before, whole) = in_place(after, word);
     let value = whole.strip_prefix("-").unwrap_or("");
     if begins_with_digit(value) || value.starts_with(".") {
         return tip_in(SIGNS, before).or(tip_in(SIGNS, command));
     }
-    if behind
-        .iter()
-        .any(|whole| is_long_name(whole.as_str(), word))
-    {
+    if after.iter().any(|whole| is_long_name(whole.as_str(), word)) {
         return Some("an option of several letters begins with two minus signs, as in: --quiet");
     }
     let own = tip_in(tips_for(command), word);
@@ -207,24 +204,24 @@ fn is_long_name(word: &str, letter: &str) -> bool {
 
 /// Finds the word of the command line that begins with an option as clap names it, such as `-d1` for `-d` and `--frame=1` for `--frame`. Returns the
 /// word before it and the word itself. Both are empty if no word begins with the option: in `-qd1`, the option `-d` comes after another letter.
-fn in_place<'w>(behind: &'w [String], option: &str) -> (&'w str, &'w str) {
+fn in_place<'w>(after: &'w [String], option: &str) -> (&'w str, &'w str) {
     let is_option = |word: &String| match word.as_str().strip_prefix(option) {
         Some(rest) => !option.starts_with("--") || rest.is_empty() || rest.starts_with("="),
         None => false,
     };
-    match behind.iter().position(is_option) {
-        Some(0) => ("", behind[0].as_str()),
-        Some(place) => (behind[place - 1].as_str(), behind[place].as_str()),
+    match after.iter().position(is_option) {
+        Some(0) => ("", after[0].as_str()),
+        Some(place) => (after[place - 1].as_str(), after[place].as_str()),
         None => ("", ""),
     }
 }
 
 /// The tip on a word that follows the two words that clap takes for the names of files.
-fn tip_on_file(command: &str, behind: &[String]) -> &'static str {
-    let first = behind.first().map_or("", |word| word.as_str());
-    let second = behind.get(1).map_or("", |word| word.as_str());
-    let ranges = behind.iter().filter(|word| is_range(word.as_str())).count();
-    if behind.iter().any(|word| word
+fn tip_on_file(command: &str, after: &[String]) -> &'static str {
+    let first = after.first().map_or("", |word| word.as_str());
+    let second = after.get(1).map_or("", |word| word.as_str());
+    let ranges = after.iter().filter(|word| is_range(word.as_str())).count();
+    if after.iter().any(|word| word
         .as_str()
         .starts_with(|sign: char| matches!(sign, '–' | '—')))
     {
@@ -233,13 +230,13 @@ fn tip_on_file(command: &str, behind: &[String]) -> &'static str {
         "no number comes after booklet or zine, as in: impose zine in.ps out.ps; leaves are folded some at a time by --signature 16"
     } else if command == "select" && ranges > 1 {
         "ranges are one word, as in: impose select 1,3,5-8 in.ps out.ps"
-    } else if ranges > 1 && behind.iter().any(|word| word.as_str() == "--pages") {
+    } else if ranges > 1 && after.iter().any(|word| word.as_str() == "--pages") {
         "ranges are one word, as in: --pages 1,3,5-8"
     } else if command != "spec" && is_range(first) && is_range(second) {
         "columns and rows are one word, as in: impose nup 2x3 in.ps out.ps"
-    } else if has_stray_paper(behind) {
+    } else if has_stray_paper(after) {
         "the paper of the sheets comes after --sheet, as in: --sheet a4"
-    } else if behind
+    } else if after
         .iter()
         .any(|word| matches!(word.as_str(), "pt" | "mm" | "cm" | "in"))
     {
@@ -250,12 +247,12 @@ fn tip_on_file(command: &str, behind: &[String]) -> &'static str {
 }
 
 /// Whether a word after the command names a paper, but doesn't follow an option that takes a paper.
-fn has_stray_paper(behind: &[String]) -> bool {
-    behind.iter().enumerate().any(|(place, word)| {
+fn has_stray_paper(after: &[String]) -> bool {
+    after.iter().enumerate().any(|(place, word)| {
         let before = if place == 0 {
             ""
         } else {
-            behind[place - 1].as_str()
+            after[place - 1].as_str()
         };
         size_named(word.as_str()).is_some() && !matches!(before, "-p" | "--paper" | "--sheet")
     })

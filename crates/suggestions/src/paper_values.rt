@@ -12,10 +12,10 @@ use std::alloc::{AllocError, Global};
 pub(crate) fn ranges_wording(alloc: Global, text: &str) -> Result<Wording, AllocError> {
     let first = if text.starts_with("-") { "1" } else { "" };
     let shown = shown_word(alloc, text)?;
-    let behind = format!(in alloc;
+    let after = format!(in alloc;
         "' after --paper is no paper: pages come after select, as in: impose select {first}{shown} in.ps out.ps"
     )?;
-    Wording::new(alloc, "'", behind)
+    Wording::new(alloc, "'", after)
 }
 
 /// The wording about a text that isn't a paper: that its unit is missing, that one of its sides isn't possible, or that no paper has this name.
@@ -57,10 +57,10 @@ fn no_size_unit_wording(
 ) -> Result<Wording, AllocError> {
     let id = option.id();
     let shown = shown_word(alloc, text)?;
-    let behind = format!(in alloc;
+    let after = format!(in alloc;
         "' after --{id} has no unit at its end: write {shown}mm, {shown}in or {shown}pt"
     )?;
-    Wording::new(alloc, "size '", behind)
+    Wording::new(alloc, "size '", after)
 }
 
 /// The phrase that says which papers or sizes to name in place of a text that isn't the name of a paper.

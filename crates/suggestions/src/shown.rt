@@ -74,20 +74,20 @@ pub(crate) fn push_line(out: &mut String, line: &str) -> Result<(), AllocError>
     out.push('\n')
 }
 
-/// A message about a word: the text `before` it, the word as messages show it, and the text `behind` it. Hidden characters are escaped.
+/// A message about a word: the text `before` it, the word as messages show it, and the text `after` it. Hidden characters are escaped.
 pub(crate) fn message_on(
     alloc: Global,
     before: &str,
     word: &str,
-    behind: &str,
+    after: &str,
 ) -> Result<String, AllocError>
     ensures said { IfOk result (λ said. meaning.IsMessageOn word.now (string_bytes said)) }
-    ensures text { IfOk result (λ said. string_bytes said ≡ meaning.message_text before.now word.now behind.now) }
+    ensures text { IfOk result (λ said. string_bytes said ≡ meaning.message_text before.now word.now after.now) }
 {
     let mut said = String::new(alloc);
     push_escaped(&mut said, before)?;
     said.push_str(shown_in_place(word).as_str())?;
-    push_escaped(&mut said, behind)?;
+    push_escaped(&mut said, after)?;
     Ok(said)
 }
 

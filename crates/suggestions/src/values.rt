@@ -19,25 +19,20 @@ pub fn value_text(alloc: Global, option: OptionId, text: &str) -> Result<String,
     ensures { IfOk result (λ said. IsMessageOn text.now (string_bytes said)) }
 {
     let wording = wording_for(alloc, option, text)?;
-    message_on(
-        alloc,
-        wording.before.as_str(),
-        text,
-        wording.behind.as_str(),
-    )
+    message_on(alloc, wording.before.as_str(), text, wording.after.as_str())
 }
 
 /// What a message says before and after the text that it is about.
 #[derive(Drop)]
 pub(crate) struct Wording {
     pub(crate) before: String,
-    pub(crate) behind: String,
+    pub(crate) after: String,
 }
 
 impl Wording {
-    pub(crate) fn new(alloc: Global, before: &str, behind: String) -> Result<Wording, AllocError> {
+    pub(crate) fn new(alloc: Global, before: &str, after: String) -> Result<Wording, AllocError> {
         let before = String::from_str(alloc, before)?;
-        Ok(Wording { before, behind })
+        Ok(Wording { before, after })
     }
 
     /// The wording that calls the text `what`, refuses it after the option, and gives advice.
@@ -50,7 +45,7 @@ impl Wording {
         let id = option.id();
         Ok(Wording {
             before: format!(in alloc; "{what} '")?,
-            behind: format!(in alloc; "' after --{id}: {advice}")?,
+            after: format!(in alloc; "' after --{id}: {advice}")?,
         })
     }
 }
@@ -93,7 +88,7 @@ fn no_value_wording(alloc: Global, option: OptionId) -> Result<Wording, AllocErr
     let (_, advice) = name_and_advice(option);
     Ok(Wording {
         before: format!(in alloc; "the value of --{id} is missing before '")?,
-        behind: format!(in alloc; "': {advice}")?,
+        after: format!(in alloc; "': {advice}")?,
     })
 }
 
@@ -158,10 +153,10 @@ fn with_points(alloc: Global, text: &str) -> Result<String, AllocError> {
     let mut pointed = String::new(alloc);
     for (place, part) in text.split(',').enumerate() {
         if place > 0 {
-            let is_behind_digit = pointed
+            let follows_digit = pointed
                 .as_str()
                 .ends_with(|letter: char| letter.is_ascii_digit());
-            let is_decimal = is_behind_digit && begins_with_digit(part);
+            let is_decimal = follows_digit && begins_with_digit(part);
             pointed.push(if is_decimal { '.' } else { ',' })?;
         }
         pointed.push_str(part)?;
@@ -191,34 +186,34 @@ fn decimals_wording(alloc: Global, option: OptionId, pointed: &str) -> Result<Wo
     } else {
         ""
     };
-    let behind = format!(in alloc;
+    let after = format!(in alloc;
         "' after --{id}: decimals come after a point, so write {pointed}{units}"
     )?;
-    Wording::new(alloc, "'", behind)
+    Wording::new(alloc, "'", after)
 }
 
 /// The wording about a number after `--numbers-from` that comes without `--numbers`.
 fn first_number_wording(alloc: Global, text: &str) -> Result<Wording, AllocError> {
     let shown = shown_word(alloc, text)?;
-    let behind = format!(in alloc;
+    let after = format!(in alloc;
         " is for numbers, which have a size: give --numbers 10pt --numbers-from {shown}"
     )?;
-    Wording::new(alloc, "--numbers-from ", behind)
+    Wording::new(alloc, "--numbers-from ", after)
 }
 
 /// The wording about an output file whose name begins with a minus, as options do.
 fn outfile_wording(alloc: Global, text: &str) -> Result<Wording, AllocError> {
     let shown = shown_word(alloc, text)?;
-    let behind = format!(in alloc;
+    let after = format!(in alloc;
         "' begins with a minus, as options do: options come before --, and a file of this name is written ./{shown}"
     )?;
-    Wording::new(alloc, "OUTFILE '", behind)
+    Wording::new(alloc, "OUTFILE '", after)
 }
 
 /// The wording about fold marks for sheets that aren't folded.
 fn fold_marks_wording(alloc: Global) -> Result<Wording, AllocError> {
-    let behind = String::from_str(alloc, " asks too much here: give --marks cut")?;
-    Wording::new(alloc, "only a booklet is folded, so --marks ", behind)
+    let after = String::from_str(alloc, " asks too much here: give --marks cut")?;
+    Wording::new(alloc, "only a booklet is folded, so --marks ", after)
 }
 
 /// The wording about a text that isn't the number of sides of a signature. For a number between 4 and 1,000,000 the message names the two nearest
@@ -228,10 +223,10 @@ fn signature_wording(alloc: Global, text: &str) -> Result<Wording, AllocError> {
         Some(sides) if 4 < sides && sides < 1_000_000 => {
             let below = sides - sides % 4;
             let above = below + 4;
-            let behind = format!(in alloc;
+            let after = format!(in alloc;
                 " sides can't be folded: take a multiple of four, as {below} or {above}, or auto"
             )?;
-            Wording::new(alloc, "a signature of ", behind)
+            Wording::new(alloc, "a signature of ", after)
         }
         _ => refusal(alloc, OptionId::Signature),
     }
@@ -241,8 +236,8 @@ fn signature_wording(alloc: Global, text: &str) -> Result<Wording, AllocError> {
 /// leave the option out.
 fn skip_wording(alloc: Global, option: OptionId, cells: u64) -> Result<Wording, AllocError> {
     if cells < 2 {
-        let behind = String::from_str(alloc, ": a sheet has one cell, so leave --skip out")?;
-        return Wording::new(alloc, "--skip ", behind);
+        let after = String::from_str(alloc, ": a sheet has one cell, so leave --skip out")?;
+        return Wording::new(alloc, "--skip ", after);
     }
     let most = cells - 1;
     let advice = format!(in alloc; "a sheet has {cells} cells, so give one from 1 to {most}")?;

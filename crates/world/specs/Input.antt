@@ -36,7 +36,7 @@ is_padding b = b == 4 || is_white b
 -- a text without its padding before %!, which Ghostscript passes over
 abbrev pub unpadded : (text : List ℕ) → List ℕ
 unpadded text =
-    let behind = drop (prefix_len is_padding text) text in if starts_with nat_eq behind (codes "%!") then behind else text
+    let after = drop (prefix_len is_padding text) text in if starts_with nat_eq after (codes "%!") then after else text
 
 -- the document in an input: what is too long isn't read whole, and stays so
 abbrev pub document_in : (input : List ℕ) → List ℕ

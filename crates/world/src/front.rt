@@ -2,7 +2,7 @@
 ghost use Rattle.std.specs.Prelude.{◌<◌, ◌≤◌, IfOk, length, take};
 ghost use Rattle.world.specs.Input.{Counts, IsFirst};
 
-use crate::read::fill_behind;
+use crate::read::fill_after;
 use crate::source::{Source, SourceFault};
 
 /// Reads the first bytes of the source into the buffer, until the buffer is full or the source ends. Returns the number of bytes read. No memory is
@@ -15,7 +15,7 @@ pub fn read_front<S: Source>(buffer: &mut [u8], source: &mut S) -> Result<usize,
 {
     let mut filled = 0;
     while filled < buffer.len() {
-        let count = fill_behind(source, buffer, filled)?;
+        let count = fill_after(source, buffer, filled)?;
         if count == 0 {
             break;
         }

@@ -21,7 +21,7 @@ pub use front::read_front;
 pub use host::{Host, HostInput, HostOutput};
 pub use late::{Asked, Before, Fate, Late};
 pub use output::{Output, WriteOutput};
-pub use read::{MOST_BYTES, ReadFault, read_input, read_input_behind};
+pub use read::{MOST_BYTES, ReadFault, read_input, read_input_after};
 pub use rest::Rest;
 pub use sink::created;
 pub use source::{ReadSource, Source, SourceFault};

@@ -68,11 +68,11 @@ pub fn read_input<S: Source>(alloc: Global, source: &mut S) -> Result<Vec<u8>, R
     ensures steady { OnOk result ((S.seen source.new).failures ≡ (S.seen source.old).failures) }
     ensures refused { IfErr result (IsFaultOf (S.seen source.old).failures (S.seen source.new).failures) }
 {
-    read_input_behind(alloc, 0, source)
+    read_input_after(alloc, 0, source)
 }
 
 /// Reads like `read_input`, but leaves `room` zero bytes before the input, where the caller can put other bytes later.
-pub fn read_input_behind<S: Source>(
+pub fn read_input_after<S: Source>(
     alloc: Global,
     room: u32,
     source: &mut S,
@@ -130,7 +130,7 @@ fn fill_more<S: Source>(
     ensures refused { IfErr result (IsFaultOf (S.seen source.old).failures (S.seen source.new).failures) }
 {
     make_room(bytes, filled, most)?;
-    Ok(fill_behind(source, bytes.as_mut_slice(), filled)?)
+    Ok(fill_after(source, bytes.as_mut_slice(), filled)?)
 }
 
 /// Makes room after the first `filled` bytes if there is too little: room for one more piece, or for all bytes that may still come if these are
@@ -203,7 +203,7 @@ fn give_back_room(bytes: &mut Vec<u8>)
 
 /// Reads into the buffer once, after its first `filled` bytes. Returns the number of bytes read, which is 0 at the end of the source. The only error
 /// is a failure of the source.
-pub(crate) fn fill_behind<S: Source>(
+pub(crate) fn fill_after<S: Source>(
     source: &mut S,
     buffer: &mut [u8],
     filled: usize,

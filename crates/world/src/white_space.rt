@@ -15,8 +15,8 @@ pub fn padding(input: &[u8]) -> usize
         return 0;
     }
     let count = padding_len(input);
-    let (_, behind) = input.split_at(count);
-    if behind.starts_with(b"%!") { count } else { 0 }
+    let (_, after) = input.split_at(count);
+    if after.starts_with(b"%!") { count } else { 0 }
 }
 
 /// The number of bytes of white space and Ctrl-D at the front of the text.

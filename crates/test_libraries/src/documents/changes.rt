@@ -17,8 +17,8 @@ pub fn every_prefix(out: &mut Answer, text: &[u8]) {
 pub fn every_change(out: &mut Answer, text: &[u8], byte: &str) {
     let mut ranges = Ranges::new(out.alloc);
     for place in 0..text.len() {
-        let (front, behind) = text.split_at(place);
-        match changed(out.alloc, front, byte, behind) {
+        let (front, after) = text.split_at(place);
+        match changed(out.alloc, front, byte, after) {
             Ok(changed) => ranges.count(out, changed.as_slice()),
             Err(_) => out.note(false),
         }
@@ -26,11 +26,11 @@ pub fn every_change(out: &mut Answer, text: &[u8], byte: &str) {
     ranges.end(out);
 }
 
-/// The text `front`, then `byte`, then `behind` without its first byte.
-fn changed(alloc: Global, front: &[u8], byte: &str, behind: &[u8]) -> Result<Vec<u8>, AllocError> {
+/// The text `front`, then `byte`, then `after` without its first byte.
+fn changed(alloc: Global, front: &[u8], byte: &str, after: &[u8]) -> Result<Vec<u8>, AllocError> {
     let mut changed = Vec::from_slice(alloc, front)?;
     changed.extend_from_slice(byte.as_bytes())?;
-    changed.extend_from_slice(behind.get(1..).unwrap_or(b""))?;
+    changed.extend_from_slice(after.get(1..).unwrap_or(b""))?;
     Ok(changed)
 }
 

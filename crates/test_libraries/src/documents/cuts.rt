@@ -99,9 +99,9 @@ pub fn counted(out: &mut Answer, text: &[u8]) {
 
 fn numbers(out: &mut Answer, document: &Document<'_>) {
     let pages = document.pages();
-    match document.pages_behind_trailer() {
+    match document.pages_after_trailer() {
         0 => out.labelled("pages", pages),
-        behind => out.line(format_args!("pages {pages}, behind the trailer {behind}")),
+        after => out.line(format_args!("pages {pages}, behind the trailer {after}")),
     }
 }
 

@@ -25,7 +25,7 @@ fn compare(out: &mut Answer, copy: &[u8], text: &[u8], paper: Option<&Paper>) {
         out.text("but not in its place\n");
     }
     for room in [5_000, 2_560, 2_048, 100, 7, 1, 0] {
-        let with_room = gives(out, copy, put_behind(out.alloc, room, text, paper))
+        let with_room = gives(out, copy, put_after(out.alloc, room, text, paper))
             && gives(out, copy, put_into_roomy(out.alloc, room, text, paper));
         if !with_room {
             out.line(format_args!("but not with room for {room} bytes"));
@@ -51,7 +51,7 @@ fn put_in_place(alloc: Global, text: &[u8], paper: Option<&Paper>) -> Result<Vec
 }
 
 /// The text, after `room` further bytes that can be overwritten.
-fn behind_room(alloc: Global, room: usize, text: &[u8]) -> Result<Vec<u8>, AllocError>
+fn after_room(alloc: Global, room: usize, text: &[u8]) -> Result<Vec<u8>, AllocError>
     ensures { IfOk result (λ bytes. room ≤ vec_len bytes) }
 {
     let mut bytes = vec![in alloc; b'%'; room]?;
@@ -60,13 +60,13 @@ fn behind_room(alloc: Global, room: usize, text: &[u8]) -> Result<Vec<u8>, Alloc
 }
 
 /// Inserts the guard into a text with `room` free bytes before it, and returns the result.
-fn put_behind(
+fn put_after(
     alloc: Global,
     room: usize,
     text: &[u8],
     paper: Option<&Paper>,
 ) -> Result<Vec<u8>, AllocError> {
-    let mut bytes = behind_room(alloc, room, text)?;
+    let mut bytes = after_room(alloc, room, text)?;
     let begin = put_guard_before(&mut bytes, room, paper)?;
     Vec::from_slice(alloc, &bytes[begin..])
 }
@@ -77,7 +77,7 @@ fn put_into_roomy(
     text: &[u8],
     paper: Option<&Paper>,
 ) -> Result<Vec<u8>, AllocError> {
-    let mut roomy = RoomyText::with_headroom(room, behind_room(alloc, room, text)?);
+    let mut roomy = RoomyText::with_headroom(room, after_room(alloc, room, text)?);
     roomy.put_guard(paper)?;
     Vec::from_slice(alloc, roomy.as_slice())
 }

@@ -12,7 +12,7 @@ pub go_on-requires : goal.go_on-requires
 go_on-requires c =
     let k = c.loop-drops.kept in
     let i = c.loop-drops.invariant in
-    let same = ap length i.behind in
+    let same = ap length i.after in
     let left = length-drop k.run_len k.run.now in
     let fits = c.in_ok-step.ensures.piece.within in
     omega (arith, same, left, fits, i.within)
@@ -27,11 +27,11 @@ loop-drops-preserved c =
     let some : 0 < length p.rest = c.is_done.ensures.going c.loop-drops-test.true in
     record {
       within = c.in_ok-go_on.ensures.within;
-      behind = c.in_ok-go_on.ensures.rest ∙ ap (drop (length u.bytes)) i.behind ∙ sym (ap (λ q. q.rest) step.place);
+      after = c.in_ok-go_on.ensures.rest ∙ ap (drop (length u.bytes)) i.after ∙ sym (ap (λ q. q.rest) step.place);
       so_far =
           filter_more c.args.drops c.loop-drops.was c.drops_unit-was.result ((k.copied.items ++ k.held.now) ++ take k.run_len k.run.now) _ p c.step.new.self u _ some step.piece step.place
           (c.drops_unit-was.ensures ∙ ap (λ d. is_dropped c.args.drops c.loop-drops.was (at_depth d u)) step.depth)
-          (c.in_ok-go_on.ensures.kept ∙ ap (λ t. ((k.copied.items ++ k.held.now) ++ take k.run_len k.run.now) ++ (if c.drops_unit-was.result then [] else take (length u.bytes) t)) i.behind)
+          (c.in_ok-go_on.ensures.kept ∙ ap (λ t. ((k.copied.items ++ k.held.now) ++ take k.run_len k.run.now) ++ (if c.drops_unit-was.result then [] else take (length u.bytes) t)) i.after)
           i.so_far;
     }
 

@@ -7,7 +7,7 @@ abbrev pub invariant-loop-rest : goal.invariant-loop-rest
 invariant-loop-rest l = record {
   fewer : l.lines ≤ l.count;
   within : l.passed ≤ length l.text;
-  behind : l.rest ≡ drop l.passed l.text;
+  after : l.rest ≡ drop l.passed l.text;
   so_far : option_map (λ n. l.passed + n) (lines_len (l.count - l.lines) l.rest) ≡ lines_len l.count l.text;
 }
 

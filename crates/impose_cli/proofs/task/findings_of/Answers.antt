@@ -16,7 +16,7 @@ returns-clause-some c =
 
 pub returns-clause-findings : goal.returns-clause-findings
 returns-clause-findings c =
-    finds_by_spec c.args.request.now c.args.input.now _ _ c.in-Ok.ensures.answer c.paper_of_pages-page_paper.ensures refl c.in_ok-reach.ensures c.pages_behind_trailer.ensures
+    finds_by_spec c.args.request.now c.args.input.now _ _ c.in-Ok.ensures.answer c.paper_of_pages-page_paper.ensures refl c.in_ok-reach.ensures c.pages_after_trailer.ensures
     (counts_taken c.args.request.now c.in-Ok.document c.in_ok-row.row.items c.pages-pages.result c.in_ok-taken.taken c.pages-pages.ensures.count
     (c.in_ok-row.ensures ∙ ap (λ n. row_or_none (imposed_row n (choice_in c.args.request.now.choice) None)) c.pages-pages.ensures.count)
     (rw c.as_slice-2.ensures.value at c.in_ok-taken.ensures))

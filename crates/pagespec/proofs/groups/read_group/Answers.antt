@@ -10,17 +10,17 @@ loop-i-init c = keeps_first _ _ _ (omega arith)
 
 pub returns-in-None : goal.returns-in-None
 returns-in-None c = (
-  keeps_last (length c.args.bytes.now + 1 - (c.loop-i.i + 1)) _ _ _ _ _ _ _ _ (omega arith) c.loop-i.invariant c.in_ok-behind.ensures.0 c.in-None.ensures,
-  keeps_ended _ _ _ _ _ _ _ _ c.loop-i.invariant c.in-None.ensures c.in_ok-behind.ensures.1,
+  keeps_last (length c.args.bytes.now + 1 - (c.loop-i.i + 1)) _ _ _ _ _ _ _ _ (omega arith) c.loop-i.invariant c.in_ok-after.ensures.0 c.in-None.ensures,
+  keeps_ended _ _ _ _ _ _ _ _ c.loop-i.invariant c.in-None.ensures c.in_ok-after.ensures.1,
 )
 
 pub loop-i-preserved : goal.loop-i-preserved
 loop-i-preserved c =
-    keeps_more (length c.args.bytes.now + 1 - (c.loop-i.i + 1)) _ _ _ _ _ _ _ _ _ (omega arith) c.loop-i.invariant c.in_ok-behind.ensures.0 c.in-Some.ensures
+    keeps_more (length c.args.bytes.now + 1 - (c.loop-i.i + 1)) _ _ _ _ _ _ _ _ _ (omega arith) c.loop-i.invariant c.in_ok-after.ensures.0 c.in-Some.ensures
 
 pub returns : goal.returns
 returns c = keeps_out _ _ _ _ _ _ _ (omega arith) c.loop-i.invariant
 
-pub returns-in_err-behind : goal.returns-in_err-behind
-returns-in_err-behind c =
-    handed_on _ _ _ _ c.from_residual.ensures.1 (stop_same IsItem item_at c.loop-i.rest.now IsGroup group_at c.args.bytes.now _ (λ left s. keeps_stuck _ _ left _ _ _ _ c.loop-i.invariant s) c.in_err-behind.ensures)
+pub returns-in_err-after : goal.returns-in_err-after
+returns-in_err-after c =
+    handed_on _ _ _ _ c.from_residual.ensures.1 (stop_same IsItem item_at c.loop-i.rest.now IsGroup group_at c.args.bytes.now _ (λ left s. keeps_stuck _ _ left _ _ _ _ c.loop-i.invariant s) c.in_err-after.ensures)

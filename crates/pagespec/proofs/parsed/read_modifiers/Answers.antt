@@ -17,7 +17,7 @@ returns-in-Err-clause-stuck c =
 
 pub loop-preserved : goal.loop-preserved
 loop-preserved c = (
-  reads_more (length c.args.bytes.now - (c.loop.counter + 1)) (length c.args.bytes.now - c.loop.counter) c.args.bytes.now c.loop.rest.now c.in-Ok.behind.now c.loop.modifiers c.and-modifiers.result c.in-Ok.modifier
+  reads_more (length c.args.bytes.now - (c.loop.counter + 1)) (length c.args.bytes.now - c.loop.counter) c.args.bytes.now c.loop.rest.now c.in-Ok.after.now c.loop.modifiers c.and-modifiers.result c.in-Ok.modifier
       (omega arith) c.loop.invariant.0 c.in-Ok.ensures c.and-modifiers.ensures,
   omega (arith, c.loop.invariant.1, modifier_bytes _ _ _ c.in-Ok.ensures.1),
 )

@@ -12,7 +12,7 @@ returns-clause-said c =
     let second =
     c.in_ok-push_str.ensures.bytes
     ∙ ap (λ word. string_bytes c.push_escaped.new.out ++ word) (c.as_str.ensures.value ∙ c.shown_in_place.ensures) in
-    on_word c.args.word.now (chars c.args.before.now) (chars c.args.behind.now) _ _ _ first second c.in_ok-push_escaped-2.ensures
+    on_word c.args.word.now (chars c.args.before.now) (chars c.args.after.now) _ _ _ first second c.in_ok-push_escaped-2.ensures
 
 pub returns-clause-text : goal.returns-clause-text
 returns-clause-text c =
@@ -22,4 +22,4 @@ returns-clause-text c =
     c.in_ok-push_str.ensures.bytes
     ∙ ap (λ word. string_bytes c.push_escaped.new.out ++ word) (c.as_str.ensures.value ∙ c.shown_in_place.ensures) in
     c.in_ok-push_escaped-2.ensures
-    ∙ ap (λ said. said ++ escaped_text c.args.behind.now) (second ∙ ap (λ said. said ++ shown_text c.args.word.now) first)
+    ∙ ap (λ said. said ++ escaped_text c.args.after.now) (second ∙ ap (λ said. said ++ shown_text c.args.word.now) first)

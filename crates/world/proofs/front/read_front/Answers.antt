@@ -8,5 +8,5 @@ loop-filled-preserved g c =
     let read = c.in_ok-count.ensures in record {
       within = read.within;
       steady = read.counted ∙ before.steady;
-      moved = filled_more 0 _ _ _ c.loop-filled.buffer c.fill_behind.new.buffer c.loop-filled.filled c.in_ok-count.count (omega arith) before.within c.fill_behind.ensures.front before.moved read.moved.0;
+      moved = filled_more 0 _ _ _ c.loop-filled.buffer c.fill_after.new.buffer c.loop-filled.filled c.in_ok-count.count (omega arith) before.within c.fill_after.ensures.front before.moved read.moved.0;
     }

@@ -36,7 +36,7 @@ returns-then-bits-eq0-clause-none c =
     let len = counted_words c.self.inside.words.items c.deref.result.now (vec_len c.self.inside.words) c.deref.ensures.value c.deref.ensures.len in
     let there : c.next_filled-self-inside.result < length c.self.inside.words.items = within_words c.self.inside.words.items c.next_filled-self-inside.result c.len.result (vec_len c.self.inside.words) len c.len.ensures c.if-self-len.false in
     let none = blank_word c.self.inside.words.items c.next_filled-self-inside.result c.index-bits.result.now c.index-bits.ensures there c.if-bits-eq0.true in
-    let end = behind_words c.deref.result.now c.self.inside.words.items c.next_filled-self-inside.result c.args.end c.deref.ensures.value c.next_filled-self-inside.ensures.behind none there in
+    let end = behind_words c.deref.result.now c.self.inside.words.items c.next_filled-self-inside.result c.args.end c.deref.ensures.value c.next_filled-self-inside.ensures.after none there in
     subst (λ s. HasNoneBelow s c.args.end) c.self.view_is (none_before c.self.inside.words.items c.next_filled-self-inside.result c.self.inside.count c.args.end a end)
 
 pub returns-then-sheet-end-clause-none : goal.returns-then-sheet-end-clause-none

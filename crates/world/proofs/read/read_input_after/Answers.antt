@@ -2,8 +2,8 @@ use Rattle.std.proofs.Common.{◌≡◌, ◌≤◌, ◌∙◌, ap, refl, sym, su
 use Rattle.world.specs.Input.{IsFirst, most_bytes}
 use Rattle.world.specs.declared.read.TheConstants.{MOST_BYTES}
 use Rattle.world.proofs.Reading.{filled_more, none_more, all_first, most_first, room_kept, length_read}
-use Rattle.world.proofs.read.read_input_behind.Goals as goal
-use Rattle.world.proofs.read.read_input_behind.Goals.{else-loop-filled-test, then-loop-filled-test+in_ok-count+then-count-eq0}
+use Rattle.world.proofs.read.read_input_after.Goals as goal
+use Rattle.world.proofs.read.read_input_after.Goals.{else-loop-filled-test, then-loop-filled-test+in_ok-count+then-count-eq0}
 
 pub loop-filled-preserved : goal.loop-filled-preserved
 loop-filled-preserved g c =

@@ -1,8 +1,8 @@
 use Rattle.std.proofs.Common.{◌∙◌, ap}
 use Rattle.rules.specs.Parts.{trailer}
-use Rattle.dsc.specs.PagesBehind.{page_lines}
+use Rattle.dsc.specs.PagesAfter.{page_lines}
 use Rattle.dsc.proofs.Trailers.{trailer_found, stop_within}
-use Rattle.dsc.proofs.document.Document.pages_behind_trailer.Goals as goal
+use Rattle.dsc.proofs.document.Document.pages_after_trailer.Goals as goal
 
 pub split_at-requires : goal.split_at-requires
 split_at-requires c =

@@ -8,5 +8,5 @@ abbrev pub page_lines : List NestedUnit → ℕ
 page_lines us = length (filter begins_page us)
 
 -- the number of pages after the line that begins the trailer: none, if there is no trailer
-abbrev pub pages_behind : List NestedUnit → ℕ
-pages_behind us = page_lines (trailer us)
+abbrev pub pages_after : List NestedUnit → ℕ
+pages_after us = page_lines (trailer us)

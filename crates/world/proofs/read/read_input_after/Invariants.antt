@@ -2,7 +2,7 @@
 use Rattle.std.proofs.Common.{◌≡◌, ◌≤◌, ◌+◌, ◌-◌, vec_len, vec_items, take, drop, replicate}
 use Rattle.std.specs.Io.KnownBytes.{Consumes}
 use Rattle.world.specs.declared.read.TheConstants.{MOST_BYTES}
-use Rattle.world.proofs.read.read_input_behind.Given as goal
+use Rattle.world.proofs.read.read_input_after.Given as goal
 
 abbrev pub invariant-loop-filled : goal.invariant-loop-filled
 invariant-loop-filled g l = record {
