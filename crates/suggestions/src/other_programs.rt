@@ -164,9 +164,10 @@ const OF_PRINTING: &[Tip] = tips! {
         "a sheet on its side is named so, as in: --sheet a4-landscape; pages are turned by --turn left",
     "--rotateoversize" =>
         "pages wider than high are turned by --turn wide, as in: impose nup 2 --turn wide in.ps out.ps",
-    "--doublepages" | "--doublepagestwist" =>
+    "--doublepages" | "--doublepagestwist" | "--doublepagestwistodd" | "--duplicatepages" =>
         "each page is on a sheet several times by: impose cards 2 in.ps out.ps",
-    "--templatesize" | "--sheet-size" | "--sheetsize" | "--a3paper" | "--a3" =>
+    "--templatesize" | "--sheet-size" | "--sheetsize" | "--a3paper" | "--a3" | "--b5paper"
+    | "--legalpaper" | "--executivepaper" =>
         "the paper of the sheets comes after --sheet, as in: --sheet a4",
     "--paper-format" | "--papertype" | "--paper-type" =>
         "the paper of the pages comes after --paper, that of the sheets after --sheet, as in: --sheet a4",
