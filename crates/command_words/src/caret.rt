@@ -60,10 +60,7 @@ fn after_place(text: &str) -> &str {
     if let Some(after) = text.strip_prefix("blank") {
         return after;
     }
-    let digits = match text.strip_prefix("_") {
-        Some(digits) => digits,
-        None => text,
-    };
+    let digits = text.strip_prefix("_").unwrap_or(text);
     digits.trim_start_matches(|letter: char| letter.is_ascii_digit())
 }
 

@@ -5,8 +5,5 @@ ghost use Rattle.std.specs.Prelude.{◌≡◌, option_map, string_bytes};
 pub fn name_of(name: &Option<String>) -> Option<&str>
     ensures { option_map (λ n. n.now) result ≡ option_map string_bytes name.now }
 {
-    match name {
-        Some(name) => Some(name.as_str()),
-        None => None,
-    }
+    Some(name.as_ref()?.as_str())
 }

@@ -25,10 +25,7 @@ pub fn number_of(matches: &ArgMatches<'_>, id: &str) -> Option<u32>
 pub fn is_set(matches: &ArgMatches<'_>, id: &str) -> bool
     ensures { result ≡ has_true (first_of id.now (rows_of (found_of matches.now))) }
 {
-    match text_of(matches, id) {
-        Some(text) => text == "true",
-        None => false,
-    }
+    text_of(matches, id).is_some_and(|text| text == "true")
 }
 
 /// A copy of this text that the caller owns, or None if there is no text. Fails only if memory is refused.

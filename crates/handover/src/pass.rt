@@ -47,10 +47,7 @@ impl Pass {
     pub fn room(&self) -> u32
         ensures { result ≡ puts_in self.now.room }
     {
-        match self.room {
-            Some(puts) => puts,
-            None => 0,
-        }
+        self.room.unwrap_or(0)
     }
 }
 

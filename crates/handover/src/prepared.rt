@@ -65,10 +65,7 @@ impl<'d> Prepared<'d> {
         ensures memory_alone { HasBody raw.now → IfErr result (λ e. e ≡ NoMemory) }
     {
         let body = Body::prepare(alloc, raw)?;
-        match Prepared::whole(alloc, page, raw, body) {
-            Ok(prepared) => Ok(prepared),
-            Err(_) => Err(DscError::NoMemory),
-        }
+        Prepared::whole(alloc, page, raw, body).map_err(|_| DscError::NoMemory)
     }
 
     /// Prepares page `page` of a document. Pages are counted from 0. Fails only if memory is refused.

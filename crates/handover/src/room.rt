@@ -13,20 +13,14 @@ pub(crate) fn may_put(room: Option<u32>, share: u64) -> bool
     ensures may { IsTrue result → room ≡ Some 0 → share ≡ whole_share }
     ensures none_left { result ≡ false → (room ≡ Some 0) × (share ≢ whole_share) }
 {
-    match room {
-        Some(puts) => puts > 0 || share == WHOLE_SHARE,
-        None => true,
-    }
+    room.is_none_or(|puts| puts > 0 || share == WHOLE_SHARE)
 }
 
 /// The room of a pass after a put: one less than before, but not below 0. `None` stays `None`.
 pub(crate) fn room_after_put(room: Option<u32>) -> Option<u32>
     ensures { (sheet : ℕ) → result ≡ room_after (Put sheet) room }
 {
-    match room {
-        Some(puts) => Some(puts.saturating_sub(1)),
-        None => None,
-    }
+    Some(room?.saturating_sub(1))
 }
 
 /// The room that a pass keeps if it gives away room for `give` puts. `None` stays `None`.
@@ -34,10 +28,7 @@ pub(crate) fn room_kept(give: u32, room: Option<u32>) -> Option<u32>
     requires { give ≤ puts_in room }
     ensures { result ≡ room_kept give room }
 {
-    match room {
-        Some(puts) => Some(puts - give),
-        None => None,
-    }
+    Some(room? - give)
 }
 
 /// The room of a pass that gets room for `give` puts from a pass with the room `room`. It is `None` if `room` is
@@ -45,10 +36,7 @@ pub(crate) fn room_kept(give: u32, room: Option<u32>) -> Option<u32>
 pub(crate) fn room_given(give: u32, room: Option<u32>) -> Option<u32>
     ensures { result ≡ room_given give room }
 {
-    match room {
-        Some(_) => Some(give),
-        None => None,
-    }
+    room.and(Some(give))
 }
 
 /// The room of the pass into which two passes are joined: the sum of their rooms. `None` counts as 0, but the sum of

@@ -25,20 +25,14 @@ pub struct Options {
 fn is_border_valid(border: Option<Grains>) -> bool
     ensures { result ≡ is_border border }
 {
-    match border {
-        Some(width) => width.get() > 0,
-        None => true,
-    }
+    border.is_none_or(|width| width.get() > 0)
 }
 
 /// Whether the number of sides of a signature is a multiple of 4 from 4 to 1,000,000, or there are no signatures.
 fn are_sides_valid(sides: Option<u32>) -> bool
     ensures { IsTrue result ↔ AreSidesIfGiven sides }
 {
-    match sides {
-        Some(sides) => are_sides(sides),
-        None => true,
-    }
+    sides.is_none_or(|sides| are_sides(sides))
 }
 
 /// Whether the numbers of threads, the border and the sides of a signature are in range.

@@ -93,8 +93,5 @@ fn as_index(place: Option<usize>) -> Option<u32>
     requires { ForSome place (λ i. i < 2 ^ 32) }
     ensures { result ≡ place }
 {
-    match place {
-        Some(i) => Some(i as u32),
-        None => None,
-    }
+    Some(place? as u32)
 }

@@ -66,14 +66,9 @@ fn one_item(alloc: Global, item: ParsedItem) -> Result<ParsedGroups, Stop>
     ensures alone { IfOk result (λ k. (k.items.items ≡ item ∷ []) × (k.lengths.items ≡ 1 ∷ [])) }
     ensures stop { IfErr result (λ e. e ≡ Stop.NoMemory) }
 {
-    let items = match Vec::from_slice(alloc, &[item]) {
-        Ok(items) => items,
-        Err(_) => return Err(Stop::NoMemory),
-    };
-    match Vec::from_slice(alloc, &[1]) {
-        Ok(lengths) => Ok(ParsedGroups { items, lengths }),
-        Err(_) => Err(Stop::NoMemory),
-    }
+    let items = Vec::from_slice(alloc, &[item]).map_err(|_| Stop::NoMemory)?;
+    let lengths = Vec::from_slice(alloc, &[1]).map_err(|_| Stop::NoMemory)?;
+    Ok(ParsedGroups { items, lengths })
 }
 
 /// Reads a text that is a single item without a page number. The page number is then 0. If the text isn't such an item, the error is the place where

@@ -40,9 +40,8 @@ pub fn read_spec(alloc: Global, text: &str) -> Result<Spec, SpecError>
         }
         Err(Stop::NoMemory) => return Err(SpecError::NoMemory),
     };
-    match first_fault(modulo, &parsed.items, &parsed.lengths) {
-        Some(fault) => return Err(fault),
-        None => (),
+    if let Some(fault) = first_fault(modulo, &parsed.items, &parsed.lengths) {
+        return Err(fault);
     }
     match settled_groups(alloc, &parsed.items, &parsed.lengths) {
         Ok(groups) => Ok(Spec::new(modulo, groups)),
@@ -64,9 +63,8 @@ fn read_written(alloc: Global, bytes: &[u8]) -> Result<(u32, ParsedGroups), Stop
 fn split_modulo(bytes: &[u8]) -> (u32, &[u8])
     ensures { ModuloRead bytes.now (past_modulo bytes.now) result.0 result.1.now }
 {
-    let (modulo, after) = match read_digits(bytes) {
-        Some(found) => found,
-        None => return (1, bytes),
+    let Some((modulo, after)) = read_digits(bytes) else {
+        return (1, bytes);
     };
     match read_byte(b':', after) {
         Some(rest) => (modulo, rest),

@@ -11,13 +11,9 @@ use lengths::{Paper, a4};
 pub fn default_paper(variable: &[u8], file: &[u8]) -> Paper
     ensures { result ≡ meaning.default_paper variable.now file.now }
 {
-    match paper_by_name(variable) {
-        Some(paper) => paper,
-        None => match paper_by_name(first_word(file)) {
-            Some(paper) => paper,
-            None => a4(),
-        },
-    }
+    paper_by_name(variable)
+        .or_else(|| paper_by_name(first_word(file)))
+        .unwrap_or(a4())
 }
 
 /// The first word outside comments in a text. A comment extends from `#` to the end of the line. Empty if there is no such word.

@@ -107,10 +107,7 @@ pub(crate) fn is_named(text: &[u8], known: &[u8]) -> bool
 fn has_no_letter(text: &[u8]) -> bool
     ensures { result ≡ is_empty (letters text.now) }
 {
-    match next_letter(text) {
-        Some(_) => false,
-        None => true,
-    }
+    next_letter(text).is_none()
 }
 
 /// The name without the `din`, `iso` or `us` that it begins with, compared as in `after_word`. A name that begins with none of them is returned
@@ -118,16 +115,10 @@ fn has_no_letter(text: &[u8]) -> bool
 fn after_maker(name: &[u8]) -> &[u8]
     ensures { letters result.now ≡ meaning.after_maker (letters name.now) }
 {
-    match after_word(name, b"din") {
-        Some(rest) => rest,
-        None => match after_word(name, b"iso") {
-            Some(rest) => rest,
-            None => match after_word(name, b"us") {
-                Some(rest) => rest,
-                None => name,
-            },
-        },
-    }
+    after_word(name, b"din")
+        .or_else(|| after_word(name, b"iso"))
+        .or_else(|| after_word(name, b"us"))
+        .unwrap_or(name)
 }
 
 /// The text after `word`, or None if the text doesn't begin with `word`, which has no capitals. Capitals, blanks, minuses and underscores in the text
@@ -177,10 +168,7 @@ fn is_between(byte: u8) -> bool
 pub(crate) fn upright_part(text: &[u8]) -> Option<&[u8]>
     ensures { option_map (λ front. front.now) result ≡ meaning.upright_part text.now }
 {
-    match before_ending(text, b"landscape") {
-        Some(front) => Some(front),
-        None => before_ending(text, b"quer"),
-    }
+    before_ending(text, b"landscape").or_else(|| before_ending(text, b"quer"))
 }
 
 /// The text before `ending`, or None if the text doesn't end with `ending`. `ending` has no capitals, and capitals in the text make no difference.

@@ -47,10 +47,7 @@ fn read_upright(text: &[u8]) -> Result<Paper, PaperError>
 fn on_its_side(paper: Result<Paper, PaperError>) -> Result<Paper, PaperError>
     ensures { result ≡ meaning.on_its_side paper }
 {
-    match paper {
-        Ok(paper) => Ok(paper.turned()),
-        Err(error) => Err(error),
-    }
+    Ok(paper?.turned())
 }
 
 /// The part of a text after its last underscore, or the whole text if it has none. An underscore at the end of the text doesn't count.

@@ -94,8 +94,5 @@ pub(crate) fn points_of(field: &[u8]) -> Option<Grains>
 pub(crate) fn is_zero(length: Option<Grains>) -> bool
     ensures { result ≡ meaning.is_zero length }
 {
-    match length {
-        Some(length) => length.get() == 0,
-        None => false,
-    }
+    length.is_some_and(|length| length.get() == 0)
 }

@@ -27,10 +27,7 @@ pub(crate) fn number_of_sheets(sheets: &MadeSheets) -> Result<u32, AllocError>
     ensures value { IfOk result (λ count. count ≡ length sheets.now) }
     ensures many { OnErr result (u32.MAX < length sheets.now) }
 {
-    match u32::try_from(sheets.len()) {
-        Ok(count) => Ok(count),
-        Err(_) => Err(AllocError),
-    }
+    u32::try_from(sheets.len()).map_err(|_| AllocError)
 }
 
 /// Appends the name of this sheet (counted from 0): the number of the sheet or, if sheets are printed on both sides, the number of its leaf and the

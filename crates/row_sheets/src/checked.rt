@@ -40,9 +40,8 @@ fn check_cell(
     ensures fits { OnOk result (EntryFits (filling setting.now papers.now) entry) }
     ensures refused { IfErr result (λ error. why_no_place (filling setting.now papers.now) entry ≡ Some error) }
 {
-    let page = match entry {
-        Some(page) => page,
-        None => return Ok(()),
+    let Some(page) = entry else {
+        return Ok(());
     };
     setting.item(&paper_or(papers, page, &setting.room.paper), 0)?;
     Ok(())
@@ -80,9 +79,8 @@ fn check_half(
     ensures fits { OnOk result (why_no_half (filling setting.now papers.now) by entry ≡ None) }
     ensures refused { IfErr result (λ error. why_no_half (filling setting.now papers.now) by entry ≡ Some error) }
 {
-    let page = match entry {
-        Some(page) => page,
-        None => return Ok(()),
+    let Some(page) = entry else {
+        return Ok(());
     };
     creeping_item(
         setting,

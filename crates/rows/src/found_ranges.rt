@@ -63,9 +63,8 @@ pub(crate) fn read_range(pages: u32, text: &[u8]) -> Option<ResolvedRange>
         return Some(ResolvedRange::Blank);
     }
     let (first, rest) = split_at_byte(b'-', text);
-    let rest = match rest {
-        Some(rest) => rest,
-        None => return one_page(read_place(pages, first)),
+    let Some(rest) = rest else {
+        return one_page(read_place(pages, first));
     };
     let (second, more) = split_at_byte(b'-', rest);
     match more {
@@ -85,21 +84,13 @@ fn means_blank(text: &[u8]) -> bool
 fn one_page(page: Option<u32>) -> Option<ResolvedRange>
     ensures { result ≡ option_map (λ n. range_found n n) page }
 {
-    match page {
-        Some(page) => Some(ResolvedRange::FromTo(page, page)),
-        None => None,
-    }
+    let page = page?;
+    Some(ResolvedRange::FromTo(page, page))
 }
 
 /// The range from the page with the number `first` to the page with the number `last`. None if either number is None.
 fn from_to(first: Option<u32>, last: Option<u32>) -> Option<ResolvedRange>
     ensures { result ≡ option_and_then (λ n. option_map (range_found n) last) first }
 {
-    match first {
-        Some(first) => match last {
-            Some(last) => Some(ResolvedRange::FromTo(first, last)),
-            None => None,
-        },
-        None => None,
-    }
+    Some(ResolvedRange::FromTo(first?, last?))
 }

@@ -19,10 +19,7 @@ pub fn read_row(alloc: Global, pages: u32, text: &[u8]) -> Result<Vec<Option<u32
     ensures refused { IfErr result (RefusesRow (row_of_text pages text.now)) }
 {
     let entries = entry_count(pages, text)?;
-    match text_row(alloc, pages, text, entries) {
-        Ok(row) => Ok(row),
-        Err(_) => Err(RowError::NoMemory),
-    }
+    text_row(alloc, pages, text, entries).map_err(|_| RowError::NoMemory)
 }
 
 /// The entries of all ranges of a text, in memory that has no room for more. `entries` is the number of these entries.

@@ -36,10 +36,7 @@ pub(crate) fn read_last_place(pages: u32, text: &[u8]) -> Option<u32>
 fn from_start(pages: u32, digits: &[u8]) -> Option<u32>
     ensures { result ≡ option_map (number_found pages) (by_digits FromStart digits.now) }
 {
-    match number_of_digits(digits) {
-        Some(number) => Some(start_number(pages, number)),
-        None => None,
-    }
+    Some(start_number(pages, number_of_digits(digits)?))
 }
 
 /// The number, counted from the start, of the page that digits name, counting from the end of the document. It is 0 if the document doesn't have the
@@ -47,10 +44,7 @@ fn from_start(pages: u32, digits: &[u8]) -> Option<u32>
 fn from_end(pages: u32, digits: &[u8]) -> Option<u32>
     ensures { result ≡ option_map (number_found pages) (by_digits FromEnd digits.now) }
 {
-    match number_of_digits(digits) {
-        Some(number) => Some(end_number(pages, number)),
-        None => None,
-    }
+    Some(end_number(pages, number_of_digits(digits)?))
 }
 
 /// `number` if the document has a page with this number, and 0 otherwise.

@@ -109,8 +109,5 @@ pub fn imposed_row(
     ensures refused { IfErr result (RefusesRow (imposed_row pages (choice_of choice.now) (option_map signing_of signing))) }
 {
     let row = chosen_row(alloc, pages, choice)?;
-    match signed_row(alloc, row, signing) {
-        Ok(row) => Ok(row),
-        Err(_) => Err(RowError::NoMemory),
-    }
+    signed_row(alloc, row, signing).map_err(|_| RowError::NoMemory)
 }

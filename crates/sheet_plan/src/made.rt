@@ -249,10 +249,7 @@ fn count_in_u32(count: usize) -> Result<u32, AllocError>
     ensures value { IfOk result (λ n. n ≡ count) }
     ensures many { OnErr result (u32.MAX < count) }
 {
-    match u32::try_from(count) {
-        Ok(count) => Ok(count),
-        Err(_) => Err(AllocError),
-    }
+    u32::try_from(count).map_err(|_| AllocError)
 }
 
 /// Adds slots, and those of their placings that `find_placing` doesn't find. If this fails, some of the slots and placings may have been added.

@@ -41,10 +41,10 @@ settled_groups-requires c = lengths_right _ _ _ _ (all_read _ _ _ _ _ _ c.as_byt
 
 pub new-requires : goal.new-requires
 new-requires c =
-    admissible _ _ _ _ _ (all_read _ _ _ _ _ _ c.as_bytes-bytes.ensures.value c.in-Ok.ensures c.deref.ensures.value c.deref-2.ensures.value) c.if-text-gt-MOST_BYTES.false c.in-None.ensures
+    admissible _ _ _ _ _ (all_read _ _ _ _ _ _ c.as_bytes-bytes.ensures.value c.in-Ok.ensures c.deref.ensures.value c.deref-2.ensures.value) c.if-text-gt-MOST_BYTES.false c.in_default.ensures
     (c.in-Ok-settled_groups.ensures ∙ split_same _ _ _ _ _ _ c.deref-3.ensures.value c.deref.ensures.value c.deref-4.ensures.value c.deref-2.ensures.value)
 
 pub returns-in-Ok-settled_groups-clause-taken : goal.returns-in-Ok-settled_groups-clause-taken
 returns-in-Ok-settled_groups-clause-taken c =
-    taken _ _ _ _ _ c.new.result (all_read _ _ _ _ _ _ c.as_bytes-bytes.ensures.value c.in-Ok.ensures c.deref.ensures.value c.deref-2.ensures.value) c.if-text-gt-MOST_BYTES.false c.in-None.ensures
+    taken _ _ _ _ _ c.new.result (all_read _ _ _ _ _ _ c.as_bytes-bytes.ensures.value c.in-Ok.ensures c.deref.ensures.value c.deref-2.ensures.value) c.if-text-gt-MOST_BYTES.false c.in_default.ensures
     (c.in-Ok-settled_groups.ensures ∙ split_same _ _ _ _ _ _ c.deref-3.ensures.value c.deref.ensures.value c.deref-4.ensures.value c.deref-2.ensures.value) c.new.ensures

@@ -9,10 +9,10 @@ returns-in-Some-more c =
     (c.split_at_byte.ensures.parts ∙ ap (λ o. c.split_at_byte.result.0.now ∷ parts_left 45 o) c.in-Some.is)
     (c.split_at_byte-2.ensures.parts ∙ ap (λ o. c.split_at_byte-2.result.0.now ∷ parts_left 45 o) c.in-Some-more.is)
 
-pub returns-in-None-more : goal.returns-in-None-more
-returns-in-None-more c =
+pub returns-in-None : goal.returns-in-None
+returns-in-None c =
     c.from_to.ensures
     ∙ two_places c.args.pages c.args.text.now c.split_at_byte.result.0.now c.in-Some.rest.now c.split_at_byte-2.result.0.now _ _ (sym c.means_blank.ensures ∙ c.if-means_blank.false)
     (c.split_at_byte.ensures.parts ∙ ap (λ o. c.split_at_byte.result.0.now ∷ parts_left 45 o) c.in-Some.is)
-    (c.split_at_byte-2.ensures.parts ∙ ap (λ o. c.split_at_byte-2.result.0.now ∷ parts_left 45 o) c.in-None-more.is)
-    c.read_place-in-None-more.ensures c.read_last_place.ensures
+    (c.split_at_byte-2.ensures.parts ∙ ap (λ o. c.split_at_byte-2.result.0.now ∷ parts_left 45 o) c.in-None.is)
+    c.read_place-in-None.ensures c.read_last_place.ensures
