@@ -26,7 +26,7 @@ pub fn dress_of(
     let papers = told.as_slice();
     Ok(SheetExtras {
         header: header_lines(alloc, papers)?,
-        tells_papers: papers.len() > 1,
+        reports_papers: papers.len() > 1,
         finish: mark_lines(alloc, strokes)?,
         numbers,
     })

@@ -11,7 +11,7 @@ use std::env;
 use std::env::Env;
 use std::io::ErrorKind;
 use std::process::ExitCode;
-use world::{Host, World, tell};
+use world::{Host, World, report_line};
 
 fn main(rt: HostRuntime) -> ExitCode {
     // Memory for the report is reserved before the run.
@@ -42,7 +42,7 @@ fn main(rt: HostRuntime) -> ExitCode {
         return end_with(&rt, fault);
     }
     let (text, status) = said(rt.alloc(), report, ended, words.as_slice());
-    ExitCode::from(tell(&mut rt.stderr(), text.as_slice(), status))
+    ExitCode::from(report_line(&mut rt.stderr(), text.as_slice(), status))
 }
 
 /// The text that reports how the program ended, and its exit status. `ended` is taken by value, so that the output is closed before the text is
@@ -81,5 +81,5 @@ fn paper_size(rt: &(impl Env + AllocGlobal)) -> String {
 fn end_with(rt: &HostRuntime, fault: ImposeFault) -> ExitCode {
     let status = fault_status(&fault);
     let text = text_of_fault(rt.alloc(), &fault, None, &[]);
-    ExitCode::from(tell(&mut rt.stderr(), text.as_str().as_bytes(), status))
+    ExitCode::from(report_line(&mut rt.stderr(), text.as_str().as_bytes(), status))
 }

@@ -12,7 +12,7 @@ use Rattle.std.below.std_io.specs.declared.io.error.Error.{Error}
 use Rattle.impose_messages.specs.Faults.{without_memory}
 use Rattle.world.specs.Worlds.{HasRefused, WorldView, creating}
 use Rattle.world.specs.Lates.{named_view}
-use Rattle.world.specs.Outputs.{OutputView, fresh_output, named, told_if}
+use Rattle.world.specs.Outputs.{OutputView, fresh_output, named, reported_if}
 use Rattle.world.proofs.Naming.{named_front, unnamed_kept}
 use Rattle.sheet_writer.specs.Sinks.{SinkView}
 use Rattle.sheet_text.specs.Jobs.{JobView, output_of}
@@ -47,28 +47,28 @@ use Rattle.impose_messages.specs.declared.finished.Done.TheVariants as done
 -- ---- what comes of it
 
 -- it is refused
-pub comes_refused : {T V O : Type 0} (R : ImposeFault → Type 0) (W : (old new : Option (List ℕ)) → T → Type 0) (name : Option (List ℕ)) (tells : Edge V O) (f : ImposeFault) (outcome : Result T ImposeFault) (world : V) (rest : Rest V O) (written : Option (List ℕ))
-    → outcome ≡ Err f → rest ≡ World world → R f → Comes R W name tells outcome world rest written
-comes_refused R W name tells f outcome world rest written is none why =
-    subst (λ o. Comes R W name tells o world rest written) (sym is) (inl (why, none))
+pub comes_refused : {T V O : Type 0} (R : ImposeFault → Type 0) (W : (old new : Option (List ℕ)) → T → Type 0) (name : Option (List ℕ)) (reports_outputs : Edge V O) (f : ImposeFault) (outcome : Result T ImposeFault) (world : V) (rest : Rest V O) (written : Option (List ℕ))
+    → outcome ≡ Err f → rest ≡ World world → R f → Comes R W name reports_outputs outcome world rest written
+comes_refused R W name reports_outputs f outcome world rest written is none why =
+    subst (λ o. Comes R W name reports_outputs o world rest written) (sym is) (inl (why, none))
 
 -- the same of other words for it
-pub comes_as : {T V O : Type 0} (R R' : ImposeFault → Type 0) (W W' : (old new : Option (List ℕ)) → T → Type 0) (name : Option (List ℕ)) (tells : Edge V O) (outcome : Result T ImposeFault) (world : V) (rest : Rest V O) (written : Option (List ℕ))
+pub comes_as : {T V O : Type 0} (R R' : ImposeFault → Type 0) (W W' : (old new : Option (List ℕ)) → T → Type 0) (name : Option (List ℕ)) (reports_outputs : Edge V O) (outcome : Result T ImposeFault) (world : V) (rest : Rest V O) (written : Option (List ℕ))
     → ((f : ImposeFault) → R f → R' f) → ((old new : Option (List ℕ)) (x : T) → W old new x → W' old new x)
-    → Comes R W name tells outcome world rest written → Comes R' W' name tells outcome world rest written
-comes_as R R' W W' name tells (Ok x) world rest written refused wrote h = (wrote _ _ x h.0, h.1)
-comes_as R R' W W' name tells (Err f) world rest written refused wrote h = elim h [
+    → Comes R W name reports_outputs outcome world rest written → Comes R' W' name reports_outputs outcome world rest written
+comes_as R R' W W' name reports_outputs (Ok x) world rest written refused wrote h = (wrote _ _ x h.0, h.1)
+comes_as R R' W W' name reports_outputs (Err f) world rest written refused wrote h = elim h [
   | inl stopped ↦ inl (refused f stopped.0, stopped.1)
   | inr some ↦ inr (some.0, some.1, wrote _ _ some.1 some.2, some.3)
 ]
 
 -- and of what is reported
-pub comes_reported : {V O : Type 0} (R R' : ImposeFault → Type 0) (W : (old new : Option (List ℕ)) → Report → Type 0) (W' : (old new : Option (List ℕ)) → Done → Type 0) (findings : Findings) (scales : Option Scales) (name : Option (List ℕ)) (tells : Edge V O)
+pub comes_reported : {V O : Type 0} (R R' : ImposeFault → Type 0) (W : (old new : Option (List ℕ)) → Report → Type 0) (W' : (old new : Option (List ℕ)) → Done → Type 0) (findings : Findings) (scales : Option Scales) (name : Option (List ℕ)) (reports_outputs : Edge V O)
     (outcome : Result Report ImposeFault) (world : V) (rest : Rest V O) (written : Option (List ℕ))
     → ((f : ImposeFault) → R f → R' f) → ((old new : Option (List ℕ)) (report : Report) → W old new report → W' old new (done.Imposed (record { report = report; scales = scales; findings = findings })))
-    → Comes R W name tells outcome world rest written → Comes R' W' name tells (reported_by findings scales outcome) world rest written
-comes_reported R R' W W' findings scales name tells (Ok report) world rest written refused wrote h = (wrote _ _ report h.0, h.1)
-comes_reported R R' W W' findings scales name tells (Err f) world rest written refused wrote h = elim h [
+    → Comes R W name reports_outputs outcome world rest written → Comes R' W' name reports_outputs (reported_by findings scales outcome) world rest written
+comes_reported R R' W W' findings scales name reports_outputs (Ok report) world rest written refused wrote h = (wrote _ _ report h.0, h.1)
+comes_reported R R' W W' findings scales name reports_outputs (Err f) world rest written refused wrote h = elim h [
   | inl stopped ↦ inl (refused f stopped.0, stopped.1)
   | inr some ↦ inr (some.0, done.Imposed (record { report = some.1; scales = scales; findings = findings }), wrote _ _ some.1 some.2, some.3)
 ]
@@ -89,13 +89,13 @@ report_told j plan n border drawn all us report of planned laid count out told =
 
 -- what comes of their job comes of them
 pub made_comes : {V O : Type 0} (R : ImposeFault → Type 0) (W : (old new : Option (List ℕ)) → Report → Type 0) (j : JobView) (plan : Plan) (n : ℕ) (border : Option Border) (dress : Dress) (drawn : Drawn) (all : List MadeSheet) (us : List NestedUnit)
-    (name : Option (List ℕ)) (tells : Edge V O) (outcome : Result Report ImposeFault) (world : V) (rest : Rest V O) (written : Option (List ℕ))
+    (name : Option (List ℕ)) (reports_outputs : Edge V O) (outcome : Result Report ImposeFault) (world : V) (rest : Rest V O) (written : Option (List ℕ))
     → j.plan ≡ plan → plan ≡ made_plan n all → layout plan ≡ made_layout n all → n ≡ length (pages us) → output_of j ≡ made_output border dress all us → dress ≡ drawn_on drawn (telling all)
     → ((old new : Option (List ℕ)) (report : Report) → Appends old new (told_output border drawn all us) → ReportsOn border drawn all us report → W old new report)
-    → Comes (λ f. ⊥) (WritesJob j) name tells outcome world rest written → Comes R W name tells outcome world rest written
-made_comes R W j plan n border dress drawn all us name tells outcome world rest written of planned laid count output dressed wrote h =
+    → Comes (λ f. ⊥) (WritesJob j) name reports_outputs outcome world rest written → Comes R W name reports_outputs outcome world rest written
+made_comes R W j plan n border dress drawn all us name reports_outputs outcome world rest written of planned laid count output dressed wrote h =
     let out : output_of j ≡ told_output border drawn all us = output ∙ ap (λ (d : Dress). made_output border d all us) dressed in
-    comes_as (λ f. ⊥) R (WritesJob j) W name tells outcome world rest written (λ f none. absurd none)
+    comes_as (λ f. ⊥) R (WritesJob j) W name reports_outputs outcome world rest written (λ f none. absurd none)
     (λ old new report done. wrote old new report (subst (Appends old new) out done.0) (report_told j plan n border drawn all us report of planned laid count out done.1)) h
 
 -- ---- the sheets of a job
@@ -113,8 +113,8 @@ report_of j = record {
 whole : (j : JobView) → WritesJob j (Some []) (Some (output_of j)) (report_of j)
 whole j = (refl, record { page_count = refl; sheet_count = refl; born_blank = refl; swept_within = omega arith; byte_count = refl })
 
-abbrev Left : {V O : Type 0} → JobView → (name : Option (List ℕ)) → (tells : Edge V O) → Result Report ImposeFault → (world : V) → (rest : Rest V O) → (written : Option (List ℕ)) → Type 0
-Left j name tells outcome world rest written = Comes (λ f. ⊥) (WritesJob j) name tells outcome world rest written
+abbrev Left : {V O : Type 0} → JobView → (name : Option (List ℕ)) → (reports_outputs : Edge V O) → Result Report ImposeFault → (world : V) → (rest : Rest V O) → (written : Option (List ℕ)) → Type 0
+Left j name reports_outputs outcome world rest written = Comes (λ f. ⊥) (WritesJob j) name reports_outputs outcome world rest written
 
 -- an output wasn't created, and the fault is that of its error's kind
 pub is_not_created : {V O : Type 0} (e : Edge V O) (name : Option (List ℕ)) (before : WorldView) (left : V) (cause : Error) (outcome : Result Report ImposeFault) (rest : Rest V O)
@@ -195,27 +195,27 @@ job_unasked j name e outcome world rest written is back =
 
 -- they were written
 pub job_held : {V O : Type 0} (j : JobView) (name : Option (List ℕ)) (e : Edge V O) (before : WorldView) (report : Report) (sink : SinkView) (outcome : Result Report ImposeFault) (world : V) (rest : Rest V O) (start all : Option (List ℕ))
-    → e.seen world ≡ before → start ≡ told_if e.tells name [] → Appends start all (output_of j) × ReportsOf j report → Keeps all sink.bytes → sink.failures ≡ 0
+    → e.seen world ≡ before → start ≡ reported_if e.reports_outputs name [] → Appends start all (output_of j) × ReportsOf j report → Keeps all sink.bytes → sink.failures ≡ 0
     → MatchResult outcome (λ r. (r ≡ report) × Holds e sink rest) (λ f. IsNotCreated e name before f rest) → Left j name e outcome world rest (shown e.shows rest)
 job_held j name e before report sink (Ok r) world rest start all same began wrote kept steady h =
     let held = h.1 in
     let output = held.0 in
     let out = (e.shows output).bytes in
-    let appended : Appends (told_if e.tells name []) out (output_of j)
+    let appended : Appends (reported_if e.reports_outputs name []) out (output_of j)
     = subst (λ s. Appends s out (output_of j)) began (Appends-kept start sink.bytes out (output_of j) (Appends-kept start all sink.bytes (output_of j) wrote.0 kept) held.2) in
     subst (λ x. Left j name e (Ok r) world x (shown e.shows x)) (sym held.1)
     ((appended, subst (ReportsOf j) (sym h.0) wrote.1), (output, refl, held.3 ∙ steady))
 job_held j name e before report sink (Err f) world rest start all same began wrote kept steady h =
     inr (output_of j, report_of j, whole j, inl (subst (λ b. IsNotCreated e name b f rest) (sym same) h))
 
-first_of : (name : Option (List ℕ)) (tells : Bool) (taken : ℕ) (text waiting : List ℕ) (told out : Option (List ℕ)) → taken ≤ length text
-    → Appends (told_if tells name []) told (take taken text) → told ≡ append_known (named out) waiting → HasFirst (told_if tells name []) out text (taken - length waiting)
+first_of : (name : Option (List ℕ)) (reports_outputs : Bool) (taken : ℕ) (text waiting : List ℕ) (told out : Option (List ℕ)) → taken ≤ length text
+    → Appends (reported_if reports_outputs name []) told (take taken text) → told ≡ append_known (named out) waiting → HasFirst (reported_if reports_outputs name []) out text (taken - length waiting)
 first_of name false taken text waiting told out within wrote holds = tt
 first_of name true taken text waiting told out within wrote holds = named_front name taken text waiting told out within wrote holds
 
 -- a part of them was
 pub job_broke : {V O : Type 0} (j : JobView) (name : Option (List ℕ)) (e : Edge V O) (before : WorldView) (taken : ℕ) (outcome : Result Report ImposeFault) (world : V) (rest : Rest V O) (written start all told : Option (List ℕ))
-    → e.seen world ≡ before → start ≡ told_if e.tells name [] → taken ≤ length (output_of j) → Appends start all (take taken (output_of j)) → Keeps all told
+    → e.seen world ≡ before → start ≡ reported_if e.reports_outputs name [] → taken ≤ length (output_of j) → Appends start all (take taken (output_of j)) → Keeps all told
     → MatchResult outcome (λ report. ⊥) (λ f. BreaksOff e name before taken told f rest) → Left j name e outcome world rest written
 job_broke j name e before taken (Ok report) world rest written start all told same began within wrote kept h = absurd h
 job_broke j name e before taken (Err f) world rest written start all told same began within wrote kept (inl none) =
@@ -223,7 +223,7 @@ job_broke j name e before taken (Err f) world rest written start all told same b
 job_broke j name e before taken (Err f) world rest written start all told same began within wrote kept (inr broke) =
     let text = output_of j in
     let appended = subst (λ s. Appends s told (take taken text)) began (Appends-kept start all told (take taken text) wrote kept) in
-    inr (text, report_of j, whole j, inr (broke.0, broke.1, taken - length broke.2, broke.3, first_of name e.tells taken text broke.2 told (e.shows broke.0).bytes within appended broke.4))
+    inr (text, report_of j, whole j, inr (broke.0, broke.1, taken - length broke.2, broke.3, first_of name e.reports_outputs taken text broke.2 told (e.shows broke.0).bytes within appended broke.4))
 
 -- as many as the sink had taken, before an error
 pub taken_of : (j : JobView) (error : RunError) (n : ℕ) (start all : Option (List ℕ)) → AfterError error ⊥ (λ k. n ≡ k) (λ k. n ≡ k)

@@ -85,21 +85,21 @@ by_spec (layout.Spec specs) text r input f is h = h
 by_spec other text r input f is h = absurd is
 
 -- there is no task
-pub spec_stops : {V O : Type 0} (r : ImposeRequest) (input : List ℕ) (tells : Edge V O) (f : ImposeFault) (outcome : Result Done ImposeFault) (world : V) (rest : Rest V O) (written : Option (List ℕ)) → ((text : List ℕ) × IsSpecLayout r.layout text) → outcome ≡ Err f → rest ≡ World world
-    → RefusesTask r input f → RunsRequest r input tells outcome world rest written
-spec_stops r input tells f outcome world rest written named is none why =
-    comes_refused (RefusesImposing r.layout r input) (IsImposed r input) _ tells f outcome world rest written is none (by_spec r.layout named.0 r input f named.1 (inl why))
+pub spec_stops : {V O : Type 0} (r : ImposeRequest) (input : List ℕ) (reports_outputs : Edge V O) (f : ImposeFault) (outcome : Result Done ImposeFault) (world : V) (rest : Rest V O) (written : Option (List ℕ)) → ((text : List ℕ) × IsSpecLayout r.layout text) → outcome ≡ Err f → rest ≡ World world
+    → RefusesTask r input f → RunsRequest r input reports_outputs outcome world rest written
+spec_stops r input reports_outputs f outcome world rest written named is none why =
+    comes_refused (RefusesImposing r.layout r input) (IsImposed r input) _ reports_outputs f outcome world rest written is none (by_spec r.layout named.0 r input f named.1 (inl why))
 
 -- what comes of its run comes of the request
-pub spec_runs : {V O : Type 0} (r : ImposeRequest) (input : List ℕ) (t : Task) (tells : Edge V O) (outcome : Result Done ImposeFault) (left : Result Report ImposeFault) (world : V) (rest : Rest V O) (name written : Option (List ℕ))
+pub spec_runs : {V O : Type 0} (r : ImposeRequest) (input : List ℕ) (t : Task) (reports_outputs : Edge V O) (outcome : Result Done ImposeFault) (left : Result Report ImposeFault) (world : V) (rest : Rest V O) (name written : Option (List ℕ))
     → ((text : List ℕ) × IsSpecLayout r.layout text) → IsTask r input t → outcome ≡ reported_by t.findings None left → name ≡ option_map string_bytes r.outfile
-    → Comes (RefusesTaskRun t) (WritesTask t) name tells left world rest written → RunsRequest r input tells outcome world rest written
-spec_runs r input t tells outcome left world rest name written text is reports named h =
-    subst (λ o. RunsRequest r input tells o world rest written) (sym reports)
-    (comes_reported (RefusesTaskRun t) (RefusesImposing r.layout r input) (WritesTask t) (IsImposed r input) t.findings None (option_map string_bytes r.outfile) tells left world rest written
+    → Comes (RefusesTaskRun t) (WritesTask t) name reports_outputs left world rest written → RunsRequest r input reports_outputs outcome world rest written
+spec_runs r input t reports_outputs outcome left world rest name written text is reports named h =
+    subst (λ o. RunsRequest r input reports_outputs o world rest written) (sym reports)
+    (comes_reported (RefusesTaskRun t) (RefusesImposing r.layout r input) (WritesTask t) (IsImposed r input) t.findings None (option_map string_bytes r.outfile) reports_outputs left world rest written
     (λ f why. by_spec r.layout text.0 r input f text.1 (inr (record { task = t; is_task = is; refused = why })))
     (λ old new report done. inl (finishes r input t old new report text is done))
-    (subst (λ n. Comes (RefusesTaskRun t) (WritesTask t) n tells left world rest written) named h))
+    (subst (λ n. Comes (RefusesTaskRun t) (WritesTask t) n reports_outputs left world rest written) named h))
 
 -- a task of a request that names a specification has no signatures, and so many workers
 pub sides_of : (r : ImposeRequest) (input : List ℕ) (t : Task) → ((text : List ℕ) × IsSpecLayout r.layout text) → IsTask r input t → t.options.sides ≡ None
@@ -116,12 +116,12 @@ plan_refused t spec us n e f error is named sides options takes document count w
     (of_plan e, is ∙ ap fault.Run named, said.0, said.1)
 
 -- what comes of its sheets comes of the task
-pub job_comes : {V O : Type 0} (t : Task) (spec : Spec) (us : List NestedUnit) (plan : Plan) (n : ℕ) (job : JobView) (name : Option (List ℕ)) (tells : Edge V O) (outcome : Result Report ImposeFault) (world : V) (rest : Rest V O) (written : Option (List ℕ))
+pub job_comes : {V O : Type 0} (t : Task) (spec : Spec) (us : List NestedUnit) (plan : Plan) (n : ℕ) (job : JobView) (name : Option (List ℕ)) (reports_outputs : Edge V O) (outcome : Result Report ImposeFault) (world : V) (rest : Rest V O) (written : Option (List ℕ))
     → t.options.sides ≡ None → AreOptions t.options → Takes most_slots (string_bytes t.spec) spec → document_of t.text.items ≡ Ok us → n ≡ length (pages us)
     → plan ≡ planned spec n → plan_in None spec n ≡ Ok (sheets_in None spec n) → job ≡ of_frame plan us (frame_of t.options)
-    → Comes (λ f. ⊥) (WritesJob job) name tells outcome world rest written → Comes (RefusesTaskRun t) (WritesTask t) name tells outcome world rest written
-job_comes t spec us plan n job name tells outcome world rest written sides options takes document count is_plan accepted is_job h =
-    comes_as (λ f. ⊥) (RefusesTaskRun t) (WritesJob job) (WritesTask t) name tells outcome world rest written
+    → Comes (λ f. ⊥) (WritesJob job) name reports_outputs outcome world rest written → Comes (RefusesTaskRun t) (WritesTask t) name reports_outputs outcome world rest written
+job_comes t spec us plan n job name reports_outputs outcome world rest written sides options takes document count is_plan accepted is_job h =
+    comes_as (λ f. ⊥) (RefusesTaskRun t) (WritesJob job) (WritesTask t) name reports_outputs outcome world rest written
     (λ f none. absurd none)
     (λ old new report done. (job_answers (run_asked t) t.options (record { spec = spec; document = us }) plan n job (fresh_sink old) (fresh_sink new) (Ok report)
     (record { same_options = refl; options = options; takes = takes; document = document }) count

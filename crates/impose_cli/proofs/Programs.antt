@@ -3,7 +3,7 @@ use Rattle.std.proofs.Common.{◌≡◌, ◌∙◌, ap, arith, ℕ, ◌+◌, ◌
 use Rattle.clap.specs.Words.{Row, Text}
 use Rattle.std.specs.Prelude.{⊤, ◌⊎◌, option_map, string_bytes}
 use Rattle.std.specs.Io.KnownBytes.{Appends}
-use Rattle.world.specs.Outputs.{OutputView, fresh_output, told_if}
+use Rattle.world.specs.Outputs.{OutputView, fresh_output, reported_if}
 use Rattle.impose_cli.specs.Endings.{AfterWrite, Edge, IsSaidOf, IsUncreatedFault, RunsRequest, has_output, shown}
 use Rattle.imposer.specs.declared.outcome.RunError.TheVariants as run
 use Rattle.world.specs.Worlds.{WorldView}
@@ -32,19 +32,19 @@ use Rattle.impose_words.specs.declared.request.ImposeRequest.{ImposeRequest}
 use Rattle.impose_cli.specs.declared.task.Task.{Task}
 
 -- nothing was created: the request is refused unread, or the input can't be read
-pub stopped_before : {V O : Type 0} (seen : V → WorldView) (r : ImposeRequest) (gives : Inputs) (same : SameFiles) (terminal : Option Bool) (foreign : Bool) (tells : Edge V O) (f : ImposeFault) (outcome : Result Done ImposeFault)
+pub stopped_before : {V O : Type 0} (seen : V → WorldView) (r : ImposeRequest) (gives : Inputs) (same : SameFiles) (terminal : Option Bool) (foreign : Bool) (reports_outputs : Edge V O) (f : ImposeFault) (outcome : Result Done ImposeFault)
     (world left : V) (rest : Rest V O) (written : Option (List ℕ)) → outcome ≡ Err f → rest ≡ World left
     → (RefusesUnopened same terminal foreign r f × (left ≡ world)) ⊎ (MayReadInput same terminal foreign r × IsReading (option_map string_bytes r.infile) (seen world) (seen left) f)
-    → CarriesOut seen r gives same terminal foreign tells outcome world rest written
-stopped_before seen r gives same terminal foreign tells f outcome world left rest written told none why = inl (f, left, told, none, why)
+    → CarriesOut seen r gives same terminal foreign reports_outputs outcome world rest written
+stopped_before seen r gives same terminal foreign reports_outputs f outcome world left rest written told none why = inl (f, left, told, none, why)
 
 -- the input was read, and what is asked for was made of it
-pub took : {V O : Type 0} (seen : V → WorldView) (r : ImposeRequest) (gives : Inputs) (files : SameFiles) (terminal : Option Bool) (foreign : Bool) (tells told : Edge V O) (input : List ℕ) (name : Option (List ℕ))
+pub took : {V O : Type 0} (seen : V → WorldView) (r : ImposeRequest) (gives : Inputs) (files : SameFiles) (terminal : Option Bool) (foreign : Bool) (reports_outputs told : Edge V O) (input : List ℕ) (name : Option (List ℕ))
     (outcome : Result Done ImposeFault) (world read : V) (rest : Rest V O) (written : Option (List ℕ))
     → name ≡ option_map string_bytes r.infile → IsReadOf (gives name) input → HasGiven name (seen world) (seen read)
-    → MayReadInput files terminal foreign r → told ≡ tells → MakesProduct r.product r input told outcome read rest written
-    → CarriesOut seen r gives files terminal foreign tells outcome world rest written
-took seen r gives files terminal foreign tells told input name outcome world read rest written named first given possible same taken =
+    → MayReadInput files terminal foreign r → told ≡ reports_outputs → MakesProduct r.product r input told outcome read rest written
+    → CarriesOut seen r gives files terminal foreign reports_outputs outcome world rest written
+took seen r gives files terminal foreign reports_outputs told input name outcome world read rest written named first given possible same taken =
     inr (
       input,
       read,
@@ -55,10 +55,10 @@ took seen r gives files terminal foreign tells told input name outcome world rea
     )
 
 -- the request was carried out in the world that was asked for the paper at home and for OUTFILE, which is as it was else
-pub at_home : {V O : Type 0} (seen : V → WorldView) (r : ImposeRequest) (gives given : Inputs) (files known : SameFiles) (terminal found : Option Bool) (foreign : Bool) (tells told : Edge V O) (outcome : Result Done ImposeFault)
-    (world : V) (rest : Rest V O) (written : Option (List ℕ)) → given ≡ gives → known ≡ files → found ≡ terminal → told ≡ tells
-    → CarriesOut seen r given known found foreign told outcome world rest written → CarriesOut seen r gives files terminal foreign tells outcome world rest written
-at_home seen r gives given files known terminal found foreign tells told outcome world rest written same_gives same_files same_terminal same_tells h =
+pub at_home : {V O : Type 0} (seen : V → WorldView) (r : ImposeRequest) (gives given : Inputs) (files known : SameFiles) (terminal found : Option Bool) (foreign : Bool) (reports_outputs told : Edge V O) (outcome : Result Done ImposeFault)
+    (world : V) (rest : Rest V O) (written : Option (List ℕ)) → given ≡ gives → known ≡ files → found ≡ terminal → told ≡ reports_outputs
+    → CarriesOut seen r given known found foreign told outcome world rest written → CarriesOut seen r gives files terminal foreign reports_outputs outcome world rest written
+at_home seen r gives given files known terminal found foreign reports_outputs told outcome world rest written same_gives same_files same_terminal same_tells h =
     subst (λ t. CarriesOut seen r gives files terminal foreign t outcome world rest written) same_tells
     (subst (λ o. CarriesOut seen r gives files o foreign told outcome world rest written) same_terminal
     (subst (λ k. CarriesOut seen r gives k found foreign told outcome world rest written) same_files
@@ -72,7 +72,7 @@ found_at_home r gives given regular same known old new foreign same_gives same_f
 
 -- a text was written
 pub wrote_text : {V O : Type 0} (name : Option (List ℕ)) (text : List ℕ) (what : Done) (e : Edge V O) (world : V) (output : O) (rest : Rest V O) (start : OutputView)
-    → start ≡ fresh_output (told_if e.tells name []) → Appends start.bytes (e.shows output).bytes text → (e.shows output).failures ≡ start.failures
+    → start ≡ fresh_output (reported_if e.reports_outputs name []) → Appends start.bytes (e.shows output).bytes text → (e.shows output).failures ≡ start.failures
     → rest ≡ Output output → Writes name text what e (Ok what) world rest (shown e.shows rest)
 wrote_text name text what e world output rest start began wrote steady is =
     subst (λ x. Writes name text what e (Ok what) world x (shown e.shows x)) (sym is)
@@ -80,7 +80,7 @@ wrote_text name text what e world output rest start began wrote steady is =
 
 -- a first part of it was
 pub wrote_part : {V O : Type 0} (name : Option (List ℕ)) (text : List ℕ) (what : Done) (e : Edge V O) (world : V) (output : O) (rest : Rest V O) (start : OutputView) (n : ℕ) (f : ImposeFault) (outcome : Result Done ImposeFault)
-    → start ≡ fresh_output (told_if e.tells name []) → n ≤ length text → Appends start.bytes (e.shows output).bytes (take n text) → (e.shows output).failures ≡ start.failures + 1
+    → start ≡ fresh_output (reported_if e.reports_outputs name []) → n ≤ length text → Appends start.bytes (e.shows output).bytes (take n text) → (e.shows output).failures ≡ start.failures + 1
     → rest ≡ Output output → f ≡ fault.Write n (e.shows output).cause → outcome ≡ Err f → Writes name text what e outcome world rest (shown e.shows rest)
 wrote_part name text what e world output rest start n f outcome began within wrote failed is named told =
     let appended = subst (λ (s : OutputView). Appends s.bytes (e.shows output).bytes (take n text)) began wrote in
@@ -89,34 +89,34 @@ wrote_part name text what e world output rest start n f outcome began within wro
     (subst (λ x. Writes name text what e (Err (fault.Write n (e.shows output).cause)) world x (shown e.shows x)) (sym is) (inr (within, appended, (output, refl, omega (arith, fails), refl))))
 
 -- no output could be created
-pub uncreated : {V O : Type 0} (name : Option (List ℕ)) (text : List ℕ) (what : Done) (tells : Edge V O) (f : ImposeFault) (outcome : Result Done ImposeFault)
-    (world : V) (rest : Rest V O) (written : Option (List ℕ)) → outcome ≡ Err f → IsUncreatedFault tells name (tells.seen world) f rest
-    → Writes name text what tells outcome world rest written
-uncreated name text what tells f outcome world rest written told none =
-    subst (λ o. Writes name text what tells o world rest written) (sym told) (inl none)
+pub uncreated : {V O : Type 0} (name : Option (List ℕ)) (text : List ℕ) (what : Done) (reports_outputs : Edge V O) (f : ImposeFault) (outcome : Result Done ImposeFault)
+    (world : V) (rest : Rest V O) (written : Option (List ℕ)) → outcome ≡ Err f → IsUncreatedFault reports_outputs name (reports_outputs.seen world) f rest
+    → Writes name text what reports_outputs outcome world rest written
+uncreated name text what reports_outputs f outcome world rest written told none =
+    subst (λ o. Writes name text what reports_outputs o world rest written) (sym told) (inl none)
 
 -- the specification was printed to standard output
-printed_whole : {V O : Type 0} (r : ImposeRequest) (input : List ℕ) (tells : Edge V O) (task : Task) (outcome : Result Done ImposeFault) (world : V) (rest : Rest V O)
+printed_whole : {V O : Type 0} (r : ImposeRequest) (input : List ℕ) (reports_outputs : Edge V O) (task : Task) (outcome : Result Done ImposeFault) (world : V) (rest : Rest V O)
     (written : Option (List ℕ)) → IsTask r input task → HasNoFault r input
-    → Writes None (printed_text r task) done.Printed tells outcome world rest written → Prints r input tells outcome world rest written
-printed_whole r input tells task (Ok what) world rest written is_task none h =
-    subst (λ d. Prints r input tells (Ok d) world rest written) (sym h.0) (task, is_task, none, h.1, h.2)
-printed_whole r input tells task (Err f) world rest written is_task none h = inr (task, is_task, none, h)
+    → Writes None (printed_text r task) done.Printed reports_outputs outcome world rest written → Prints r input reports_outputs outcome world rest written
+printed_whole r input reports_outputs task (Ok what) world rest written is_task none h =
+    subst (λ d. Prints r input reports_outputs (Ok d) world rest written) (sym h.0) (task, is_task, none, h.1, h.2)
+printed_whole r input reports_outputs task (Err f) world rest written is_task none h = inr (task, is_task, none, h)
 
-pub printed : {V O : Type 0} (r : ImposeRequest) (input : List ℕ) (tells : Edge V O) (task : Task) (lines : List ℕ) (outcome : Result Done ImposeFault)
+pub printed : {V O : Type 0} (r : ImposeRequest) (input : List ℕ) (reports_outputs : Edge V O) (task : Task) (lines : List ℕ) (outcome : Result Done ImposeFault)
     (world : V) (rest : Rest V O) (written : Option (List ℕ)) → lines ≡ printed_text r task → IsTask r input task → HasNoFault r input
-    → Writes None lines done.Printed tells outcome world rest written → Prints r input tells outcome world rest written
-printed r input tells task lines outcome world rest written is is_task none h =
-    printed_whole r input tells task outcome world rest written is_task none
-    (subst (λ l. Writes None l done.Printed tells outcome world rest written) is h)
+    → Writes None lines done.Printed reports_outputs outcome world rest written → Prints r input reports_outputs outcome world rest written
+printed r input reports_outputs task lines outcome world rest written is is_task none h =
+    printed_whole r input reports_outputs task outcome world rest written is_task none
+    (subst (λ l. Writes None l done.Printed reports_outputs outcome world rest written) is h)
 
 -- the plan or the picture was written to the output of that name
-pub shown_whole : {V O : Type 0} (l : Overview) (name : Option (List ℕ)) (r : ImposeRequest) (input : List ℕ) (tells : Edge V O) (text : List ℕ)
+pub shown_whole : {V O : Type 0} (l : Overview) (name : Option (List ℕ)) (r : ImposeRequest) (input : List ℕ) (reports_outputs : Edge V O) (text : List ℕ)
     (outcome : Result Done ImposeFault) (world : V) (rest : Rest V O) (written : Option (List ℕ)) → TellsRow r input l text
-    → Writes name text done.Shown tells outcome world rest written → ShowsSheets l name r input tells outcome world rest written
-shown_whole l name r input tells text (Ok what) world rest written told h =
-    subst (λ d. ShowsSheets l name r input tells (Ok d) world rest written) (sym h.0) (text, told, h.1, h.2)
-shown_whole l name r input tells text (Err f) world rest written told h = inr (text, told, h)
+    → Writes name text done.Shown reports_outputs outcome world rest written → ShowsSheets l name r input reports_outputs outcome world rest written
+shown_whole l name r input reports_outputs text (Ok what) world rest written told h =
+    subst (λ d. ShowsSheets l name r input reports_outputs (Ok d) world rest written) (sym h.0) (text, told, h.1, h.2)
+shown_whole l name r input reports_outputs text (Err f) world rest written told h = inr (text, told, h)
 
 lays : (l : Layout) → lays_rows l ≡ true → LaysRows l
 lays (layout.Spec specs) e = cc
@@ -153,42 +153,42 @@ said_after view n (fault.Write m cause) h = tt
 said_after view n (fault.Run (run.NoMemory m)) h = tt
 said_after view n other h = absurd h
 
-text_created : {V O : Type 0} (name : Option (List ℕ)) (text : List ℕ) (tells : Edge V O) (f : ImposeFault) (world : V) (rest : Rest V O) (written : Option (List ℕ)) → FailsToWrite name text tells f world rest written → IsCreatedFor (Err f) rest
-text_created name text tells f world rest written h = elim h [
-  | inl absent ↦ inr (uncreated_after tells name (tells.seen world) f rest absent)
-  | inr broke ↦ inr (breaks_after (told_if tells.tells name []) written text tells f rest broke)
+text_created : {V O : Type 0} (name : Option (List ℕ)) (text : List ℕ) (reports_outputs : Edge V O) (f : ImposeFault) (world : V) (rest : Rest V O) (written : Option (List ℕ)) → FailsToWrite name text reports_outputs f world rest written → IsCreatedFor (Err f) rest
+text_created name text reports_outputs f world rest written h = elim h [
+  | inl absent ↦ inr (uncreated_after reports_outputs name (reports_outputs.seen world) f rest absent)
+  | inr broke ↦ inr (breaks_after (reported_if reports_outputs.reports_outputs name []) written text reports_outputs f rest broke)
 ]
 
-run_created : {V O : Type 0} (r : ImposeRequest) (input : List ℕ) (tells : Edge V O) (f : ImposeFault) (world : V) (rest : Rest V O) (written : Option (List ℕ)) → RunsRequest r input tells (Err f) world rest written → IsCreatedFor (Err f) rest
-run_created r input tells f world rest written h = elim h [
+run_created : {V O : Type 0} (r : ImposeRequest) (input : List ℕ) (reports_outputs : Edge V O) (f : ImposeFault) (world : V) (rest : Rest V O) (written : Option (List ℕ)) → RunsRequest r input reports_outputs (Err f) world rest written → IsCreatedFor (Err f) rest
+run_created r input reports_outputs f world rest written h = elim h [
   | inl stopped ↦ inl (ap has_output stopped.1)
   | inr some ↦ elim some.3 [
     | inl absent ↦ elim absent [
       | inl spent ↦ inr (subst (λ e. AfterWrite e (λ n. ⊤) (λ n. ⊤)) (sym spent.0) tt)
-      | inr refused ↦ inr (uncreated_after tells (option_map string_bytes r.outfile) (tells.seen world) f rest refused)
+      | inr refused ↦ inr (uncreated_after reports_outputs (option_map string_bytes r.outfile) (reports_outputs.seen world) f rest refused)
     ]
-    | inr broke ↦ inr (said_after (tells.shows broke.0) broke.2 f broke.3)
+    | inr broke ↦ inr (said_after (reports_outputs.shows broke.0) broke.2 f broke.3)
   ]
 ]
 
-made_created : {V O : Type 0} (p : Product) (r : ImposeRequest) (input : List ℕ) (tells : Edge V O) (f : ImposeFault) (world : V) (rest : Rest V O) (written : Option (List ℕ)) → MakesProduct p r input tells (Err f) world rest written → IsCreatedFor (Err f) rest
-made_created product.Sheets r input tells f world rest written h = run_created r input tells f world rest written h
-made_created product.Specification r input tells f world rest written h = elim h [
+made_created : {V O : Type 0} (p : Product) (r : ImposeRequest) (input : List ℕ) (reports_outputs : Edge V O) (f : ImposeFault) (world : V) (rest : Rest V O) (written : Option (List ℕ)) → MakesProduct p r input reports_outputs (Err f) world rest written → IsCreatedFor (Err f) rest
+made_created product.Sheets r input reports_outputs f world rest written h = run_created r input reports_outputs f world rest written h
+made_created product.Specification r input reports_outputs f world rest written h = elim h [
   | inl stopped ↦ inl (ap has_output stopped.1)
-  | inr some ↦ text_created None (printed_text r some.0) tells f world rest written some.3
+  | inr some ↦ text_created None (printed_text r some.0) reports_outputs f world rest written some.3
 ]
-made_created product.Plan r input tells f world rest written h = elim h [
+made_created product.Plan r input reports_outputs f world rest written h = elim h [
   | inl stopped ↦ inl (ap has_output stopped.1)
-  | inr some ↦ text_created None some.0 tells f world rest written some.2
+  | inr some ↦ text_created None some.0 reports_outputs f world rest written some.2
 ]
-made_created (product.Picture file) r input tells f world rest written h = elim h [
+made_created (product.Picture file) r input reports_outputs f world rest written h = elim h [
   | inl stopped ↦ inl (ap has_output stopped.1)
-  | inr some ↦ text_created (option_map string_bytes file) some.0 tells f world rest written some.2
+  | inr some ↦ text_created (option_map string_bytes file) some.0 reports_outputs f world rest written some.2
 ]
 
-pub created_for : {V O : Type 0} (seen : V → WorldView) (r : ImposeRequest) (gives : Inputs) (same : SameFiles) (terminal : Option Bool) (foreign : Bool) (tells : Edge V O) (outcome : Result Done ImposeFault) (world : V) (rest : Rest V O) (written : Option (List ℕ)) → CarriesOut seen r gives same terminal foreign tells outcome world rest written → IsCreatedFor outcome rest
-created_for seen r gives same terminal foreign tells (Ok what) world rest written h = tt
-created_for seen r gives same terminal foreign tells (Err f) world rest written h = elim h [
+pub created_for : {V O : Type 0} (seen : V → WorldView) (r : ImposeRequest) (gives : Inputs) (same : SameFiles) (terminal : Option Bool) (foreign : Bool) (reports_outputs : Edge V O) (outcome : Result Done ImposeFault) (world : V) (rest : Rest V O) (written : Option (List ℕ)) → CarriesOut seen r gives same terminal foreign reports_outputs outcome world rest written → IsCreatedFor outcome rest
+created_for seen r gives same terminal foreign reports_outputs (Ok what) world rest written h = tt
+created_for seen r gives same terminal foreign reports_outputs (Err f) world rest written h = elim h [
   | inl stopped ↦ inl (ap has_output stopped.3)
-  | inr made ↦ made_created r.product r made.0 tells f made.1 rest written made.5
+  | inr made ↦ made_created r.product r made.0 reports_outputs f made.1 rest written made.5
 ]

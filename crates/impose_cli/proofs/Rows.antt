@@ -252,24 +252,24 @@ on_row (layout.Spec specs) r input f rows h = absurd rows
 on_row other r input f rows h = h
 
 -- there is no task
-pub row_stops : {V O : Type 0} (r : ImposeRequest) (input : List ℕ) (tells : Edge V O) (f : ImposeFault) (outcome : Result Done ImposeFault) (world : V) (rest : Rest V O) (written : Option (List ℕ)) → LaysRows r.layout → outcome ≡ Err f → rest ≡ World world
-    → RefusesRowTask r input f → RunsRequest r input tells outcome world rest written
-row_stops r input tells f outcome world rest written rows is none why =
-    comes_refused (RefusesImposing r.layout r input) (IsImposed r input) _ tells f outcome world rest written is none (on_row r.layout r input f rows (inl why))
+pub row_stops : {V O : Type 0} (r : ImposeRequest) (input : List ℕ) (reports_outputs : Edge V O) (f : ImposeFault) (outcome : Result Done ImposeFault) (world : V) (rest : Rest V O) (written : Option (List ℕ)) → LaysRows r.layout → outcome ≡ Err f → rest ≡ World world
+    → RefusesRowTask r input f → RunsRequest r input reports_outputs outcome world rest written
+row_stops r input reports_outputs f outcome world rest written rows is none why =
+    comes_refused (RefusesImposing r.layout r input) (IsImposed r input) _ reports_outputs f outcome world rest written is none (on_row r.layout r input f rows (inl why))
 
 -- what comes of its run comes of the request
-pub row_runs : {V O : Type 0} (r : ImposeRequest) (input : List ℕ) (t : RowTask) (scales : Option Scales) (tells : Edge V O) (outcome : Result Done ImposeFault) (left : Result Report ImposeFault) (world : V) (rest : Rest V O) (written : Option (List ℕ))
+pub row_runs : {V O : Type 0} (r : ImposeRequest) (input : List ℕ) (t : RowTask) (scales : Option Scales) (reports_outputs : Edge V O) (outcome : Result Done ImposeFault) (left : Result Report ImposeFault) (world : V) (rest : Rest V O) (written : Option (List ℕ))
     → LaysRows r.layout → IsRowTask r input t → outcome ≡ reported_by t.findings scales left
-    → Comes (RefusesRowTaskRun r t) (ImposesTask r t scales) (option_map string_bytes r.outfile) tells left world rest written → RunsRequest r input tells outcome world rest written
-row_runs r input t scales tells outcome left world rest written rows is reports h =
-    subst (λ o. RunsRequest r input tells o world rest written) (sym reports)
-    (comes_reported (RefusesRowTaskRun r t) (RefusesImposing r.layout r input) (ImposesTask r t scales) (IsImposed r input) t.findings scales (option_map string_bytes r.outfile) tells left world rest written
+    → Comes (RefusesRowTaskRun r t) (ImposesTask r t scales) (option_map string_bytes r.outfile) reports_outputs left world rest written → RunsRequest r input reports_outputs outcome world rest written
+row_runs r input t scales reports_outputs outcome left world rest written rows is reports h =
+    subst (λ o. RunsRequest r input reports_outputs o world rest written) (sym reports)
+    (comes_reported (RefusesRowTaskRun r t) (RefusesImposing r.layout r input) (ImposesTask r t scales) (IsImposed r input) t.findings scales (option_map string_bytes r.outfile) reports_outputs left world rest written
     (λ f why. on_row r.layout r input f rows (inr (record { task = t; is_task = is; refused = why })))
     (λ old new report done. inr (finishes_row r input t scales old new report is done)) h)
 
 -- what comes of its job comes of a task
-pub task_comes : {V O : Type 0} (r : ImposeRequest) (t : RowTask) (job : RowJob) (scales : Option Scales) (name other : Option (List ℕ)) (tells : Edge V O) (outcome : Result Report ImposeFault) (world : V) (rest : Rest V O) (written : Option (List ℕ))
-    → Comes (RefusesRowJob job) (Imposes job scales) name tells outcome world rest written → name ≡ other → IsJobOf r t job → Comes (RefusesRowTaskRun r t) (ImposesTask r t scales) other tells outcome world rest written
-task_comes r t job scales name other tells outcome world rest written h named is =
-    subst (λ n. Comes (RefusesRowTaskRun r t) (ImposesTask r t scales) n tells outcome world rest written) named
-    (comes_as (RefusesRowJob job) (RefusesRowTaskRun r t) (Imposes job scales) (ImposesTask r t scales) name tells outcome world rest written (λ f why. inr (job, is, why)) (λ old new report done. (job, is, done)) h)
+pub task_comes : {V O : Type 0} (r : ImposeRequest) (t : RowTask) (job : RowJob) (scales : Option Scales) (name other : Option (List ℕ)) (reports_outputs : Edge V O) (outcome : Result Report ImposeFault) (world : V) (rest : Rest V O) (written : Option (List ℕ))
+    → Comes (RefusesRowJob job) (Imposes job scales) name reports_outputs outcome world rest written → name ≡ other → IsJobOf r t job → Comes (RefusesRowTaskRun r t) (ImposesTask r t scales) other reports_outputs outcome world rest written
+task_comes r t job scales name other reports_outputs outcome world rest written h named is =
+    subst (λ n. Comes (RefusesRowTaskRun r t) (ImposesTask r t scales) n reports_outputs outcome world rest written) named
+    (comes_as (RefusesRowJob job) (RefusesRowTaskRun r t) (Imposes job scales) (ImposesTask r t scales) name reports_outputs outcome world rest written (λ f why. inr (job, is, why)) (λ old new report done. (job, is, done)) h)

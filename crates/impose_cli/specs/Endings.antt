@@ -9,7 +9,7 @@ use Rattle.std.specs.declared.io.ErrorKind.TheVariants.{OutOfMemory}
 use Rattle.rules.specs.Output.{output}
 use Rattle.sheet_text.specs.Jobs.{JobView, output_of}
 use Rattle.sheet_writer.specs.Sinks.{SinkView}
-use Rattle.world.specs.Outputs.{OutputView, named, told_if}
+use Rattle.world.specs.Outputs.{OutputView, named, reported_if}
 use Rattle.world.specs.Worlds.{HasRefused, WorldView, creating}
 pub use Rattle.world.specs.Rests.{has_output, shown}
 use Rattle.imposer.specs.Gathering.{ReportsOf}
@@ -50,13 +50,13 @@ AfterWrite other failed spent = ⊥
 
 -- what clauses see of a world and its outputs: whether these report what they have, what it was asked for, and how they failed
 pub record Edge (W O : Type 0) : Type 0 where
-  pub tells : Bool
+  pub reports_outputs : Bool
   pub seen : W → WorldView
   pub shows : O → OutputView
 
 -- what clauses see of this world and of its outputs
 abbrev pub edge_of_world : {W O : Type 0} → Bool → (W → WorldView) → (O → OutputView) → Edge W O
-edge_of_world tells seen shows = record { tells = tells; seen = seen; shows = shows }
+edge_of_world reports_outputs seen shows = record { reports_outputs = reports_outputs; seen = seen; shows = shows }
 
 -- the world is back, and has refused an output of this name with an error of this kind
 abbrev pub Refused : {W O : Type 0} → Edge W O → (name : Option (List ℕ)) → ErrorKind → (before : WorldView) → Rest W O → Type 0
@@ -99,7 +99,7 @@ HasFirst old new text n = IfSome old (λ start. (n ≤ length text) × (new ≡ 
 abbrev pub IsBroken : {W O : Type 0} → Edge W O → (name : Option (List ℕ)) → (text : List ℕ) → ImposeFault → Rest W O → Type 0
 IsBroken {W} {O} edge name text f rest =
     (output : O) × (rest ≡ Output output) × (n : ℕ) × IsSaidOf (edge.shows output) n f
-    × HasFirst (told_if edge.tells name []) (edge.shows output).bytes text n
+    × HasFirst (reported_if edge.reports_outputs name []) (edge.shows output).bytes text n
 
 -- the output is there, with all that its sink took, and failed as often
 abbrev pub Holds : {W O : Type 0} → Edge W O → SinkView → Rest W O → Type 0
@@ -121,7 +121,7 @@ BreaksOff {W} {O} edge name before taken told f rest =
 abbrev pub Comes : {T W O : Type 0} → (Refuses : ImposeFault → Type 0) → (Wrote : (old new : Option (List ℕ)) → T → Type 0)
     → (name : Option (List ℕ)) → (edge : Edge W O) → Result T ImposeFault → (world : W) → (rest : Rest W O) → (written : Option (List ℕ)) → Type 0
 Comes {T} Refuses Wrote name edge (Ok what) world rest written =
-    Wrote (told_if edge.tells name []) written what × IsUnfailed edge rest
+    Wrote (reported_if edge.reports_outputs name []) written what × IsUnfailed edge rest
 Comes {T} Refuses Wrote name edge (Err f) world rest written =
     (Refuses f × (rest ≡ World world))
     ⊎ ((text : List ℕ) × (what : T) × Wrote (Some []) (Some text) what

@@ -5,7 +5,7 @@ use Rattle.std.specs.Io.KnownBytes.{Appends}
 use Rattle.std.specs.IoError.{error_kind}
 use Rattle.std.specs.declared.io.ErrorKind.TheVariants.{OutOfMemory}
 use Rattle.clap.specs.Words.{Text}
-use Rattle.world.specs.Outputs.{told_if}
+use Rattle.world.specs.Outputs.{reported_if}
 use Rattle.world.specs.Input.{document_in, most_bytes}
 use Rattle.world.specs.Rests.{has_output}
 use Rattle.world.specs.Worlds.{HasGranted, WasAsked, WorldView, opening}
@@ -92,14 +92,14 @@ BreaksAt old new text edge other rest = ⊥
 abbrev pub FailsToWrite : {W O : Type 0} → (name : Option (List ℕ)) → (text : List ℕ) → (edge : Edge W O) → ImposeFault
     → (world : W) → (rest : Rest W O) → (written : Option (List ℕ)) → Type 0
 FailsToWrite name text edge f world rest written =
-    IsUncreatedFault edge name (edge.seen world) f rest ⊎ BreaksAt (told_if edge.tells name []) written text edge f rest
+    IsUncreatedFault edge name (edge.seen world) f rest ⊎ BreaksAt (reported_if edge.reports_outputs name []) written text edge f rest
 
 -- What comes of a text that is written to the output of this name: the output shows its name and exactly the text, and hasn't
 -- failed; or a write failed.
 abbrev pub Writes : {W O : Type 0} → (name : Option (List ℕ)) → (text : List ℕ) → Done → (edge : Edge W O) → Result Done ImposeFault
     → (world : W) → (rest : Rest W O) → (written : Option (List ℕ)) → Type 0
 Writes name text what edge (Ok said) world rest written =
-    (said ≡ what) × Appends (told_if edge.tells name []) written text × IsUnfailed edge rest
+    (said ≡ what) × Appends (reported_if edge.reports_outputs name []) written text × IsUnfailed edge rest
 Writes name text what edge (Err f) world rest written = FailsToWrite name text edge f world rest written
 
 -- What comes of a request to print the specification for this input: there is a task, which nothing refuses, and standard
@@ -110,7 +110,7 @@ abbrev pub Prints : {W O : Type 0} → ImposeRequest → (input : List ℕ) → 
 Prints r input edge (Ok (done.Imposed finished)) world rest written = ⊥
 Prints r input edge (Ok done.Printed) world rest written =
     (task : Task) × IsTask r input task × HasNoFault r input
-    × Appends (told_if edge.tells None []) written (printed_text r task) × IsUnfailed edge rest
+    × Appends (reported_if edge.reports_outputs None []) written (printed_text r task) × IsUnfailed edge rest
 Prints r input edge (Ok done.Shown) world rest written = ⊥
 Prints r input edge (Err f) world rest written =
     ((RefusesTask r input f ⊎ (f ≡ without_memory)) × (rest ≡ World world))
@@ -125,7 +125,7 @@ abbrev pub ShowsSheets : {W O : Type 0} → Overview → (name : Option (List �
 ShowsSheets l name r input edge (Ok (done.Imposed finished)) world rest written = ⊥
 ShowsSheets l name r input edge (Ok done.Printed) world rest written = ⊥
 ShowsSheets l name r input edge (Ok done.Shown) world rest written =
-    (text : List ℕ) × TellsRow r input l text × Appends (told_if edge.tells name []) written text × IsUnfailed edge rest
+    (text : List ℕ) × TellsRow r input l text × Appends (reported_if edge.reports_outputs name []) written text × IsUnfailed edge rest
 ShowsSheets l name r input edge (Err f) world rest written =
     (RefusesRowRun r input f × (rest ≡ World world))
     ⊎ ((text : List ℕ) × TellsRow r input l text × FailsToWrite name text edge f world rest written)

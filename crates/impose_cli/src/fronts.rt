@@ -17,7 +17,7 @@ pub(crate) fn front_of<W: World>(name: &str, front: &mut [u8], world: &mut W) ->
     ensures again { W.gives world.new ≡ W.gives world.old }
     ensures same { W.same world.new ≡ W.same world.old }
     ensures terminal { W.terminal world.new ≡ W.terminal world.old }
-    ensures tells { W.tells world.new ≡ W.tells world.old }
+    ensures reports_outputs { W.reports_outputs world.new ≡ W.reports_outputs world.old }
 {
     if !world.is_file(name) {
         return 0;
@@ -45,7 +45,7 @@ pub(crate) fn finds_foreign<W: World>(request: &ImposeRequest, world: &mut W) ->
     ensures again { W.gives world.new ≡ W.gives world.old }
     ensures same { W.same world.new ≡ W.same world.old }
     ensures terminal { W.terminal world.new ≡ W.terminal world.old }
-    ensures tells { W.tells world.new ≡ W.tells world.old }
+    ensures reports_outputs { W.reports_outputs world.new ≡ W.reports_outputs world.old }
 {
     let Some(file) = request.file_to_spare() else {
         return false;

@@ -67,7 +67,7 @@ pub fn impose<R: Threads + Wait + Sync, W: World>(
 ) -> Ended<W>
     requires countable { (W.seen world).failures + 2 < u64.MAX }
     ensures ended { EndsProgram W.seen (map string_bytes words.now) paper_size.now (W.gives world) W.regular
-        (W.same world) (W.terminal world) (edge_of_world (W.tells world) W.seen W.Output.seen) result.request result.outcome world result.rest (shown W.Output.seen result.rest) }
+        (W.same world) (W.terminal world) (edge_of_world (W.reports_outputs world) W.seen W.Output.seen) result.request result.outcome world result.rest (shown W.Output.seen result.rest) }
     // If the request is refused, no output has been created, and the world is given back. If an output has been created, it has all bytes that were
     // to be written, or a write failed, or memory ran out.
     ensures created { IsCreatedFor result.outcome result.rest }
@@ -115,7 +115,7 @@ fn home_of<W: World>(paper_size: &[u8], world: &mut W) -> Paper
     ensures again { W.gives world.new ≡ W.gives world.old }
     ensures same { W.same world.new ≡ W.same world.old }
     ensures terminal { W.terminal world.new ≡ W.terminal world.old }
-    ensures tells { W.tells world.new ≡ W.tells world.old }
+    ensures reports_outputs { W.reports_outputs world.new ≡ W.reports_outputs world.old }
 {
     let mut front = [0; HOME_BYTES];
     let count = front_of(HOME_FILE, &mut front, world);
@@ -133,7 +133,7 @@ fn carry_out<R: Threads + Wait + Sync, W: World>(
 ) -> Attempt<W, Done>
     requires product { MayBeMade request.now.product request.now.layout }
     requires countable { (W.seen world).failures < u64.MAX }
-    ensures { CarriesOut W.seen request.now (W.gives world) (W.same world) (W.terminal world) is_foreign (edge_of_world (W.tells world) W.seen W.Output.seen) result.outcome world result.rest
+    ensures { CarriesOut W.seen request.now (W.gives world) (W.same world) (W.terminal world) is_foreign (edge_of_world (W.reports_outputs world) W.seen W.Output.seen) result.outcome world result.rest
         (shown W.Output.seen result.rest) }
 {
     match check_request(alloc, request) {
@@ -191,7 +191,7 @@ fn make<R: Threads + Wait + Sync, W: World>(
 ) -> Attempt<W, Done>
     requires product { MayBeMade request.now.product request.now.layout }
     requires countable { (W.seen world).failures < u64.MAX }
-    ensures { MakesProduct request.now.product request.now input.items (edge_of_world (W.tells world) W.seen W.Output.seen) result.outcome world result.rest
+    ensures { MakesProduct request.now.product request.now input.items (edge_of_world (W.reports_outputs world) W.seen W.Output.seen) result.outcome world result.rest
         (shown W.Output.seen result.rest) }
 {
     match &request.product {
@@ -223,7 +223,7 @@ fn roomy_input<W: World>(
         IsReadOf (W.gives world.old (option_map (λ n. n.now) name.entry)) input.items) }
     ensures given { IfOk result (λ _. HasGiven (option_map (λ n. n.now) name.entry) (W.seen world.old) (W.seen world.new)) }
     ensures refused { IfErr result (IsReading (option_map (λ n. n.now) name.entry) (W.seen world.old) (W.seen world.new)) }
-    ensures tells { W.tells world.new ≡ W.tells world.old }
+    ensures reports_outputs { W.reports_outputs world.new ≡ W.reports_outputs world.old }
 {
     match world.open(name) {
         Ok(input) => read_from(alloc, input, world),
@@ -246,7 +246,7 @@ fn read_from<W: World>(
     ensures asked { (W.seen world.new).asked ≡ (W.seen world.old).asked }
     ensures steady { OnOk result ((W.seen world.new).failures ≡ (W.seen world.old).failures) }
     ensures refused { IfErr result (IsUnread (W.seen world.old) (W.seen world.new)) }
-    ensures tells { W.tells world.new ≡ W.tells world.old }
+    ensures reports_outputs { W.reports_outputs world.new ≡ W.reports_outputs world.old }
 {
     let mut source = ReadSource::new(input);
     let read = read_input_after(alloc, ROOM, &mut source);
@@ -277,7 +277,7 @@ fn print_input<W: World>(
     world: W,
 ) -> Attempt<W, Done>
     requires countable { (W.seen world).failures < u64.MAX }
-    ensures { Prints request.now input.items (edge_of_world (W.tells world) W.seen W.Output.seen) result.outcome world result.rest
+    ensures { Prints request.now input.items (edge_of_world (W.reports_outputs world) W.seen W.Output.seen) result.outcome world result.rest
         (shown W.Output.seen result.rest) }
 {
     let (task, _) = match task_for(alloc, request, input) {
@@ -303,7 +303,7 @@ fn show_input<W: World>(
 ) -> Attempt<W, Done>
     requires rows { LaysRows request.now.layout }
     requires countable { (W.seen world).failures < u64.MAX }
-    ensures { ShowsSheets look (option_map (λ n. n.now) name.entry) request.now input.items (edge_of_world (W.tells world) W.seen W.Output.seen) result.outcome
+    ensures { ShowsSheets look (option_map (λ n. n.now) name.entry) request.now input.items (edge_of_world (W.reports_outputs world) W.seen W.Output.seen) result.outcome
         world result.rest (shown W.Output.seen result.rest) }
 {
     match look_text(alloc, request, input, look) {
@@ -320,7 +320,7 @@ fn create_with_text<W: World>(
     world: W,
 ) -> Attempt<W, Done>
     requires countable { (W.seen world).failures < u64.MAX }
-    ensures { Writes (option_map (λ n. n.now) name.entry) text.now done (edge_of_world (W.tells world) W.seen W.Output.seen) result.outcome world result.rest
+    ensures { Writes (option_map (λ n. n.now) name.entry) text.now done (edge_of_world (W.reports_outputs world) W.seen W.Output.seen) result.outcome world result.rest
         (shown W.Output.seen result.rest) }
 {
     let mut output = match world.create(name) {

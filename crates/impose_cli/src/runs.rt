@@ -50,7 +50,7 @@ pub(crate) fn run_on_document<R: Threads + Wait + Sync, W: World>(
     world: W,
 ) -> Attempt<W, Done>
     requires countable { (W.seen world).failures < u64.MAX }
-    ensures { RunsRequest request.now input.items (edge_of_world (W.tells world) W.seen W.Output.seen) result.outcome
+    ensures { RunsRequest request.now input.items (edge_of_world (W.reports_outputs world) W.seen W.Output.seen) result.outcome
         world result.rest (shown W.Output.seen result.rest) }
 {
     match &request.layout {
@@ -71,7 +71,7 @@ fn run_row<R: Threads + Wait + Sync, W: World>(
 ) -> Attempt<W, Done>
     requires countable { (W.seen world).failures < u64.MAX }
     requires rows { LaysRows request.now.layout }
-    ensures { RunsRequest request.now input.items (edge_of_world (W.tells world) W.seen W.Output.seen) result.outcome
+    ensures { RunsRequest request.now input.items (edge_of_world (W.reports_outputs world) W.seen W.Output.seen) result.outcome
         world result.rest (shown W.Output.seen result.rest) }
 {
     let (task, parts) = match row_task(alloc, request, input) {
@@ -99,7 +99,7 @@ fn impose_task<R: Threads + Wait + Sync, W: World>(
     requires options { HasOptions request.now }
     requires parts { Serve parts task.now.text.items }
     ensures { Comes (RefusesRowTaskRun request.now task.now) (ImposesTask request.now task.now result.1)
-        (option_map string_bytes request.now.outfile) (edge_of_world (W.tells world) W.seen W.Output.seen) result.0.outcome
+        (option_map string_bytes request.now.outfile) (edge_of_world (W.reports_outputs world) W.seen W.Output.seen) result.0.outcome
         world result.0.rest (shown W.Output.seen result.0.rest) }
 {
     let document = match Document::from_parts(task.text.as_slice(), parts) {
@@ -139,7 +139,7 @@ fn impose_job<R: Threads + Wait + Sync, W: World>(
     requires countable { (W.seen world).failures < u64.MAX }
     requires asked { MayBeAsked job.now.asked }
     requires border { IsTrue (is_border job.now.border) }
-    ensures { Comes (RefusesRowJob job.now) (Imposes job.now result.1) (option_map (λ n. n.now) name.entry) (edge_of_world (W.tells world) W.seen W.Output.seen)
+    ensures { Comes (RefusesRowJob job.now) (Imposes job.now result.1) (option_map (λ n. n.now) name.entry) (edge_of_world (W.reports_outputs world) W.seen W.Output.seen)
         result.0.outcome world result.0.rest (shown W.Output.seen result.0.rest) }
 {
     let pages = job.document.pages();
@@ -173,7 +173,7 @@ fn run_spec<R: Threads + Wait + Sync, W: World>(
 ) -> Attempt<W, Done>
     requires countable { (W.seen world).failures < u64.MAX }
     requires spec { (text : List ℕ) × IsSpecLayout request.now.layout text }
-    ensures { RunsRequest request.now input.items (edge_of_world (W.tells world) W.seen W.Output.seen) result.outcome
+    ensures { RunsRequest request.now input.items (edge_of_world (W.reports_outputs world) W.seen W.Output.seen) result.outcome
         world result.rest (shown W.Output.seen result.rest) }
 {
     let (task, parts) = match task_for(alloc, request, input) {
@@ -200,7 +200,7 @@ fn impose_by_spec<R: Threads + Wait + Sync, W: World>(
     requires sides { task.now.options.sides ≡ None }
     requires workers { AreWorkers task.now.options.workers }
     requires parts { Serve parts task.now.text.items }
-    ensures { Comes (RefusesTaskRun task.now) (WritesTask task.now) (option_map (λ n. n.now) name.entry) (edge_of_world (W.tells world) W.seen W.Output.seen) result.outcome
+    ensures { Comes (RefusesTaskRun task.now) (WritesTask task.now) (option_map (λ n. n.now) name.entry) (edge_of_world (W.reports_outputs world) W.seen W.Output.seen) result.outcome
         world result.rest (shown W.Output.seen result.rest) }
 {
     let (spec, document) = match read_task(alloc, task, parts) {
@@ -270,7 +270,7 @@ fn write_job<R: Threads + Wait + Sync, W: World>(
     world: W,
 ) -> Attempt<W, Report>
     requires countable { (W.seen world).failures < u64.MAX }
-    ensures { Comes (λ fault. ⊥) (WritesJob job.now) (option_map (λ n. n.now) name.entry) (edge_of_world (W.tells world) W.seen W.Output.seen) result.outcome
+    ensures { Comes (λ fault. ⊥) (WritesJob job.now) (option_map (λ n. n.now) name.entry) (edge_of_world (W.reports_outputs world) W.seen W.Output.seen) result.outcome
         world result.rest (shown W.Output.seen result.rest) }
 {
     write_asked::<Brand, R, W>(rt, alloc, job, Asked { name, world })
@@ -287,7 +287,7 @@ fn write_asked<B: Before, R: Threads + Wait + Sync, W: World>(
     requires named { option_map (λ n. n.now) asked.name ≡ B.name }
     requires seen { W.seen asked.world ≡ B.seen }
     requires countable { B.seen.failures < u64.MAX }
-    ensures { Comes (λ fault. ⊥) (WritesJob job.now) B.name (edge_of_world (W.tells asked.entry.world) W.seen W.Output.seen)
+    ensures { Comes (λ fault. ⊥) (WritesJob job.now) B.name (edge_of_world (W.reports_outputs asked.entry.world) W.seen W.Output.seen)
         result.outcome asked.entry.world result.rest (shown W.Output.seen result.rest) }
 {
     let name = asked.name;

@@ -28,10 +28,10 @@ told_more : (pages : List (ℕ × Paper × Edges)) (page : ℕ × Paper × Edges
 told_more [] page = refl
 told_more (first ∷ more) page = ap (λ k. Some (record { first = first.0; paper = first.1; edges = first.2; pages = k + 1 })) (length_is more page)
 
-told_if : (pages : List (ℕ × Paper × Edges)) (n : ℕ) (p : Paper) (box : Option Edges)
+reported_if : (pages : List (ℕ × Paper × Edges)) (n : ℕ) (p : Paper) (box : Option Edges)
     → told_reach (pages ++ if_beyond n p box) ≡ with_all (told_reach pages) (if_beyond n p box)
-told_if pages n p None = ap told_reach (append-nil pages)
-told_if pages n p (Some box) = by_test (is_beyond p box)
+reported_if pages n p None = ap told_reach (append-nil pages)
+reported_if pages n p (Some box) = by_test (is_beyond p box)
     (λ is. rw is (told_more pages (n, p, box)))
     (λ isnt. rw isnt (ap told_reach (append-nil pages)))
 
@@ -67,7 +67,7 @@ pub one_more_page : (pages : Placing) (placed : List Paper) (i : ℕ) (p : Paper
     → (new ≡ reach_before pages placed (i + 1)) × IfSome new (λ r. r.pages ≤ i + 1)
 one_more_page pages placed i p edges old new at l h reaches made = (
   made ∙ ap (λ r. with_all r (if_beyond i p edges)) h.0
-      ∙ sym (told_if (reaching pages 0 (take i placed)) i p edges)
+      ∙ sym (reported_if (reaching pages 0 (take i placed)) i p edges)
       ∙ sym (ap told_reach (up_to pages placed i p l ∙ ap (λ q. reaching pages 0 (take i placed) ++ here pages i q) (sym at)
       ∙ ap (λ b. reaching pages 0 (take i placed) ++ if_beyond i p b) (sym reaches))),
   rw made (few old i p edges h.1),

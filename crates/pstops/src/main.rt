@@ -7,7 +7,7 @@ use std::env;
 use std::env::Env;
 use std::io::ErrorKind;
 use std::process::ExitCode;
-use world::{Host, tell};
+use world::{Host, report_line};
 
 fn main(rt: HostRuntime) -> ExitCode {
     let alloc = rt.alloc();
@@ -23,7 +23,7 @@ fn main(rt: HostRuntime) -> ExitCode {
             Err(_) => (3, Vec::new(alloc)),
         },
     };
-    ExitCode::from(tell(&mut rt.stderr(), line.as_slice(), status))
+    ExitCode::from(report_line(&mut rt.stderr(), line.as_slice(), status))
 }
 
 // The words of the command line, of which the first is the program's name. Words that aren't UTF-8 text are refused as a wrong command line.

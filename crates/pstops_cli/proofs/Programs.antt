@@ -8,7 +8,7 @@ use Rattle.imposer.specs.Runs.{Accepted, frame_of}
 use Rattle.imposer.specs.declared.outcome.Report.{Report}
 use Rattle.imposer.specs.declared.outcome.RunError.{RunError}
 use Rattle.imposer.specs.declared.outcome.RunError.TheVariants as run
-use Rattle.world.specs.Outputs.{IsFrontOf, told_if}
+use Rattle.world.specs.Outputs.{IsFrontOf, reported_if}
 use Rattle.imposer.specs.Outcomes.{FailedIn}
 use Rattle.imposer.specs.Runs as runs
 use Rattle.pstops_cli.specs.Messages.{fault_exit_status}
@@ -67,14 +67,14 @@ pub few_failures : (a : runs.Request) (old new : SinkView) (ended : Result Repor
 few_failures a old new ended ends fresh = let few = once ended old new ends.steady ends.failed in omega (arith, few, fresh)
 
 -- the run ended, and its output has what was written out
-pub ran : (r : Request) (input : List ℕ) (tells : Bool) (start sink : SinkView) (failures : ℕ) (written : Option (List ℕ))
+pub ran : (r : Request) (input : List ℕ) (reports_outputs : Bool) (start sink : SinkView) (failures : ℕ) (written : Option (List ℕ))
     (ended : Result Report RunError) (status : ℕ) (line : List ℕ)
-    → start.bytes ≡ told_if tells (option_map string_bytes r.outfile) [] → start.failures ≡ 0
+    → start.bytes ≡ reported_if reports_outputs (option_map string_bytes r.outfile) [] → start.failures ≡ 0
     → EndsRun (asked_by r input) start sink ended → IsFrontOf written sink.bytes
     → (status ≡ 0 → Keeps sink.bytes written) → (status ≡ 0 → failures ≡ sink.failures) → sink.failures ≤ failures
     → IsLineOf r.quiet ended status line ⊎ (IsOk ended × (0 < failures) × IsSaid (fault.Run (run.Write 0)) status line)
-    → Ran r input tells written failures status line
-ran r input tells start sink failures written ended status line began fresh ends part whole steady counted said = record {
+    → Ran r input reports_outputs written failures status line
+ran r input reports_outputs start sink failures written ended status line began fresh ends part whole steady counted said = record {
   ended = ended;
   sink = sink;
   ends = subst (λ (s : SinkView). EndsRun (asked_by r input) s sink ended) (λ i. record { bytes = began i; failures = fresh i }) ends;
@@ -86,42 +86,42 @@ ran r input tells start sink failures written ended status line began fresh ends
 }
 
 -- the run finished, and the output's last bytes couldn't be written
-pub cut : (r : Request) (input : List ℕ) (tells : Bool) (start sink : SinkView) (failures : ℕ) (written : Option (List ℕ))
+pub cut : (r : Request) (input : List ℕ) (reports_outputs : Bool) (start sink : SinkView) (failures : ℕ) (written : Option (List ℕ))
     (ended : Result Report RunError) (answered status : ℕ) (line line' : List ℕ)
-    → start.bytes ≡ told_if tells (option_map string_bytes r.outfile) [] → start.failures ≡ 0
+    → start.bytes ≡ reported_if reports_outputs (option_map string_bytes r.outfile) [] → start.failures ≡ 0
     → EndsRun (asked_by r input) start sink ended → IsLineOf r.quiet ended answered line → answered ≡ 0
     → IsFrontOf written sink.bytes → failures ≡ sink.failures + 1 → IsSaid (fault.Run (run.Write 0)) status line'
-    → Ran r input tells written failures status line'
-cut r input tells start sink failures written ended answered status line line' began fresh ends of_run zero part failed said =
+    → Ran r input reports_outputs written failures status line'
+cut r input reports_outputs start sink failures written ended answered status line line' began fresh ends of_run zero part failed said =
     let not_finished : status ≡ 0 → ⊥ = not_zero status (three_is_said (fault.Run (run.Write 0)) status line' refl said) in
-    ran r input tells start sink failures written ended status line' began fresh ends part
+    ran r input reports_outputs start sink failures written ended status line' began fresh ends part
     (λ none. absurd (not_finished none)) (λ none. absurd (not_finished none)) (omega (arith, failed))
     (inr (ok_at_zero ended (said_zero r.quiet ended answered line zero of_run), omega (arith, failed), said))
 
-carried : (r : Request) (input : List ℕ) (tells : Bool) (written : Option (List ℕ)) (failures status : ℕ) (line : List ℕ)
-    → status ≡ 0 → (h : Ran r input tells written failures status line)
+carried : (r : Request) (input : List ℕ) (reports_outputs : Bool) (written : Option (List ℕ)) (failures status : ℕ) (line : List ℕ)
+    → status ≡ 0 → (h : Ran r input reports_outputs written failures status line)
     → IsLineOf r.quiet h.ended status line
-    → Accepted (asked_by r input) (λ spec us. Appends (told_if tells (option_map string_bytes r.outfile) []) written
+    → Accepted (asked_by r input) (λ spec us. Appends (reported_if reports_outputs (option_map string_bytes r.outfile) []) written
     (output (frame_of r.options) r.options.sides spec us))
-carried r input tells written failures status line zero h of_run =
+carried r input reports_outputs written failures status line zero h of_run =
     let at = finished_at_zero (asked_by r input) _ h.sink.bytes h.ended (said_zero r.quiet h.ended status line zero of_run) h.ends.finished in
     (at.0, at.1, at.2, Appends-kept _ h.sink.bytes written _ at.3 (h.whole zero))
 
-ran_carried : (r : Request) (input : List ℕ) (tells : Bool) (written : Option (List ℕ)) (failures status : ℕ) (line : List ℕ)
-    → status ≡ 0 → (h : Ran r input tells written failures status line)
+ran_carried : (r : Request) (input : List ℕ) (reports_outputs : Bool) (written : Option (List ℕ)) (failures status : ℕ) (line : List ℕ)
+    → status ≡ 0 → (h : Ran r input reports_outputs written failures status line)
     → IsLineOf r.quiet h.ended status line ⊎ (IsOk h.ended × (0 < failures) × IsSaid (fault.Run (run.Write 0)) status line)
-    → Accepted (asked_by r input) (λ spec us. Appends (told_if tells (option_map string_bytes r.outfile) []) written
+    → Accepted (asked_by r input) (λ spec us. Appends (reported_if reports_outputs (option_map string_bytes r.outfile) []) written
     (output (frame_of r.options) r.options.sides spec us))
-ran_carried r input tells written failures status line zero h (inl of_run) = carried r input tells written failures status line zero h of_run
-ran_carried r input tells written failures status line zero h (inr cut_off) =
+ran_carried r input reports_outputs written failures status line zero h (inl of_run) = carried r input reports_outputs written failures status line zero h of_run
+ran_carried r input reports_outputs written failures status line zero h (inr cut_off) =
     absurd (not_zero status (three_is_said (fault.Run (run.Write 0)) status line refl cut_off.2) zero)
 
 -- at status 0 the request was carried out
-pub carries_out : {W O : Type 0} (seen : W → WorldView) (r : Request) (input : List ℕ) (tells : Bool) (world : W) (rest : Rest W O) (written : Option (List ℕ))
+pub carries_out : {W O : Type 0} (seen : W → WorldView) (r : Request) (input : List ℕ) (reports_outputs : Bool) (world : W) (rest : Rest W O) (written : Option (List ℕ))
     (failures status : ℕ) (line : List ℕ) → status ≡ 0
-    → CreatesAndRuns seen r input tells world rest written failures status line
-    → Accepted (asked_by r input) (λ spec us. Appends (told_if tells (option_map string_bytes r.outfile) []) written
+    → CreatesAndRuns seen r input reports_outputs world rest written failures status line
+    → Accepted (asked_by r input) (λ spec us. Appends (reported_if reports_outputs (option_map string_bytes r.outfile) []) written
     (output (frame_of r.options) r.options.sides spec us))
-carries_out seen r input tells world rest written failures status line zero (inl h) =
+carries_out seen r input reports_outputs world rest written failures status line zero (inl h) =
     absurd (not_zero status (three_is_said h.0 status line (creating_is_three seen (option_map string_bytes r.outfile) world h.1 h.0 h.2) h.3) zero)
-carries_out seen r input tells world rest written failures status line zero (inr h) = ran_carried r input tells written failures status line zero h.1 h.1.said
+carries_out seen r input reports_outputs world rest written failures status line zero (inr h) = ran_carried r input reports_outputs written failures status line zero h.1 h.1.said

@@ -13,7 +13,7 @@ use Rattle.imposer.specs.declared.outcome.Report.{Report}
 use Rattle.imposer.specs.declared.outcome.RunError.{RunError}
 use Rattle.imposer.specs.declared.outcome.RunError.TheVariants as run
 use Rattle.sheet_writer.specs.Sinks.{SinkView, fresh_sink}
-use Rattle.world.specs.Outputs.{IsFrontOf, told_if}
+use Rattle.world.specs.Outputs.{IsFrontOf, reported_if}
 use Rattle.world.specs.Input.{IsFirst, most_bytes}
 use Rattle.world.specs.Rests.{has_output}
 use Rattle.world.specs.Worlds.{HasGranted, HasRefused, WasAsked, WorldView, creating, opening}
@@ -89,11 +89,11 @@ IsCreating seen name old new other = ⊥
 -- in some way, with all that a run promises, and that way has this status and this line; or it finished and its last bytes
 -- couldn't be written, which is said. The output has a first part of what the run handed on, and at status 0 all of it.
 -- The failures of the run's sink are the output's.
-pub record Ran (r : Request) (input : List ℕ) (tells : Bool) (written : Option (List ℕ)) (failures status : ℕ)
+pub record Ran (r : Request) (input : List ℕ) (reports_outputs : Bool) (written : Option (List ℕ)) (failures status : ℕ)
     (line : List ℕ) : Type 0 where
   pub ended : Result Report RunError
   pub sink : SinkView
-  pub ends : EndsRun (asked_by r input) (fresh_sink (told_if tells (option_map string_bytes r.outfile) [])) sink ended
+  pub ends : EndsRun (asked_by r input) (fresh_sink (reported_if reports_outputs (option_map string_bytes r.outfile) [])) sink ended
   pub part : IsFrontOf written sink.bytes
   pub whole : status ≡ 0 → Keeps sink.bytes written
   pub steady : status ≡ 0 → failures ≡ sink.failures
@@ -102,27 +102,27 @@ pub record Ran (r : Request) (input : List ℕ) (tells : Bool) (written : Option
       ⊎ (IsOk ended × (0 < failures) × IsSaid (fault.Run (run.Write 0)) status line)
 
 -- no output could be created, with its buffer; or one was, and the request was run into it
-abbrev pub CreatesAndRuns : {W O : Type 0} → (seen : W → WorldView) → Request → (input : List ℕ) → (tells : Bool) → (world : W) → (rest : Rest W O)
+abbrev pub CreatesAndRuns : {W O : Type 0} → (seen : W → WorldView) → Request → (input : List ℕ) → (reports_outputs : Bool) → (world : W) → (rest : Rest W O)
     → (written : Option (List ℕ)) → (failures status : ℕ) → (line : List ℕ) → Type 0
-CreatesAndRuns {W} seen r input tells world rest written failures status line =
+CreatesAndRuns {W} seen r input reports_outputs world rest written failures status line =
     ((f : Fault) × (left : W) × IsCreating seen (option_map string_bytes r.outfile) world left f × IsSaid f status line × (rest ≡ World left))
-    ⊎ ((has_output rest ≡ true) × Ran r input tells written failures status line)
+    ⊎ ((has_output rest ≡ true) × Ran r input reports_outputs written failures status line)
 
 -- ---- all of it
 
 -- How the program ends. It stopped before anything was created, and the world is back; or it read a request and its
 -- input, and either its output couldn't be created, or one was and the request was run.
-abbrev pub EndsPstops : {W O : Type 0} → (seen : W → WorldView) → (words : List Text) → Gives → (tells : Bool) → (world : W) → (rest : Rest W O)
+abbrev pub EndsPstops : {W O : Type 0} → (seen : W → WorldView) → (words : List Text) → Gives → (reports_outputs : Bool) → (world : W) → (rest : Rest W O)
     → (written : Option (List ℕ)) → (failures status : ℕ) → (line : List ℕ) → Type 0
-EndsPstops {W} seen words gives tells world rest written failures status line =
+EndsPstops {W} seen words gives reports_outputs world rest written failures status line =
     ((f : Fault) × (left : W) × StopsBefore seen words world left f × IsSaid f status line × (rest ≡ World left))
     ⊎ ((r : Request) × (input : List ℕ) × HasRead words gives r input × (read : W) × HasGivenInput seen r world read
-    × CreatesAndRuns seen r input tells read rest written failures status line)
+    × CreatesAndRuns seen r input reports_outputs read rest written failures status line)
 
 -- The request that the words make was carried out: the output reports its name and exactly the output defined for the
 -- input.
-abbrev pub CarriesOutWords : (words : List Text) → Gives → (tells : Bool) → (written : Option (List ℕ)) → Type 0
-CarriesOutWords words gives tells written =
+abbrev pub CarriesOutWords : (words : List Text) → Gives → (reports_outputs : Bool) → (written : Option (List ℕ)) → Type 0
+CarriesOutWords words gives reports_outputs written =
     (r : Request) × (input : List ℕ) × HasRead words gives r input
-    × Accepted (asked_by r input) (λ spec us. Appends (told_if tells (option_map string_bytes r.outfile) []) written
+    × Accepted (asked_by r input) (λ spec us. Appends (reported_if reports_outputs (option_map string_bytes r.outfile) []) written
     (output (frame_of r.options) r.options.sides spec us))

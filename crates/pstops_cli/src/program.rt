@@ -45,10 +45,10 @@ pub fn pstops<R: Threads + Wait + Sync, W: World>(
 ) -> ExitReport<W>
     requires countable { (W.seen world).failures < u64.MAX }
     // Either the program stopped before an output was created, or it created one output and ran the request that the words make.
-    ensures ended { EndsPstops W.seen (map string_bytes words.now) (W.gives world) (W.tells world) world result.rest
+    ensures ended { EndsPstops W.seen (map string_bytes words.now) (W.gives world) (W.reports_outputs world) world result.rest
         (shown W.Output.seen result.rest) (failures_in W.Output.seen result.rest) result.status result.line.items }
     // Status 0 is returned only if exactly the output was written.
-    ensures finished { result.status ≡ 0 → CarriesOutWords (map string_bytes words.now) (W.gives world) (W.tells world)
+    ensures finished { result.status ≡ 0 → CarriesOutWords (map string_bytes words.now) (W.gives world) (W.reports_outputs world)
         (shown W.Output.seen result.rest) }
 {
     match read(alloc, words, &mut world) {
@@ -67,7 +67,7 @@ fn read<W: World>(
     ensures read { IfOk result (λ read. HasRead (map string_bytes words.now) (W.gives world.old) read.0 read.1.items) }
     ensures given { IfOk result (λ read. HasGivenInput W.seen read.0 world.old world.new) }
     ensures refused { IfErr result (StopsBefore W.seen (map string_bytes words.now) world.old world.new) }
-    ensures tells { W.tells world.new ≡ W.tells world.old }
+    ensures reports_outputs { W.reports_outputs world.new ≡ W.reports_outputs world.old }
 {
     let request = match read_command(alloc, words) {
         Ok(request) => request,
@@ -92,7 +92,7 @@ fn input_of<W: World>(
     ensures given { IfOk result (λ _. HasGranted (opening (option_map (λ n. n.now) name.entry)) (W.seen world.old) (W.seen world.new)) }
     ensures asked { IfErr result (λ _. WasAsked (opening (option_map (λ n. n.now) name.entry)) (W.seen world.old) (W.seen world.new)) }
     ensures unread { IfErr result (λ fault. IsUnreadInput fault (W.seen world.old) (W.seen world.new)) }
-    ensures tells { W.tells world.new ≡ W.tells world.old }
+    ensures reports_outputs { W.reports_outputs world.new ≡ W.reports_outputs world.old }
 {
     match world.open(name) {
         Ok(input) => {
@@ -144,7 +144,7 @@ fn run_in<R: Threads + Wait + Sync, W: World>(
     world: W,
 ) -> ExitReport<W>
     requires countable { (W.seen world).failures < u64.MAX }
-    ensures { CreatesAndRuns W.seen request.now input.now (W.tells world) world result.rest (shown W.Output.seen result.rest)
+    ensures { CreatesAndRuns W.seen request.now input.now (W.reports_outputs world) world result.rest (shown W.Output.seen result.rest)
         (failures_in W.Output.seen result.rest) result.status result.line.items }
 {
     let name = name_of(&request.outfile);

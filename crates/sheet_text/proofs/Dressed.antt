@@ -45,14 +45,14 @@ counted plan sheets dress all s is of lt =
     omega (arith, n, m, lt)
 
 start_in : (d : code.SheetExtras) (n : ℕ) (all : List MadeSheet) (s : ℕ) (p : Paper) → slice_get (map (λ sheet. sheet.paper) all) s ≡ Some p
-    → report_lines_if d.tells_papers p ≡ (slice_index_or (from (dress_in d) n all) s no_sheet).start
+    → report_lines_if d.reports_papers p ≡ (slice_index_or (from (dress_in d) n all) s no_sheet).start
 start_in d n [] s p at = absurd (none-some p at)
-start_in d n (x ∷ all) zero p at = ap (report_lines_if d.tells_papers) (sym (same_Some x.paper p at))
+start_in d n (x ∷ all) zero p at = ap (report_lines_if d.reports_papers) (sym (same_Some x.paper p at))
 start_in d n (x ∷ all) (suc s) p at = start_in d (n + 1) all s p at
 
 -- the lines at its start
 pub start_at : (d : code.SheetExtras) (all : List MadeSheet) (s : ℕ) (p : Paper) → slice_get (map (λ sheet. sheet.paper) all) s ≡ Some p
-    → report_lines_if d.tells_papers p ≡ (slice_index_or (dressed_sheets (dress_in d) all) s no_sheet).start
+    → report_lines_if d.reports_papers p ≡ (slice_index_or (dressed_sheets (dress_in d) all) s no_sheet).start
 start_at d all s p at = start_in d 0 all s p at
 
 finish_in : (d : code.SheetExtras) (n : ℕ) (all : List MadeSheet) (i s : ℕ) → i < length all → s ≡ n + i

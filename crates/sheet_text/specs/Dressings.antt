@@ -21,6 +21,6 @@ with_numbers (Some n) lines s = lines ++ number_lines n s
 abbrev pub dress_in : code.SheetExtras → Dress
 dress_in d = record {
   header = d.header;
-  start = λ s paper. report_lines_if d.tells_papers paper;
+  start = λ s paper. report_lines_if d.reports_papers paper;
   finish = λ s paper. with_numbers d.numbers d.finish s;
 }

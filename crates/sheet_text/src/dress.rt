@@ -17,7 +17,7 @@ pub struct SheetExtras {
     /// The lines to add to the header.
     pub header: Lines,
     /// Whether each sheet has, after its `%%Page:` line, lines that report its paper and set the device's page size.
-    pub tells_papers: bool,
+    pub reports_papers: bool,
     /// The lines that every sheet has at its end, before its page numbers and its `showpage`.
     pub finish: Lines,
     /// The page numbers, which are drawn after the lines of `finish`. None if pages aren't numbered.
@@ -25,12 +25,12 @@ pub struct SheetExtras {
 }
 
 impl SheetExtras {
-    /// Appends the lines that report this paper at the start of a sheet. Appends nothing unless `tells_papers` is set. The only error is refused
+    /// Appends the lines that report this paper at the start of a sheet. Appends nothing unless `reports_papers` is set. The only error is refused
     /// memory.
     pub(crate) fn append_start(&self, paper: &Paper, text: &mut Rope<'_>) -> Result<(), AllocError>
-        ensures { OnOk result (text.new ≡ text.old ++ lines_text (report_lines_if self.now.tells_papers paper.now)) }
+        ensures { OnOk result (text.new ≡ text.old ++ lines_text (report_lines_if self.now.reports_papers paper.now)) }
     {
-        if self.tells_papers {
+        if self.reports_papers {
             append_paper_report(paper, text)?;
         }
         Ok(())

@@ -4,7 +4,7 @@ use Rattle.std.specs.Prelude.{if◌then◌else◌}
 use Rattle.std.proofs.lemmas.Bool.{ne_eqb}
 use Rattle.rules.specs.Output.{output}
 use Rattle.imposer.specs.Runs.{Accepted, frame_of}
-use Rattle.world.specs.Outputs.{OutputView, reported_bytes, spelled, told_if}
+use Rattle.world.specs.Outputs.{OutputView, reported_bytes, spelled, reported_if}
 use Rattle.world.specs.Rests.{shown}
 use Rattle.world.proofs.Naming.{spelled_bytes}
 use Rattle.world.specs.declared.output.WriteOutput.{WriteOutput}
@@ -58,7 +58,7 @@ same_bytes name name' bytes bytes' e =
 
 abbrev pub told_by : WriteOutput Written → OutputView
 told_by file = record {
-  bytes = told_if true (option_map string_bytes file.writer.name) file.writer.bytes.items;
+  bytes = reported_if true (option_map string_bytes file.writer.name) file.writer.bytes.items;
   has_taken = file.has_taken;
   failures = file.failures;
   cause = file.cause;

@@ -82,7 +82,7 @@ impl<'a> World for Folder<'a> {
 
     ghost terminal = { λ folder. Some folder.is_terminal };
 
-    ghost tells = { λ _. true };
+    ghost reports_outputs = { λ _. true };
 
     ghost seen = { λ folder. record {
       asked = accesses_in folder.trace;
@@ -115,7 +115,7 @@ impl<'a> World for Folder<'a> {
         ensures again { ⟦<Folder<'a> as World>⟧.gives self.new ≡ ⟦<Folder<'a> as World>⟧.gives self.old }
         ensures same { ⟦<Folder<'a> as World>⟧.same self.new ≡ ⟦<Folder<'a> as World>⟧.same self.old }
         ensures terminal { ⟦<Folder<'a> as World>⟧.terminal self.new ≡ ⟦<Folder<'a> as World>⟧.terminal self.old }
-        ensures tells { ⟦<Folder<'a> as World>⟧.tells self.new ≡ ⟦<Folder<'a> as World>⟧.tells self.old }
+        ensures reports_outputs { ⟦<Folder<'a> as World>⟧.reports_outputs self.new ≡ ⟦<Folder<'a> as World>⟧.reports_outputs self.old }
     {
         self.failures.close(source)
     }

@@ -1,6 +1,6 @@
 //! Outputs in memory, for tests.
 ghost use Rattle.std.specs.Prelude.{◌≡◌, IfOk, [], option_map, string_bytes, true};
-ghost use Rattle.world.specs.Outputs.{told_if};
+ghost use Rattle.world.specs.Outputs.{reported_if};
 
 use crate::trace::owned;
 use std::alloc::Global;
@@ -73,7 +73,7 @@ impl Written {
 }
 
 impl Write for Written {
-    ghost contents = { λ output. told_if true (option_map string_bytes output.name) output.bytes.items };
+    ghost contents = { λ output. reported_if true (option_map string_bytes output.name) output.bytes.items };
 
     fn write(&mut self, bytes: &[u8]) -> io::Result<usize> {
         let room = match self.takes {

@@ -5,7 +5,7 @@ use Rattle.std.specs.Io.KnownBytes.{Appends, Keeps, WriteAppends, append_known}
 use Rattle.std.proofs.lemmas.Bool.{false≢true, ne_eqb}
 use Rattle.std.proofs.lemmas.List.{length-append, length-take, take-take}
 use Rattle.std.proofs.Math.Seq.{take-append-add, take-append_seam}
-use Rattle.world.specs.Outputs.{IsFrontOf, reported_bytes, named, spelled, told_if}
+use Rattle.world.specs.Outputs.{IsFrontOf, reported_bytes, named, spelled, reported_if}
 
 some_same : (xs ys : List ℕ) → Some xs ≡ Some ys → xs ≡ ys
 some_same xs ys e = cc
@@ -48,7 +48,7 @@ if_same true xs ys e = (refl, some_same xs ys e)
 if_same false xs ys e = cc
 
 -- an output to which nothing was written
-pub named_fresh : (name : Option (List ℕ)) (tells : Bool) → named (told_if tells name []) ≡ told_if tells name []
+pub named_fresh : (name : Option (List ℕ)) (reports_outputs : Bool) → named (reported_if reports_outputs name []) ≡ reported_if reports_outputs name []
 named_fresh name false = refl
 named_fresh name true = if_true (is_some (reported_bytes (spelled name ++ []))) (spelled name ++ []) (ap is_some (spelled_bytes name []))
 

@@ -10,12 +10,12 @@ spelled None = 0 ∷ []
 spelled (Some name) = 1 ∷ (map (λ byte. byte + 1) name ++ 0 ∷ [])
 
 -- what an output of this name reports, after these bytes
-abbrev pub told_at : (name : Option (List ℕ)) → (bytes : List ℕ) → List ℕ
-told_at name bytes = spelled name ++ bytes
+abbrev pub reported_at : (name : Option (List ℕ)) → (bytes : List ℕ) → List ℕ
+reported_at name bytes = spelled name ++ bytes
 
 -- the same, if it reports anything
-abbrev pub told_if : (tells : Bool) → (name : Option (List ℕ)) → (bytes : List ℕ) → Option (List ℕ)
-told_if tells name bytes = if tells then Some (told_at name bytes) else None
+abbrev pub reported_if : (reports_outputs : Bool) → (name : Option (List ℕ)) → (bytes : List ℕ) → Option (List ℕ)
+reported_if reports_outputs name bytes = if reports_outputs then Some (reported_at name bytes) else None
 
 -- what is reported now is a first part of what was reported in all, if that is known
 abbrev pub IsFrontOf : (now all : Option (List ℕ)) → Type 0

@@ -85,7 +85,7 @@ impl<'a, R: Files> World for Host<'a, R> {
         ensures again { ⟦<Host<'a, R> as World>⟧.gives self.new ≡ ⟦<Host<'a, R> as World>⟧.gives self.old }
         ensures same { ⟦<Host<'a, R> as World>⟧.same self.new ≡ ⟦<Host<'a, R> as World>⟧.same self.old }
         ensures terminal { ⟦<Host<'a, R> as World>⟧.terminal self.new ≡ ⟦<Host<'a, R> as World>⟧.terminal self.old }
-        ensures tells { ⟦<Host<'a, R> as World>⟧.tells self.new ≡ ⟦<Host<'a, R> as World>⟧.tells self.old }
+        ensures reports_outputs { ⟦<Host<'a, R> as World>⟧.reports_outputs self.new ≡ ⟦<Host<'a, R> as World>⟧.reports_outputs self.old }
     {
         self.failures.close(source)
     }

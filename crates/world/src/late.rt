@@ -68,7 +68,7 @@ pub enum Fate<W, O> {
 }
 
 impl<'n, W: World, B: Before> Late<'n, W, B> {
-    ghost use Rattle.world.specs.Outputs.{fresh_output, told_if};
+    ghost use Rattle.world.specs.Outputs.{fresh_output, reported_if};
     ghost use Rattle.world.specs.Lates.{IsFate};
 
     /// Makes an output that isn't created yet. Its world is asked only when the first byte is to be written.
@@ -76,7 +76,7 @@ impl<'n, W: World, B: Before> Late<'n, W, B> {
         requires named { option_map (λ n. n.now) asked.name ≡ B.name }
         requires seen { W.seen asked.world ≡ B.seen }
         requires countable { B.seen.failures < u64.MAX }
-        ensures fresh { ⟦<Late<'n, W, B> as Output>⟧.seen result ≡ fresh_output (told_if (W.tells asked.entry.world) B.name []) }
+        ensures fresh { ⟦<Late<'n, W, B> as Output>⟧.seen result ≡ fresh_output (reported_if (W.reports_outputs asked.entry.world) B.name []) }
         ensures unfailed { (⟦<Late<'n, W, B> as Output>⟧.seen result).failures ≡ 0 }
     {
         let Asked { name, world } = asked;
@@ -91,7 +91,7 @@ impl<'n, W: World, B: Before> Late<'n, W, B> {
 
     /// Ends the use of the output, and returns the state in which it has ended.
     pub fn fate(self) -> Fate<W, W::Output>
-        ensures { IsFate W.tells W.seen W.Output.seen B.name B.seen (⟦<Late<'n, W, B> as Output>⟧.seen self.entry) result }
+        ensures { IsFate W.reports_outputs W.seen W.Output.seen B.name B.seen (⟦<Late<'n, W, B> as Output>⟧.seen self.entry) result }
     {
         let Late {
             name: _,
@@ -112,7 +112,7 @@ impl<'n, W: World, B: Before> Late<'n, W, B> {
 impl<'n, W: World, B: Before> Output for Late<'n, W, B> {
     ghost use Rattle.world.specs.Lates.{late_view};
 
-    ghost seen = { λ late. late_view W.tells W.Output.seen B.name late.denied late.waiting late.output };
+    ghost seen = { λ late. late_view W.reports_outputs W.Output.seen B.name late.denied late.waiting late.output };
 
     fn write(&mut self, bytes: &[u8]) -> io::Result<usize> {
         if let Some(denied) = &mut self.denied {

@@ -1,6 +1,6 @@
 //! Creates buffered outputs.
 ghost use Rattle.std.specs.Prelude.{◌≡◌, ◌<◌, [], option_map, IfOk, IfErr};
-ghost use Rattle.world.specs.Outputs.{told_if};
+ghost use Rattle.world.specs.Outputs.{reported_if};
 ghost use Rattle.world.specs.Creating.{IsUncreated};
 
 use crate::buffered::Buffered;
@@ -21,7 +21,7 @@ pub fn created<W: World>(
 ) -> Result<Buffered<W::Output>, Refused<W>>
     requires countable { (W.seen world).failures < u64.MAX }
     ensures told { IfOk result (λ sink. (⟦<Buffered<W::Output> as Sink>⟧.seen sink).bytes
-        ≡ told_if (W.tells world) (option_map (λ n. n.now) name.entry) []) }
+        ≡ reported_if (W.reports_outputs world) (option_map (λ n. n.now) name.entry) []) }
     ensures fresh { IfOk result (λ sink. (⟦<Buffered<W::Output> as Sink>⟧.seen sink).failures ≡ 0) }
     ensures refused { IfErr result (λ refused.
         IsUncreated W.seen (option_map (λ n. n.now) name.entry) world refused.world refused.cause) }

@@ -2,7 +2,7 @@
 ghost use Rattle.std.specs.Prelude.{◌≡◌, ◌+◌, ◌<◌, ◌≤◌, Bool, false, true, List, ℕ, None, Option, [], option_map, is_some};
 ghost use Rattle.std.specs.Prelude.{IfOk, IfErr, IfSome, MatchResult, OnOk};
 ghost use Rattle.std.specs.IoError.{error_kind};
-ghost use Rattle.world.specs.Outputs.{fresh_output, told_if};
+ghost use Rattle.world.specs.Outputs.{fresh_output, reported_if};
 ghost use Rattle.world.specs.Worlds.{HasGranted, HasRefused, WorldView, cause_of, creating, failures_of, opening};
 
 use crate::output::Output;
@@ -35,7 +35,7 @@ pub trait World: Sized + Drop {
     ghost terminal: { Self → Option Bool } = { λ _. None };
 
     // Whether its outputs report their names and the bytes written to them.
-    ghost tells: { Self → Bool } = { λ _. false };
+    ghost reports_outputs: { Self → Bool } = { λ _. false };
 
     // The calls made so far, the number of failures, and the kind of error of the last failure.
     ghost seen: { Self → WorldView };
@@ -52,7 +52,7 @@ pub trait World: Sized + Drop {
         ensures again { is_some name.entry ≡ true → gives self.new ≡ gives self.old }
         ensures same { same self.new ≡ same self.old }
         ensures terminal { terminal self.new ≡ terminal self.old }
-        ensures tells { tells self.new ≡ tells self.old };
+        ensures reports_outputs { reports_outputs self.new ≡ reports_outputs self.old };
 
     /// Closes an input, and adds its failures to those of the world. Returns the error of the input's last failure, or None if the input hasn't
     /// failed.
@@ -66,7 +66,7 @@ pub trait World: Sized + Drop {
         ensures again { gives self.new ≡ gives self.old }
         ensures same { same self.new ≡ same self.old }
         ensures terminal { terminal self.new ≡ terminal self.old }
-        ensures tells { tells self.new ≡ tells self.old };
+        ensures reports_outputs { reports_outputs self.new ≡ reports_outputs self.old };
 
     /// Whether there is a regular file of this name. A caller can check this first, since opening another kind of file may wait, and reading it may
     /// never end.
@@ -89,8 +89,8 @@ pub trait World: Sized + Drop {
     /// new output. A refusal is counted as a failure of the world.
     fn create(self, name: Option<&str>) -> Result<Self::Output, Refused<Self>>
         requires countable { (seen self).failures < u64.MAX }
-        ensures created { IfOk result (λ output. Self.Output.seen output ≡ fresh_output (told_if (tells self) (option_map (λ n. n.now) name.entry) [])) }
-        ensures kept { IfErr result (λ refused. tells refused.world ≡ tells self) }
+        ensures created { IfOk result (λ output. Self.Output.seen output ≡ fresh_output (reported_if (reports_outputs self) (option_map (λ n. n.now) name.entry) [])) }
+        ensures kept { IfErr result (λ refused. reports_outputs refused.world ≡ reports_outputs self) }
         ensures refused { IfErr result (λ refused.
             HasRefused (creating (option_map (λ n. n.now) name.entry)) (error_kind refused.cause) (seen self) (seen refused.world)) };
 }

@@ -17,7 +17,7 @@ const FEW: usize = 20;
 /// Prints the row that page ranges name, or the reason why they name none. `None` if the words aren't understood.
 pub fn named(out: &mut Answer, words: &[String]) -> Option<()> {
     let (pages, text) = (count(words, 1)?, word(words, 2)?);
-    told(out, read_row(out.alloc, pages, text.as_bytes()));
+    show(out, read_row(out.alloc, pages, text.as_bytes()));
     Some(())
 }
 
@@ -26,7 +26,7 @@ pub fn chosen(out: &mut Answer, words: &[String]) -> Option<()> {
     let pages = count(words, 1)?;
     let choice = choice_of(words.get(2..)?);
     if pages < TOO_MANY {
-        told(out, chosen_row(out.alloc, pages, &choice));
+        show(out, chosen_row(out.alloc, pages, &choice));
     } else {
         out.text("too many pages\n");
     }
@@ -52,11 +52,11 @@ fn signed(out: &mut Answer, pages: u32, choice: &Choice<'_>, signing: &str)
     let alloc = out.alloc;
     let sides = signing.parse::<u32>().unwrap_or(0);
     match signing {
-        "unsigned" => told(out, imposed_row(alloc, pages, choice, None)),
-        "in_one" => told(out, imposed_row(alloc, pages, choice, Some(Signing::InOne))),
-        "auto" => told(out, imposed_row(alloc, pages, choice, Some(Signing::Auto))),
+        "unsigned" => show(out, imposed_row(alloc, pages, choice, None)),
+        "in_one" => show(out, imposed_row(alloc, pages, choice, Some(Signing::InOne))),
+        "auto" => show(out, imposed_row(alloc, pages, choice, Some(Signing::Auto))),
         _ if are_sides(sides) => {
-            told(
+            show(
                 out,
                 imposed_row(alloc, pages, choice, Some(Signing::OfSides(sides))),
             )
@@ -100,7 +100,7 @@ pub fn sewn(out: &mut Answer, words: &[String]) -> Option<()> {
     let sides = count(words, 1)?;
     let row = entries(out.alloc, word(words, 2)?)?;
     if are_sides(sides) {
-        told(out, in_signatures(out.alloc, row.as_slice(), sides));
+        show(out, in_signatures(out.alloc, row.as_slice(), sides));
     } else {
         out.text("no sides of leaves\n");
     }
@@ -130,7 +130,7 @@ fn entry_of(word: &str) -> Option<(Option<u32>, u32)> {
 }
 
 /// Prints a row, or the reason why there is none.
-fn told<E: Display + Drop>(out: &mut Answer, answer: Result<Vec<Option<u32>>, E>) {
+fn show<E: Display + Drop>(out: &mut Answer, answer: Result<Vec<Option<u32>>, E>) {
     match answer {
         Ok(row) => row_line(out, row.as_slice()),
         Err(error) => out.line(error),

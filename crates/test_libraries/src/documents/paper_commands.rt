@@ -1,7 +1,7 @@
 //! Commands that find papers.
 use crate::answer::Answer;
 use crate::documents::paper_texts::{
-    counted, cutting, home_papers, instead_of, told, trailing_box, value_of_title,
+    counted, cutting, home_papers, instead_of, show_document_paper, trailing_box, value_of_title,
 };
 use crate::words::{Document, paper, text_of, word};
 
@@ -17,7 +17,7 @@ pub fn run(out: &mut Answer, words: &[String], documents: &[Document]) -> Option
 /// Runs a command on a document. `None` if no command has this name, or its words aren't understood.
 fn run_on(out: &mut Answer, words: &[String], text: &[u8]) -> Option<()> {
     match word(words, 0)? {
-        "paper" => told(out, text),
+        "paper" => show_document_paper(out, text),
         "page_papers" => return home_papers(out, text, paper(words, 2)),
         "papers_as_one" => return counted(out, text),
         "trailer_box" => trailing_box(out, text),

@@ -20,7 +20,7 @@ pub fn show_paper(out: &mut Answer, paper: &Paper) {
 
 /// Prints the paper that a document's comments or setup give, with a4 as the default paper, and the comment or setup that gives it. Prints `none` if
 /// none of these gives a paper.
-pub fn told(out: &mut Answer, text: &[u8]) {
+pub fn show_document_paper(out: &mut Answer, text: &[u8]) {
     match document_paper(text, &a4()) {
         Some((paper, comment)) => {
             show_paper(out, &paper);

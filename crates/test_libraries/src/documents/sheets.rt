@@ -22,7 +22,7 @@ pub fn on_their_own(out: &mut Answer, words: &[String]) -> Option<()> {
     let (pages, names) = pages_and_names(word(words, 2)?)?;
     let papers = papers_in_turn(out.alloc, pages, names)?;
     let row = row_of(out.alloc, pages, row)?;
-    told(
+    show(
         out,
         select(out.alloc, row.as_slice(), papers.as_slice(), &blank),
     );
@@ -48,7 +48,7 @@ pub fn by_specification(out: &mut Answer, words: &[String]) -> Option<()> {
         sheet: paper_by_name("a3")?,
         page: a4(),
     };
-    told(out, spec_sheets(out.alloc, &on));
+    show(out, spec_sheets(out.alloc, &on));
     Some(())
 }
 
@@ -76,7 +76,7 @@ fn row_of(alloc: Global, pages: u32, row: &str) -> Option<Vec<Option<u32>>> {
 }
 
 /// Prints sheets, or the reason why there are none.
-fn told<E: Display + Drop>(out: &mut Answer, made: Result<MadeSheets, E>) {
+fn show<E: Display + Drop>(out: &mut Answer, made: Result<MadeSheets, E>) {
     match made {
         Ok(made) => sheet_lines(out, &made),
         Err(refusal) => out.line(refusal),

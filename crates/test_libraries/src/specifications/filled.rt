@@ -57,19 +57,19 @@ fn filled(out: &mut Answer, words: &[String], papers: &[Paper]) -> Option<()> {
         "leaves" => leaf_sheets(alloc, &setting, papers, row),
         _ => return None,
     };
-    tell(out, made);
+    show(out, made);
     Some(())
 }
 
 /// Prints the pages of each sheet, or the reason why there are no sheets.
-fn tell(out: &mut Answer, made: Result<MadeSheets, ArrangementError>) {
+fn show(out: &mut Answer, made: Result<MadeSheets, ArrangementError>) {
     match made {
-        Ok(made) => tell_sheets(out, &made),
+        Ok(made) => show_sheets(out, &made),
         Err(error) => out.refusal(error),
     }
 }
 
-fn tell_sheets(out: &mut Answer, made: &MadeSheets) {
+fn show_sheets(out: &mut Answer, made: &MadeSheets) {
     match Plan::of_sheets(out.alloc, 8, made) {
         Ok(plan) => page_lists(out, &plan),
         Err(error) => out.refusal(error),
@@ -113,7 +113,7 @@ fn two_tiles() -> Poster
 
 /// The poster of `two_tiles`. If three numbers come after the page's paper, they replace its number of columns, its margin and its overlap. Margin
 /// and overlap are in 10^-5 of a point. `None` if one of the three isn't a number in range.
-fn told(words: &[String]) -> Option<Poster> {
+fn poster_of(words: &[String]) -> Option<Poster> {
     let mut poster = two_tiles();
     if word(words, 2).is_some() {
         poster.columns = count(words, 2)?;
@@ -124,7 +124,7 @@ fn told(words: &[String]) -> Option<Poster> {
 }
 
 fn poster(out: &mut Answer, words: &[String]) -> Option<()> {
-    let poster = told(words)?;
+    let poster = poster_of(words)?;
     let page = paper(words, 1)?;
     if word(words, 0)? == "check_poster" {
         match check_poster(&poster, &page) {

@@ -27,25 +27,25 @@ pub fn run(out: &mut Answer, words: &[String]) -> Option<()> {
 fn pages_on_sheets(out: &mut Answer, words: &[String]) -> Option<()> {
     let cells = Cells::AtLeast(count(words, 1)?);
     let made = arrange(out.alloc, &papers(words)?, &Arrangement::plain(cells));
-    tell(out, made)
+    show(out, made)
 }
 
 fn leaves(out: &mut Answer, words: &[String]) -> Option<()> {
     let binding = Binding::plain(word(words, 1)? == "long");
     let made = bind(out.alloc, &papers(words)?, &binding);
-    tell(out, made)
+    show(out, made)
 }
 
 fn cells_of_a4(out: &mut Answer, words: &[String]) -> Option<()> {
     match arrangement(words) {
-        Some(asked) => tell(out, arrange(out.alloc, &on_a4(), &asked)),
+        Some(asked) => show(out, arrange(out.alloc, &on_a4(), &asked)),
         None => None,
     }
 }
 
 fn leaves_of_a4(out: &mut Answer, words: &[String]) -> Option<()> {
     match binding(words) {
-        Some(asked) => tell(out, bind(out.alloc, &on_a4(), &asked)),
+        Some(asked) => show(out, bind(out.alloc, &on_a4(), &asked)),
         None => None,
     }
 }
@@ -59,7 +59,7 @@ fn papers(words: &[String]) -> Option<Papers> {
 }
 
 /// Prints a specification, or the reason why there is none. Returns `Some` in both cases.
-fn tell<E: Debug + Display + Drop>(out: &mut Answer, made: Result<Spec, E>) -> Option<()> {
+fn show<E: Debug + Display + Drop>(out: &mut Answer, made: Result<Spec, E>) -> Option<()> {
     match made {
         Ok(spec) => written(out, &spec),
         Err(error) => out.refusal(error),

@@ -26,7 +26,7 @@ fn booklet_plan(out: &mut Answer, words: &[String]) -> Option<()> {
     let row = row(out.alloc, words.get(2..)?)?;
     let made = grid_sheets(out.alloc, &setting, &[], 2, row.as_slice());
     let sides = Sides::Both { flip: Edge::Short };
-    tell(out, made, &reading(sides, &setting), most);
+    show(out, made, &reading(sides, &setting), most);
     Some(())
 }
 
@@ -37,7 +37,7 @@ fn grid_plan(out: &mut Answer, words: &[String]) -> Option<()> {
     let papers = [a4(), paper(words, 2)?, a4()];
     let row = row(out.alloc, words.get(3..)?)?;
     let made = grid_sheets(out.alloc, &setting, &papers, 2, row.as_slice());
-    tell(out, made, &reading(Sides::One, &setting), most);
+    show(out, made, &reading(Sides::One, &setting), most);
     Some(())
 }
 
@@ -50,7 +50,7 @@ fn reading(sides: Sides, setting: &Setting) -> Reading {
 }
 
 /// Prints the list of sheets, with at most `most` lines for sheets or leaves, or the reason why there are none.
-fn tell(
+fn show(
     out: &mut Answer,
     made: Result<MadeSheets, ArrangementError>,
     reading: &Reading,

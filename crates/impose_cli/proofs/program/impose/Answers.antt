@@ -11,11 +11,11 @@ returns-in-Ok g c =
     let attempt = c.carry_out-attempt.result in
     let foreign = c.finds_foreign-is_foreign.result in
     let found = c.finds_foreign-is_foreign.new.world in
-    let edge = edge_of_world (g.W.World.tells c.args.world) g.W.World.seen g.W.Output.Output.seen in
+    let edge = edge_of_world (g.W.World.reports_outputs c.args.world) g.W.World.seen g.W.Output.Output.seen in
     let carried = at_home g.W.World.seen c.at_home-request.result (g.W.World.gives c.args.world) _ (g.W.World.same c.args.world) _ (g.W.World.terminal c.args.world) _ foreign edge _ attempt.outcome found attempt.rest
     (shown g.W.Output.Output.seen attempt.rest) (c.finds_foreign-is_foreign.ensures.again ∙ c.home_of.ensures.again) (c.finds_foreign-is_foreign.ensures.same ∙ c.home_of.ensures.same)
     (c.finds_foreign-is_foreign.ensures.terminal ∙ c.home_of.ensures.terminal)
-    (ap (λ t. edge_of_world t g.W.World.seen g.W.Output.Output.seen) (c.finds_foreign-is_foreign.ensures.tells ∙ c.home_of.ensures.tells)) c.carry_out-attempt.ensures in record {
+    (ap (λ t. edge_of_world t g.W.World.seen g.W.Output.Output.seen) (c.finds_foreign-is_foreign.ensures.reports_outputs ∙ c.home_of.ensures.reports_outputs)) c.carry_out-attempt.ensures in record {
       ended = (
         entered_at_home (map string_bytes c.args.words.now) c.in-Ok.read c.at_home-request.result c.home_of.result c.at_home-request.ensures c.in-Ok.ensures.read,
         c.home_of.new.world,

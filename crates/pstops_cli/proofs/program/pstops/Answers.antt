@@ -10,7 +10,7 @@ returns-in-Ok-clause-ended g c =
       c.in-Ok.ensures.read,
       c.read.new.world,
       c.in-Ok.ensures.given,
-      rw c.as_slice.ensures.value at rw c.read.ensures.tells at c.run_in.ensures,
+      rw c.as_slice.ensures.value at rw c.read.ensures.reports_outputs at c.run_in.ensures,
     )
 
 pub returns-in-Ok-clause-finished : goal.returns-in-Ok-clause-finished
@@ -18,5 +18,5 @@ returns-in-Ok-clause-finished g c zero = (
   c.in-Ok.request,
   c.in-Ok.input.items,
   c.in-Ok.ensures.read,
-  carries_out g.W.World.seen c.in-Ok.request c.in-Ok.input.items _ c.read.new.world _ _ _ _ _ zero (rw c.as_slice.ensures.value at rw c.read.ensures.tells at c.run_in.ensures),
+  carries_out g.W.World.seen c.in-Ok.request c.in-Ok.input.items _ c.read.new.world _ _ _ _ _ zero (rw c.as_slice.ensures.value at rw c.read.ensures.reports_outputs at c.run_in.ensures),
 )

@@ -95,7 +95,7 @@ fn lines<R: Abort>(rt: &R, alloc: Global) -> SheetExtras {
     done(rt, finish.push(b"% end"));
     SheetExtras {
         header,
-        tells_papers: true,
+        reports_papers: true,
         finish,
         numbers: None,
     }
