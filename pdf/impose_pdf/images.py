@@ -68,8 +68,8 @@ def png(pdf: Pdf, image: Any, data: bytes) -> Any:
     """The image of a PNG. One that is seen through, or isn't in rows, is compressed anew."""
     bits, colours, is_laced = data[24], data[25], data[28]
     if colours in (4, 6) or is_laced or "transparency" in image.info:
-        if image.mode == "I":  # 16 bits of grey
-            image = image.point(lambda value: value * (1 / 256)).convert("L")
+        if image.mode.startswith("I"):  # 16 bits of grey, which later versions of Pillow call I;16
+            image = image.convert("I").point(lambda value: value * (1 / 256)).convert("L")
         pixels = image.convert("RGBA")
         mask = stream(pdf, image.size, zlib.compress(pixels.getchannel("A").tobytes()), Name.DeviceGray)
         colour = zlib.compress(pixels.convert("RGB").tobytes())
