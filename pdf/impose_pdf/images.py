@@ -17,17 +17,16 @@ COMPONENTS = {"L": 1, "RGB": 3, "CMYK": 4}
 SPACES = {1: (Name.DeviceGray, b"GRAY"), 3: (Name.DeviceRGB, b"RGB "), 4: (Name.DeviceCMYK, b"CMYK")}
 TURNS = {3: 180, 4: 180, 5: 270, 6: 90, 7: 90, 8: 270}  # by the orientation of a photograph
 MIRRORED = {2, 4, 5, 7}  # orientations that are mirrored first
+MOST_DECODED = 1 << 28  # pixels, of which each takes eight bytes then
 Image.MAX_IMAGE_PIXELS = None  # most images aren't decoded
 
 
 def pdf_of(data: bytes) -> Pdf:
     """A PDF whose page is an image."""
     image, pdf = Image.open(io.BytesIO(data), formats=("JPEG", "PNG")), Pdf.new()
-    with suppress(struct.error, SyntaxError):  # of broken EXIF data, which Pillow tells once, and takes for none then
-        image.getexif()
+    orientation = exif_of(image).get(0x112) or 0
     form = jpeg(pdf, image, data) if data.startswith(JPEG) else png(pdf, image, data)
     width, height = (pixels * 72 / (float(per_inch) or 96) for pixels, per_inch in zip(image.size, dots_of(image)))
-    orientation = image.getexif().get(0x112) or 0
     right = width if orientation in MIRRORED else 0
     contents = pdf.make_stream(f"{numerals(width - 2 * right, 0, 0, height, right, 0)} cm /I Do".encode())
     resources = Dictionary(XObject=Dictionary(I=form))
@@ -35,6 +34,20 @@ def pdf_of(data: bytes) -> Pdf:
     page.Rotate = TURNS.get(orientation, 0)
     pdf.pages.append(Page(pdf.make_indirect(page)))
     return pdf
+
+
+def is_vast(image: Any) -> bool:
+    """Whether an image has more pixels than may be decoded."""
+    return bool(image.width * image.height > MOST_DECODED)
+
+
+def exif_of(image: Any) -> Any:
+    """The EXIF data of an image. Pillow decodes a PNG to find them, so a vast one has none."""
+    if image.format == "PNG" and is_vast(image):
+        return {}
+    with suppress(struct.error, SyntaxError):  # of broken EXIF data, which Pillow tells once, and takes for none then
+        image.getexif()
+    return image.getexif()
 
 
 def dots_of(image: Any) -> tuple[float, float]:
@@ -67,7 +80,10 @@ def jpeg(pdf: Pdf, image: Any, data: bytes) -> Any:
 def png(pdf: Pdf, image: Any, data: bytes) -> Any:
     """The image of a PNG. One that is seen through, or isn't in rows, is compressed anew."""
     bits, colours, is_laced = data[24], data[25], data[28]
-    if colours in (4, 6) or is_laced or "transparency" in image.info:
+    is_decoded = colours in (4, 6) or is_laced or "transparency" in image.info
+    if is_vast(image) and (is_decoded or colours == 3):
+        raise ValueError("it is too large to be decoded")
+    if is_decoded:
         if image.mode.startswith("I"):  # 16 bits of grey, which later versions of Pillow call I;16
             image = image.convert("I").point(lambda value: value * (1 / 256)).convert("L")
         pixels = image.convert("RGBA")
