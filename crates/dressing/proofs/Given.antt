@@ -4,11 +4,11 @@ use Rattle.std.specs.Prelude.{if◌then◌else◌, nat_lt, Option, Some, None}
 use Rattle.std.proofs.lemmas.Bool.{lt-ltb}
 use Rattle.rules.specs.Papers.{Paper}
 use Rattle.rules.specs.Dress.{Dress}
-use Rattle.papers.specs.Told.{box_line, box_lines, exact_box_line, is_in_whole_points, whole_paper, medium_line, size_name, telling_of}
+use Rattle.papers.specs.Reported.{box_line, box_lines, exact_box_line, is_in_whole_points, whole_paper, medium_line, size_name, reporting_of}
 use Rattle.sheet_text.specs.Dressings.{report_lines_if, with_numbers}
 use Rattle.sheet_text.specs.declared.numbers.Numbers.{Numbers}
 use Rattle.dressing.specs.Drawn.{mark_lines}
-use Rattle.dressing.specs.Numbered.{NoMarksAreTelling, drawn_on}
+use Rattle.dressing.specs.Numbered.{NoMarksAddNothing, drawn_on}
 use Rattle.dressing.specs.declared.strokes.Stroke.{Stroke}
 
 -- a medium after the first
@@ -36,14 +36,14 @@ several [] = false
 several (p ∷ []) = false
 several (p ∷ q ∷ ps) = true
 
-are_several : (told : List Paper) → nat_lt 1 (length told) ≡ several told
+are_several : (reported : List Paper) → nat_lt 1 (length reported) ≡ several reported
 are_several [] = refl
 are_several (p ∷ []) = refl
 are_several (p ∷ q ∷ ps) = lt-ltb 1 (length (p ∷ q ∷ ps)) (omega arith)
 
 -- with what is drawn
-dressed : (told : List Paper) (strokes : List Stroke) (numbers : Option Numbers)
-    → kept (telling_of told).header (several told) (mark_lines strokes) numbers ≡ drawn_on (record { strokes = strokes; numbers = numbers }) (telling_of told)
+dressed : (reported : List Paper) (strokes : List Stroke) (numbers : Option Numbers)
+    → kept (reporting_of reported).header (several reported) (mark_lines strokes) numbers ≡ drawn_on (record { strokes = strokes; numbers = numbers }) (reporting_of reported)
 dressed [] strokes None = refl
 dressed [] strokes (Some n) = refl
 dressed (p ∷ []) strokes None = refl
@@ -51,15 +51,15 @@ dressed (p ∷ []) strokes (Some n) = refl
 dressed (p ∷ q ∷ ps) strokes None = refl
 dressed (p ∷ q ∷ ps) strokes (Some n) = refl
 
-pub drawn : (told : List Paper) (strokes : List Stroke) (numbers : Option Numbers) (header finish : List (List ℕ)) → header ≡ (telling_of told).header → finish ≡ mark_lines strokes
-    → kept header (nat_lt 1 (length told)) finish numbers ≡ drawn_on (record { strokes = strokes; numbers = numbers }) (telling_of told)
-drawn told strokes numbers header finish is_header is_finish =
-    ap (λ (h : List (List ℕ)). kept h (nat_lt 1 (length told)) finish numbers) is_header
-    ∙ ap (λ (b : Bool). kept (telling_of told).header b finish numbers) (are_several told)
-    ∙ ap (λ (f : List (List ℕ)). kept (telling_of told).header (several told) f numbers) is_finish
-    ∙ dressed told strokes numbers
+pub drawn : (reported : List Paper) (strokes : List Stroke) (numbers : Option Numbers) (header finish : List (List ℕ)) → header ≡ (reporting_of reported).header → finish ≡ mark_lines strokes
+    → kept header (nat_lt 1 (length reported)) finish numbers ≡ drawn_on (record { strokes = strokes; numbers = numbers }) (reporting_of reported)
+drawn reported strokes numbers header finish is_header is_finish =
+    ap (λ (h : List (List ℕ)). kept h (nat_lt 1 (length reported)) finish numbers) is_header
+    ∙ ap (λ (b : Bool). kept (reporting_of reported).header b finish numbers) (are_several reported)
+    ∙ ap (λ (f : List (List ℕ)). kept (reporting_of reported).header (several reported) f numbers) is_finish
+    ∙ dressed reported strokes numbers
 
-pub no_marks_are_telling : NoMarksAreTelling
-no_marks_are_telling [] = refl
-no_marks_are_telling (p ∷ []) = refl
-no_marks_are_telling (p ∷ q ∷ ps) = refl
+pub no_marks_add_nothing : NoMarksAddNothing
+no_marks_add_nothing [] = refl
+no_marks_add_nothing (p ∷ []) = refl
+no_marks_add_nothing (p ∷ q ∷ ps) = refl

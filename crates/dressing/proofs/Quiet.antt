@@ -16,7 +16,7 @@ use Rattle.imposed_again.specs.MadeAgain.{AreTame, IsTameDress}
 use Rattle.papers.specs.Comments.{is_in_head}
 use Rattle.papers.specs.Found.{AreQuiet, as_printed}
 use Rattle.papers.specs.Own.{papers_of_each_page}
-use Rattle.papers.specs.Told.{papers_told, telling_of}
+use Rattle.papers.specs.Reported.{papers_reported, reporting_of}
 use Rattle.papers.proofs.Found.{papers_are_found}
 use Rattle.papers.proofs.OutputHeads.{content_is}
 use Rattle.dressing.specs.Numbered.{Drawn, drawn_on}
@@ -27,15 +27,15 @@ use Rattle.dressing.proofs.Tame.{drawn_is_tame, number}
 abbrev drawn_by : List Stroke → Option Numbers → Drawn
 drawn_by strokes numbers = record { strokes = strokes; numbers = numbers }
 
-same_dress : (strokes : List Stroke) (numbers : Option Numbers) (told : List Paper)
-    → drawn_on (drawn_by strokes numbers) (telling_of told)
-    ≡ record { header = (telling_of told).header; start = (telling_of told).start; finish = drawing_lines (drawn_by strokes numbers) }
+same_dress : (strokes : List Stroke) (numbers : Option Numbers) (reported : List Paper)
+    → drawn_on (drawn_by strokes numbers) (reporting_of reported)
+    ≡ record { header = (reporting_of reported).header; start = (reporting_of reported).start; finish = drawing_lines (drawn_by strokes numbers) }
 same_dress strokes None [] = refl
 same_dress strokes None (p ∷ []) = refl
-same_dress strokes None (p ∷ q ∷ told) = refl
+same_dress strokes None (p ∷ q ∷ reported) = refl
 same_dress strokes (Some n) [] = refl
 same_dress strokes (Some n) (p ∷ []) = refl
-same_dress strokes (Some n) (p ∷ q ∷ told) = refl
+same_dress strokes (Some n) (p ∷ q ∷ reported) = refl
 
 -- what follows the lines of a sheet
 abbrev closed : List (List ℕ) → List ℕ
@@ -67,7 +67,7 @@ quiet : (drawn : Drawn) → AreQuiet (drawing_lines drawn)
 quiet drawn = record { tame = tame_lines drawn.strokes drawn.numbers; no_head = no_head drawn.strokes drawn.numbers }
 
 pub drawn_is_quiet : DrawnIsQuiet
-drawn_is_quiet drawn all = (same_dress drawn.strokes drawn.numbers (papers_told (map (λ sheet. sheet.paper) all)), quiet drawn)
+drawn_is_quiet drawn all = (same_dress drawn.strokes drawn.numbers (papers_reported (map (λ sheet. sheet.paper) all)), quiet drawn)
 
 pub drawn_are_found : DrawnAreFound
 drawn_are_found named home border drawn all text us tellable d shut some few =

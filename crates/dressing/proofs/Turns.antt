@@ -10,9 +10,9 @@ use Rattle.std.proofs.lemmas.Bool.Decides.{Decides-int_eq}
 use Rattle.std.proofs.lemmas.List.Folds.{list_any-append}
 use Rattle.std.proofs.lemmas.Option.{slice_get_within, get_or_from_slice_get}
 use Rattle.rules.specs.Papers.{Paper}
-use Rattle.papers.specs.Told.{different_from, in_print, is_told_alike}
+use Rattle.papers.specs.Reported.{different_from, in_print, is_reported_alike}
 use Rattle.dressing.specs.Sizes.{AreSizesOf, size_of, size_order, with_paper}
-use Rattle.dressing.specs.declared.told.Size.{Size}
+use Rattle.dressing.specs.declared.reported.Size.{Size}
 
 -- the entry that is next
 pub next : {A : Type 0} (xs : List A) (i : ℕ) (x : A) → slice_get xs i ≡ Some x → drop i xs ≡ x ∷ drop (i + 1) xs
@@ -26,10 +26,10 @@ turned true f xs ys = refl
 turned false f xs ys = refl
 
 -- one paper more
-pub paper_more : (all told : List Paper) (s : ℕ) (p : Paper) → slice_get all s ≡ Some p → different_from told (drop s all) ≡ different_from (with_paper told p) (drop (s + 1) all)
-paper_more all told s p is =
-    ap (different_from told) (next all s p is)
-    ∙ turned (list_any (is_told_alike p) told) (λ found. different_from found (drop (s + 1) all)) told (told ++ p ∷ [])
+pub paper_more : (all reported : List Paper) (s : ℕ) (p : Paper) → slice_get all s ≡ Some p → different_from reported (drop s all) ≡ different_from (with_paper reported p) (drop (s + 1) all)
+paper_more all reported s p is =
+    ap (different_from reported) (next all s p is)
+    ∙ turned (list_any (is_reported_alike p) reported) (λ found. different_from found (drop (s + 1) all)) reported (reported ++ p ∷ [])
 
 chosen : (b : Bool) (x y : List Paper) → b ≡ true → (if b then x else y) ≡ x
 chosen true x y e = refl
@@ -55,7 +55,7 @@ swapped a b =
     by_each (int_eq a b) (int_eq b a) (λ e. (Decides-int_eq b a).1 (sym ((Decides-int_eq a b).0 e))) (λ e. (Decides-int_eq a b).1 (sym ((Decides-int_eq b a).0 e)))
 
 -- papers that are reported alike have equal sizes
-same_order : (p q : Paper) → is_at (size_order (size_of q)) (size_of p) ≡ is_told_alike p q
+same_order : (p q : Paper) → is_at (size_order (size_of q)) (size_of p) ≡ is_reported_alike p q
 same_order p q =
     let wide : int_eq (in_print q.width) (in_print p.width) ≡ int_eq (in_print p.width) (in_print q.width) = swapped (in_print q.width) (in_print p.width) in
     let high : int_eq (in_print q.height) (in_print p.height) ≡ int_eq (in_print p.height) (in_print q.height) = swapped (in_print q.height) (in_print p.height) in
@@ -69,21 +69,21 @@ one_more true false = refl
 one_more false true = refl
 one_more false false = refl
 
-pub sizes_more : (told : List Paper) (q : Paper) (old new : BTreeSet Size) (z : Size) → z ≡ size_of q → AreSizesOf told old → Updates size_order old new z true → AreSizesOf (told ++ q ∷ []) new
-sizes_more told q old new z is so_far updated p =
+pub sizes_more : (reported : List Paper) (q : Paper) (old new : BTreeSet Size) (z : Size) → z ≡ size_of q → AreSizesOf reported old → Updates size_order old new z true → AreSizesOf (reported ++ q ∷ []) new
+sizes_more reported q old new z is so_far updated p =
     let here = subst (λ (k : Size). contains size_order new (size_of p) ≡ cond (is_at (size_order k) (size_of p)) true (contains size_order old (size_of p))) is (updated.0 (size_of p)) in
     here
     ∙ (ap (λ t. cond t true (contains size_order old (size_of p))) (same_order p q)
-    ∙ (ap (λ c. cond (is_told_alike p q) true c) (so_far p)
-    ∙ (one_more (is_told_alike p q) (list_any (is_told_alike p) told)
-    ∙ sym (list_any-append (is_told_alike p) told (q ∷ [])))))
+    ∙ (ap (λ c. cond (is_reported_alike p q) true c) (so_far p)
+    ∙ (one_more (is_reported_alike p q) (list_any (is_reported_alike p) reported)
+    ∙ sym (list_any-append (is_reported_alike p) reported (q ∷ [])))))
 
-known : (told : List Paper) (p : Paper) (sizes : BTreeSet Size) (z : Size) (b : Bool) → b ≡ contains size_order sizes z → z ≡ size_of p → AreSizesOf told sizes → list_any (is_told_alike p) told ≡ b
-known told p sizes z b is of all = sym (is ∙ (ap (λ k. contains size_order sizes k) of ∙ all p))
+known : (reported : List Paper) (p : Paper) (sizes : BTreeSet Size) (z : Size) (b : Bool) → b ≡ contains size_order sizes z → z ≡ size_of p → AreSizesOf reported sizes → list_any (is_reported_alike p) reported ≡ b
+known reported p sizes z b is of all = sym (is ∙ (ap (λ k. contains size_order sizes k) of ∙ all p))
 
 -- a paper whose size is among theirs is reported already, and another isn't
-pub told_already : (told : List Paper) (p : Paper) (sizes : BTreeSet Size) (z : Size) (b : Bool) → b ≡ contains size_order sizes z → z ≡ size_of p → AreSizesOf told sizes → b ≡ true → with_paper told p ≡ told
-told_already told p sizes z b is of all e = chosen (list_any (is_told_alike p) told) told (told ++ p ∷ []) (known told p sizes z b is of all ∙ e)
+pub told_already : (reported : List Paper) (p : Paper) (sizes : BTreeSet Size) (z : Size) (b : Bool) → b ≡ contains size_order sizes z → z ≡ size_of p → AreSizesOf reported sizes → b ≡ true → with_paper reported p ≡ reported
+told_already reported p sizes z b is of all e = chosen (list_any (is_reported_alike p) reported) reported (reported ++ p ∷ []) (known reported p sizes z b is of all ∙ e)
 
-pub not_told_yet : (told : List Paper) (p : Paper) (sizes : BTreeSet Size) (z : Size) (b : Bool) → b ≡ contains size_order sizes z → z ≡ size_of p → AreSizesOf told sizes → b ≡ false → with_paper told p ≡ told ++ p ∷ []
-not_told_yet told p sizes z b is of all e = other (list_any (is_told_alike p) told) told (told ++ p ∷ []) (known told p sizes z b is of all ∙ e)
+pub not_told_yet : (reported : List Paper) (p : Paper) (sizes : BTreeSet Size) (z : Size) (b : Bool) → b ≡ contains size_order sizes z → z ≡ size_of p → AreSizesOf reported sizes → b ≡ false → with_paper reported p ≡ reported ++ p ∷ []
+not_told_yet reported p sizes z b is of all e = other (list_any (is_reported_alike p) reported) reported (reported ++ p ∷ []) (known reported p sizes z b is of all ∙ e)

@@ -4,7 +4,7 @@ use Rattle.rules.specs.Papers.{Paper}
 use Rattle.rules.specs.Dress.{Dress}
 use Rattle.sheet_text.specs.PageNumbers.{number_lines}
 use Rattle.sheet_text.specs.declared.numbers.Numbers.{Numbers}
-use Rattle.papers.specs.Told.{telling_of}
+use Rattle.papers.specs.Reported.{reporting_of}
 use Rattle.dressing.specs.Drawn.{strokes_added}
 use Rattle.dressing.specs.declared.strokes.Stroke.{Stroke}
 
@@ -29,5 +29,5 @@ abbrev pub drawn_on : Drawn → Dress → Dress
 drawn_on drawn dress = with_page_numbers drawn.numbers (strokes_added drawn.strokes dress)
 
 -- if nothing is drawn the lines are those that report papers, and no others: a law
-abbrev pub NoMarksAreTelling : Type 0
-NoMarksAreTelling = (told : List Paper) → drawn_on nothing_drawn (telling_of told) ≡ telling_of told
+abbrev pub NoMarksAddNothing : Type 0
+NoMarksAddNothing = (reported : List Paper) → drawn_on nothing_drawn (reporting_of reported) ≡ reporting_of reported

@@ -6,8 +6,8 @@ use Rattle.std.specs.declared.cmp.Ordering.{Ordering}
 use Rattle.std.specs.Ordering.{int_cmp, ordering_then}
 use Rattle.rules.specs.Papers.{Paper}
 use Rattle.rules.specs.Made.{MadeSheet}
-use Rattle.papers.specs.Told.{in_print, is_told_alike}
-use Rattle.dressing.specs.declared.told.Size.{Size}
+use Rattle.papers.specs.Reported.{in_print, is_reported_alike}
+use Rattle.dressing.specs.declared.reported.Size.{Size}
 
 -- the papers of sheets
 abbrev pub papers_of : List MadeSheet → List Paper
@@ -23,8 +23,8 @@ size_order a b = ordering_then (int_cmp a.width b.width) (int_cmp a.height b.hei
 
 -- a set has the sizes of these papers, and no others
 abbrev pub AreSizesOf : List Paper → BTreeSet Size → Type 0
-AreSizesOf told sizes = (p : Paper) → contains size_order sizes (size_of p) ≡ list_any (is_told_alike p) told
+AreSizesOf reported sizes = (p : Paper) → contains size_order sizes (size_of p) ≡ list_any (is_reported_alike p) reported
 
 -- a paper after these, if it is reported otherwise than each of them
 abbrev pub with_paper : List Paper → Paper → List Paper
-with_paper told p = if list_any (is_told_alike p) told then told else told ++ p ∷ []
+with_paper reported p = if list_any (is_reported_alike p) reported then reported else reported ++ p ∷ []

@@ -1,11 +1,11 @@
 //! The lines that report papers and draw marks and page numbers.
 ghost use Rattle.std.specs.Prelude.{◌≡◌, IfOk};
-ghost use Rattle.papers.specs.Told.{telling};
+ghost use Rattle.papers.specs.Reported.{reporting};
 ghost use Rattle.sheet_text.specs.Dressings.{dress_in};
 ghost use Rattle.dressing.specs.Numbered.{drawn_on};
 
 use crate::paper_lines::header_lines;
-use crate::told::reported_papers;
+use crate::reported::reported_papers;
 use crate::{Stroke, mark_lines};
 use sheet_plan::MadeSheets;
 use sheet_text::{Numbers, SheetExtras};
@@ -20,10 +20,10 @@ pub fn dress_of(
     numbers: Option<Numbers>,
 ) -> Result<SheetExtras, AllocError>
     ensures { IfOk result (λ dress. dress_in dress
-        ≡ drawn_on (record { strokes = strokes.now; numbers = numbers }) (telling sheets.now)) }
+        ≡ drawn_on (record { strokes = strokes.now; numbers = numbers }) (reporting sheets.now)) }
 {
-    let told = reported_papers(alloc, sheets)?;
-    let papers = told.as_slice();
+    let reported = reported_papers(alloc, sheets)?;
+    let papers = reported.as_slice();
     Ok(SheetExtras {
         header: header_lines(alloc, papers)?,
         reports_papers: papers.len() > 1,

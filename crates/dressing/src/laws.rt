@@ -2,7 +2,7 @@
 ghost use Rattle.dressing.specs.Between.{FoldMarksAreOnFold, MarksAreBetween};
 ghost use Rattle.dressing.specs.Laws.{DrawnIsTame, LinesAreBeside, LinesAreInCell, MarksAreInMargin, MarksAreOutside, MarksMissPages, PiecesAreLike};
 ghost use Rattle.dressing.specs.AtFoot.{NumbersAreAtFoot};
-ghost use Rattle.dressing.specs.Numbered.{NoMarksAreTelling};
+ghost use Rattle.dressing.specs.Numbered.{NoMarksAddNothing};
 ghost use Rattle.dressing.specs.Quiet.{DrawnAreFound, DrawnIsQuiet};
 
 /// If a sheet is cut along all lines that run in one direction, the pieces between neighbouring lines are equally wide. The margin before the first
@@ -70,6 +70,6 @@ pub fn drawn_are_found()
 {}
 
 /// If nothing is drawn, sheets have only the lines that report their papers.
-pub fn no_marks_are_telling()
-    ensures { NoMarksAreTelling }
+pub fn no_marks_add_nothing()
+    ensures { NoMarksAddNothing }
 {}

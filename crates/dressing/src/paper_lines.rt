@@ -3,21 +3,21 @@ ghost use Rattle.std.specs.Prelude.{◌≡◌, ◌++◌, ◌∷◌, [], codes, f
 ghost use Rattle.papers.specs.Own.{smallest_cover as covering_paper};
 ghost use Rattle.rules.specs.Numbers.{points_text};
 ghost use Rattle.rules.specs.Papers.{is_side};
-ghost use Rattle.papers.specs.Told.{box_line, box_lines, exact_box_line, is_in_whole_points as whole, whole_paper, whole_up as up_to_whole};
-ghost use Rattle.papers.specs.Told.{medium_line, medium_text, one_header};
-ghost use Rattle.papers.specs.Told.{several_header, size_name, size_text, telling_of};
+ghost use Rattle.papers.specs.Reported.{box_line, box_lines, exact_box_line, is_in_whole_points as whole, whole_paper, whole_up as up_to_whole};
+ghost use Rattle.papers.specs.Reported.{medium_line, medium_text, one_header};
+ghost use Rattle.papers.specs.Reported.{several_header, size_name, size_text, reporting_of};
 
-use crate::told::printed_parts;
+use crate::reported::printed_parts;
 use lengths::{Grains, Paper, print_grains, print_points};
 use papers::smallest_cover;
 use sheet_text::Lines;
 use std::alloc::{AllocError, Global};
 
 /// The header lines that report these papers: a bounding box that covers them all, and a medium for each paper. Without papers there are no lines.
-pub(crate) fn header_lines(alloc: Global, told: &[Paper]) -> Result<Lines, AllocError>
-    ensures { IfOk result (λ lines. lines ≡ (telling_of told.now).header) }
+pub(crate) fn header_lines(alloc: Global, reported: &[Paper]) -> Result<Lines, AllocError>
+    ensures { IfOk result (λ lines. lines ≡ (reporting_of reported.now).header) }
 {
-    match told {
+    match reported {
         [] => Ok(Lines::new(alloc)),
         [paper] => lines_of_one_paper(alloc, paper),
         [first, others @ ..] => several_papers(alloc, first, others),

@@ -14,19 +14,19 @@ use Rattle.dsc.specs.Views.{block_fault}
 use Rattle.dsc.specs.declared.errors.DscError.{DscError}
 use Rattle.dsc.specs.declared.errors.DscError.TheVariants as fault
 
-abbrev pub block_fault_told : CutError → Option FaultyBlock
-block_fault_told (cut_fault.Faulty b) = Some (faulty_block b.at (block_fault b.fault))
-block_fault_told cut_fault.NoMemory = None
+abbrev pub reported_block_fault : CutError → Option FaultyBlock
+reported_block_fault (cut_fault.Faulty b) = Some (faulty_block b.at (block_fault b.fault))
+reported_block_fault cut_fault.NoMemory = None
 
 -- out of memory reports no fault
-abbrev pub fault_told : DscError → Option DocumentFault
-fault_told fault.TooLong = Some InputTooLong
-fault_told fault.NotPostScript = Some NotPostScript
-fault_told (fault.BadCount at) = Some (BadBlock (faulty_block at block.BadCount))
-fault_told (fault.ShortData at) = Some (BadBlock (faulty_block at block.ShortData))
-fault_told fault.TooManyPages = Some InputTooManyPages
-fault_told fault.NoPages = Some NoPages
-fault_told fault.NoMemory = None
+abbrev pub reported_fault : DscError → Option DocumentFault
+reported_fault fault.TooLong = Some InputTooLong
+reported_fault fault.NotPostScript = Some NotPostScript
+reported_fault (fault.BadCount at) = Some (BadBlock (faulty_block at block.BadCount))
+reported_fault (fault.ShortData at) = Some (BadBlock (faulty_block at block.ShortData))
+reported_fault fault.TooManyPages = Some InputTooManyPages
+reported_fault fault.NoPages = Some NoPages
+reported_fault fault.NoMemory = None
 
 abbrev pub refusal_at : ℕ → UnitError → DscError
 refusal_at at unit_fault.BadCount = fault.BadCount at
@@ -42,10 +42,10 @@ PassedFirstChecks fault.NoMemory text = (length text ≤ most_input_bytes) × (s
 PassedFirstChecks other text = Unit {0}
 
 -- how a page is refused: with its first faulty block, or because memory ran out
-abbrev pub page_fault_told : DscError → Option FaultyBlock
-page_fault_told (fault.BadCount at) = Some (faulty_block at block.BadCount)
-page_fault_told (fault.ShortData at) = Some (faulty_block at block.ShortData)
-page_fault_told other = None
+abbrev pub reported_page_fault : DscError → Option FaultyBlock
+reported_page_fault (fault.BadCount at) = Some (faulty_block at block.BadCount)
+reported_page_fault (fault.ShortData at) = Some (faulty_block at block.ShortData)
+reported_page_fault other = None
 
 abbrev pub IsPageError : DscError → Type 0
 IsPageError (fault.BadCount at) = Unit {0}

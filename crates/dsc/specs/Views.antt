@@ -23,10 +23,10 @@ block_fault fault.ShortData = block.ShortData
 
 -- a reader that needs no memory returns the result of reading
 abbrev pub ReadsAs : {X Y E F : Type 0} → (X → Y) → (E → F) → Result X E → Result Y F → Type 0
-ReadsAs view told (Ok x) read = read ≡ Ok (view x)
-ReadsAs view told (Err e) read = read ≡ Err (told e)
+ReadsAs view refusal (Ok x) read = read ≡ Ok (view x)
+ReadsAs view refusal (Err e) read = read ≡ Err (refusal e)
 
 -- the same, if memory may run out: an error that reports no fault says nothing of the text
 abbrev pub GivesUnlessShort : {X Y E F : Type 0} → (X → Y) → (E → Option F) → Result X E → Result Y F → Type 0
-GivesUnlessShort view told (Ok x) read = read ≡ Ok (view x)
-GivesUnlessShort view told (Err e) read = IfSome (told e) (λ f. read ≡ Err f)
+GivesUnlessShort view refusal (Ok x) read = read ≡ Ok (view x)
+GivesUnlessShort view refusal (Err e) read = IfSome (refusal e) (λ f. read ≡ Err f)

@@ -3,7 +3,7 @@
 ghost use Rattle.std.specs.Prelude.{◌≡◌, ◌++◌, IfOk, IfErr, IfSome};
 ghost use Rattle.rules.specs.Filters.{ended, prepared};
 ghost use Rattle.dsc.specs.Views.{GivesUnlessShort};
-ghost use Rattle.dsc.specs.Faults.{block_fault_told, page_fault_told, IsPageError};
+ghost use Rattle.dsc.specs.Faults.{reported_block_fault, reported_page_fault, IsPageError};
 ghost use Rattle.dsc.specs.Laws.{HasBody};
 ghost use Rattle.dsc.specs.declared.errors.DscError.TheVariants.{NoMemory};
 
@@ -44,7 +44,7 @@ impl<'d> Body<'d> {
     /// Refuses the first faulty data block of the page, with `BadCount` or `ShortData`. A page of a document has no
     /// faulty block. Without enough memory the error is `NoMemory`.
     pub fn prepare(alloc: Global, page: &'d [u8]) -> Result<Body<'d>, DscError>
-        ensures answer { GivesUnlessShort (λ b. b) page_fault_told result (prepared page.now) }
+        ensures answer { GivesUnlessShort (λ b. b) reported_page_fault result (prepared page.now) }
         ensures refusals { IfErr result IsPageError }
         ensures memory_alone { HasBody page.now → IfErr result (λ e. e ≡ NoMemory) }
     {
@@ -75,7 +75,7 @@ impl<'d> Body<'d> {
 /// Prepares the body of a page, as `Body::prepare` does. If the page has a faulty data block, the error contains the
 /// first one.
 fn cut_body<'d>(alloc: Global, page: &'d [u8]) -> Result<Body<'d>, CutError>
-    ensures { GivesUnlessShort (λ b. b) block_fault_told result (prepared page.now) }
+    ensures { GivesUnlessShort (λ b. b) reported_block_fault result (prepared page.now) }
 {
     let kept = filter(Vec::new(alloc), Drops::PageSetup, page)?;
     let body = body_of(alloc, kept)?;

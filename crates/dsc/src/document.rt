@@ -8,7 +8,7 @@ ghost use Rattle.rules.specs.Dress.{lines_text};
 ghost use Rattle.rules.specs.MadeOutput.{dressed_preamble};
 ghost use Rattle.dsc.specs.Units.{units_of};
 ghost use Rattle.dsc.specs.Views.{GivesUnlessShort};
-ghost use Rattle.dsc.specs.Faults.{fault_told, PassedFirstChecks};
+ghost use Rattle.dsc.specs.Faults.{reported_fault, PassedFirstChecks};
 ghost use Rattle.dsc.specs.Laws.{HasBody};
 ghost use Rattle.dsc.specs.PagesAfter.{pages_after};
 ghost use Rattle.dsc.specs.Serving.{ArePartsOf, Serve};
@@ -66,7 +66,7 @@ impl<'d> Document<'d> {
     /// `ShortData` (for the first faulty data block), `TooManyPages`, `NoPages`. If memory is refused, `NoMemory` may
     /// be returned instead of any error but the first two.
     pub fn read(alloc: Global, text: &'d [u8]) -> Result<Document<'d>, DscError>
-        ensures answer { GivesUnlessShort (λ d. d) fault_told result (document_of text.now) }
+        ensures answer { GivesUnlessShort (λ d. d) reported_fault result (document_of text.now) }
         ensures first_checks { IfErr result (λ e. PassedFirstChecks e text.now) }
     {
         if text.len() > MOST_BYTES {
@@ -96,7 +96,7 @@ impl<'d> Document<'d> {
     /// the first page on. Refuses only a text that is too long, with `TooLong`.
     pub fn from_parts(text: &'d [u8], parts: Parts) -> Result<Document<'d>, DscError>
         requires serve { Serve parts text.now }
-        ensures answer { GivesUnlessShort (λ d. d) fault_told result (document_of text.now) }
+        ensures answer { GivesUnlessShort (λ d. d) reported_fault result (document_of text.now) }
         ensures too_long { IfErr result (λ e. e ≡ TooLong) }
     {
         let len = text.len();

@@ -9,7 +9,7 @@ ghost use Rattle.rules.specs.Dress.{lines_text};
 ghost use Rattle.rules.specs.MadeOutput.{drops_with};
 ghost use Rattle.dsc.specs.Units.{or_none, units_of};
 ghost use Rattle.dsc.specs.Views.{unit_of, at_depth, GivesUnlessShort};
-ghost use Rattle.dsc.specs.Faults.{block_fault_told, page_fault_told, IsPageError};
+ghost use Rattle.dsc.specs.Faults.{reported_block_fault, reported_page_fault, IsPageError};
 ghost use Rattle.dsc.specs.Laws.{HasBody};
 ghost use Rattle.dsc.specs.declared.errors.DscError.TheVariants.{NoMemory};
 ghost use Rattle.dsc.specs.Filters.{drops_of, is_dropped, filter_on};
@@ -168,7 +168,7 @@ pub(crate) fn filter<'d>(
     drops: Drops,
     text: &'d [u8],
 ) -> Result<Kept<'d>, CutError>
-    ensures { GivesUnlessShort (λ k. (k.copied.items ++ k.held.now) ++ k.run.now) block_fault_told result
+    ensures { GivesUnlessShort (λ k. (k.copied.items ++ k.held.now) ++ k.run.now) reported_block_fault result
         (filter_on drops copied.items false 0 0 text.now) }
 {
     let mut kept = Kept {
@@ -266,7 +266,7 @@ pub fn end_line(kept: &mut Vec<u8>) -> Result<(), AllocError>
 /// Refuses the first faulty data block of the page, with `BadCount` or `ShortData`. A page of a document has no faulty
 /// block. Without enough memory the error is `NoMemory`.
 pub fn prepare(alloc: Global, page: &[u8]) -> Result<Vec<u8>, DscError>
-    ensures answer { GivesUnlessShort (λ v. v.items) page_fault_told result (prepared page.now) }
+    ensures answer { GivesUnlessShort (λ v. v.items) reported_page_fault result (prepared page.now) }
     ensures refusals { IfErr result IsPageError }
     ensures memory_alone { HasBody page.now → IfErr result (λ e. e ≡ NoMemory) }
 {
@@ -277,7 +277,7 @@ pub fn prepare(alloc: Global, page: &[u8]) -> Result<Vec<u8>, DscError>
 /// Prepares the body of a page, as `prepare` does. If the page has a faulty data block, the error contains the first
 /// one.
 fn prepared_body(alloc: Global, page: &[u8]) -> Result<Vec<u8>, CutError>
-    ensures { GivesUnlessShort (λ v. v.items) block_fault_told result (prepared page.now) }
+    ensures { GivesUnlessShort (λ v. v.items) reported_block_fault result (prepared page.now) }
 {
     let room = Vec::with_capacity(alloc, page.len() + 1)?;
     let kept = filter(room, Drops::PageSetup, page)?;

@@ -2,7 +2,7 @@
 ghost use Rattle.std.specs.Prelude.{◌≡◌, ◌+◌, ◌<◌, ◌≤◌, [], length, OnOk, IfOk, None};
 ghost use Rattle.rules.specs.Run.{most_input_bytes};
 ghost use Rattle.dsc.specs.Views.{GivesUnlessShort, unit_of, at_depth};
-ghost use Rattle.dsc.specs.Faults.{block_fault_told};
+ghost use Rattle.dsc.specs.Faults.{reported_block_fault};
 ghost use Rattle.dsc.specs.Filters.{is_dropped};
 ghost use Rattle.dsc.specs.BodyStarts.{AreBodyStarts, noted};
 ghost use Rattle.dsc.specs.declared.filters.Drops.TheVariants.{PageSetup};
@@ -62,7 +62,7 @@ impl PageStarts {
 /// found, bodies are no longer looked for. Refuses the text's first faulty data block.
 pub(crate) fn scan(alloc: Global, text: &[u8]) -> Result<(PageStarts, Vec<u32>), CutError>
     requires { length text.now ≤ most_input_bytes }
-    ensures marks { GivesUnlessShort (λ s. marks_on MOST_STARTS s.0.starts.items s.0.stop (length text.now) []) block_fault_told
+    ensures marks { GivesUnlessShort (λ s. marks_on MOST_STARTS s.0.starts.items s.0.stop (length text.now) []) reported_block_fault
         result (scan_on MOST_STARTS [] None 0 0 text.now) }
     ensures bodies { IfOk result (λ s. length s.0.starts.items < MOST_STARTS
         → AreBodyStarts (units_of text.now) s.1.items) }

@@ -5,13 +5,13 @@ use Rattle.handover.specs.Pages.{PreparedPage}
 use Rattle.handover.specs.Naming.{pages_in}
 use Rattle.handover.specs.declared.entry.Entry.{Entry}
 
--- the page has its number and its bytes from the document that this row names
+-- the page has the bytes that the document named by this row has for its number, and none if that document has no such page
 abbrev pub IsPageOfRow : List ℕ → PreparedPage → Type 0
 IsPageOfRow row page = page.raw ≡ slice_index_or (pages_in row) page.page []
 
 -- the rule of a shelf's entries: a page that was put as one of the document that the shelf's tag names is one
-abbrev pub IsToldTruly : List ℕ → Entry → Type 0
-IsToldTruly row entry = IsTrue entry.is_own → IsPageOfRow row entry.page
+abbrev pub IsRightlyOwn : List ℕ → Entry → Type 0
+IsRightlyOwn row entry = IsTrue entry.is_own → IsPageOfRow row entry.page
 
 -- what a clause sees of the token of an entry: the index, the page, whether it was put as one of the document's own, and where the
 -- shelf keeps it

@@ -18,9 +18,9 @@ pub struct Entry<'d> {
 pub struct OwnFlagIsTrue;
 
 impl<'d> Keeps<Entry<'d>> for OwnFlagIsTrue {
-    ghost use Rattle.handover.specs.Entries.{IsToldTruly};
+    ghost use Rattle.handover.specs.Entries.{IsRightlyOwn};
 
-    ghost holds = { λ tag _ entry. IsToldTruly tag entry };
+    ghost holds = { λ tag _ entry. IsRightlyOwn tag entry };
 }
 
 /// The way in which the tag of a shelf names the shelf's document: by the bytes of the document's pages.

@@ -3,7 +3,7 @@ ghost use Rattle.std.specs.Prelude.{◌≡◌, ◌<◌, [], length, slice_index_
 ghost use Rattle.rules.specs.Parts.{pages};
 ghost use Rattle.rules.specs.Filters.{prepared};
 ghost use Rattle.dsc.specs.Views.{GivesUnlessShort};
-ghost use Rattle.dsc.specs.Faults.{page_fault_told, IsPageError};
+ghost use Rattle.dsc.specs.Faults.{reported_page_fault, IsPageError};
 ghost use Rattle.dsc.specs.Laws.{HasBody};
 ghost use Rattle.dsc.specs.declared.errors.DscError.TheVariants.{NoMemory};
 
@@ -59,7 +59,7 @@ impl<'d> Prepared<'d> {
     /// Refuses the first faulty data block of `raw`, with `BadCount` or `ShortData`. A page of an accepted document has
     /// no faulty block. If memory is refused, the error is `NoMemory`.
     pub fn new(alloc: Global, page: u32, raw: &'d [u8]) -> Result<Prepared<'d>, DscError>
-        ensures answer { GivesUnlessShort (λ p. p.body) page_fault_told result (prepared raw.now) }
+        ensures answer { GivesUnlessShort (λ p. p.body) reported_page_fault result (prepared raw.now) }
         ensures page { IfOk result (λ p. (p.page ≡ page) × (p.raw ≡ raw.now)) }
         ensures refusals { IfErr result IsPageError }
         ensures memory_alone { HasBody raw.now → IfErr result (λ e. e ≡ NoMemory) }

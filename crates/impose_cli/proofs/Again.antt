@@ -10,8 +10,8 @@ use Rattle.rules.specs.Made.{MadeSheet}
 use Rattle.rules.specs.MadePlans.{MadeTooManyPages, MadeTooManySheets, made_plan_of}
 use Rattle.imposed_again.proofs.Again.{imposed_again, trailer_shuts}
 use Rattle.imposed_again.proofs.MadeAgain.{made_is_document}
-use Rattle.papers.specs.Told.{telling}
-use Rattle.papers.proofs.Tame.{telling_is_tame}
+use Rattle.papers.specs.Reported.{reporting}
+use Rattle.papers.proofs.Tame.{reporting_is_tame}
 use Rattle.rules.specs.Dress.{Dress}
 use Rattle.dressing.specs.Numbered.{drawn_on}
 use Rattle.dressing.proofs.Tame.{drawn_is_tame}
@@ -55,7 +55,7 @@ few_sheets pages all e =
     ltb-false _ _ (passes (nat_lt most_sheets (length all)) MadeTooManySheets _ all first.1).0
 
 abbrev dress_on : {r : ImposeRequest} {input : List ℕ} {old new : Option (List ℕ)} {done : Finished} → FinishesRow r input old new done → Dress
-dress_on h = drawn_on (drawn_of h.job) (telling h.imposes.made)
+dress_on h = drawn_on (drawn_of h.job) (reporting h.imposes.made)
 
 row_again : (r : ImposeRequest) (input old text : List ℕ) (done : Finished) (h : FinishesRow r input (Some old) (Some (old ++ text)) done)
     → length (output_on h.job h.imposes.made) ≤ most_input_bytes → 0 < length h.imposes.made
@@ -64,7 +64,7 @@ row_again r input old text done h l some =
     let taken = text_for r h.job.papers.now done.findings.page_paper input in
     let made = h.imposes.made in
     let us = h.job.document.now in
-    let i = made_is_document (border_on h.job) (dress_on h) made taken us (drawn_is_tame (drawn_of h.job) (telling made) (telling_is_tame made)) h.is_job.document some (few_sheets _ made h.imposes.planned.planned) l in
+    let i = made_is_document (border_on h.job) (dress_on h) made taken us (drawn_is_tame (drawn_of h.job) (reporting made) (reporting_is_tame made)) h.is_job.document some (few_sheets _ made h.imposes.planned.planned) l in
     record {
       accepted = i.0;
       again = i.1;

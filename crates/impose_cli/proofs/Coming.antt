@@ -23,9 +23,9 @@ use Rattle.rules.specs.Made.{MadeSheet}
 use Rattle.rules.specs.Dress.{Dress}
 use Rattle.rules.specs.MadeOutput.{made_output}
 use Rattle.rules.specs.MadePlans.{made_layout}
-use Rattle.papers.specs.Told.{telling}
+use Rattle.papers.specs.Reported.{reporting}
 use Rattle.dressing.specs.Numbered.{Drawn, drawn_on}
-use Rattle.row_runs.specs.SheetsRuns.{told_output}
+use Rattle.row_runs.specs.SheetsRuns.{reporting_output}
 use Rattle.sheet_plan.specs.OfSheets.{made_plan}
 use Rattle.sheet_plan.specs.Places.{born_complete}
 use Rattle.imposer.specs.Gathering.{ReportsOf}
@@ -78,7 +78,7 @@ comes_reported R R' W W' findings scales name reports_outputs (Err f) world rest
 -- the report on them, if they are so many pages' and each sheet has the lines that report its paper
 report_told : (j : JobView) (plan : Plan) (n : ℕ) (border : Option Border) (drawn : Drawn) (all : List MadeSheet) (us : List NestedUnit) (report : Report)
     → j.plan ≡ plan → plan ≡ made_plan n all → layout plan ≡ made_layout n all → n ≡ length (pages us)
-    → output_of j ≡ told_output border drawn all us → ReportsOf j report → ReportsOn border drawn all us report
+    → output_of j ≡ reporting_output border drawn all us → ReportsOf j report → ReportsOn border drawn all us report
 report_told j plan n border drawn all us report of planned laid count out told = record {
   page_count = told.page_count ∙ ap (λ (p : Plan). p.pages) (of ∙ planned) ∙ count;
   sheet_count = told.sheet_count ∙ ap (λ (p : Plan). length p.sheets) (of ∙ planned) ∙ length-map all _;
@@ -90,11 +90,11 @@ report_told j plan n border drawn all us report of planned laid count out told =
 -- what comes of their job comes of them
 pub made_comes : {V O : Type 0} (R : ImposeFault → Type 0) (W : (old new : Option (List ℕ)) → Report → Type 0) (j : JobView) (plan : Plan) (n : ℕ) (border : Option Border) (dress : Dress) (drawn : Drawn) (all : List MadeSheet) (us : List NestedUnit)
     (name : Option (List ℕ)) (reports_outputs : Edge V O) (outcome : Result Report ImposeFault) (world : V) (rest : Rest V O) (written : Option (List ℕ))
-    → j.plan ≡ plan → plan ≡ made_plan n all → layout plan ≡ made_layout n all → n ≡ length (pages us) → output_of j ≡ made_output border dress all us → dress ≡ drawn_on drawn (telling all)
-    → ((old new : Option (List ℕ)) (report : Report) → Appends old new (told_output border drawn all us) → ReportsOn border drawn all us report → W old new report)
+    → j.plan ≡ plan → plan ≡ made_plan n all → layout plan ≡ made_layout n all → n ≡ length (pages us) → output_of j ≡ made_output border dress all us → dress ≡ drawn_on drawn (reporting all)
+    → ((old new : Option (List ℕ)) (report : Report) → Appends old new (reporting_output border drawn all us) → ReportsOn border drawn all us report → W old new report)
     → Comes (λ f. ⊥) (WritesJob j) name reports_outputs outcome world rest written → Comes R W name reports_outputs outcome world rest written
 made_comes R W j plan n border dress drawn all us name reports_outputs outcome world rest written of planned laid count output dressed wrote h =
-    let out : output_of j ≡ told_output border drawn all us = output ∙ ap (λ (d : Dress). made_output border d all us) dressed in
+    let out : output_of j ≡ reporting_output border drawn all us = output ∙ ap (λ (d : Dress). made_output border d all us) dressed in
     comes_as (λ f. ⊥) R (WritesJob j) W name reports_outputs outcome world rest written (λ f none. absurd none)
     (λ old new report done. wrote old new report (subst (Appends old new) out done.0) (report_told j plan n border drawn all us report of planned laid count out done.1)) h
 

@@ -14,7 +14,7 @@ use Rattle.impose_messages.specs.declared.finished.PaperOrigin.{PaperOrigin}
 use Rattle.impose_words.specs.declared.request.ImposeRequest.{ImposeRequest}
 use Rattle.impose_cli.specs.Tasks.{HasPageCount, is_said, page_paper_found}
 use Rattle.impose_words.specs.SheetPapers.{sheet_paper_for}
-use Rattle.impose_cli.specs.RowTasks.{ArePapersOf, IsRowPaper, TellsOnePaper, has_specification, is_of_one_paper, papers_in, row_paper}
+use Rattle.impose_cli.specs.RowTasks.{ArePapersOf, IsRowPaper, DecidesOnePaper, has_specification, is_of_one_paper, papers_in, row_paper}
 use Rattle.impose_cli.specs.Refusals.{HasNoFault, HasOnePaper, HasOtherPapers, RefusesDocument, RefusesFor, RefusesTask, are_alike, fault_unless, why_no_task, why_not_specified}
 
 same_units : (us vs : List NestedUnit) → ◌≡◌ {A = Result (List NestedUnit) DocumentFault} (Ok us) (Ok vs) → us ≡ vs
@@ -23,7 +23,7 @@ same_units us vs e = cc
 -- what was found of papers tells it
 pub tells_one : (r : ImposeRequest) (input : List ℕ) (found : Paper × PaperOrigin) (papers : List Paper) (paper : Paper) (is : Bool)
     → IsRowPaper r input found → ArePapersOf r input papers → is ≡ (is_same found.0 paper && list_all (is_same paper) papers)
-    → TellsOnePaper r input paper is
+    → DecidesOnePaper r input paper is
 tells_one r input found papers paper is row own e =
     let units : own.0 ≡ row.0 = same_units own.0 row.0 (sym own.1 ∙ row.1) in (
       row.0,
@@ -56,7 +56,7 @@ abbrev pub of_papers : ImposeRequest → (input : List ℕ) → List NestedUnit 
 of_papers r input us = fault_unless (are_alike r input us (paper_in r input)) fault.SeveralPapers (placed_in r input)
 
 -- what is said of papers is said of the units of the document
-told_of : (r : ImposeRequest) (input : List ℕ) (us : List NestedUnit) (paper : Paper) (is : Bool) → document_of input ≡ Ok us → TellsOnePaper r input paper is → is_of_one_paper r input us paper ≡ is
+told_of : (r : ImposeRequest) (input : List ℕ) (us : List NestedUnit) (paper : Paper) (is : Bool) → document_of input ≡ Ok us → DecidesOnePaper r input paper is → is_of_one_paper r input us paper ≡ is
 told_of r input us paper is read told =
     sym (told.2 ∙ ap (λ vs. is_of_one_paper r input vs paper) (same_units told.0 us (sym told.1 ∙ read)))
 

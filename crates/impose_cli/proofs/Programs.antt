@@ -7,10 +7,10 @@ use Rattle.world.specs.Outputs.{OutputView, fresh_output, reported_if}
 use Rattle.impose_cli.specs.Endings.{AfterWrite, Edge, IsSaidOf, IsUncreatedFault, RunsRequest, has_output, shown}
 use Rattle.imposer.specs.declared.outcome.RunError.TheVariants as run
 use Rattle.world.specs.Worlds.{WorldView}
-use Rattle.impose_cli.specs.Looks.{MayBeMade, TellsRow}
+use Rattle.impose_cli.specs.Looks.{MayBeMade, IsRowText}
 use Rattle.impose_words.specs.Products.{lays_rows}
 use Rattle.impose_cli.specs.Fronts.{FindsForeign, Inputs, RegularFiles, SameFiles}
-use Rattle.impose_cli.specs.Programs.{BreaksAt, CarriesOut, FailsToWrite, HasGiven, IsCreatedFor, IsReadOf, IsReading, MakesProduct, MayReadInput, Prints, RefusesUnopened, ShowsSheets, Writes}
+use Rattle.impose_cli.specs.Programs.{BreaksAt, EndsRequest, FailsToWrite, HasGiven, IsCreatedFor, IsReadOf, FailsToRead, MakesProduct, MayReadInput, Prints, RefusesUnopened, ShowsSheets, Writes}
 use Rattle.impose_cli.specs.RowTasks.{LaysRows}
 use Rattle.rules.specs.Papers.{Paper}
 use Rattle.impose_words.specs.Words.{Entered, MakesBy, ReadsRequest}
@@ -34,8 +34,8 @@ use Rattle.impose_cli.specs.declared.task.Task.{Task}
 -- nothing was created: the request is refused unread, or the input can't be read
 pub stopped_before : {V O : Type 0} (seen : V → WorldView) (r : ImposeRequest) (gives : Inputs) (same : SameFiles) (terminal : Option Bool) (foreign : Bool) (reports_outputs : Edge V O) (f : ImposeFault) (outcome : Result Done ImposeFault)
     (world left : V) (rest : Rest V O) (written : Option (List ℕ)) → outcome ≡ Err f → rest ≡ World left
-    → (RefusesUnopened same terminal foreign r f × (left ≡ world)) ⊎ (MayReadInput same terminal foreign r × IsReading (option_map string_bytes r.infile) (seen world) (seen left) f)
-    → CarriesOut seen r gives same terminal foreign reports_outputs outcome world rest written
+    → (RefusesUnopened same terminal foreign r f × (left ≡ world)) ⊎ (MayReadInput same terminal foreign r × FailsToRead (option_map string_bytes r.infile) (seen world) (seen left) f)
+    → EndsRequest seen r gives same terminal foreign reports_outputs outcome world rest written
 stopped_before seen r gives same terminal foreign reports_outputs f outcome world left rest written told none why = inl (f, left, told, none, why)
 
 -- the input was read, and what is asked for was made of it
@@ -43,7 +43,7 @@ pub took : {V O : Type 0} (seen : V → WorldView) (r : ImposeRequest) (gives : 
     (outcome : Result Done ImposeFault) (world read : V) (rest : Rest V O) (written : Option (List ℕ))
     → name ≡ option_map string_bytes r.infile → IsReadOf (gives name) input → HasGiven name (seen world) (seen read)
     → MayReadInput files terminal foreign r → told ≡ reports_outputs → MakesProduct r.product r input told outcome read rest written
-    → CarriesOut seen r gives files terminal foreign reports_outputs outcome world rest written
+    → EndsRequest seen r gives files terminal foreign reports_outputs outcome world rest written
 took seen r gives files terminal foreign reports_outputs told input name outcome world read rest written named first given possible same taken =
     inr (
       input,
@@ -57,12 +57,12 @@ took seen r gives files terminal foreign reports_outputs told input name outcome
 -- the request was carried out in the world that was asked for the paper at home and for OUTFILE, which is as it was else
 pub at_home : {V O : Type 0} (seen : V → WorldView) (r : ImposeRequest) (gives given : Inputs) (files known : SameFiles) (terminal found : Option Bool) (foreign : Bool) (reports_outputs told : Edge V O) (outcome : Result Done ImposeFault)
     (world : V) (rest : Rest V O) (written : Option (List ℕ)) → given ≡ gives → known ≡ files → found ≡ terminal → told ≡ reports_outputs
-    → CarriesOut seen r given known found foreign told outcome world rest written → CarriesOut seen r gives files terminal foreign reports_outputs outcome world rest written
+    → EndsRequest seen r given known found foreign told outcome world rest written → EndsRequest seen r gives files terminal foreign reports_outputs outcome world rest written
 at_home seen r gives given files known terminal found foreign reports_outputs told outcome world rest written same_gives same_files same_terminal same_tells h =
-    subst (λ t. CarriesOut seen r gives files terminal foreign t outcome world rest written) same_tells
-    (subst (λ o. CarriesOut seen r gives files o foreign told outcome world rest written) same_terminal
-    (subst (λ k. CarriesOut seen r gives k found foreign told outcome world rest written) same_files
-    (subst (λ g. CarriesOut seen r g known found foreign told outcome world rest written) same_gives h)))
+    subst (λ t. EndsRequest seen r gives files terminal foreign t outcome world rest written) same_tells
+    (subst (λ o. EndsRequest seen r gives files o foreign told outcome world rest written) same_terminal
+    (subst (λ k. EndsRequest seen r gives k found foreign told outcome world rest written) same_files
+    (subst (λ g. EndsRequest seen r g known found foreign told outcome world rest written) same_gives h)))
 
 -- OUTFILE was looked at in a world that gives the same
 pub found_at_home : (r : ImposeRequest) (gives given : Inputs) (regular : RegularFiles) (same known : SameFiles) (old new : WorldView) (foreign : Bool) → given ≡ gives → known ≡ same
@@ -112,7 +112,7 @@ printed r input reports_outputs task lines outcome world rest written is is_task
 
 -- the plan or the picture was written to the output of that name
 pub shown_whole : {V O : Type 0} (l : Overview) (name : Option (List ℕ)) (r : ImposeRequest) (input : List ℕ) (reports_outputs : Edge V O) (text : List ℕ)
-    (outcome : Result Done ImposeFault) (world : V) (rest : Rest V O) (written : Option (List ℕ)) → TellsRow r input l text
+    (outcome : Result Done ImposeFault) (world : V) (rest : Rest V O) (written : Option (List ℕ)) → IsRowText r input l text
     → Writes name text done.Shown reports_outputs outcome world rest written → ShowsSheets l name r input reports_outputs outcome world rest written
 shown_whole l name r input reports_outputs text (Ok what) world rest written told h =
     subst (λ d. ShowsSheets l name r input reports_outputs (Ok d) world rest written) (sym h.0) (text, told, h.1, h.2)
@@ -186,7 +186,7 @@ made_created (product.Picture file) r input reports_outputs f world rest written
   | inr some ↦ text_created (option_map string_bytes file) some.0 reports_outputs f world rest written some.2
 ]
 
-pub created_for : {V O : Type 0} (seen : V → WorldView) (r : ImposeRequest) (gives : Inputs) (same : SameFiles) (terminal : Option Bool) (foreign : Bool) (reports_outputs : Edge V O) (outcome : Result Done ImposeFault) (world : V) (rest : Rest V O) (written : Option (List ℕ)) → CarriesOut seen r gives same terminal foreign reports_outputs outcome world rest written → IsCreatedFor outcome rest
+pub created_for : {V O : Type 0} (seen : V → WorldView) (r : ImposeRequest) (gives : Inputs) (same : SameFiles) (terminal : Option Bool) (foreign : Bool) (reports_outputs : Edge V O) (outcome : Result Done ImposeFault) (world : V) (rest : Rest V O) (written : Option (List ℕ)) → EndsRequest seen r gives same terminal foreign reports_outputs outcome world rest written → IsCreatedFor outcome rest
 created_for seen r gives same terminal foreign reports_outputs (Ok what) world rest written h = tt
 created_for seen r gives same terminal foreign reports_outputs (Err f) world rest written h = elim h [
   | inl stopped ↦ inl (ap has_output stopped.3)

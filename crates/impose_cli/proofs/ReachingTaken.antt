@@ -5,10 +5,10 @@ use Rattle.rules.specs.Papers.{Paper}
 use Rattle.rules.specs.Parts.{NestedUnit}
 use Rattle.paper_names.specs.Names.{paper_named}
 use Rattle.papers.specs.Own.{papers_of_each_page}
-use Rattle.papers.specs.Reach.{Placing, extent_of, if_beyond, reach_of, reaching, told_reach}
+use Rattle.papers.specs.Reach.{Placing, extent_of, if_beyond, reach_of, reaching, reach_summary}
 use Rattle.papers.specs.declared.boxes.Edges.{Edges}
 use Rattle.impose_words.specs.declared.request.ImposeRequest.{ImposeRequest}
-use Rattle.impose_cli.specs.Reaches.{told_own}
+use Rattle.impose_cli.specs.Reaches.{reported_own}
 
 abbrev placing : (taken : ℕ → Bool) → (own : List Paper) → (boxes : List (Option Edges)) → (cut_apart : Bool) → Placing
 placing taken own boxes apart = record { taken = taken; own = own; boxes = boxes; cut_apart = apart }
@@ -24,7 +24,7 @@ same_reaching f g own boxes apart n (p ∷ ps) same =
 
 -- without a paper that is named for pages, those that are found for them are their own
 pub own_are_told : (r : ImposeRequest) (input : List ℕ) (us : List NestedUnit) (own : List Paper) → r.page_paper ≡ None
-    → own ≡ papers_of_each_page r.page_paper paper_named r.default_paper input us → own ≡ told_own r input us
+    → own ≡ papers_of_each_page r.page_paper paper_named r.default_paper input us → own ≡ reported_own r input us
 own_are_told r input us own none are =
     are ∙ ap (λ p. papers_of_each_page p paper_named r.default_paper input us) none
     ∙ sym (ap (λ p. papers_of_each_page None paper_named (unwrap_or p r.default_paper) input us) none)
@@ -32,4 +32,4 @@ own_are_told r input us own none are =
 -- pages are taken alike as far as there are any
 pub same_reach : (f g : ℕ → Bool) (own : List Paper) (boxes : List (Option Edges)) (apart : Bool) (placed : List Paper) → ((k : ℕ) → k < length placed → f k ≡ g k)
     → reach_of (placing f own boxes apart) placed ≡ reach_of (placing g own boxes apart) placed
-same_reach f g own boxes apart placed same = ap told_reach (same_reaching f g own boxes apart 0 placed (λ k l. same k (omega (arith, l))))
+same_reach f g own boxes apart placed same = ap reach_summary (same_reaching f g own boxes apart 0 placed (λ k l. same k (omega (arith, l))))

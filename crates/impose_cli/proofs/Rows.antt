@@ -27,7 +27,7 @@ use Rattle.dsc.specs.PagesAfter.{pages_after}
 use Rattle.dsc.specs.Serving.{ArePartsOf, Serve}
 use Rattle.dsc.specs.declared.parts.Parts.{Parts}
 use Rattle.impose_messages.specs.declared.finished.PaperOrigin.{PaperOrigin}
-use Rattle.impose_cli.specs.Claims.{IsToldBy}
+use Rattle.impose_cli.specs.Claims.{AreClaimsOf}
 use Rattle.impose_messages.specs.declared.finished.Findings.{Findings}
 use Rattle.impose_messages.specs.declared.scales.Scales.{Scales}
 use Rattle.impose_cli.specs.Tasks.{FindsBySpec, HasPageCount, page_paper_found}
@@ -135,7 +135,7 @@ pub has_turns : (r : ImposeRequest) (input : List ℕ) (us : List NestedUnit) (t
 has_turns r input us turns read e = (us, read, e ∙ ap (λ t. turns_in r t us) (whole input us read))
 
 pub finds_for_row : (r : ImposeRequest) (input : List ℕ) (us : List NestedUnit) (f : Findings) → document_of input ≡ Ok us → (f.page_paper, f.origin) ≡ row_paper r (bytes_of us) us → f.cut ≡ cut_in r (bytes_of us) us
-    → f.reach ≡ reach_in (has_cuts_apart r.layout) r (counted_in r (bytes_of us) us) (bytes_of us) us → f.after_trailer ≡ pages_after us → f.taken ≡ taken_in r us → IsToldBy r (bytes_of us) f.claims
+    → f.reach ≡ reach_in (has_cuts_apart r.layout) r (counted_in r (bytes_of us) us) (bytes_of us) us → f.after_trailer ≡ pages_after us → f.taken ≡ taken_in r us → AreClaimsOf r (bytes_of us) f.claims
     → FindsForRow r input f
 finds_for_row r input us f read paper cut reach after_trailer taken claims = let same = whole input us read in
     record {
@@ -146,11 +146,11 @@ finds_for_row r input us f read paper cut reach after_trailer taken claims = let
       reach = reach ∙ ap (λ t. reach_in (has_cuts_apart r.layout) r (counted_in r t us) t us) same;
       after_trailer = after_trailer;
       taken = taken;
-      claims = subst (λ t. IsToldBy r t f.claims) same claims;
+      claims = subst (λ t. AreClaimsOf r t f.claims) same claims;
     }
 
 pub finds_by_spec : (r : ImposeRequest) (input : List ℕ) (us : List NestedUnit) (f : Findings) → document_of input ≡ Ok us → (f.page_paper, f.origin) ≡ page_paper_found r.page_paper r.default_paper input → f.cut ≡ None
-    → f.reach ≡ reach_over r f.page_paper (bytes_of us) us → f.after_trailer ≡ pages_after us → f.taken ≡ taken_in r us → IsToldBy r input f.claims → FindsBySpec r input f
+    → f.reach ≡ reach_over r f.page_paper (bytes_of us) us → f.after_trailer ≡ pages_after us → f.taken ≡ taken_in r us → AreClaimsOf r input f.claims → FindsBySpec r input f
 finds_by_spec r input us f read paper cut reach after_trailer taken claims = record {
   units = us;
   document = read;

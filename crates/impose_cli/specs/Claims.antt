@@ -30,13 +30,13 @@ is_by_name None = false
 is_by_name (Some found) = is_name found.1
 
 -- the name that a value begins with, unless it is left for the trailer, which isn't read for names
-abbrev pub told_name : (value : List ℕ) → Option (List ℕ)
-told_name value = if is_at_end (fields_in value) then None else first_name value
+abbrev pub claimed_name : (value : List ℕ) → Option (List ℕ)
+claimed_name value = if is_at_end (fields_in value) then None else first_name value
 
 -- the first name in a document's %%DocumentPaperSizes, if none gives its paper
 abbrev pub unknown_name : (usual : Paper) → (text : List ℕ) → Option (List ℕ)
 unknown_name usual text = if is_by_name (document_paper usual text) then None
-    else option_and_then told_name (comment_value (codes "%%DocumentPaperSizes") (header text))
+    else option_and_then claimed_name (comment_value (codes "%%DocumentPaperSizes") (header text))
 
 -- the one that is reported: none, if a paper is named for the pages (RULES, 17)
 abbrev pub unknown_paper : (named : Option Paper) → (usual : Paper) → (text : List ℕ) → Option (List ℕ)
@@ -53,7 +53,7 @@ creator_named name = if bytes_eq name (codes "hp2xx") then Some Hp2xx
 abbrev pub creator_of : (text : List ℕ) → Option Dependence
 creator_of text = option_and_then creator_named (option_and_then first_name (comment_value (codes "%%Creator") (header text)))
 
-pub record IsToldBy (r : ImposeRequest) (input : List ℕ) (told : Claims) : Type 0 where
-  pub pages : told.pages ≡ declared_page_count input
-  pub unknown : told.unknown ≡ option_map shown_name (unknown_paper r.page_paper r.default_paper input)
-  pub dependence : told.dependence ≡ option_or (creator_of input) (if places_pages input then Some Setup else None)
+pub record AreClaimsOf (r : ImposeRequest) (input : List ℕ) (claims : Claims) : Type 0 where
+  pub pages : claims.pages ≡ declared_page_count input
+  pub unknown : claims.unknown ≡ option_map shown_name (unknown_paper r.page_paper r.default_paper input)
+  pub dependence : claims.dependence ≡ option_or (creator_of input) (if places_pages input then Some Setup else None)

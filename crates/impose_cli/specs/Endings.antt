@@ -13,7 +13,7 @@ use Rattle.world.specs.Outputs.{OutputView, named, reported_if}
 use Rattle.world.specs.Worlds.{HasRefused, WorldView, creating}
 pub use Rattle.world.specs.Rests.{has_output, shown}
 use Rattle.imposer.specs.Gathering.{ReportsOf}
-use Rattle.imposer.specs.Runs.{Accepted, IsRunRefusal, IsUnwritten, Reports, frame_of}
+use Rattle.imposer.specs.Runs.{Accepted, AgreesWithChecks, IsUnwritten, Reports, frame_of}
 use Rattle.imposer.specs.declared.outcome.Report.{Report}
 use Rattle.imposer.specs.declared.outcome.RunError.{RunError}
 use Rattle.imposer.specs.declared.outcome.RunError.TheVariants as run
@@ -109,11 +109,11 @@ Holds {W} {O} edge sink rest =
 -- Memory ran out or a write failed, when the sink had taken so many bytes and reported these: none was created, or an output of
 -- this name is there, with all of them but some that wait.
 abbrev pub BreaksOff : {W O : Type 0} → Edge W O → (name : Option (List ℕ)) → (before : WorldView) → (taken : ℕ)
-    → (told : Option (List ℕ)) → ImposeFault → Rest W O → Type 0
-BreaksOff {W} {O} edge name before taken told f rest =
+    → (reported : Option (List ℕ)) → ImposeFault → Rest W O → Type 0
+BreaksOff {W} {O} edge name before taken reported f rest =
     IsNotCreated edge name before f rest
     ⊎ ((output : O) × (rest ≡ Output output) × (waiting : List ℕ) × IsSaidOf (edge.shows output) (taken - length waiting) f
-    × (told ≡ append_known (named (edge.shows output).bytes) waiting))
+    × (reported ≡ append_known (named (edge.shows output).bytes) waiting))
 
 -- What comes of what is to be written to the output of this name. It was written whole, without a failure; or it is refused, and
 -- this very world is back; or a whole output would have this text, and none was created, or one has its front. `Refuses` says why it is
@@ -136,7 +136,7 @@ WritesJob j old new report = Appends old new (output_of j) × ReportsOf j report
 
 -- the fault names the first check of a run of the task that fails
 abbrev pub RefusesTaskRun : Task → ImposeFault → Type 0
-RefusesTaskRun t f = (error : RunError) × (f ≡ fault.Run error) × IsRunRefusal (run_asked t) error × IsUnwritten error
+RefusesTaskRun t f = (error : RunError) × (f ≡ fault.Run error) × AgreesWithChecks (run_asked t) error × IsUnwritten error
 
 -- exactly the output of the task's specification was appended, and the report has its numbers
 abbrev pub WritesTask : Task → (old new : Option (List ℕ)) → Report → Type 0

@@ -12,9 +12,9 @@ use Rattle.rules.specs.Made.{MadeSheet}
 use Rattle.rules.specs.Rows.{Row}
 use Rattle.row_sheets.specs.RowSheets.{selected}
 use Rattle.rules.specs.Dress.{Dress}
-use Rattle.imposed_again.specs.Again.{IsAgain, depth_behind, sheet_texts}
+use Rattle.imposed_again.specs.Again.{IsAgain, open_depth, sheet_texts}
 use Rattle.imposed_again.specs.MadeAgain.{IsMadeAgain, made_texts}
-use Rattle.papers.specs.Told.{telling}
+use Rattle.papers.specs.Reported.{reporting}
 use Rattle.dressing.specs.Numbered.{drawn_on}
 use Rattle.row_runs.specs.Runs.{border_on, drawn_of}
 use Rattle.row_runs.specs.declared.sheet_request.Laying.{Laying}
@@ -33,7 +33,7 @@ pub record IsDocumentAgain (frame : Frame) (all : List (List Slot)) (us : List N
     (text : List ℕ) : Type 0 where
   pub accepted : document_of text ≡ Ok (units_of text)
   pub again : IsAgain frame all us (units_of text)
-  pub shut : depth_behind (page_run us) ≡ 0 → pages (units_of text) ≡ sheet_texts frame (pages us) all
+  pub shut : open_depth (page_run us) ≡ 0 → pages (units_of text) ≡ sheet_texts frame (pages us) all
   pub with_trailer : 0 < length (trailer us) → pages (units_of text) ≡ sheet_texts frame (pages us) all
 
 -- the same of a text that was written with made sheets, and with these lines besides
@@ -41,7 +41,7 @@ pub record IsMadeDocument (border : Option Border) (dress : Dress) (all : List M
     : Type 0 where
   pub accepted : document_of text ≡ Ok (units_of text)
   pub again : IsMadeAgain border dress all us (units_of text)
-  pub shut : depth_behind (page_run us) ≡ 0 → pages (units_of text) ≡ made_texts border dress (pages us) all
+  pub shut : open_depth (page_run us) ≡ 0 → pages (units_of text) ≡ made_texts border dress (pages us) all
   pub with_trailer : 0 < length (trailer us) → pages (units_of text) ≡ made_texts border dress (pages us) all
 
 -- the sheets that a specification names for the pages of the document
@@ -56,7 +56,7 @@ IsAgainFor {r} {input} {old} {new} {done} (inl h) text =
     IsDocumentAgain (frame_used r done) (sheets_named h) h.units text
 IsAgainFor (inr h) text =
     0 < length h.imposes.made
-    → IsMadeDocument (border_on h.job) (drawn_on (drawn_of h.job) (telling h.imposes.made)) h.imposes.made h.job.document.now text
+    → IsMadeDocument (border_on h.job) (drawn_on (drawn_of h.job) (reporting h.imposes.made)) h.imposes.made h.job.document.now text
 
 -- what was appended for a request that was carried out is a document again, if it has no more than 2^30 bytes
 abbrev pub WroteDocument : Type 0

@@ -14,7 +14,7 @@ use Rattle.paper_names.specs.Home.{default_paper}
 use Rattle.impose_cli.specs.Endings.{AfterWrite, Edge, HasFailed, IsUncreatedFault, IsUnfailed, RefusesRowRun, RunsRequest}
 use Rattle.impose_messages.specs.Faults.{without_memory}
 use Rattle.impose_cli.specs.Fronts.{FindsForeign, Inputs, LooksAt, RegularFiles, SameFiles}
-use Rattle.impose_cli.specs.Looks.{TellsRow}
+use Rattle.impose_cli.specs.Looks.{IsRowText}
 use Rattle.impose_cli.specs.Printed.{printed_text}
 use Rattle.impose_cli.specs.Refusals.{HasNoFault, RefusesTask}
 use Rattle.impose_messages.specs.Statuses.{fault_status}
@@ -74,8 +74,8 @@ IsUnread old new (fault.Run e) =
 IsUnread old new other = ⊥
 
 -- the input of this name was asked for, and nothing else, and it couldn't be opened or read
-abbrev pub IsReading : (name : Option (List ℕ)) → (old new : WorldView) → ImposeFault → Type 0
-IsReading name old new f = WasAsked (opening name) old new × IsUnread old new f
+abbrev pub FailsToRead : (name : Option (List ℕ)) → (old new : WorldView) → ImposeFault → Type 0
+FailsToRead name old new f = WasAsked (opening name) old new × IsUnread old new f
 
 -- the input of this name was asked for, and nothing else, and it was read without a failure
 abbrev pub HasGiven : (name : Option (List ℕ)) → (old new : WorldView) → Type 0
@@ -125,10 +125,10 @@ abbrev pub ShowsSheets : {W O : Type 0} → Overview → (name : Option (List �
 ShowsSheets l name r input edge (Ok (done.Imposed finished)) world rest written = ⊥
 ShowsSheets l name r input edge (Ok done.Printed) world rest written = ⊥
 ShowsSheets l name r input edge (Ok done.Shown) world rest written =
-    (text : List ℕ) × TellsRow r input l text × Appends (reported_if edge.reports_outputs name []) written text × IsUnfailed edge rest
+    (text : List ℕ) × IsRowText r input l text × Appends (reported_if edge.reports_outputs name []) written text × IsUnfailed edge rest
 ShowsSheets l name r input edge (Err f) world rest written =
     (RefusesRowRun r input f × (rest ≡ World world))
-    ⊎ ((text : List ℕ) × TellsRow r input l text × FailsToWrite name text edge f world rest written)
+    ⊎ ((text : List ℕ) × IsRowText r input l text × FailsToWrite name text edge f world rest written)
 
 -- ---- all of it
 
@@ -168,12 +168,12 @@ RefusesUnopened same terminal foreign r f = RefusesRequest r f
 
 -- What comes of a request, by whether a document by others was found in OUTFILE: it is refused before its input is opened; or it isn't,
 -- and its input can't be read, and the world is back; or the input was read, and what is asked for is made of it (RULES, 16)
-abbrev pub CarriesOut : {W O : Type 0} → (seen : W → WorldView) → ImposeRequest → Inputs → SameFiles → (terminal : Option Bool) → (foreign : Bool)
+abbrev pub EndsRequest : {W O : Type 0} → (seen : W → WorldView) → ImposeRequest → Inputs → SameFiles → (terminal : Option Bool) → (foreign : Bool)
     → (edge : Edge W O) → Result Done ImposeFault → (world : W) → (rest : Rest W O) → (written : Option (List ℕ)) → Type 0
-CarriesOut {W} seen r gives same terminal foreign edge outcome world rest written =
+EndsRequest {W} seen r gives same terminal foreign edge outcome world rest written =
     ((f : ImposeFault) × (left : W) × (outcome ≡ Err f) × (rest ≡ World left)
     × ((RefusesUnopened same terminal foreign r f × (left ≡ world))
-    ⊎ (MayReadInput same terminal foreign r × IsReading (option_map string_bytes r.infile) (seen world) (seen left) f)))
+    ⊎ (MayReadInput same terminal foreign r × FailsToRead (option_map string_bytes r.infile) (seen world) (seen left) f)))
     ⊎ ((document : List ℕ) × (read : W) × IsReadOf (gives (option_map string_bytes r.infile)) document
     × HasGiven (option_map string_bytes r.infile) (seen world) (seen read) × MayReadInput same terminal foreign r
     × MakesProduct r.product r document edge outcome read rest written)
@@ -197,4 +197,4 @@ EndsProgram {W} seen words variable gives regular same terminal edge (Some r) ou
     Entered words (λ name found. ReadsRequest name found r) × (looked : W)
     × FindsHome variable gives (regular world) (seen world) (seen looked) r.default_paper
     × (found : W) × (foreign : Bool) × FindsForeign r gives (regular looked) same (seen looked) (seen found) foreign
-    × CarriesOut seen r gives same terminal foreign edge outcome found rest written
+    × EndsRequest seen r gives same terminal foreign edge outcome found rest written

@@ -16,13 +16,13 @@ abbrev pub reach_on : (cut_apart : Bool) → Row → (placed own : List Paper) �
 reach_on apart row placed own boxes = reach_of (record { taken = takes row; own = own; boxes = boxes; cut_apart = apart }) placed
 
 -- what pages have of their own: one that names no paper has the one that is named for all, else the document's
-abbrev pub told_own : ImposeRequest → (input : List ℕ) → List NestedUnit → List Paper
-told_own r input us = papers_of_each_page None paper_named (unwrap_or r.page_paper r.default_paper) input us
+abbrev pub reported_own : ImposeRequest → (input : List ℕ) → List NestedUnit → List Paper
+reported_own r input us = papers_of_each_page None paper_named (unwrap_or r.page_paper r.default_paper) input us
 
 -- RULES, 17
 abbrev pub reach_in : (cut_apart : Bool) → ImposeRequest → (placed : List Paper) → (input : List ℕ) → List NestedUnit → Option Reach
 reach_in apart r placed input us =
-    reach_on apart (row_in r us) placed (told_own r input us) (page_boxes input us)
+    reach_on apart (row_in r us) placed (reported_own r input us) (page_boxes input us)
 
 -- the same of pages that are all placed by one paper, where none is reported apart
 abbrev pub reach_over : ImposeRequest → Paper → (input : List ℕ) → List NestedUnit → Option Reach

@@ -14,7 +14,7 @@ use Rattle.dsc.specs.Faults as dsc
 use Rattle.imposer.specs.Outcomes.{of_document as of_read, of_spec}
 use Rattle.impose_messages.specs.Faults.{without_memory}
 use Rattle.impose_messages.specs.Inputs.{refused_document}
-use Rattle.impose_cli.specs.RowTasks.{HasOptions, IsRowPaper, TellsOnePaper, has_specification, is_of_one_paper, why_no_row, why_no_layout}
+use Rattle.impose_cli.specs.RowTasks.{HasOptions, IsRowPaper, DecidesOnePaper, has_specification, is_of_one_paper, why_no_row, why_no_layout}
 use Rattle.impose_cli.specs.Tasks.{is_said, page_paper_found}
 use Rattle.impose_words.specs.SheetPapers.{sheet_paper_for}
 use Rattle.impose_words.specs.declared.request.Spacing.{Spacing}
@@ -29,7 +29,7 @@ use Rattle.impose_messages.specs.declared.finished.PaperOrigin.{PaperOrigin}
 
 -- the document is refused for this reason, if it isn't for memory
 abbrev pub IsDocumentRefused : (input : List ℕ) → DscError → Type 0
-IsDocumentRefused input e = IfSome (dsc.fault_told e) (λ f. document_of input ≡ Err f)
+IsDocumentRefused input e = IfSome (dsc.reported_fault e) (λ f. document_of input ≡ Err f)
 
 -- the fault is that of a reason for which the document is refused. Out of memory comes after the checks that need none
 -- (RULES, 16, step 7)
@@ -113,11 +113,11 @@ RefusesTask r input f =
 
 -- what a check of the papers alone says: a specification is made for the layout, and not all pages have this paper
 abbrev pub HasOtherPapers : ImposeRequest → (input : List ℕ) → Paper → Type 0
-HasOtherPapers r input paper = (has_specification r.layout ≡ true) × TellsOnePaper r input paper false
+HasOtherPapers r input paper = (has_specification r.layout ≡ true) × DecidesOnePaper r input paper false
 
 -- or none is made, or all have it
 abbrev pub HasOnePaper : ImposeRequest → (input : List ℕ) → Paper → Type 0
-HasOnePaper r input paper = (has_specification r.layout ≡ false) ⊎ TellsOnePaper r input paper true
+HasOnePaper r input paper = (has_specification r.layout ≡ false) ⊎ DecidesOnePaper r input paper true
 
 -- ---- a task with a row
 

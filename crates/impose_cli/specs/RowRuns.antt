@@ -10,7 +10,7 @@ use Rattle.dressing.specs.Numbered.{Drawn}
 use Rattle.imposer.specs.declared.outcome.Report.{Report}
 use Rattle.impose_messages.specs.Scales.{scales_of}
 use Rattle.impose_messages.specs.declared.scales.Scales.{Scales}
-use Rattle.row_runs.specs.SheetsRuns.{told_output}
+use Rattle.row_runs.specs.SheetsRuns.{reporting_output}
 use Rattle.row_runs.specs.Runs.{ArePlanned, border_on, drawn_of, output_on}
 use Rattle.row_runs.specs.declared.run.RowJob.{RowJob}
 
@@ -21,11 +21,10 @@ pub record ReportsOn (border : Option Border) (drawn : Drawn) (all : List MadeSh
   pub sheet_count : report.sheets ≡ length all
   pub born_blank : report.born ≡ length (born_complete (made_layout (length (pages us)) all))
   pub swept_within : report.swept ≤ report.sheets
-  pub byte_count : report.bytes ≡ length (told_output border drawn all us)
+  pub byte_count : report.bytes ≡ length (reporting_output border drawn all us)
 
--- exactly the output of the sheets that are asked for was appended, and the report has its numbers and the scales of the pages on
--- these sheets: so these pages are printed in this order, each at its place, and nothing else. Except on posters and by a
--- specification, they lie inside and apart
+-- exactly the output of the sheets that are asked for was appended, and the report has its numbers; the scales are those of the pages on
+-- these sheets. StandAsLaid says how pages lie before they are moved and turned
 pub record Imposes (j : RowJob) (scales : Option Scales) (old new : Option (List ℕ)) (done : Report) : Type 0 where
   pub made : List MadeSheet
   pub planned : ArePlanned j made

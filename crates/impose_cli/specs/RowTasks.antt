@@ -38,7 +38,7 @@ use Rattle.row_sheets.specs.Posters.{on_fewest, why_no_poster}
 use Rattle.row_sheets.specs.declared.poster.Poster.{Poster}
 use Rattle.impose_words.specs.Spacings.{arrangement_in, binding_in, swaps_margins, notes_in, zine_in}
 use Rattle.impose_words.specs.declared.request.Spacing.{Spacing}
-use Rattle.impose_cli.specs.Claims.{IsToldBy}
+use Rattle.impose_cli.specs.Claims.{AreClaimsOf}
 use Rattle.impose_cli.specs.Reaches.{reach_in}
 use Rattle.impose_cli.specs.RowsAsked.{row_asked, scheme_in, signing_in}
 use Rattle.impose_cli.specs.Taken.{row_in, taken_in, takes}
@@ -295,8 +295,8 @@ abbrev pub is_of_one_paper : ImposeRequest → (input : List ℕ) → List Neste
 is_of_one_paper r input us paper = is_same (row_paper r input us).0 paper && list_all (is_same paper) (papers_in r input us)
 
 -- the document is accepted, and this says whether all of its pages have that paper
-abbrev pub TellsOnePaper : ImposeRequest → (input : List ℕ) → Paper → Bool → Type 0
-TellsOnePaper r input paper is = (us : List NestedUnit) × (document_of input ≡ Ok us) × (is ≡ is_of_one_paper r input us paper)
+abbrev pub DecidesOnePaper : ImposeRequest → (input : List ℕ) → Paper → Bool → Type 0
+DecidesOnePaper r input paper is = (us : List NestedUnit) × (document_of input ≡ Ok us) × (is ≡ is_of_one_paper r input us paper)
 
 -- papers of pages from this number on, with another one for each page that the row doesn't take
 abbrev pub taken_from : Row → (other : Paper) → (first : ℕ) → (own : List Paper) → List Paper
@@ -329,7 +329,7 @@ pub record FindsForRow (r : ImposeRequest) (input : List ℕ) (f : Findings) : T
   pub reach : f.reach ≡ reach_in (has_cuts_apart r.layout) r (counted_in r input units) input units
   pub after_trailer : f.after_trailer ≡ pages_after units
   pub taken : f.taken ≡ taken_in r units
-  pub claims : IsToldBy r input f.claims
+  pub claims : AreClaimsOf r input f.claims
 
 -- the layout lays rows on sheets
 abbrev pub LaysRows : Layout → Type 0

@@ -8,7 +8,7 @@ use Rattle.rules.specs.Parts.{NestedUnit, pages}
 use Rattle.rules.specs.Run.{document_of, plan_in}
 use Rattle.rules.specs.Sheets.{sheets}
 use Rattle.dsc.specs.PagesAfter.{pages_after}
-use Rattle.impose_cli.specs.Claims.{IsToldBy}
+use Rattle.impose_cli.specs.Claims.{AreClaimsOf}
 use Rattle.impose_cli.specs.Reaches.{reach_over}
 use Rattle.impose_cli.specs.RowsAsked.{row_asked}
 use Rattle.impose_cli.specs.Taken.{taken_in}
@@ -69,7 +69,7 @@ pub record FindsBySpec (r : ImposeRequest) (input : List ℕ) (f : Findings) : T
   pub reach : f.reach ≡ reach_over r f.page_paper input units
   pub after_trailer : f.after_trailer ≡ pages_after units
   pub taken : f.taken ≡ taken_in r units
-  pub claims : IsToldBy r input f.claims
+  pub claims : AreClaimsOf r input f.claims
 
 -- the text is the canonical one of the specification, and is read as that
 abbrev pub IsWritten : Spec → (text : List ℕ) → Type 0

@@ -17,7 +17,7 @@ use row_runs::declared_page_count;
 /// name if no paper of this name is known, and why pages depend on the text before them. The paper's name is left out if the command line names a paper
 /// for the pages. No memory is allocated.
 pub(crate) fn claims_of(request: &ImposeRequest, input: &[u8]) -> Claims
-    ensures { meaning.IsToldBy request.now input.now result }
+    ensures { meaning.AreClaimsOf request.now input.now result }
 {
     let pages = declared_page_count(input);
     let unknown = unknown_paper(request, input);
@@ -49,13 +49,13 @@ fn unknown_name<'t>(usual: &Paper, input: &'t [u8]) -> Option<&'t [u8]>
     if is_by_name(document_paper(input, usual)) {
         return None;
     }
-    told_name(header_value(input, b"%%DocumentPaperSizes", b"%%DocumentPaperSizes:")?)
+    claimed_name(header_value(input, b"%%DocumentPaperSizes", b"%%DocumentPaperSizes:")?)
 }
 
 /// The name at the start of a comment's value. `None` if there is no name, or if the value is `(atend)`, which leaves the name to the trailer. The
 /// trailer isn't read for names.
-fn told_name(value: &[u8]) -> Option<&[u8]>
-    ensures { option_map (λ name. name.now) result ≡ meaning.told_name value.now }
+fn claimed_name(value: &[u8]) -> Option<&[u8]>
+    ensures { option_map (λ name. name.now) result ≡ meaning.claimed_name value.now }
 {
     if is_at_end(value) {
         None

@@ -4,7 +4,7 @@ ghost use Rattle.dsc.specs.Serving.{Serve};
 ghost use Rattle.row_runs.specs.Runs.{RefusesRun};
 ghost use Rattle.row_runs.specs.Sheets.{MayBeAsked};
 ghost use Rattle.impose_cli.specs.Endings.{RefusesRowRun, RefusesRowTaskRun};
-ghost use Rattle.impose_cli.specs.Looks.{TellsSheets, TellsRow, TellsTask};
+ghost use Rattle.impose_cli.specs.Looks.{IsOverviewText, IsRowText, IsTaskText};
 ghost use Rattle.impose_cli.specs.RowTasks.{HasOptions, LaysRows, MayBeLaidSo};
 
 use crate::laying::row_asked;
@@ -18,7 +18,7 @@ use row_runs::{RowJob, SheetError, SheetRequest, row_plan, row_preview};
 use std::alloc::Global;
 
 /// The largest number of sheets or leaves in a list, and of sheets in a drawing.
-const MOST_TOLD: u32 = 40;
+const MOST_LISTED: u32 = 40;
 
 /// A way to show the sheets in place of writing them.
 #[derive(Clone, Copy, Debug, PartialEq, Eq)]
@@ -37,7 +37,7 @@ pub fn look_text(
     look: Overview,
 ) -> Result<Vec<u8>, ImposeFault>
     requires rows { LaysRows request.now.layout }
-    ensures told { IfOk result (λ text. TellsRow request.now input.items look text.items) }
+    ensures text { IfOk result (λ text. IsRowText request.now input.items look text.items) }
     ensures refused { IfErr result (RefusesRowRun request.now input.items) }
 {
     let (task, parts) = row_task(alloc, request, input)?;
@@ -56,7 +56,7 @@ fn task_text(
     requires laid { MayBeLaidSo task.now.laying }
     requires options { HasOptions request.now }
     requires parts { Serve parts task.now.text.items }
-    ensures told { IfOk result (λ text. TellsTask request.now task.now look text.items) }
+    ensures text { IfOk result (λ text. IsTaskText request.now task.now look text.items) }
     ensures refused { IfErr result (RefusesRowTaskRun request.now task.now) }
 {
     let document = match Document::from_parts(task.text.as_slice(), parts) {
@@ -87,11 +87,11 @@ fn task_text(
 /// The list or drawing of the sheets of a job.
 fn job_text(alloc: Global, job: &RowJob<'_, '_>, look: Overview) -> Result<Vec<u8>, SheetError>
     requires asked { MayBeAsked job.now.asked }
-    ensures told { IfOk result (λ text. TellsSheets look job.now text.items) }
+    ensures text { IfOk result (λ text. IsOverviewText look job.now text.items) }
     ensures refused { IfErr result (RefusesRun job.now) }
 {
     match look {
-        Overview::Plan => row_plan(alloc, job, MOST_TOLD),
-        Overview::Picture => row_preview(alloc, job, MOST_TOLD),
+        Overview::Plan => row_plan(alloc, job, MOST_LISTED),
+        Overview::Picture => row_preview(alloc, job, MOST_LISTED),
     }
 }

@@ -4,7 +4,7 @@ ghost use Rattle.world.specs.Input.{document_in};
 ghost use Rattle.std.specs.Prelude.{Some, IfOk, IfErr, OnOk};
 ghost use Rattle.impose_cli.specs.Endings.{edge_of_world, shown};
 ghost use Rattle.impose_cli.specs.Looks.{MayBeMade};
-ghost use Rattle.impose_cli.specs.Programs.{CarriesOut, EndsProgram, FindsHome, HasGiven, IsCreatedFor, IsDrawnOver, IsForTerminal, IsReadOf, IsReading};
+ghost use Rattle.impose_cli.specs.Programs.{EndsRequest, EndsProgram, FindsHome, HasGiven, IsCreatedFor, IsDrawnOver, IsForTerminal, IsReadOf, FailsToRead};
 ghost use Rattle.impose_cli.specs.Programs.{IsUnread, MakesProduct, Prints, ShowsSheets, Writes, status_of};
 ghost use Rattle.impose_cli.specs.RowTasks.{LaysRows};
 
@@ -133,7 +133,7 @@ fn carry_out<R: Threads + Wait + Sync, W: World>(
 ) -> Attempt<W, Done>
     requires product { MayBeMade request.now.product request.now.layout }
     requires countable { (W.seen world).failures < u64.MAX }
-    ensures { CarriesOut W.seen request.now (W.gives world) (W.same world) (W.terminal world) is_foreign (edge_of_world (W.reports_outputs world) W.seen W.Output.seen) result.outcome world result.rest
+    ensures { EndsRequest W.seen request.now (W.gives world) (W.same world) (W.terminal world) is_foreign (edge_of_world (W.reports_outputs world) W.seen W.Output.seen) result.outcome world result.rest
         (shown W.Output.seen result.rest) }
 {
     match check_request(alloc, request) {
@@ -222,7 +222,7 @@ fn roomy_input<W: World>(
     ensures read { IfOk result (λ input.
         IsReadOf (W.gives world.old (option_map (λ n. n.now) name.entry)) input.items) }
     ensures given { IfOk result (λ _. HasGiven (option_map (λ n. n.now) name.entry) (W.seen world.old) (W.seen world.new)) }
-    ensures refused { IfErr result (IsReading (option_map (λ n. n.now) name.entry) (W.seen world.old) (W.seen world.new)) }
+    ensures refused { IfErr result (FailsToRead (option_map (λ n. n.now) name.entry) (W.seen world.old) (W.seen world.new)) }
     ensures reports_outputs { W.reports_outputs world.new ≡ W.reports_outputs world.old }
 {
     match world.open(name) {

@@ -8,13 +8,13 @@ ghost use Rattle.rules.specs.Choice.{imposed_row as row_of};
 ghost use Rattle.impose_words.specs.Arranging.{turn_for as turn_by};
 ghost use Rattle.impose_words.specs.Choices.{choice_in};
 ghost use Rattle.impose_cli.specs.RowTasks.{guarded_in, first_paper as first_paper_of};
-ghost use Rattle.impose_cli.specs.Claims.{IsToldBy};
+ghost use Rattle.impose_cli.specs.Claims.{AreClaimsOf};
 ghost use Rattle.impose_cli.specs.RowTasks.{ArePapersOf, FindsForRow, HasTurns, IsRowTask, LaysRows, counted_in};
 ghost use Rattle.std.specs.List.{list_all};
-ghost use Rattle.impose_cli.specs.RowTasks.{TellsOnePaper, has_cuts_apart as cuts_apart};
+ghost use Rattle.impose_cli.specs.RowTasks.{DecidesOnePaper, has_cuts_apart as cuts_apart};
 ghost use Rattle.layouts.specs.Grids.{is_same as are_same};
 ghost use Rattle.impose_cli.specs.RowTasks.{counted_among, cut_by_named, cut_in, cut_on, paper_for, paper_turned, papers_in as papers_found, papers_to_place, row_paper, turns_in, turns_of};
-ghost use Rattle.impose_cli.specs.Reaches.{reach_in, reach_on, told_own};
+ghost use Rattle.impose_cli.specs.Reaches.{reach_in, reach_on, reported_own};
 ghost use Rattle.paper_names.specs.Names.{paper_named};
 ghost use Rattle.papers.specs.Own.{papers_of_each_page};
 ghost use Rattle.papers.specs.Reach.{page_boxes};
@@ -127,7 +127,7 @@ pub(crate) fn has_one_paper(
     input: &[u8],
     paper: &Paper,
 ) -> Result<bool, ImposeFault>
-    ensures told { IfOk result (TellsOnePaper request.now input.now paper.now) }
+    ensures decided { IfOk result (DecidesOnePaper request.now input.now paper.now) }
     ensures refused { IfErr result (λ f. RefusesDocument input.now f ⊎ (f ≡ without_memory)) }
 {
     let (found, _) = pages_of(alloc, request, input)?;
@@ -167,7 +167,7 @@ fn pages_in(
         (bytes_of document.now) document.now) }
     ensures after_trailer { IfOk result (λ found. found.findings.after_trailer ≡ pages_after document.now) }
     ensures taken { IfOk result (λ found. found.findings.taken ≡ taken_in request.now document.now) }
-    ensures claims { IfOk result (λ found. IsToldBy request.now (bytes_of document.now) found.findings.claims) }
+    ensures claims { IfOk result (λ found. AreClaimsOf request.now (bytes_of document.now) found.findings.claims) }
     ensures row { IfOk result (λ found.
         found.row.items ≡ row_or_none (row_of (length found.papers.items) (choice_in request.now.choice) None)) }
 {
@@ -318,7 +318,7 @@ fn cut_and_reach(
     ensures cut { IfOk result (λ found. found.0 ≡ cut_by_named (if cuts_apart request.now.layout then request.now.page_paper else None)
         row.now (bytes_of document.now) document.now) }
     ensures reach { IfOk result (λ found. found.1 ≡ reach_on (cuts_apart request.now.layout) row.now placed.now
-        (told_own request.now (bytes_of document.now) document.now) (page_boxes (bytes_of document.now) document.now)) }
+        (reported_own request.now (bytes_of document.now) document.now) (page_boxes (bytes_of document.now) document.now)) }
 {
     let cut_apart = has_cuts_apart(&request.layout);
     match request.page_paper {
@@ -328,9 +328,9 @@ fn cut_and_reach(
         )),
         Some(named) => {
             // A page that names no paper counts as having the paper of `--paper`, which doesn't cut it.
-            let told = page_papers(alloc, document, None, &named)?;
-            let cut = cut_if(alloc, cut_apart, row, told.as_slice(), &named)?;
-            let reach = reach_of_row(alloc, document, row, placed, told.as_slice(), cut_apart)?;
+            let reported = page_papers(alloc, document, None, &named)?;
+            let cut = cut_if(alloc, cut_apart, row, reported.as_slice(), &named)?;
+            let reach = reach_of_row(alloc, document, row, placed, reported.as_slice(), cut_apart)?;
             Ok((cut, reach))
         }
     }

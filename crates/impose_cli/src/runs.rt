@@ -7,7 +7,7 @@ ghost use Rattle.rules.specs.Admissible.{Takes, most_slots};
 ghost use Rattle.rules.specs.Run.{document_of};
 ghost use Rattle.sheet_text.specs.Jobs.{is_border};
 ghost use Rattle.imposer.specs.Outcomes.{AfterError, IsNoRefusal};
-ghost use Rattle.imposer.specs.Runs.{IsRunRefusal, IsUnwritten};
+ghost use Rattle.imposer.specs.Runs.{AgreesWithChecks, IsUnwritten};
 ghost use Rattle.imposer.specs.Options.{AreOptions};
 ghost use Rattle.imposer.specs.Workers.{AreWorkers};
 ghost use Rattle.row_runs.specs.Sheets.{MayBeAsked};
@@ -228,7 +228,7 @@ fn read_task<'t>(
     ensures options { OnOk result (AreOptions task.now.options) }
     ensures spec { IfOk result (λ read. Takes most_slots (string_bytes task.now.spec) read.0) }
     ensures document { IfOk result (λ read. document_of task.now.text.items ≡ Ok read.1) }
-    ensures refused { IfErr result (IsRunRefusal (run_asked task.now)) }
+    ensures refused { IfErr result (AgreesWithChecks (run_asked task.now)) }
     ensures unwritten { IfErr result IsUnwritten }
 {
     if !is_drawn(task.options.border) {

@@ -12,7 +12,7 @@ use Rattle.impose_words.specs.declared.fault.RequestFault.TheVariants as command
 use Rattle.impose_messages.specs.declared.finished.Dependence.TheVariants.{Hp2xx, Xcircuit}
 use Rattle.impose_messages.specs.Scales.{scales_of}
 use Rattle.impose_messages.specs.Statuses.{fault_status, words_status}
-use Rattle.impose_messages.specs.Said.{pages_after_text, blanks_text, cut_pages_text, dependence_text, edges_text, is_pdf_name, leaf_count_text, page_count_text, sheets_text, shown_name, paper_size_text, told_text, unknown_text}
+use Rattle.impose_messages.specs.Said.{pages_after_text, blanks_text, cut_pages_text, dependence_text, edges_text, is_pdf_name, leaf_count_text, page_count_text, sheets_text, shown_name, paper_size_text, claim_text, unknown_text}
 use Rattle.rules.specs.Made.{Blank, MadeSheet, MadeSlot, Placed}
 use Rattle.rules.specs.Papers.{points}
 use Rattle.rules.specs.Specification.{Upright, zero_points}
@@ -104,21 +104,21 @@ unknown_name = refl
 unknown_bytes : unknown_text (Some (shown_name (27 ∷ 91 ∷ 127 ∷ 200 ∷ []))) ≡ Some (codes "the document names an unknown paper, ?[??")
 unknown_bytes = refl
 
-none_told : told_text None 3 ≡ None
+none_told : claim_text None 3 ≡ None
 none_told = refl
 
-as_many_told : told_text (Some 3) 3 ≡ None
+as_many_told : claim_text (Some 3) 3 ≡ None
 as_many_told = refl
 
-more_told : told_text (Some 4) 3 ≡ Some (codes "the document says 4 pages, 3 were found: is it complete?")
+more_told : claim_text (Some 4) 3 ≡ Some (codes "the document says 4 pages, 3 were found: is it complete?")
 unfolding digits
 more_told = refl
 
-one_found : told_text (Some 4) 1 ≡ Some (codes "the document says 4 pages, 1 was found: is it complete?")
+one_found : claim_text (Some 4) 1 ≡ Some (codes "the document says 4 pages, 1 was found: is it complete?")
 unfolding digits
 one_found = refl
 
-one_told : told_text (Some 1) 2 ≡ Some (codes "the document says 1 page, 2 were found: all are counted")
+one_told : claim_text (Some 1) 2 ≡ Some (codes "the document says 1 page, 2 were found: all are counted")
 unfolding digits
 one_told = refl
 

@@ -113,18 +113,18 @@ range_text least greatest =
     else codes "; scales from " ++ (scale_text least ++ (codes " to " ++ scale_text greatest))
 
 -- that of a layout, if a page is placed; a specification says its scales itself
-abbrev pub scales_told : Layout → Option Scales → List ℕ
-scales_told (layout.Spec specs) scales = []
-scales_told (layout.SpecRow specs signing) scales = []
-scales_told other None = []
-scales_told other (Some s) = range_text s.least s.greatest
+abbrev pub scales_line : Layout → Option Scales → List ℕ
+scales_line (layout.Spec specs) scales = []
+scales_line (layout.SpecRow specs signing) scales = []
+scales_line other None = []
+scales_line other (Some s) = range_text s.least s.greatest
 
 -- the report: the counts, the size of the pages' paper with where it was found, that of the sheets, and the scale (RULES, 17)
 abbrev pub report_text : Finished → ImposeRequest → List ℕ
 report_text finished r = let f = finished.findings in
     counts_text f.taken finished.report r ++ (codes "; pages of " ++ (paper_size_text f.page_paper
     ++ (codes " pt, " ++ (origin_text f.origin ++ (sheets_text (sheet_paper_for r.layout r.sheet_paper f.page_paper) f.page_paper
-    ++ scales_told r.layout finished.scales)))))
+    ++ scales_line r.layout finished.scales)))))
 
 -- a byte of a name as it is shown: what isn't a printable one of ASCII is a question mark
 abbrev pub shown_byte : ℕ → ℕ
@@ -204,19 +204,19 @@ abbrev pub pages_after_text : (pages : ℕ) → Option (List ℕ)
 pages_after_text pages = if pages == 0 then None else Some (pages_after_message pages)
 
 -- pages are missing, or there are more than the document says
-abbrev pub told_advice : (told found : ℕ) → List ℕ
-told_advice told found = if nat_lt found told then codes ": is it complete?" else codes ": all are counted"
+abbrev pub claim_advice : (claimed found : ℕ) → List ℕ
+claim_advice claimed found = if nat_lt found claimed then codes ": is it complete?" else codes ": all are counted"
 
 -- of a document that says another number of its pages than were found: both
-abbrev pub told_message : (told found : ℕ) → List ℕ
-told_message told found = codes "the document says "
-    ++ (count_text told (codes "1 page") (codes "") (codes " pages") ++ (codes ", "
-    ++ (count_text found (codes "1 was found") (codes "") (codes " were found") ++ told_advice told found)))
+abbrev pub claim_message : (claimed found : ℕ) → List ℕ
+claim_message claimed found = codes "the document says "
+    ++ (count_text claimed (codes "1 page") (codes "") (codes " pages") ++ (codes ", "
+    ++ (count_text found (codes "1 was found") (codes "") (codes " were found") ++ claim_advice claimed found)))
 
 -- if it says one
-abbrev pub told_text : (told : Option ℕ) → (found : ℕ) → Option (List ℕ)
-told_text None found = None
-told_text (Some told) found = if told == found then None else Some (told_message told found)
+abbrev pub claim_text : (claimed : Option ℕ) → (found : ℕ) → Option (List ℕ)
+claim_text None found = None
+claim_text (Some claimed) found = if claimed == found then None else Some (claim_message claimed found)
 
 -- of pages that depend on the text before them: why, and what becomes of the sheets
 abbrev pub dependence_effect : Dependence → List ℕ
@@ -328,7 +328,7 @@ abbrev pub run_lines : Finished → ImposeRequest → List ℕ
 run_lines finished r = let f = finished.findings in
     line_of (Some (report_text finished r)) ++ line_of (unknown_text f.claims.unknown)
     ++ line_of (cut_text f.cut f.page_paper) ++ line_of (reach_text f.reach) ++ line_of (pages_after_text f.after_trailer)
-    ++ line_of (told_text f.claims.pages finished.report.pages) ++ line_of (dependence_text f.claims.dependence finished.report.pages)
+    ++ line_of (claim_text f.claims.pages finished.report.pages) ++ line_of (dependence_text f.claims.dependence finished.report.pages)
 
 -- a line that the output is PostScript comes after what was said before, if it is named as something else
 abbrev pub AddsNote : (outfile : Option (List ℕ)) → (before after : List ℕ) → Type 0

@@ -4,8 +4,8 @@ ghost use Rattle.impose_messages.specs.Rooms.{most_said};
 ghost use Rattle.impose_messages.specs.Said.{prints_leaves as are_sides_of, pages_after_message, blank_count as blanks_in, blanks_text, count_text, counts_text};
 ghost use Rattle.impose_messages.specs.Said.{corners_text, cut_message, cut_pages_text, cut_size_text, dependence_effect as effect_of, dependence_message, edges_text, leaf_count_text, note_text};
 ghost use Rattle.impose_messages.specs.Said.{origin_text as text_of_origin, others_text, places_per_sheet as places_in, reach_message, report_text};
-ghost use Rattle.impose_messages.specs.Said.{range_text, scales_told};
-ghost use Rattle.impose_messages.specs.Said.{sheet_text, sheets_text, sides_text, page_count_text, paper_size_text, some_pages_text, told_advice as advice_told, told_message, unknown_message};
+ghost use Rattle.impose_messages.specs.Said.{range_text, scales_line};
+ghost use Rattle.impose_messages.specs.Said.{sheet_text, sheets_text, sides_text, page_count_text, paper_size_text, some_pages_text, claim_advice as advice_of_claim, claim_message, unknown_message};
 
 use crate::finished::{Dependence, Finished, PaperOrigin};
 use crate::report_text::ReportText;
@@ -42,7 +42,7 @@ pub(crate) fn push_report(said: &mut ReportText, done: &Finished, request: &Impo
 /// specification has its scales in its text, so `spec` gives none.
 fn push_scales(said: &mut ReportText, layout: &Layout, scales: &Option<Scales>)
     requires room { length said.old + 60 ≤ most_said }
-    ensures text { said.new ≡ said.old ++ scales_told layout.now scales.now }
+    ensures text { said.new ≡ said.old ++ scales_line layout.now scales.now }
     ensures short { length said.new ≤ length said.old + 60 }
 {
     if matches!(layout, Layout::Spec(_) | Layout::SpecRow { .. }) {
@@ -377,25 +377,25 @@ pub(crate) fn push_pages_after(said: &mut ReportText, pages: usize)
 }
 
 /// Appends the message that the document declares one number of pages and has another.
-pub(crate) fn push_told(said: &mut ReportText, told: usize, found: usize)
+pub(crate) fn push_claim(said: &mut ReportText, claimed: usize, found: usize)
     requires room { length said.old + 357 ≤ most_said }
-    ensures text { said.new ≡ said.old ++ told_message told found }
+    ensures text { said.new ≡ said.old ++ claim_message claimed found }
     ensures short { length said.new ≤ length said.old + 357 }
 {
     said.push(b"the document says ");
-    push_counted(said, told as u128, b"1 page", b"", b" pages");
+    push_counted(said, claimed as u128, b"1 page", b"", b" pages");
     said.push(b", ");
     push_counted(said, found as u128, b"1 was found", b"", b" were found");
-    said.push(told_advice(told, found));
+    said.push(claim_advice(claimed, found));
 }
 
 /// The end of the message about the declared number of pages. If fewer pages were found, it asks whether the document is complete. Otherwise it says
 /// that all pages are counted.
-fn told_advice(told: usize, found: usize) -> &'static [u8]
-    ensures value { result.now ≡ advice_told told found }
+fn claim_advice(claimed: usize, found: usize) -> &'static [u8]
+    ensures value { result.now ≡ advice_of_claim claimed found }
     ensures short { length result.now ≤ 17 }
 {
-    if found < told {
+    if found < claimed {
         b": is it complete?"
     } else {
         b": all are counted"

@@ -2,12 +2,12 @@
 ghost use Rattle.std.specs.Prelude.{◌≡◌, ◌+◌, ◌≤◌, ◌++◌, IfSome, Some, length, option_map, string_bytes};
 ghost use Rattle.impose_messages.specs.Rooms.{most_said};
 ghost use Rattle.impose_messages.specs.Said.{AddsNote, advice_on as advice_by_name, pages_after_text, cut_text, line_of, note_text as text_of_note};
-ghost use Rattle.impose_messages.specs.Said.{depends as depends_on, dependence_text, reach_text, report_text, run_lines, told_text, unknown_text};
+ghost use Rattle.impose_messages.specs.Said.{depends as depends_on, dependence_text, reach_text, report_text, run_lines, claim_text, unknown_text};
 
 use crate::finished::{Dependence, Finished};
 use crate::report_text::ReportText;
 use crate::reports::{
-    push_cut, push_dependence, push_note, push_pages_after, push_reach, push_report, push_told,
+    push_claim, push_cut, push_dependence, push_note, push_pages_after, push_reach, push_report,
     push_unknown,
 };
 use crate::shown::ShownName;
@@ -28,7 +28,7 @@ pub(crate) fn push_lines(said: &mut ReportText, done: &Finished, request: &Impos
     push_cut_line(said, &found.cut, &found.page_paper);
     push_reach_line(said, &found.reach);
     push_pages_after_line(said, found.after_trailer);
-    push_told_line(said, found.claims.pages, done.report.pages);
+    push_claim_line(said, found.claims.pages, done.report.pages);
     push_dependence_line(said, found.claims.dependence, done.report.pages);
 }
 
@@ -94,20 +94,20 @@ fn push_pages_after_line(said: &mut ReportText, pages: usize)
     said.push(b"\n");
 }
 
-fn push_told_line(said: &mut ReportText, told: Option<usize>, found: u32)
+fn push_claim_line(said: &mut ReportText, claimed: Option<usize>, found: u32)
     requires room { length said.old + 366 ≤ most_said }
-    ensures text { said.new ≡ said.old ++ line_of (told_text told found) }
+    ensures text { said.new ≡ said.old ++ line_of (claim_text claimed found) }
     ensures short { length said.new ≤ length said.old + 366 }
 {
-    let Some(told) = told else {
+    let Some(claimed) = claimed else {
         return;
     };
     let found = found as usize;
-    if told == found {
+    if claimed == found {
         return;
     }
     said.push(b"impose: ");
-    push_told(said, told, found);
+    push_claim(said, claimed, found);
     said.push(b"\n");
 }
 

@@ -22,7 +22,7 @@ use Rattle.dsc.specs.Units.{or_none, units_of}
 use Rattle.dsc.proofs.Reading.{accepted_cut, accepted_opening}
 use Rattle.dsc.proofs.PartMarks.{exclusive}
 use Rattle.imposed_again.specs.Seams.{joined, line_unit, passes}
-use Rattle.imposed_again.specs.Again.{depth_behind, sheet_texts, written, AreShut, IsAgain, WrittenIsDocument, SheetsShut, TrailerShuts, MakesSheets, ImposedAgain}
+use Rattle.imposed_again.specs.Again.{open_depth, sheet_texts, written, AreShut, IsAgain, WrittenIsDocument, SheetsShut, TrailerShuts, MakesSheets, ImposedAgain}
 use Rattle.imposed_again.proofs.LinesMeet.{clash}
 use Rattle.imposed_again.proofs.Texts.{are_units, units_behind, joined_append, joined_is}
 use Rattle.imposed_again.proofs.Splits.{at_depth, same_some, Opens, Split, split, up_to_passed, from_passed, up_to_open, from_open}
@@ -164,7 +164,7 @@ pub record Done (frame : Frame) (all : List (List Slot)) (us : List NestedUnit) 
   pub are : AreUnits (written frame all us) units
   pub again : IsAgain frame all us (nested units)
   pub seen : 0 < length (pages (nested units))
-  pub shut : depth_behind (page_run us) ≡ 0 → AreShut (sheet_texts frame (pages us) all)
+  pub shut : open_depth (page_run us) ≡ 0 → AreShut (sheet_texts frame (pages us) all)
   pub starts : starts_with nat_eq (written frame all us) (codes "%!") ≡ true
 
 -- the first unit begins no page
@@ -206,7 +206,7 @@ done_by frame all us p (u ∷ pre) e s m l =
     let a : Assembled c (preamble_text n ns) ts (trailer_text ns) = assembled c (preamble_text n ns) ts (trailer_text ns) made k many last in
     let out : written frame all ns ≡ (preamble_text n ns ++ flat_map (λ t. t) ts) ++ trailer_text ns =
     ap (λ t. preamble_text n ns ++ t ++ trailer_text ns) (mapped (λ (s, slots). sheet_text frame (pages ns) s slots) (enumerate_from 0 all)) in
-    let closed : depth_behind (page_run ns) ≡ 0 → c = λ h. sym (depth_is begins_trailer 0 p.run p.depth p.inside p.some) ∙ sym (ap depth_behind p.run_is) ∙ h in
+    let closed : open_depth (page_run ns) ≡ 0 → c = λ h. sym (depth_is begins_trailer 0 p.run p.depth p.inside p.some) ∙ sym (ap open_depth p.run_is) ∙ h in
     let ks : List ℕ = joined (line_unit (count_content n) ∷ kept_units false drops_in_header (depth_after 0 u) pre) in
     let opening : preamble_text n ns ≡ ended (37 ∷ 33 ∷ (first.rest ++ ks)) = before ∙ ap ended (count_text n u pre kept_first ∙ ap (λ t. t ++ ks) first.written) in
     record {
@@ -322,30 +322,30 @@ written_is_document frame all text us d many few =
     let w = accepted_cut text us d in
     subst (Says frame all) w.1 (again_of frame all text (or_none (cut text)) (subst (λ vs. document_of text ≡ Ok vs) (sym w.1) d) w.0 many few)
 
-shut_of : (frame : Frame) (all : List (List Slot)) (text : List ℕ) (us : List TextUnit) → document_of text ≡ Ok (nested us) → cut text ≡ Ok us → depth_behind (page_run (nested us)) ≡ 0 → AreShut (sheet_texts frame (pages (nested us)) all)
+shut_of : (frame : Frame) (all : List (List Slot)) (text : List ℕ) (us : List TextUnit) → document_of text ≡ Ok (nested us) → cut text ≡ Ok us → open_depth (page_run (nested us)) ≡ 0 → AreShut (sheet_texts frame (pages (nested us)) all)
 shut_of frame [] text us d c h = tt
 shut_of frame (x ∷ xs) text us d c h = (done_of frame (x ∷ xs) text us d c (omega arith)).shut h
 
 pub sheets_shut : SheetsShut
 sheets_shut frame all text us d =
     let w = accepted_cut text us d in
-    subst (λ vs. depth_behind (page_run vs) ≡ 0 → AreShut (sheet_texts frame (pages vs) all)) w.1 (shut_of frame all text (or_none (cut text)) (subst (λ vs. document_of text ≡ Ok vs) (sym w.1) d) w.0)
+    subst (λ vs. open_depth (page_run vs) ≡ 0 → AreShut (sheet_texts frame (pages vs) all)) w.1 (shut_of frame all text (or_none (cut text)) (subst (λ vs. document_of text ≡ Ok vs) (sym w.1) d) w.0)
 
 nested_size : (d : ℕ) (us : List TextUnit) → length (nested_from d us) ≡ length us
 nested_size d [] = refl
 nested_size d (u ∷ us) = ap suc (nested_size (depth_after d u) us)
 
-trailer_of : (us : List TextUnit) → 0 < length (pages (nested us)) → 0 < length (trailer (nested us)) → depth_behind (page_run (nested us)) ≡ 0
+trailer_of : (us : List TextUnit) → 0 < length (pages (nested us)) → 0 < length (trailer (nested us)) → open_depth (page_run (nested us)) ≡ 0
 trailer_of us some l =
     let p : Parts us = parts us some in
     let size : length (trailer (nested us)) ≡ length p.rest = ap length p.trailer_is ∙ nested_size 0 p.rest in
-    ap depth_behind p.run_is ∙ depth_is begins_trailer 0 p.run p.depth p.inside p.some ∙ p.closes (omega (arith, size, l))
+    ap open_depth p.run_is ∙ depth_is begins_trailer 0 p.run p.depth p.inside p.some ∙ p.closes (omega (arith, size, l))
 
 pub trailer_shuts : TrailerShuts
 trailer_shuts text us d =
     let w = accepted_cut text us d in
     let some : 0 < length (pages (nested (or_none (cut text)))) = subst (λ vs. 0 < length (pages vs)) (sym w.1) (some_pages text us d) in
-    subst (λ vs. 0 < length (trailer vs) → depth_behind (page_run vs) ≡ 0) w.1 (trailer_of (or_none (cut text)) some)
+    subst (λ vs. 0 < length (trailer vs) → open_depth (page_run vs) ≡ 0) w.1 (trailer_of (or_none (cut text)) some)
 
 pub makes_sheets : MakesSheets
 makes_sheets = some_sheets
@@ -353,7 +353,7 @@ makes_sheets = some_sheets
 abbrev Again : (frame : Frame) (sides : Option ℕ) (spec : Spec) → List NestedUnit → List (List Slot) → Type 0
 Again frame sides spec us all =
     (document_of (output frame sides spec us) ≡ Ok (units_of (output frame sides spec us))) × IsAgain frame all us (units_of (output frame sides spec us))
-    × (depth_behind (page_run us) ≡ 0 → pages (units_of (output frame sides spec us)) ≡ sheet_texts frame (pages us) all)
+    × (open_depth (page_run us) ≡ 0 → pages (units_of (output frame sides spec us)) ≡ sheet_texts frame (pages us) all)
 
 pub imposed_again : ImposedAgain
 imposed_again most frame sides spec text us all d are a p l =

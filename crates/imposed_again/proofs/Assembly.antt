@@ -14,7 +14,7 @@ use Rattle.dsc.proofs.Alone.{nested-bytes}
 use Rattle.dsc.specs.Units.{or_none, units_of}
 use Rattle.std.proofs.lemmas.Bool.{eqb-true, ne_eqb}
 use Rattle.imposed_again.specs.Seams.{joined, passes, line_unit, no_ends, lf}
-use Rattle.imposed_again.specs.Again.{depth_behind, AreShut}
+use Rattle.imposed_again.specs.Again.{open_depth, AreShut}
 use Rattle.imposed_again.proofs.UnitsMeet.{first_line}
 use Rattle.imposed_again.proofs.Texts.{Goes, goes_append, units_join, joined_is, units_are}
 use Rattle.imposed_again.proofs.Splits.{at_depth, Through, same_some, passes_cons, passes_append, Opens, up_to_passed, from_passed, up_to_open, from_open}
@@ -88,16 +88,16 @@ sheet_are : (t : List ℕ) (us : List TextUnit) → Goes t us → AreUnits t us
 sheet_are t us g = subst (λ x. AreUnits x us) (append-nil t) (subst (AreUnits (t ++ [])) (append-nil us) (g [] [] refl))
 
 -- the depth after units that pass a test
-pub depth_is : (t : NestedUnit → Bool) (d : ℕ) (us : List TextUnit) (e : ℕ) → passes t d us ≡ Some e → 0 < length us → depth_behind (nested_from d us) ≡ e
+pub depth_is : (t : NestedUnit → Bool) (d : ℕ) (us : List TextUnit) (e : ℕ) → passes t d us ≡ Some e → 0 < length us → open_depth (nested_from d us) ≡ e
 depth_is t d [] e h l = absurd (omega (arith, l))
 depth_is t d (u ∷ []) e h l = let w = passes_cons t d u [] e h in same_some (depth_after d u) e w.1
 depth_is t d (u ∷ v ∷ us) e h l = let w = passes_cons t d u (v ∷ us) e h in depth_is t (depth_after d u) (v ∷ us) e w.1 (omega arith)
 
 -- the depth after a sheet
-sheet_depth : (c : Type 0) (t : List ℕ) (s : Sheet c t) (e : ℕ) → passes begins_part 0 s.rest ≡ Some e → depth_behind (units_of t) ≡ e
+sheet_depth : (c : Type 0) (t : List ℕ) (s : Sheet c t) (e : ℕ) → passes begins_part 0 s.rest ≡ Some e → open_depth (units_of t) ≡ e
 sheet_depth c t s e h =
     let w = passes_either begins_page begins_trailer 0 s.rest e h in
-    ap (λ r. depth_behind (nested (or_none r))) (units_are t (s.page ∷ s.rest) (sheet_are t (s.page ∷ s.rest) s.goes))
+    ap (λ r. open_depth (nested (or_none r))) (units_are t (s.page ∷ s.rest) (sheet_are t (s.page ∷ s.rest) s.goes))
     ∙ depth_is begins_trailer 0 (s.page ∷ s.rest) e
     (ap (λ b. if b then None else passes begins_trailer (depth_after 0 s.page) s.rest) (exclusive (at_depth 0 s.page) s.begins) ∙ ap (λ d. passes begins_trailer d s.rest) (s.outside 0) ∙ w.1) (omega arith)
 
@@ -303,7 +303,7 @@ pub record Assembled (k : Type 0) (a : List ℕ) (ts : List (List ℕ)) (c : Lis
   pub few : length (pages (nested units)) ≤ length ts
   pub middle : AreShut ts → pages (nested units) ≡ ts
   pub exact : length (pages (nested units)) ≡ length ts → AreShut ts
-  pub stays_shut : k → depth_behind (page_run (nested units)) ≡ 0
+  pub stays_shut : k → open_depth (page_run (nested units)) ≡ 0
 
 -- where the trailer begins at this depth, which is 0 under the condition
 trailer_opens : (k : Type 0) (d : ℕ) (us : List TextUnit) → Opens begins_trailer 0 us → (0 < length us → k) → (k → d ≡ 0) → Opens begins_trailer d us
@@ -343,5 +343,5 @@ assembled k a ts c m s l t =
       few = omega (arith, size, few);
       middle = λ h. ap (λ us. map bytes_of (split_pages us)) run ∙ s.parts h;
       exact = λ h. s.exact (sym size ∙ h);
-      stays_shut = λ x. ap depth_behind run ∙ depth_is begins_trailer 0 s.units 0 (s.shut x).0 (s.some l);
+      stays_shut = λ x. ap open_depth run ∙ depth_is begins_trailer 0 s.units 0 (s.shut x).0 (s.some l);
     }

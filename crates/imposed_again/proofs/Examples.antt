@@ -11,7 +11,7 @@ use Rattle.rules.specs.Filters.{ended, kept, drops_in_page}
 use Rattle.rules.specs.Run.{document_of, DocumentFault}
 use Rattle.rules.specs.Sheets.{sheets}
 use Rattle.rules.specs.Output.{Frame, output}
-use Rattle.imposed_again.specs.Again.{depth_behind, sheet_texts}
+use Rattle.imposed_again.specs.Again.{open_depth, sheet_texts}
 
 abbrev frame : Frame
 frame = record { paper = points 595 842; border = None }
@@ -40,7 +40,7 @@ sheets_of spec us = sheet_texts frame (pages us) (sheets spec (length (pages us)
 -- the number of sheets that were written, the number of pages that they are read as, and the depth after the
 -- document's last page
 abbrev seen_of : Spec → List ℕ → Result (ℕ × ℕ × ℕ) DocumentFault
-seen_of spec text = document_of text >>= λ us. again spec us >>= λ vs. Ok (length (sheets_of spec us), length (pages vs), depth_behind (page_run us))
+seen_of spec text = document_of text >>= λ us. again spec us >>= λ vs. Ok (length (sheets_of spec us), length (pages vs), open_depth (page_run us))
 
 -- Runs piped.
 
@@ -94,7 +94,7 @@ not_placed = refl
 
 -- a line `%%Trailer` after an open document is no trailer, so the depth after the last page isn't 0
 abbrev ends_with : List ℕ → Result (ℕ × ℕ) DocumentFault
-ends_with text = document_of text >>= λ us. Ok (length (trailer us), depth_behind (page_run us))
+ends_with text = document_of text >>= λ us. Ok (length (trailer us), open_depth (page_run us))
 
 no_trailer : ends_with (codes "%!\n%%Page: 1 1\n%%BeginDocument: a\n%%Trailer\n") ≡ Ok (0, 1)
 no_trailer = refl

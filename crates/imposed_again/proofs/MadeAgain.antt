@@ -27,7 +27,7 @@ use Rattle.imposed_again.proofs.MadePieces.{each_made, lines_joined, lines_pass,
 use Rattle.imposed_again.proofs.Pages.{EachBody, all_bodies, make, nothing_and, page_blind, pages_good}
 use Rattle.imposed_again.proofs.Pieces.{AllBodies, Made}
 use Rattle.imposed_again.proofs.Recut.{Row, Stands, row_of}
-use Rattle.imposed_again.specs.Again.{AreShut, depth_behind}
+use Rattle.imposed_again.specs.Again.{AreShut, open_depth}
 use Rattle.imposed_again.specs.MadeAgain.{AreTame, IsMadeAgain, IsTameDress, MadeIsDocument, made_texts}
 
 -- ---- the preamble
@@ -73,7 +73,7 @@ record Done (border : Option Border) (dress : Dress) (all : List MadeSheet) (us 
   are : AreUnits (made_output border dress all us) units
   again : IsMadeAgain border dress all us (nested units)
   seen : 0 < length (pages (nested units))
-  shut : depth_behind (page_run us) ≡ 0 → AreShut (made_texts border dress (pages us) all)
+  shut : open_depth (page_run us) ≡ 0 → AreShut (made_texts border dress (pages us) all)
   starts : starts_with nat_eq (made_output border dress all us) (codes "%!") ≡ true
 
 -- from the preamble's units
@@ -110,7 +110,7 @@ done_by border dress all tame us p (u ∷ pre) e s m l =
     let a : Assembled c text ts (trailer_text ns) = assembled c text ts (trailer_text ns) made k many last in
     let out : made_output border dress all ns ≡ (text ++ flat_map (λ t. t) ts) ++ trailer_text ns =
     ap (λ t. text ++ t ++ trailer_text ns) (mapped (λ (s, sheet). made_sheet_text border dress (pages ns) s sheet) (enumerate_from 0 all)) in
-    let closed : depth_behind (page_run ns) ≡ 0 → c = λ h. sym (depth_is begins_trailer 0 p.run p.depth p.inside p.some) ∙ sym (ap depth_behind p.run_is) ∙ h in
+    let closed : open_depth (page_run ns) ≡ 0 → c = λ h. sym (depth_is begins_trailer 0 p.run p.depth p.inside p.some) ∙ sym (ap open_depth p.run_is) ∙ h in
     let ks : List ℕ = joined (line_unit (count_content n) ∷ kept_lines lines u pre) in
     let opening : text ≡ ended (37 ∷ 33 ∷ (first.rest ++ ks)) = before ∙ ap ended (dressed_text n lines u pre kept_first ∙ ap (λ t. t ++ ks) first.written) in
     record {
@@ -145,7 +145,7 @@ abbrev Says : (border : Option Border) → Dress → List MadeSheet → List Nes
 Says border dress all us =
     (document_of (made_output border dress all us) ≡ Ok (units_of (made_output border dress all us)))
     × IsMadeAgain border dress all us (units_of (made_output border dress all us))
-    × (depth_behind (page_run us) ≡ 0 → pages (units_of (made_output border dress all us)) ≡ made_texts border dress (pages us) all)
+    × (open_depth (page_run us) ≡ 0 → pages (units_of (made_output border dress all us)) ≡ made_texts border dress (pages us) all)
 
 again_of : (border : Option Border) (dress : Dress) (all : List MadeSheet) → IsTameDress dress → (text : List ℕ) (us : List TextUnit)
     → document_of text ≡ Ok (nested us) → cut text ≡ Ok us → 0 < length all → length all ≤ 1_000_000

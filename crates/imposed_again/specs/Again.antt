@@ -12,10 +12,10 @@ use Rattle.rules.specs.Run.{document_of, plan_in, most_input_bytes, most_pages}
 use Rattle.dsc.specs.Units.{units_of}
 
 -- the depth after units, which is the number of embedded documents that they leave open; without units it is 0
-abbrev pub depth_behind : List NestedUnit → ℕ
-depth_behind [] = 0
-depth_behind (u ∷ []) = depth_after u.depth u.unit
-depth_behind (u ∷ v ∷ us) = depth_behind (v ∷ us)
+abbrev pub open_depth : List NestedUnit → ℕ
+open_depth [] = 0
+open_depth (u ∷ []) = depth_after u.depth u.unit
+open_depth (u ∷ v ∷ us) = open_depth (v ∷ us)
 
 -- the texts of these sheets, in order, for a document with these pages
 abbrev pub sheet_texts : Frame → List (List ℕ) → List (List Slot) → List (List ℕ)
@@ -32,7 +32,7 @@ written frame all us =
 abbrev pub AreShut : List (List ℕ) → Type 0
 AreShut [] = Unit {0}
 AreShut (text ∷ []) = Unit {0}
-AreShut (text ∷ next ∷ more) = (depth_behind (units_of text) ≡ 0) × AreShut (next ∷ more)
+AreShut (text ∷ next ∷ more) = (open_depth (units_of text) ≡ 0) × AreShut (next ∷ more)
 
 -- The units `again` are those of what was written of a document with these sheets. Preamble and trailer are the
 -- texts that were written. There are as many pages as sheets exactly if each sheet but the last leaves no embedded
@@ -44,7 +44,7 @@ pub record IsAgain (frame : Frame) (all : List (List Slot)) (us again : List Nes
   pub only_if : length (pages again) ≡ length all → AreShut (sheet_texts frame (pages us) all)
   pub fewer : length (pages again) ≤ length all
   pub behind : bytes_of (trailer again) ≡ trailer_text us
-  pub stays_shut : depth_behind (page_run us) ≡ 0 → depth_behind (page_run again) ≡ 0
+  pub stays_shut : open_depth (page_run us) ≡ 0 → open_depth (page_run again) ≡ 0
 
 -- what is written of a document with any sheets is a document again, if there are sheets and not too many
 abbrev pub WrittenIsDocument : Type 0
@@ -59,13 +59,13 @@ WrittenIsDocument =
 abbrev pub SheetsShut : Type 0
 SheetsShut =
     (frame : Frame) (all : List (List Slot)) (text : List ℕ) (us : List NestedUnit)
-    → document_of text ≡ Ok us → depth_behind (page_run us) ≡ 0 → AreShut (sheet_texts frame (pages us) all)
+    → document_of text ≡ Ok us → open_depth (page_run us) ≡ 0 → AreShut (sheet_texts frame (pages us) all)
 
 -- if a document has a trailer, its last page leaves no embedded document open
 abbrev pub TrailerShuts : Type 0
 TrailerShuts =
     (text : List ℕ) (us : List NestedUnit)
-    → document_of text ≡ Ok us → 0 < length (trailer us) → depth_behind (page_run us) ≡ 0
+    → document_of text ≡ Ok us → 0 < length (trailer us) → open_depth (page_run us) ≡ 0
 
 -- an admissible specification makes at least one sheet of pages, in signatures or not
 abbrev pub MakesSheets : Type 0
@@ -83,5 +83,5 @@ ImposedAgain =
     → length (output frame sides spec us) ≤ most_input_bytes
     → (document_of (output frame sides spec us) ≡ Ok (units_of (output frame sides spec us)))
     × IsAgain frame all us (units_of (output frame sides spec us))
-    × (depth_behind (page_run us) ≡ 0
+    × (open_depth (page_run us) ≡ 0
     → pages (units_of (output frame sides spec us)) ≡ sheet_texts frame (pages us) all)

@@ -12,7 +12,7 @@ use Rattle.imposed_again.specs.Seams.{no_ends}
 use Rattle.rules.specs.Made.{MadeSheet}
 use Rattle.rules.specs.Dress.{Dress}
 use Rattle.rules.specs.MadeOutput.{dressed_preamble, made_sheet_text, made_output}
-use Rattle.imposed_again.specs.Again.{AreShut, depth_behind}
+use Rattle.imposed_again.specs.Again.{AreShut, open_depth}
 
 -- a line that begins no part and no data, and neither begins nor ends an embedded document
 pub record IsTame (content : List ℕ) : Type 0 where
@@ -48,7 +48,7 @@ pub record IsMadeAgain (border : Option Border) (dress : Dress) (all : List Made
   pub only_if : length (pages again) ≡ length all → AreShut (made_texts border dress (pages us) all)
   pub fewer : length (pages again) ≤ length all
   pub behind : bytes_of (trailer again) ≡ trailer_text us
-  pub stays_shut : depth_behind (page_run us) ≡ 0 → depth_behind (page_run again) ≡ 0
+  pub stays_shut : open_depth (page_run us) ≡ 0 → open_depth (page_run again) ≡ 0
 
 -- the output of made sheets, if there are any and not too many, is a document again unless it is too long. If the
 -- document's last page leaves no embedded document open, its pages are the sheets
@@ -59,5 +59,5 @@ MadeIsDocument =
     → length (made_output border dress all us) ≤ most_input_bytes
     → (document_of (made_output border dress all us) ≡ Ok (units_of (made_output border dress all us)))
     × IsMadeAgain border dress all us (units_of (made_output border dress all us))
-    × (depth_behind (page_run us) ≡ 0
+    × (open_depth (page_run us) ≡ 0
     → pages (units_of (made_output border dress all us)) ≡ made_texts border dress (pages us) all)

@@ -19,7 +19,7 @@ use Rattle.imposer.specs.Options.{AreOptions}
 use Rattle.sheet_writer.specs.Sinks.{SinkView}
 use Rattle.sheet_writer.specs.Writing.{WroteFirst}
 use Rattle.imposer.specs.Gathering.{Answers, ReportsOf, WrotePartOf}
-use Rattle.imposer.specs.Runs.{Request, frame_of, IsRunAccepted, Accepted, Reports, IsRunRefusal, IsUnwritten, HasWritten, WrotePart, IsGiven, AnswersRequest}
+use Rattle.imposer.specs.Runs.{Request, frame_of, IsRunAccepted, Accepted, Reports, AgreesWithChecks, IsUnwritten, HasWritten, WrotePart, IsGiven, AnswersRequest}
 use Rattle.imposer.specs.declared.options.Options.{Options}
 use Rattle.imposer.specs.declared.runs.Given.{Given}
 use Rattle.imposer.specs.declared.outcome.RunError.{RunError}
@@ -48,7 +48,7 @@ unwritten_steady (error.NoMemory written) sink none = inl refl
 unwritten_steady (error.Write written) sink none = absurd none
 
 -- a refusal before anything was written
-pub refused_answers : (r : Request) (sink : SinkView) (e : RunError) → IsRunRefusal r e → IsUnwritten e → AnswersRequest r sink sink (Err e)
+pub refused_answers : (r : Request) (sink : SinkView) (e : RunError) → AgreesWithChecks r e → IsUnwritten e → AnswersRequest r sink sink (Err e)
 refused_answers r sink e refusal none = (refusal, unwritten_kept r sink e none, unwritten_steady e sink none)
 
 -- what a job that was made of an accepted request answers is the request's answer
@@ -108,7 +108,7 @@ pub says_finished : (r : Request) (old new : SinkView) (result : Result Report R
 says_finished r old new (Ok report) answers = answers.0
 says_finished r old new (Err e) answers = tt
 
-pub says_refused : (r : Request) (old new : SinkView) (result : Result Report RunError) → AnswersRequest r old new result → IfErr result (λ e. IsRunRefusal r e)
+pub says_refused : (r : Request) (old new : SinkView) (result : Result Report RunError) → AnswersRequest r old new result → IfErr result (λ e. AgreesWithChecks r e)
 says_refused r old new (Ok report) answers = tt
 says_refused r old new (Err e) answers = answers.0
 

@@ -8,11 +8,11 @@ use Rattle.rules.specs.Signatures.{sheets_in}
 use Rattle.rules.specs.Parts.{NestedUnit, page_run, pages}
 use Rattle.rules.specs.Output.{Frame, sheet_text, output}
 use Rattle.rules.specs.Run.{DocumentFault, document_of}
-use Rattle.dsc.specs.Faults.{fault_told}
+use Rattle.dsc.specs.Faults.{reported_fault}
 use Rattle.dsc.specs.Units.{units_of}
 use Rattle.imposer.specs.Runs.{Request, frame_of, IsRunAccepted, Reports}
 use Rattle.imposer.specs.declared.outcome.Report.{Report}
-use Rattle.imposed_again.specs.Again.{depth_behind, IsAgain}
+use Rattle.imposed_again.specs.Again.{open_depth, IsAgain}
 use Rattle.imposed_again.proofs.Again.{imposed_again}
 use Rattle.imposer.specs.Again.{RunIsDocument, RunsGoOn}
 
@@ -23,7 +23,7 @@ as_many f n (x ∷ xs) = ap suc (as_many f (n + 1) xs)
 abbrev Says : Frame → Option ℕ → Spec → List NestedUnit → ℕ → List ℕ → Type 0
 Says frame sides spec us count written =
     (document_of written ≡ Ok (units_of written)) × IsAgain frame (sheets_in sides spec (length (pages us))) us (units_of written)
-    × (depth_behind (page_run us) ≡ 0 → length (pages (units_of written)) ≡ count)
+    × (open_depth (page_run us) ≡ 0 → length (pages (units_of written)) ≡ count)
 
 says : (r : Request) (spec : Spec) (us : List NestedUnit) (report : Report) → IsRunAccepted r spec us → Reports (frame_of r.options) r.options.sides spec us report → report.bytes ≤ 1_073_741_824
     → Says (frame_of r.options) r.options.sides spec us report.sheets (output (frame_of r.options) r.options.sides spec us)
@@ -46,4 +46,4 @@ no_fault None text us d h = h
 no_fault (Some f) text us d h = cc
 
 pub runs_go_on : RunsGoOn
-runs_go_on r next report e h l bad = no_fault (fault_told e) next.input (units_of next.input) (run_is_document r report next.input h l).0 bad.2
+runs_go_on r next report e h l bad = no_fault (reported_fault e) next.input (units_of next.input) (run_is_document r report next.input h l).0 bad.2

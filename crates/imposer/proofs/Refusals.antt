@@ -8,12 +8,12 @@ use Rattle.rules.specs.Admissible.{Takes, most_slots}
 use Rattle.sheet_plan.specs.Refusals as plan_said
 use Rattle.imposer.specs.Options.{AreOptions}
 use Rattle.imposer.specs.Outcomes.{of_plan}
-use Rattle.imposer.specs.Runs.{Request, IsRunRefusal, IsUnwritten}
+use Rattle.imposer.specs.Runs.{Request, AgreesWithChecks, IsUnwritten}
 use Rattle.sheet_plan.specs.declared.error.PlanError.{PlanError}
 use Rattle.sheet_plan.specs.declared.error.PlanError.TheVariants as plan
 
 pub refused_plan : (r : Request) (e : PlanError) (s : Spec) (us : List NestedUnit) (n : ℕ) → AreOptions r.options → Takes most_slots r.spec s → document_of r.input ≡ Ok us → n ≡ length (pages us)
-    → plan_said.RefusesIn r.options.sides s n e → IsRunRefusal r (of_plan e) × IsUnwritten (of_plan e)
+    → plan_said.RefusesIn r.options.sides s n e → AgreesWithChecks r (of_plan e) × IsUnwritten (of_plan e)
 refused_plan r plan.TooManyPages s us n w taken cut count fault = ((w, (s, us, taken, cut, rw (← count) fault)), tt)
 refused_plan r plan.TooManySheets s us n w taken cut count fault = ((w, (s, us, taken, cut, rw (← count) fault)), tt)
 refused_plan r plan.TooManyPlaces s us n w taken cut count fault = ((w, (s, us, taken, cut, rw (← count) fault)), tt)

@@ -7,10 +7,10 @@ use Rattle.rules.specs.Output.{output}
 use Rattle.rules.specs.Run.{document_of, most_input_bytes}
 use Rattle.dsc.specs.Units.{units_of}
 use Rattle.dsc.specs.declared.errors.DscError.{DscError}
-use Rattle.imposer.specs.Runs.{Request, frame_of, Accepted, IsRunRefusal, Reports}
+use Rattle.imposer.specs.Runs.{Request, frame_of, Accepted, AgreesWithChecks, Reports}
 use Rattle.imposer.specs.declared.outcome.Report.{Report}
 use Rattle.imposer.specs.declared.outcome.RunError.TheVariants as error
-use Rattle.imposed_again.specs.Again.{depth_behind, IsAgain}
+use Rattle.imposed_again.specs.Again.{open_depth, IsAgain}
 
 -- a run on this request returned Ok with this report, and appended these bytes to none: this is what `run` promises
 -- for an Ok, if the sink was empty
@@ -28,10 +28,10 @@ RunIsDocument =
     → (document_of written ≡ Ok (units_of written))
     × Accepted r (λ spec us.
     IsAgain (frame_of r.options) (sheets_in r.options.sides spec (length (pages us))) us (units_of written)
-    × (depth_behind (page_run us) ≡ 0 → length (pages (units_of written)) ≡ report.sheets))
+    × (open_depth (page_run us) ≡ 0 → length (pages (units_of written)) ≡ report.sheets))
 
 -- a run on what a run wrote is not refused because of the document
 abbrev pub RunsGoOn : Type 0
 RunsGoOn =
     (r next : Request) (report : Report) (e : DscError)
-    → HasRun r report next.input → report.bytes ≤ most_input_bytes → IsRunRefusal next (error.Document e) → ⊥
+    → HasRun r report next.input → report.bytes ≤ most_input_bytes → AgreesWithChecks next (error.Document e) → ⊥

@@ -5,8 +5,8 @@ use Rattle.rules.specs.Run as run
 use Rattle.sheet_plan.specs.declared.error.PlanError.{PlanError}
 use Rattle.sheet_plan.specs.declared.error.PlanError.TheVariants as plan
 
-abbrev pub plan_fault_told : PlanError → Option PlanFault
-plan_fault_told plan.TooManyPages = Some run.PlanTooManyPages
-plan_fault_told plan.TooManySheets = Some run.TooManySheets
-plan_fault_told plan.TooManyPlaces = Some run.TooManyPlaces
-plan_fault_told plan.NoMemory = None
+abbrev pub reported_plan_fault : PlanError → Option PlanFault
+reported_plan_fault plan.TooManyPages = Some run.PlanTooManyPages
+reported_plan_fault plan.TooManySheets = Some run.TooManySheets
+reported_plan_fault plan.TooManyPlaces = Some run.TooManyPlaces
+reported_plan_fault plan.NoMemory = None

@@ -13,10 +13,10 @@ abbrev pub Hears : (old new : Option (List GatheredPlan)) → GatheredPlan → T
 Hears None new ended = ⊤
 Hears (Some heard) new ended = new ≡ Some (heard ++ ended ∷ [])
 
--- a run on the job's own table: seat and pass come back, but for memory, and show all calls; each complete sheet was put
--- on the queue exactly once
+-- a gathering on a table with the job's layout: unless memory ran out, seat and pass come back and show all calls; each complete sheet
+-- was put on the queue exactly once
 pub record IsOfJob (job : JobView) (ended : GatheredPlan) : Type 0 where
-  pub own_table : ended.table.layout ≡ layout job.plan
+  pub same_layout : ended.table.layout ≡ layout job.plan
   pub handed_back : TokensComeBack ended.gathered
   pub left : Leaves ended.table ended.queue ⊤ ended.gathered
 

@@ -15,7 +15,7 @@ use Rattle.pagespec.specs.Faults.{fault_named}
 use Rattle.pagespec.specs.Refusals.{IsSyntaxPlace}
 use Rattle.sheet_plan.specs.Plans.{planned_in}
 use Rattle.sheet_plan.specs.Places.{born_complete}
-use Rattle.imposer.specs.Faults.{plan_fault_told}
+use Rattle.imposer.specs.Faults.{reported_plan_fault}
 use Rattle.imposer.specs.Outcomes.{AfterError, FailedIn}
 use Rattle.imposer.specs.declared.outcome.RunError.{RunError}
 use Rattle.imposer.specs.declared.outcome.RunError.TheVariants as error
@@ -50,19 +50,19 @@ Accepted r P = (spec : Spec) × (us : List NestedUnit) × IsRunAccepted r spec u
 
 -- what an error says of the checks. A refusal names one that fails, and each before it passes; a syntax fault has a place in
 -- the specification; out of memory comes after the checks that need none; a failed write comes after all of them
-abbrev pub IsRunRefusal : Request → RunError → Type 0
-IsRunRefusal r error.Options = AreOptions r.options → ⊥
-IsRunRefusal r (error.Spec e) =
+abbrev pub AgreesWithChecks : Request → RunError → Type 0
+AgreesWithChecks r error.Options = AreOptions r.options → ⊥
+AgreesWithChecks r (error.Spec e) =
     AreOptions r.options × IsSomeAnd (fault_named e) (λ f. Refuses most_slots r.spec f) × IsSyntaxPlace r.spec e
-IsRunRefusal r (error.Document e) =
+AgreesWithChecks r (error.Document e) =
     AreOptions r.options × ((spec : Spec) × Takes most_slots r.spec spec)
-    × IsSomeAnd (dsc.fault_told e) (λ f. document_of r.input ≡ Err f)
-IsRunRefusal r (error.Plan e) =
+    × IsSomeAnd (dsc.reported_fault e) (λ f. document_of r.input ≡ Err f)
+AgreesWithChecks r (error.Plan e) =
     AreOptions r.options
     × ((spec : Spec) × (us : List NestedUnit) × Takes most_slots r.spec spec × (document_of r.input ≡ Ok us)
-    × IsSomeAnd (plan_fault_told e) (λ f. plan_in r.options.sides spec (length (pages us)) ≡ Err f))
-IsRunRefusal r (error.NoMemory written) = AreOptions r.options × (length r.spec ≤ most_spec_bytes)
-IsRunRefusal r (error.Write written) = Accepted r (λ spec us. ⊤)
+    × IsSomeAnd (reported_plan_fault e) (λ f. plan_in r.options.sides spec (length (pages us)) ≡ Err f))
+AgreesWithChecks r (error.NoMemory written) = AreOptions r.options × (length r.spec ≤ most_spec_bytes)
+AgreesWithChecks r (error.Write written) = Accepted r (λ spec us. ⊤)
 
 -- the first bytes of the output of an accepted request, as many as were written
 abbrev pub WrotePart : Request → (old new : SinkView) → ℕ → Type 0
@@ -101,4 +101,4 @@ abbrev pub AnswersRequest : Request → (old new : SinkView) → Result Report R
 AnswersRequest r old new (Ok report) =
     Accepted r (λ spec us. Appends old.bytes new.bytes (output (frame_of r.options) r.options.sides spec us)
     × Reports (frame_of r.options) r.options.sides spec us report) × (new.failures ≡ old.failures)
-AnswersRequest r old new (Err e) = IsRunRefusal r e × HasWritten r old new e × FailedIn e old new
+AnswersRequest r old new (Err e) = AgreesWithChecks r e × HasWritten r old new e × FailedIn e old new

@@ -57,8 +57,8 @@ pub fn run_plan<R: Threads + Wait + Sync, G: Gate + Sync, S: Sink, L: Listener>(
     // At Ok the sink hasn't failed in this call. After `Write` it has failed once, and after `NoMemory` at most once.
     ensures steady { OnOk result ((S.seen sink.new).failures ≡ (S.seen sink.old).failures) }
     ensures failed { IfErr result (λ e. FailedIn e (S.seen sink.old) (S.seen sink.new)) }
-    // The listener was called with one run, which has the table of this job and all calls on it. If memory was refused before there was a table, it
-    // wasn't called.
+    // The listener was called with one gathering, on a table with the layout of this job. Its tokens, if there are any, show the calls. If memory was
+    // refused before there was a table, it wasn't called.
     ensures heard { HearsOfRun job.now (L.heard listener.old) (L.heard listener.new) result }
 {
     match gather_plan(rt, alloc, job, workers, gate, sink) {

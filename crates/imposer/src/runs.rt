@@ -8,7 +8,7 @@ ghost use Rattle.sheet_plan.specs.Plans.{planned_in};
 ghost use Rattle.sheet_plan.specs.Refusals.{RefusesIn};
 ghost use Rattle.sheet_writer.specs.Sinks.{IsCountable};
 ghost use Rattle.imposer.specs.Options.{AreOptions};
-ghost use Rattle.imposer.specs.Runs.{Request, request, frame_of, Accepted, IsRunRefusal, HasWritten, Reports};
+ghost use Rattle.imposer.specs.Runs.{Request, request, frame_of, Accepted, AgreesWithChecks, HasWritten, Reports};
 ghost use Rattle.imposer.specs.Outcomes.{FailedIn};
 ghost use Rattle.imposer.specs.Runs.{IsUnwritten, IsGiven, AnswersRequest};
 
@@ -49,7 +49,7 @@ pub fn run<R: Threads + Wait + Sync, G: Gate + Sync, S: Sink>(
         Appends (S.seen sink.old).bytes (S.seen sink.new).bytes (output (frame_of options.now) options.now.sides spec us)
         × Reports (frame_of options.now) options.now.sides spec us report)) }
     // A refusal is that of the first check that fails.
-    ensures refused { IfErr result (λ e. IsRunRefusal (request options.now spec.now input.now) e) }
+    ensures refused { IfErr result (λ e. AgreesWithChecks (request options.now spec.now input.now) e) }
     // After an error the sink has taken the first bytes of the output, as many as the error says; none after a refusal.
     ensures written { IfErr result (λ e.
         HasWritten (request options.now spec.now input.now) (S.seen sink.old) (S.seen sink.new) e) }
@@ -76,7 +76,7 @@ fn read_request<'d>(
     options: &Options,
 ) -> Result<Given<'d>, RunError>
     ensures read { IfOk result (λ given. IsGiven (request options.now spec.now input.now) options.now given) }
-    ensures refused { IfErr result (IsRunRefusal (request options.now spec.now input.now)) }
+    ensures refused { IfErr result (AgreesWithChecks (request options.now spec.now input.now)) }
     ensures unwritten { IfErr result IsUnwritten }
 {
     if !options_are_valid(options) {

@@ -24,7 +24,7 @@ use Rattle.open_pictures.specs.Pages.{OpenGuardedPagePaints}
 use Rattle.open_pictures.proofs.GuardedSheets.{body_places as open_body_places, page_again as open_page_again}
 use Rattle.open_pictures.specs.Marks.{with_strokes}
 use Rattle.open_pictures.specs.Sizes.{begun_on}
-use Rattle.open_pictures.specs.DressedDocuments.{told_by, TakesLines, DressedDocumentIsShown, OpenDressedDocumentIsShown}
+use Rattle.open_pictures.specs.DressedDocuments.{papers_reported_by, TakesLines, DressedDocumentIsShown, OpenDressedDocumentIsShown}
 use Rattle.open_pictures.proofs.LinesRead.{mark_tokens, start_tokens}
 use Rattle.open_pictures.proofs.Drawing.{marks_run}
 use Rattle.open_pictures.proofs.Sizing.{size_runs, lines_still, guarded_still}
@@ -57,7 +57,7 @@ runs_lines R m told strokes = record {
 pub dressed_document_is_shown : DressedDocumentIsShown
 dressed_document_is_shown sheet border strokes all text us picture s d few apart (complete, run, left, painted, printed, g) takes h =
     let again : List NestedUnit = units_of (guarded sheet text) in
-    let told : List Paper = told_by all in
+    let told : List Paper = papers_reported_by all in
     let lines : RunsLines (Runs false) told strokes (Takes told strokes) = runs_lines (Runs false) free_are_runs told strokes in
     let document = guard_stays sheet text us d few in
     document_is_dressed (Runs false) free_are_runs started border told strokes all (guarded sheet text) again picture s (Takes told strokes) lines (g, takes) document.0 apart
@@ -69,7 +69,7 @@ dressed_document_is_shown sheet border strokes all text us picture s d few apart
 pub open_dressed_document_is_shown : OpenDressedDocumentIsShown
 open_dressed_document_is_shown x z w sheet border strokes all text us picture s blind runs d few apart (complete, run, left, painted, printed, g) takes h =
     let again : List NestedUnit = units_of (guarded sheet text) in
-    let told : List Paper = told_by all in
+    let told : List Paper = papers_reported_by all in
     let lines : RunsLines (OpenRuns z false) told strokes (Takes told strokes) = runs_lines (OpenRuns z false) (open_are_runs z) told strokes in
     let document = guard_stays sheet text us d few in
     document_is_dressed (OpenRuns z false) (open_are_runs z) (begun_machine w) border told strokes all (guarded sheet text) again picture s (Takes told strokes) lines (g, takes) document.0 apart

@@ -10,7 +10,7 @@ use Rattle.rules.specs.Dress.{Dress, undressed}
 use Rattle.dsc.specs.Units.{units_of}
 use Rattle.guard.specs.Guard.{guarded}
 use Rattle.guard.proofs.TheGuard.{guard_stays}
-use Rattle.papers.specs.Told.{telling}
+use Rattle.papers.specs.Reported.{reporting}
 use Rattle.pictures.specs.Operators.{Work}
 use Rattle.pictures.specs.Machine.{State, Painting}
 use Rattle.pictures.specs.Scanner.{tokens, EndsBetweenTokens}
@@ -22,7 +22,7 @@ use Rattle.pictures.proofs.Output.{Bodies, on_sheets, undressed_is_quiet, by_spe
 use Rattle.pictures.proofs.Imposed.{still_document_is_shown}
 use Rattle.pictures.specs.Pages.{IsGuarded, outline_of}
 use Rattle.pictures.proofs.GuardedSheets.{guarded_prints}
-use Rattle.pictures.proofs.GuardedImposed.{telling_is_quiet}
+use Rattle.pictures.proofs.GuardedImposed.{reporting_is_quiet}
 use Rattle.open_pictures.specs.Machine.{Further, OpenRuns}
 use Rattle.open_pictures.specs.Blindness.{RunsPreambles}
 use Rattle.open_pictures.specs.Documents.{begun_machine, OpenPreambleRuns, OpenMadeIsPrinted}
@@ -58,7 +58,7 @@ again x border us units picture s all same h =
 pub open_made_document_is_shown : OpenMadeDocumentIsShown
 open_made_document_is_shown x z w sheet border all text us picture s blind runs on d few apart run h =
     let stays = guard_stays sheet text us d few in
-    made_is_shown x z w border (telling all) all (guarded sheet text) (units_of (guarded sheet text)) picture s blind runs (telling_is_quiet all on) stays.0 apart run
+    made_is_shown x z w border (reporting all) all (guarded sheet text) (units_of (guarded sheet text)) picture s blind runs (reporting_is_quiet all on) stays.0 apart run
     (again x border us (units_of (guarded sheet text)) picture s all stays.1.same_pages h)
 
 pub open_guarded_document_is_shown : OpenGuardedDocumentIsShown

@@ -6,7 +6,7 @@ use Rattle.rules.specs.Numbers.{points_text}
 use Rattle.rules.specs.Papers.{Paper}
 use Rattle.rules.specs.Dress.{lines_text}
 use Rattle.papers.specs.Own.{smallest_cover}
-use Rattle.papers.specs.Told.{telling_of, size_text, size_name, medium_text, medium_line, box_line, box_lines, exact_box_line, exact_box_lines, is_in_whole_points, whole_paper, page_size_lines, sheet_lines, setting_line}
+use Rattle.papers.specs.Reported.{reporting_of, size_text, size_name, medium_text, medium_line, box_line, box_lines, exact_box_line, exact_box_lines, is_in_whole_points, whole_paper, page_size_lines, sheet_lines, setting_line}
 use Rattle.dressing.specs.Drawn.{stroke_line, mark_lines}
 use Rattle.dressing.specs.declared.strokes.Stroke.{Stroke}
 use Rattle.pictures.specs.Objects.{Token, Number, Name, Literal, Opens, Closes}
@@ -81,12 +81,12 @@ marks_read (x ∷ xs) =
     ink_tokens (flat_map stroke_tokens (x ∷ xs) ++ (Name (codes "grestore") ∷ [])) refl (strokes_read (x ∷ xs))
 
 -- a sheet has them at its end
-finish_is : (told : List Paper) (n : ℕ) (paper : Paper) → (telling_of told).finish n paper ≡ []
+finish_is : (told : List Paper) (n : ℕ) (paper : Paper) → (reporting_of told).finish n paper ≡ []
 finish_is [] n paper = refl
 finish_is (p ∷ []) n paper = refl
 finish_is (p ∷ q ∷ ps) n paper = refl
 
-pub finish_read : (told : List Paper) (strokes : List Stroke) (n : ℕ) (paper : Paper) → Reads Between (lines_text ((telling_of told).finish n paper ++ mark_lines strokes)) (mark_tokens strokes) Between
+pub finish_read : (told : List Paper) (strokes : List Stroke) (n : ℕ) (paper : Paper) → Reads Between (lines_text ((reporting_of told).finish n paper ++ mark_lines strokes)) (mark_tokens strokes) Between
 finish_read told strokes n paper =
     subst (λ ls. Reads Between (lines_text (ls ++ mark_lines strokes)) (mark_tokens strokes) Between) (sym (finish_is told n paper)) (marks_read strokes)
 
@@ -177,7 +177,7 @@ sheet_lines_read paper =
     let named : List ℕ = codes "%%PageMedia: " ++ size_name paper in
     reads_join Between Between Between (line named) (lines_text (page_size_lines paper)) [] (size_tokens paper) (comment_read named (name_stays paper)) (size_read paper)
 
-pub start_read : (told : List Paper) (n : ℕ) (paper : Paper) → Reads Between (lines_text ((telling_of told).start n paper)) (start_tokens told paper) Between
+pub start_read : (told : List Paper) (n : ℕ) (paper : Paper) → Reads Between (lines_text ((reporting_of told).start n paper)) (start_tokens told paper) Between
 start_read [] n paper = refl
 start_read (p ∷ []) n paper = refl
 start_read (p ∷ q ∷ ps) n paper = sheet_lines_read paper
@@ -206,7 +206,7 @@ header_after box name p ls e f =
     (exact_quiet (is_in_whole_points box) box (medium_line (codes "%%DocumentMedia: ") name p ∷ ls)
     (both_true (is_comment_line (medium_line (codes "%%DocumentMedia: ") name p)) (are_comments ls) (medium_stays name p e) f))
 
-pub header_quiet : (told : List Paper) → are_comments (telling_of told).header ≡ true
+pub header_quiet : (told : List Paper) → are_comments (reporting_of told).header ≡ true
 header_quiet [] = refl
 header_quiet (p ∷ []) = header_after p (codes "Plain") p [] refl refl
 header_quiet (p ∷ q ∷ ps) = header_after (fold smallest_cover p (q ∷ ps)) (size_name p) p (map (λ r. medium_line (codes "%%+ ") (size_name r) r) (q ∷ ps)) (name_stays p) (others_quiet (q ∷ ps))

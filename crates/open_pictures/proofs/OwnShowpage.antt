@@ -11,7 +11,7 @@ use Rattle.rules.specs.MadeOutput.{made_output}
 use Rattle.dsc.specs.Units.{units_of}
 use Rattle.guard.specs.Guard.{guarded}
 use Rattle.guard.proofs.TheGuard.{guard_stays}
-use Rattle.papers.specs.Told.{telling}
+use Rattle.papers.specs.Reported.{reporting}
 use Rattle.pictures.specs.Objects.{Token}
 use Rattle.pictures.specs.Operators.{Work}
 use Rattle.pictures.specs.Machine.{State, Painting}
@@ -26,7 +26,7 @@ use Rattle.pictures.specs.Shelter.{outline_tokens, sheltered}
 use Rattle.pictures.specs.Lines.{with_asking}
 use Rattle.pictures.specs.Pages.{around, state_after_sheets}
 use Rattle.pictures.specs.OwnShowpage.{HasItsOwn, asking}
-use Rattle.pictures.proofs.GuardedImposed.{telling_is_quiet}
+use Rattle.pictures.proofs.GuardedImposed.{reporting_is_quiet}
 use Rattle.pictures.proofs.OwnShowpage.{own_on_paper, own_page_runs, own_anyway, own_after, same_graphics, own_prints}
 use Rattle.open_pictures.specs.Machine.{Further, OpenRuns}
 use Rattle.open_pictures.specs.Blindness.{Extends, RunsPreambles}
@@ -66,7 +66,7 @@ own_is_shown x z w sheet border dress all text us picture d s blind runs quiet d
 
 pub open_own_made_document_is_shown : OpenOwnMadeDocumentIsShown
 open_own_made_document_is_shown x z w sheet border all text us picture d s blind runs on doc few apart run has h =
-    own_is_shown x z w sheet border (telling all) all text us picture d s blind runs (telling_is_quiet all on) doc few apart run has h
+    own_is_shown x z w sheet border (reporting all) all text us picture d s blind runs (reporting_is_quiet all on) doc few apart run has h
 
 pub open_own_showpage_is_shown : OpenOwnShowpageIsShown
 open_own_showpage_is_shown x z w sheet frame sides spec text us picture d s blind runs doc few apart run has h =

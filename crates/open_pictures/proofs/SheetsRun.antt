@@ -11,7 +11,7 @@ use Rattle.rules.specs.Output.{Border}
 use Rattle.rules.specs.Made.{MadeSlot, Blank, Placed, MadeSheet}
 use Rattle.rules.specs.Dress.{Dress, lines_text}
 use Rattle.rules.specs.MadeOutput.{made_slot_text, made_sheet_text, dressed_preamble, made_output}
-use Rattle.papers.specs.Told.{telling_of}
+use Rattle.papers.specs.Reported.{reporting_of}
 use Rattle.dressing.specs.Drawn.{strokes_added}
 use Rattle.dressing.specs.declared.strokes.Stroke.{Stroke}
 use Rattle.pictures.specs.Objects.{Token, Name}
@@ -41,7 +41,7 @@ sheet_tokens border told strokes us picture sheet =
     start_tokens told sheet.paper ++ (pages_of (shown_sheet border us picture sheet) ++ (mark_tokens strokes ++ (Name (codes "showpage") ∷ [])))
 
 abbrev dress_of : (told : List Paper) → List Stroke → Dress
-dress_of told strokes = strokes_added strokes (telling_of told)
+dress_of told strokes = strokes_added strokes (reporting_of told)
 
 sheet_read : (border : Option Border) (told : List Paper) (strokes : List Stroke) (us : List NestedUnit) (picture : ℕ → List Painting) (number : ℕ) (sheet : MadeSheet) → OnSlotsFrom (AreComplete us) 0 sheet.slots
     → Reads Between (made_sheet_text border (dress_of told strokes) (pages us) number sheet) (sheet_tokens border told strokes us picture sheet) Between
@@ -79,11 +79,11 @@ sheets_read border told strokes us picture number s (sheet ∷ all) h =
     (sheets_read border told strokes us picture (number + 1) (begun_on told sheet.paper s) all h.1)
 
 output_cut : (border : Option Border) (told : List Paper) (strokes : List Stroke) (us : List NestedUnit) (picture : ℕ → List Painting) (s : State) (all : List MadeSheet)
-    → EndsBetweenTokens (dressed_preamble (length all) (telling_of told).header us) → OnSheetsBegun told (WholeBegun us) s all
+    → EndsBetweenTokens (dressed_preamble (length all) (reporting_of told).header us) → OnSheetsBegun told (WholeBegun us) s all
     → tokens (made_output border (dress_of told strokes) all us)
-    ≡ tokens (dressed_preamble (length all) (telling_of told).header us) ++ (flat_map (sheet_tokens border told strokes us picture) all ++ tokens (trailer_text us))
+    ≡ tokens (dressed_preamble (length all) (reporting_of told).header us) ++ (flat_map (sheet_tokens border told strokes us picture) all ++ tokens (trailer_text us))
 output_cut border told strokes us picture s all complete h =
-    let begun : List ℕ = dressed_preamble (length all) (telling_of told).header us in
+    let begun : List ℕ = dressed_preamble (length all) (reporting_of told).header us in
     let middle : List ℕ = flat_map (λ (n, sheet). made_sheet_text border (dress_of told strokes) (pages us) n sheet) (enumerate_from 0 all) in
     let shown : List Token = flat_map (sheet_tokens border told strokes us picture) all in
     let last : List Token = tokens (trailer_text us) in
@@ -175,12 +175,12 @@ on_begun told I P Q stays f (sheet ∷ all) s i h =
 
 -- A document's sheets, with the lines that report these papers.
 pub document_is_dressed : (R : State → State → Type 0) → AreRuns R → (start : List Token → State) (border : Option Border) (told : List Paper) (strokes : List Stroke) (all : List MadeSheet) (text : List ℕ) (us : List NestedUnit)
-    (picture : ℕ → List Painting) (s : State) (I : State → Type 0) → RunsLines R told strokes I → I s → document_of text ≡ Ok us → comments_apart_with (telling_of told).header us ≡ true
+    (picture : ℕ → List Painting) (s : State) (I : State → Type 0) → RunsLines R told strokes I → I s → document_of text ≡ Ok us → comments_apart_with (reporting_of told).header us ≡ true
     → RunsOn R start (bytes_of (preamble us)) s → s.painted ≡ [] → OnSheetsBegun told (BodyBegun R border us picture) s all
     → R (start (tokens (made_output border (dress_of told strokes) all us)))
     (record (after_sheets told s all) { left = tokens (trailer_text us); painted = []; sheets = dressed_pictures border strokes us picture s.graphics all s.sheets })
 document_is_dressed R m start border told strokes all text us picture s I lines i d apart run nothing_painted bodies =
-    let header : List (List ℕ) = (telling_of told).header in
+    let header : List (List ℕ) = (reporting_of told).header in
     let first : List ℕ = dressed_preamble (length all) header us in
     let last : List Token = tokens (trailer_text us) in
     let more : List Token = flat_map (sheet_tokens border told strokes us picture) all ++ last in

@@ -11,7 +11,7 @@ use Rattle.rules.specs.MadeOutput.{made_output}
 use Rattle.dsc.specs.Units.{units_of}
 use Rattle.guard.specs.Guard.{guarded}
 use Rattle.guard.proofs.TheGuard.{guard_stays}
-use Rattle.papers.specs.Told.{telling}
+use Rattle.papers.specs.Reported.{reporting}
 use Rattle.pictures.specs.Objects.{Token}
 use Rattle.pictures.specs.Operators.{Work}
 use Rattle.pictures.specs.Machine.{State, Painting}
@@ -25,7 +25,7 @@ use Rattle.pictures.proofs.Output.{undressed_is_quiet}
 use Rattle.pictures.specs.Shelter.{outline_tokens, sheltered}
 use Rattle.pictures.specs.Silenced.{IsSilenced, with_showpage, after_pages}
 use Rattle.pictures.specs.Pages.{around, state_after_sheets}
-use Rattle.pictures.proofs.GuardedImposed.{telling_is_quiet}
+use Rattle.pictures.proofs.GuardedImposed.{reporting_is_quiet}
 use Rattle.pictures.proofs.GuardedPlaced.{on_paper, takes_pages}
 use Rattle.pictures.proofs.Silenced.{silenced_page_runs, silenced_anyway, silenced_prints}
 use Rattle.open_pictures.specs.Machine.{Further, OpenRuns}
@@ -70,7 +70,7 @@ silenced_is_shown x z w sheet border dress all text us picture s blind runs quie
 
 pub open_silenced_made_document_is_shown : OpenSilencedMadeDocumentIsShown
 open_silenced_made_document_is_shown x z w sheet border all text us picture s blind runs on doc few apart run has h =
-    silenced_is_shown x z w sheet border (telling all) all text us picture s blind runs (telling_is_quiet all on) doc few apart run has h
+    silenced_is_shown x z w sheet border (reporting all) all text us picture s blind runs (reporting_is_quiet all on) doc few apart run has h
 
 pub open_silenced_document_is_shown : OpenSilencedDocumentIsShown
 open_silenced_document_is_shown x z w sheet frame sides spec text us picture s blind runs doc few apart run has h =

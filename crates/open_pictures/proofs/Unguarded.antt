@@ -33,7 +33,7 @@ use Rattle.open_pictures.proofs.Output.{open_runs_on, still_body}
 use Rattle.open_pictures.proofs.Own.{own_body_places}
 use Rattle.open_pictures.specs.Marks.{with_strokes}
 use Rattle.open_pictures.specs.Sizes.{sizing_names, size_by, sized, begun_on}
-use Rattle.open_pictures.specs.DressedDocuments.{told_by}
+use Rattle.open_pictures.specs.DressedDocuments.{papers_reported_by}
 use Rattle.open_pictures.specs.Unguarded.{asking_names, TakesPlainLines, DressedSheetsShowThePages, OpenDressedSheetsShowThePages}
 use Rattle.open_pictures.proofs.LinesRead.{flag_tokens, other_tokens, asking_tokens, mark_tokens, start_tokens}
 use Rattle.open_pictures.proofs.Drawing.{marks_run}
@@ -161,7 +161,7 @@ runs_lines R m told strokes = record {
 
 pub dressed_sheets_show_the_pages : DressedSheetsShowThePages
 dressed_sheets_show_the_pages border strokes all text us picture s d apart (complete, run, left, painted, printed, g) takes h =
-    let told : List Paper = told_by all in
+    let told : List Paper = papers_reported_by all in
     let lines : RunsLines (Runs false) told strokes (TakesPlain told strokes) = runs_lines (Runs false) free_are_runs told strokes in
     document_is_dressed (Runs false) free_are_runs started border told strokes all text us picture s (TakesPlain told strokes) lines (g, takes) d apart
     (free_runs_on (bytes_of (preamble us)) s complete run left) painted
@@ -170,7 +170,7 @@ dressed_sheets_show_the_pages border strokes all text us picture s d apart (comp
 
 pub open_dressed_sheets_show_the_pages : OpenDressedSheetsShowThePages
 open_dressed_sheets_show_the_pages x z w border strokes all text us picture s blind runs d apart (complete, run, left, painted, printed, g) takes h =
-    let told : List Paper = told_by all in
+    let told : List Paper = papers_reported_by all in
     let lines : RunsLines (OpenRuns z false) told strokes (TakesPlain told strokes) = runs_lines (OpenRuns z false) (open_are_runs z) told strokes in
     document_is_dressed (OpenRuns z false) (open_are_runs z) (begun_machine w) border told strokes all text us picture s (TakesPlain told strokes) lines (g, takes) d apart
     (open_runs_on z w (bytes_of (preamble us)) s runs.sees_nothing_after complete run left) painted

@@ -10,7 +10,7 @@ use Rattle.rules.specs.Made.{MadeSheet}
 use Rattle.rules.specs.MadeOutput.{made_output}
 use Rattle.dsc.specs.Units.{units_of}
 use Rattle.guard.specs.Guard.{guarded}
-use Rattle.papers.specs.Told.{papers_told, telling}
+use Rattle.papers.specs.Reported.{papers_reported, reporting}
 use Rattle.dressing.specs.Drawn.{strokes_added}
 use Rattle.dressing.specs.declared.strokes.Stroke.{Stroke}
 use Rattle.pictures.specs.Operators.{Work}
@@ -29,24 +29,24 @@ use Rattle.open_pictures.specs.Marks.{marking_names, with_strokes}
 use Rattle.open_pictures.specs.Sizes.{MeanOperators, sizing_names, begun_on}
 
 -- the papers as which sheets are reported
-abbrev pub told_by : List MadeSheet → List Paper
-told_by all = papers_told (map (λ sheet. sheet.paper) all)
+abbrev pub papers_reported_by : List MadeSheet → List Paper
+papers_reported_by all = papers_reported (map (λ sheet. sheet.paper) all)
 
 -- the operators that the lines of such sheets use are there
-pub record TakesLines (told : List Paper) (strokes : List Stroke) (s : State) : Type 0 where
-  pub sizes : 2 ≤ length told → MeanOperators sizing_names s
+pub record TakesLines (reported : List Paper) (strokes : List Stroke) (s : State) : Type 0 where
+  pub sizes : 2 ≤ length reported → MeanOperators sizing_names s
   pub marks : 0 < length strokes → MeanOperators marking_names s
 
 -- this holds for each page on these sheets, in the state in which its sheet's pages begin, and its paper
-abbrev pub OnSheetsBegun : (told : List Paper) → (State → Paper → ℕ → Type 0) → State → List MadeSheet → Type 0
-OnSheetsBegun told P s [] = Unit {0}
-OnSheetsBegun told P s (sheet ∷ all) =
-    OnSlots (P (begun_on told sheet.paper s)) sheet.slots × OnSheetsBegun told P (begun_on told sheet.paper s) all
+abbrev pub OnSheetsBegun : (reported : List Paper) → (State → Paper → ℕ → Type 0) → State → List MadeSheet → Type 0
+OnSheetsBegun reported P s [] = Unit {0}
+OnSheetsBegun reported P s (sheet ∷ all) =
+    OnSlots (P (begun_on reported sheet.paper s)) sheet.slots × OnSheetsBegun reported P (begun_on reported sheet.paper s) all
 
 -- the state after them
-abbrev pub after_sheets : (told : List Paper) → State → List MadeSheet → State
-after_sheets told s [] = s
-after_sheets told s (sheet ∷ all) = after_sheets told (begun_on told sheet.paper s) all
+abbrev pub after_sheets : (reported : List Paper) → State → List MadeSheet → State
+after_sheets reported s [] = s
+after_sheets reported s (sheet ∷ all) = after_sheets reported (begun_on reported sheet.paper s) all
 
 -- the picture that each sheet should have, the latest sheet first: the pictures of its slots, in order, and its strokes
 abbrev pub dressed_pictures :
@@ -60,7 +60,7 @@ dressed_pictures border strokes us picture g (sheet ∷ all) before =
 -- the state after the sheets of a document, with the trailer to run
 abbrev pub dressed_at :
     Option Border → List Stroke → List NestedUnit → (ℕ → List Painting) → State → List MadeSheet → State
-dressed_at border strokes us picture s all = record (after_sheets (told_by all) s all) {
+dressed_at border strokes us picture s all = record (after_sheets (papers_reported_by all) s all) {
   left = tokens (trailer_text us);
   painted = [];
   sheets = dressed_pictures border strokes us picture s.graphics all s.sheets;
@@ -73,11 +73,11 @@ DressedDocumentIsShown =
     (sheet : Option Paper) (border : Option Border) (strokes : List Stroke) (all : List MadeSheet) (text : List ℕ)
     (us : List NestedUnit) (picture : ℕ → List Painting) (s : State)
     → document_of text ≡ Ok us → length (guarded sheet text) ≤ most_input_bytes
-    → comments_apart_with (telling all).header (units_of (guarded sheet text)) ≡ true
+    → comments_apart_with (reporting all).header (units_of (guarded sheet text)) ≡ true
     → PreambleRuns IsGuarded (bytes_of (preamble (units_of (guarded sheet text)))) s
-    → TakesLines (told_by all) strokes s
-    → OnSheetsBegun (told_by all) (λ at own p. GuardedPagePaints (page_frame border own) us at p (picture p)) s all
-    → Runs false (started (tokens (made_output border (strokes_added strokes (telling all)) all (units_of (guarded sheet text)))))
+    → TakesLines (papers_reported_by all) strokes s
+    → OnSheetsBegun (papers_reported_by all) (λ at own p. GuardedPagePaints (page_frame border own) us at p (picture p)) s all
+    → Runs false (started (tokens (made_output border (strokes_added strokes (reporting all)) all (units_of (guarded sheet text)))))
     (dressed_at border strokes (units_of (guarded sheet text)) picture s all)
 
 -- the same with any further operators that are placeless there, and any for the preamble: a law
@@ -86,9 +86,9 @@ OpenDressedDocumentIsShown =
     (x z : Further) (w : Work) (sheet : Option Paper) (border : Option Border) (strokes : List Stroke)
     (all : List MadeSheet) (text : List ℕ) (us : List NestedUnit) (picture : ℕ → List Painting) (s : State)
     → IsPlacelessThere x → RunsPreambles x z → document_of text ≡ Ok us → length (guarded sheet text) ≤ most_input_bytes
-    → comments_apart_with (telling all).header (units_of (guarded sheet text)) ≡ true
+    → comments_apart_with (reporting all).header (units_of (guarded sheet text)) ≡ true
     → OpenPreambleRuns z w IsGuarded (bytes_of (preamble (units_of (guarded sheet text)))) s
-    → TakesLines (told_by all) strokes s
-    → OnSheetsBegun (told_by all) (λ at own p. OpenGuardedPagePaints x (page_frame border own) us at p (picture p)) s all
-    → OpenRuns z false (begun_machine w (tokens (made_output border (strokes_added strokes (telling all)) all (units_of (guarded sheet text)))))
+    → TakesLines (papers_reported_by all) strokes s
+    → OnSheetsBegun (papers_reported_by all) (λ at own p. OpenGuardedPagePaints x (page_frame border own) us at p (picture p)) s all
+    → OpenRuns z false (begun_machine w (tokens (made_output border (strokes_added strokes (reporting all)) all (units_of (guarded sheet text)))))
     (dressed_at border strokes (units_of (guarded sheet text)) picture s all)

@@ -9,7 +9,7 @@ use Rattle.rules.specs.Made.{MadeSheet}
 use Rattle.rules.specs.MadeOutput.{made_output}
 use Rattle.dsc.specs.Units.{units_of}
 use Rattle.guard.specs.Guard.{guarded}
-use Rattle.papers.specs.Told.{telling}
+use Rattle.papers.specs.Reported.{reporting}
 use Rattle.pictures.specs.Objects.{Token}
 use Rattle.pictures.specs.Operators.{Work}
 use Rattle.pictures.specs.Machine.{State, Painting}
@@ -20,7 +20,7 @@ use Rattle.pictures.specs.Documents.{page_frame, FirstHas, OnSheetsFrom, all_she
 use Rattle.pictures.specs.Shelter.{outline_tokens}
 use Rattle.pictures.specs.Lines.{with_asking}
 use Rattle.pictures.specs.Pages.{state_after_sheets}
-use Rattle.pictures.specs.GuardedImposed.{AreToldAsOne}
+use Rattle.pictures.specs.GuardedImposed.{AreReportedAsOne}
 use Rattle.pictures.specs.OwnShowpage.{HasItsOwn, asking}
 use Rattle.open_pictures.specs.Machine.{Further, OpenRuns}
 use Rattle.open_pictures.specs.Blindness.{RunsPreambles}
@@ -62,9 +62,9 @@ abbrev pub OpenOwnMadeDocumentIsShown : Type 0
 OpenOwnMadeDocumentIsShown =
     (x z : Further) (w : Work) (sheet : Option Paper) (border : Option Border) (all : List MadeSheet) (text : List ℕ)
     (us : List NestedUnit) (picture : ℕ → List Painting) (d : ℕ) (s : State)
-    → IsPlacelessThere x → RunsPreambles x z → AreToldAsOne all → document_of text ≡ Ok us
-    → length (guarded sheet text) ≤ most_input_bytes → comments_apart_with (telling all).header (units_of (guarded sheet text)) ≡ true
+    → IsPlacelessThere x → RunsPreambles x z → AreReportedAsOne all → document_of text ≡ Ok us
+    → length (guarded sheet text) ≤ most_input_bytes → comments_apart_with (reporting all).header (units_of (guarded sheet text)) ≡ true
     → OpenPreambleRuns z w (HasItsOwn d) (bytes_of (preamble (units_of (guarded sheet text)))) s
     → FirstHas 1 all → OnSheetsFrom (OpenPaintsFrom x border us picture (asking d s)) 0 all
-    → OpenRuns z false (begun_machine w (tokens (made_output border (telling all) all (units_of (guarded sheet text)))))
+    → OpenRuns z false (begun_machine w (tokens (made_output border (reporting all) all (units_of (guarded sheet text)))))
     (state_after_sheets (asking d s) border (units_of (guarded sheet text)) picture all)

@@ -9,7 +9,7 @@ use Rattle.rules.specs.Made.{MadeSheet}
 use Rattle.rules.specs.MadeOutput.{made_output}
 use Rattle.dsc.specs.Units.{units_of}
 use Rattle.guard.specs.Guard.{guarded}
-use Rattle.papers.specs.Told.{telling}
+use Rattle.papers.specs.Reported.{reporting}
 use Rattle.pictures.specs.Objects.{Token}
 use Rattle.pictures.specs.Operators.{Work}
 use Rattle.pictures.specs.Machine.{State, Painting}
@@ -19,7 +19,7 @@ use Rattle.pictures.specs.Sheets.{Shown, run_of, placed_tokens, page_picture}
 use Rattle.pictures.specs.Documents.{FirstHas, OnSheetsFrom, all_sheets}
 use Rattle.pictures.specs.Shelter.{outline_tokens}
 use Rattle.pictures.specs.Pages.{state_after_sheets}
-use Rattle.pictures.specs.GuardedImposed.{AreToldAsOne}
+use Rattle.pictures.specs.GuardedImposed.{AreReportedAsOne}
 use Rattle.pictures.specs.Silenced.{IsSilenced, with_showpage, after_pages}
 use Rattle.open_pictures.specs.Machine.{Further, OpenRuns}
 use Rattle.open_pictures.specs.Blindness.{RunsPreambles}
@@ -54,9 +54,9 @@ abbrev pub OpenSilencedMadeDocumentIsShown : Type 0
 OpenSilencedMadeDocumentIsShown =
     (x z : Further) (w : Work) (sheet : Option Paper) (border : Option Border) (all : List MadeSheet) (text : List ℕ)
     (us : List NestedUnit) (picture : ℕ → List Painting) (s : State)
-    → IsPlacelessThere x → RunsPreambles x z → AreToldAsOne all → document_of text ≡ Ok us
-    → length (guarded sheet text) ≤ most_input_bytes → comments_apart_with (telling all).header (units_of (guarded sheet text)) ≡ true
+    → IsPlacelessThere x → RunsPreambles x z → AreReportedAsOne all → document_of text ≡ Ok us
+    → length (guarded sheet text) ≤ most_input_bytes → comments_apart_with (reporting all).header (units_of (guarded sheet text)) ≡ true
     → OpenPreambleRuns z w IsSilenced (bytes_of (preamble (units_of (guarded sheet text)))) s
     → FirstHas 1 all → OnSheetsFrom (OpenPaintsFrom x border us picture (after_pages s)) 0 all
-    → OpenRuns z false (begun_machine w (tokens (made_output border (telling all) all (units_of (guarded sheet text)))))
+    → OpenRuns z false (begun_machine w (tokens (made_output border (reporting all) all (units_of (guarded sheet text)))))
     (state_after_sheets (after_pages s) border (units_of (guarded sheet text)) picture all)

@@ -3,7 +3,7 @@ use Rattle.std.specs.Prelude.{◌≡◌, ℕ, ◌+◌, List, [], ◌∷◌, ◌+
 use Rattle.rules.specs.Numbers.{points_text}
 use Rattle.rules.specs.Papers.{Paper}
 use Rattle.rules.specs.Dress.{lines_text}
-use Rattle.papers.specs.Told.{page_size_lines}
+use Rattle.papers.specs.Reported.{page_size_lines}
 use Rattle.pictures.specs.Objects.{Token, Number, Bound, Truth, Array, Dictionary}
 use Rattle.pictures.specs.Dictionaries.{DictionaryEntry, system}
 use Rattle.pictures.specs.Machine.{State, push, Runs}
@@ -49,6 +49,6 @@ DeviceSizeIsSet =
 
 -- the state in which the pages of a sheet begin, if the sheets are reported as these papers: each sets its size if they
 -- are several
-abbrev pub begun_on : (told : List Paper) → Paper → State → State
+abbrev pub begun_on : (reported : List Paper) → Paper → State → State
 begun_on (p ∷ q ∷ ps) paper s = sized paper s
-begun_on told paper s = s
+begun_on reported paper s = s

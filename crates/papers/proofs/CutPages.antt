@@ -6,7 +6,7 @@ use Rattle.std.proofs.Math.Seq.{take-suc}
 use Rattle.std.proofs.lemmas.List.{append-nil, length-take-le}
 use Rattle.rules.specs.Papers.{Paper}
 use Rattle.dsc.proofs.Cases.{by_test}
-use Rattle.papers.specs.Cuts.{cuts_from, is_cut, last_cut, told_of, with_cut_page}
+use Rattle.papers.specs.Cuts.{cuts_from, is_cut, last_cut, cut_summary, with_cut_page}
 use Rattle.papers.specs.declared.cuts.Cut.{Cut}
 
 -- one page, if it is cut
@@ -36,7 +36,7 @@ covering_more first [] n p = refl
 covering_more first (c ∷ cs) n p = covering_more (smallest_cover first c.1) cs n p
 
 -- pages, and after them one more
-told_more : (pages : List (ℕ × Paper)) (n : ℕ) (p : Paper) → told_of (pages ++ (n, p) ∷ []) ≡ Some (with_cut_page (told_of pages) n p)
+told_more : (pages : List (ℕ × Paper)) (n : ℕ) (p : Paper) → cut_summary (pages ++ (n, p) ∷ []) ≡ Some (with_cut_page (cut_summary pages) n p)
 told_more [] n p = refl
 told_more (c ∷ cs) n p =
     ap (λ l. Some (record { first = c.0; last = l.0; pages = length (cs ++ (n, p) ∷ []) + 1; paper = fold smallest_cover c.1 (map (λ q. q.1) (cs ++ (n, p) ∷ [])) })) (last_is c cs (n, p))
@@ -45,7 +45,7 @@ told_more (c ∷ cs) n p =
 
 -- the pages of the first so many that are cut
 abbrev pub cut_before : Paper → List Paper → (i : ℕ) → Option Cut
-cut_before paper own i = told_of (cuts_from paper 0 (take i own))
+cut_before paper own i = cut_summary (cuts_from paper 0 (take i own))
 
 up_to : (paper : Paper) (own : List Paper) (i : ℕ) (d : Paper) → i < length own
     → cuts_from paper 0 (take (i + 1) own) ≡ cuts_from paper 0 (take i own) ++ one_if (is_cut paper (get_or own i d)) i (get_or own i d)
@@ -70,7 +70,7 @@ pub one_cut : (paper : Paper) (own : List Paper) (i : ℕ) (p : Paper) (old new 
 one_cut paper own i p old new at l h is made = (
   made ∙ ap (λ c. Some (with_cut_page c i p)) h.0
       ∙ sym (told_more (cuts_from paper 0 (take i own)) i p)
-      ∙ sym (ap told_of (up_to paper own i p l ∙ ap (λ q. cuts_from paper 0 (take i own) ++ one_if (is_cut paper q) i q) (sym at)
+      ∙ sym (ap cut_summary (up_to paper own i p l ∙ ap (λ q. cuts_from paper 0 (take i own) ++ one_if (is_cut paper q) i q) (sym at)
       ∙ ap (λ t. cuts_from paper 0 (take i own) ++ one_if t i p) is)),
   rw made (few old i p h.1),
 )
@@ -80,7 +80,7 @@ pub none_cut : (paper : Paper) (own : List Paper) (i : ℕ) (p : Paper) (old new
     → (new ≡ cut_before paper own (i + 1)) × IfSome new (λ c. c.pages ≤ i + 1)
 none_cut paper own i p old new at l h is made = (
   made ∙ h.0
-      ∙ sym (ap told_of (up_to paper own i p l ∙ ap (λ q. cuts_from paper 0 (take i own) ++ one_if (is_cut paper q) i q) (sym at)
+      ∙ sym (ap cut_summary (up_to paper own i p l ∙ ap (λ q. cuts_from paper 0 (take i own) ++ one_if (is_cut paper q) i q) (sym at)
       ∙ ap (λ t. cuts_from paper 0 (take i own) ++ one_if t i p) is ∙ append-nil (cuts_from paper 0 (take i own)))),
   rw made (few_still old i h.1),
 )

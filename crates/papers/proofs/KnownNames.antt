@@ -12,7 +12,7 @@ use Rattle.std.proofs.lemmas.Map.Text.{is_eq-slice_cmp}
 use Rattle.dsc.proofs.Cases.{by_test}
 use Rattle.rules.specs.Papers.{Paper}
 use Rattle.rules.specs.Units.{line_len}
-use Rattle.papers.specs.Comments.{Medium, medium_told, page_head, paper_of_medium}
+use Rattle.papers.specs.Comments.{Medium, medium_of_page, page_head, paper_of_medium}
 use Rattle.papers.specs.declared.known_media.KnownMedia.{KnownMedia}
 use Rattle.papers.specs.Named.{IsNameKept, Knows, found_at, known_paper, with_media}
 use Rattle.papers.proofs.Heads.{head, page_head_is}
@@ -52,16 +52,16 @@ still : (b : Bool) (f : Option (Option (Option Paper))) → f ≡ Some None → 
 still true f is = refl
 still false f is = is
 
-told_in : (page text : List ℕ) → text ≡ drop (line_len page) page → medium_told (head text) ≡ medium_told (page_head page)
-told_in page text at = ap medium_told (sym (page_head_is page ∙ ap head (sym at)))
+told_in : (page text : List ℕ) → text ≡ drop (line_len page) page → medium_of_page (head text) ≡ medium_of_page (page_head page)
+told_in page text at = ap medium_of_page (sym (page_head_is page ∙ ap head (sym at)))
 
-pub kept_name : (old new : KnownMedia) (page text name : List ℕ) → text ≡ drop (line_len page) page → Some name ≡ medium_told (head text)
+pub kept_name : (old new : KnownMedia) (page text name : List ℕ) → text ≡ drop (line_len page) page → Some name ≡ medium_of_page (head text)
     → ((at : List ℕ) → found_at new at ≡ update bytes_eq (found_at old) name (Some None) at) → IsNameKept new page
 kept_name old new page text name at told put =
     let here : found_at new name ≡ Some None = put name ∙ ap (λ b. cond b (Some None) (found_at old name)) ((bytes_decides name name).1 refl) in
     subst (λ n. IfSome n (λ x. found_at new x ≡ Some None)) (told ∙ told_in page text at) here
 
-pub no_name : (known : KnownMedia) (page text : List ℕ) → text ≡ drop (line_len page) page → None ≡ medium_told (head text) → IsNameKept known page
+pub no_name : (known : KnownMedia) (page text : List ℕ) → text ≡ drop (line_len page) page → None ≡ medium_of_page (head text) → IsNameKept known page
 no_name known page text at told = subst (λ n. IfSome n (λ x. found_at known x ≡ Some None)) (told ∙ told_in page text at) tt
 
 still_told : (old new : KnownMedia) (n : Option (List ℕ)) → ((at : List ℕ) → found_at old at ≡ Some None → found_at new at ≡ Some None)
@@ -80,7 +80,7 @@ pub pages_kept : (old new : KnownMedia) (ps : List (List ℕ)) (n : ℕ) (page :
     → ((at : List ℕ) → found_at old at ≡ Some None → found_at new at ≡ Some None)
     → ((k : ℕ) → k < n → IsNameKept old (slice_index_or ps k [])) → (k : ℕ) → k < n + 1 → IsNameKept new (slice_index_or ps k [])
 pages_kept old new ps n page is here h before k less = by_test (nat_lt k n)
-    (λ lt. still_told old new (medium_told (page_head (slice_index_or ps k []))) h (before k (below k n lt)))
+    (λ lt. still_told old new (medium_of_page (page_head (slice_index_or ps k []))) h (before k (below k n lt)))
     (λ ge. subst (λ p. IsNameKept new p) (is ∙ ap (λ j. slice_index_or ps j []) (the_last k n less ge)) here)
 
 -- ---- what is found in the end
@@ -105,7 +105,7 @@ found_by kept known ms h (Some name) is =
 
 pub knows : (kept known : KnownMedia) (ms : List Medium) (page : List ℕ) → ((at : List ℕ) → found_at known at ≡ option_map (λ found. with_media at found ms) (found_at kept at))
     → IsNameKept kept page → Knows known ms page
-knows kept known ms page h is = found_by kept known ms h (medium_told (page_head page)) is
+knows kept known ms page h is = found_by kept known ms h (medium_of_page (page_head page)) is
 
 -- with no media no page's name is one
 none_known : (known : KnownMedia) (n : Option (List ℕ)) → ((at : List ℕ) → found_at known at ≡ None) → IfSome n (λ name. known_paper known name ≡ paper_of_medium name [])
@@ -113,4 +113,4 @@ none_known known None empty = tt
 none_known known (Some name) empty = ap (option_and_then (λ found. option_and_then (λ paper. paper) found)) (empty name)
 
 pub no_media : (known : KnownMedia) (ms : List Medium) (page : List ℕ) → ms ≡ [] → ((at : List ℕ) → found_at known at ≡ None) → Knows known ms page
-no_media known ms page none empty = subst (λ m. Knows known m page) (sym none) (none_known known (medium_told (page_head page)) empty)
+no_media known ms page none empty = subst (λ m. Knows known m page) (sym none) (none_known known (medium_of_page (page_head page)) empty)

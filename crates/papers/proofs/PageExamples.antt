@@ -10,7 +10,7 @@ use Rattle.lengths.specs.Reading.{number_at}
 use Rattle.rules.specs.Made.{MadeSheet, Blank, Placed}
 use Rattle.rules.specs.MadeOutput.{made_output}
 use Rattle.papers.specs.Own.{smallest_cover, covers, counts_as_one, papers_of_each_page}
-use Rattle.papers.specs.Told.{box_lines, telling}
+use Rattle.papers.specs.Reported.{box_lines, reporting}
 
 abbrev home : Paper
 home = points 612 792
@@ -148,7 +148,7 @@ abbrev sheet : Paper → MadeSheet
 sheet paper = record { paper = paper; slots = Placed 0 as_it_is paper ∷ Blank ∷ [] }
 
 abbrev told : List MadeSheet → Result (List ℕ) DocumentFault
-told all = document_of (codes "%!PS\n%%DocumentPaperSizes: A3\n%%+ A4\n%%BoundingBox: 0 0 9 9\n%%EndComments\n%%Page: 1 1\n%%PageMedia: A\nx\n%%EOF\n") >>= λ us. Ok (made_output None (telling all) all us)
+told all = document_of (codes "%!PS\n%%DocumentPaperSizes: A3\n%%+ A4\n%%BoundingBox: 0 0 9 9\n%%EndComments\n%%Page: 1 1\n%%PageMedia: A\nx\n%%EOF\n") >>= λ us. Ok (made_output None (reporting all) all us)
 
 one_paper : told (sheet (points 842 595) ∷ sheet (points 842 595) ∷ [])
     ≡ Ok (codes "%!PS\n%%Pages: 2\n%%BoundingBox: 0 0 842 595\n%%DocumentMedia: Plain 842 595 0 () ()\n%%EndComments\n%%Page: 1 1\nuserdict /ImposeSave save put\nuserdict /showpage {} put\n[1 0 0 1 0 0] concat\nnewpath 0 0 moveto 842 0 lineto 842 595 lineto 0 595 lineto closepath clip newpath\nx\nImposeSave restore\nshowpage\n%%Page: 2 2\nuserdict /ImposeSave save put\nuserdict /showpage {} put\n[1 0 0 1 0 0] concat\nnewpath 0 0 moveto 842 0 lineto 842 595 lineto 0 595 lineto closepath clip newpath\nx\nImposeSave restore\nshowpage\n%%EOF\n")

@@ -13,7 +13,7 @@ use Rattle.rules.proofs.Printed.{decimals_few, decimals_pass, decimals_read, fra
 use Rattle.lengths.specs.Reading.{number_at}
 use Rattle.lengths.proofs.Numbers.{number_read}
 use Rattle.papers.specs.Media.{is_short, paper_meant, paper_or_error, points_at, points_of}
-use Rattle.papers.specs.Found.{IsTellable, IsTellablePaper, as_printed, printed_side}
+use Rattle.papers.specs.Found.{IsReportable, IsReportablePaper, as_printed, printed_side}
 
 -- ---- a side is read as it was printed
 zeros : (k : ℕ) → replicate {A = ℕ} (k + 4) 48 ≡ replicate {A = ℕ} k 48 ++ (48 ∷ 48 ∷ 48 ∷ 48 ∷ [])
@@ -108,18 +108,18 @@ sides_taken w h sw fw sh fh =
     ∙ ap (λ t. chosen w h false false t side_h) (side_so w (omega (arith, sw)) fw)
     ∙ ap (λ t. chosen w h false false true t) (side_so h (omega (arith, sh)) fh)
 
-written : (side : ℤ) (t : IsTellable side) → points_text side ≡ printed 5 (pos t.parts)
+written : (side : ℤ) (t : IsReportable side) → points_text side ≡ printed 5 (pos t.parts)
 written side t = ap (printed 5) t.is
 
 abbrev sized : (width height : ℤ) → Paper
 sized width height = record { width = width; height = height }
 
-in_parts : (p : Paper) (w : IsTellable p.width) (h : IsTellable p.height) → as_printed p ≡ of_parts w.parts h.parts
+in_parts : (p : Paper) (w : IsReportable p.width) (h : IsReportable p.height) → as_printed p ≡ of_parts w.parts h.parts
 in_parts p w h =
     ap (λ x. sized (pos (nat_abs x * 1_270_000)) (printed_side p.height)) w.is
     ∙ ap (λ y. sized (pos (w.parts * 1_270_000)) (pos (nat_abs y * 1_270_000))) h.is
 
-pub paper_read : (p : Paper) → IsTellablePaper p → paper_meant (points_of (points_text p.width)) (points_of (points_text p.height)) ≡ Some (as_printed p)
+pub paper_read : (p : Paper) → IsReportablePaper p → paper_meant (points_of (points_text p.width)) (points_of (points_text p.height)) ≡ Some (as_printed p)
 paper_read p t =
     let w = t.0 in
     let h = t.1 in
@@ -143,7 +143,7 @@ printed_all P each dot n few =
     (fraction_all P each dot (decimals_of 5 (n % 10 ^ 5)) (decimals_pass 5 (n % 10 ^ 5) (omega arith) (omega arith)))
 
 -- so all of them pass what digits and a dot pass
-pub side_all : (P : ℕ → Type 0) → ((b : ℕ) → is_ascii_digit b ≡ true → P b) → P 46 → (side : ℤ) → IsTellable side → All P (points_text side)
+pub side_all : (P : ℕ → Type 0) → ((b : ℕ) → is_ascii_digit b ≡ true → P b) → P 46 → (side : ℤ) → IsReportable side → All P (points_text side)
 side_all P each dot side t = subst (All P) (sym (written side t)) (printed_all P each dot t.parts t.few)
 
 -- and there are some
@@ -151,7 +151,7 @@ some_text : (xs ys : List ℕ) → 0 < length xs → 0 < length (xs ++ ys)
 some_text [] ys h = absurd (omega (arith, h))
 some_text (x ∷ xs) ys h = omega arith
 
-pub side_some : (side : ℤ) → IsTellable side → 0 < length (points_text side)
+pub side_some : (side : ℤ) → IsReportable side → 0 < length (points_text side)
 side_some side t =
     let n : ℕ = t.parts in
     let few = t.few in

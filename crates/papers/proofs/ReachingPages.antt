@@ -5,7 +5,7 @@ use Rattle.std.proofs.Math.Seq.{take-suc}
 use Rattle.std.proofs.lemmas.List.{append-nil, length-take-le}
 use Rattle.rules.specs.Papers.{Paper}
 use Rattle.dsc.proofs.Cases.{by_test}
-use Rattle.papers.specs.Reach.{Placing, extent, if_beyond, is_beyond, reaching, told_reach, with_all, with_reaching_page}
+use Rattle.papers.specs.Reach.{Placing, extent, if_beyond, is_beyond, reaching, reach_summary, with_all, with_reaching_page}
 use Rattle.papers.specs.declared.boxes.Edges.{Edges}
 use Rattle.papers.specs.declared.reach.Reach.{Reach}
 
@@ -24,20 +24,20 @@ length_is : {A : Type 0} (xs : List A) (last : A) → length (xs ++ last ∷ [])
 length_is [] last = refl
 length_is (x ∷ xs) last = let e = length_is xs last in omega (arith, e)
 
-told_more : (pages : List (ℕ × Paper × Edges)) (page : ℕ × Paper × Edges) → told_reach (pages ++ page ∷ []) ≡ Some (with_reaching_page (told_reach pages) page)
+told_more : (pages : List (ℕ × Paper × Edges)) (page : ℕ × Paper × Edges) → reach_summary (pages ++ page ∷ []) ≡ Some (with_reaching_page (reach_summary pages) page)
 told_more [] page = refl
 told_more (first ∷ more) page = ap (λ k. Some (record { first = first.0; paper = first.1; edges = first.2; pages = k + 1 })) (length_is more page)
 
 reported_if : (pages : List (ℕ × Paper × Edges)) (n : ℕ) (p : Paper) (box : Option Edges)
-    → told_reach (pages ++ if_beyond n p box) ≡ with_all (told_reach pages) (if_beyond n p box)
-reported_if pages n p None = ap told_reach (append-nil pages)
+    → reach_summary (pages ++ if_beyond n p box) ≡ with_all (reach_summary pages) (if_beyond n p box)
+reported_if pages n p None = ap reach_summary (append-nil pages)
 reported_if pages n p (Some box) = by_test (is_beyond p box)
     (λ is. rw is (told_more pages (n, p, box)))
-    (λ isnt. rw isnt (ap told_reach (append-nil pages)))
+    (λ isnt. rw isnt (ap reach_summary (append-nil pages)))
 
 -- those among the first so many
 abbrev pub reach_before : Placing → List Paper → (i : ℕ) → Option Reach
-reach_before pages placed i = told_reach (reaching pages 0 (take i placed))
+reach_before pages placed i = reach_summary (reaching pages 0 (take i placed))
 
 up_to : (pages : Placing) (placed : List Paper) (i : ℕ) (d : Paper) → i < length placed
     → reaching pages 0 (take (i + 1) placed) ≡ reaching pages 0 (take i placed) ++ here pages i (get_or placed i d)
@@ -68,7 +68,7 @@ pub one_more_page : (pages : Placing) (placed : List Paper) (i : ℕ) (p : Paper
 one_more_page pages placed i p edges old new at l h reaches made = (
   made ∙ ap (λ r. with_all r (if_beyond i p edges)) h.0
       ∙ sym (reported_if (reaching pages 0 (take i placed)) i p edges)
-      ∙ sym (ap told_reach (up_to pages placed i p l ∙ ap (λ q. reaching pages 0 (take i placed) ++ here pages i q) (sym at)
+      ∙ sym (ap reach_summary (up_to pages placed i p l ∙ ap (λ q. reaching pages 0 (take i placed) ++ here pages i q) (sym at)
       ∙ ap (λ b. reaching pages 0 (take i placed) ++ if_beyond i p b) (sym reaches))),
   rw made (few old i p edges h.1),
 )

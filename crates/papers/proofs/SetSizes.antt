@@ -11,7 +11,7 @@ use Rattle.rules.specs.Numbers.{points_text, printed}
 use Rattle.rules.specs.Papers.{Paper}
 use Rattle.rules.specs.Made.{MadeSheet}
 use Rattle.papers.specs.SetSizes.{SetLast, SizeIsSet, StayAsSet}
-use Rattle.papers.specs.Told.{different_from, in_print, is_told_alike, papers_told, sheet_lines, size_text, telling_of}
+use Rattle.papers.specs.Reported.{different_from, in_print, is_reported_alike, papers_reported, sheet_lines, size_text, reporting_of}
 use Rattle.papers.proofs.Covered.{by_test}
 
 -- ---- papers that are reported alike
@@ -24,17 +24,17 @@ both true b e f = f
 both false b e f = e
 
 -- they have the same sides in print
-pub alike_sides : (a b : Paper) → is_told_alike a b ≡ true → (in_print a.width ≡ in_print b.width) × (in_print a.height ≡ in_print b.height)
+pub alike_sides : (a b : Paper) → is_reported_alike a b ≡ true → (in_print a.width ≡ in_print b.width) × (in_print a.height ≡ in_print b.height)
 alike_sides a b e =
     let w = both_true (int_eq (in_print a.width) (in_print b.width)) (int_eq (in_print a.height) (in_print b.height)) e in
     ((Decides-int_eq (in_print a.width) (in_print b.width)).0 w.0, (Decides-int_eq (in_print a.height) (in_print b.height)).0 w.1)
 
-alike_size : (a b : Paper) → is_told_alike a b ≡ true → size_text a ≡ size_text b
+alike_size : (a b : Paper) → is_reported_alike a b ≡ true → size_text a ≡ size_text b
 alike_size a b e =
     let same = alike_sides a b e in
     ap (λ x. printed 5 x ++ (codes " " ++ points_text a.height)) same.0 ∙ ap (λ y. points_text b.width ++ (codes " " ++ printed 5 y)) same.1
 
-pub alike_itself : (a : Paper) → is_told_alike a a ≡ true
+pub alike_itself : (a : Paper) → is_reported_alike a a ≡ true
 alike_itself a = both (int_eq (in_print a.width) (in_print a.width)) (int_eq (in_print a.height) (in_print a.height))
     ((Decides-int_eq (in_print a.width) (in_print a.width)).1 refl) ((Decides-int_eq (in_print a.height) (in_print a.height)).1 refl)
 
@@ -52,26 +52,26 @@ chosen found p ps b = if b then different_from found ps else different_from (fou
 
 found_stays : (t : Paper → Bool) (found ps : List Paper) → list_any t found ≡ true → list_any t (different_from found ps) ≡ true
 found_stays t found [] e = e
-found_stays t found (p ∷ ps) e = by_test (list_any (is_told_alike p) found)
+found_stays t found (p ∷ ps) e = by_test (list_any (is_reported_alike p) found)
     (λ is. ap (λ b. list_any t (chosen found p ps b)) is ∙ found_stays t found ps e)
     (λ isnt. ap (λ b. list_any t (chosen found p ps b)) isnt
     ∙ found_stays t (found ++ p ∷ []) ps (list_any-append t found (p ∷ []) ∙ first_or (list_any t found) (list_any t (p ∷ [])) e))
 
-added : (p : Paper) (found : List Paper) → list_any (is_told_alike p) (found ++ p ∷ []) ≡ true
+added : (p : Paper) (found : List Paper) → list_any (is_reported_alike p) (found ++ p ∷ []) ≡ true
 added p found =
-    list_any-append (is_told_alike p) found (p ∷ [])
-    ∙ second_or (list_any (is_told_alike p) found) (is_told_alike p p || false) (first_or (is_told_alike p p) false (alike_itself p))
+    list_any-append (is_reported_alike p) found (p ∷ [])
+    ∙ second_or (list_any (is_reported_alike p) found) (is_reported_alike p p || false) (first_or (is_reported_alike p p) false (alike_itself p))
 
-is_among : (found all : List Paper) (s : ℕ) (q : Paper) → slice_get all s ≡ Some q → list_any (is_told_alike q) (different_from found all) ≡ true
+is_among : (found all : List Paper) (s : ℕ) (q : Paper) → slice_get all s ≡ Some q → list_any (is_reported_alike q) (different_from found all) ≡ true
 is_among found [] s q e = cc
 is_among found (p ∷ ps) zero q e =
-    subst (λ r. list_any (is_told_alike r) (different_from found (p ∷ ps)) ≡ true) (some_same p q e)
-    (by_test (list_any (is_told_alike p) found)
-    (λ is. ap (λ b. list_any (is_told_alike p) (chosen found p ps b)) is ∙ found_stays (is_told_alike p) found ps is)
-    (λ isnt. ap (λ b. list_any (is_told_alike p) (chosen found p ps b)) isnt ∙ found_stays (is_told_alike p) (found ++ p ∷ []) ps (added p found)))
-is_among found (p ∷ ps) (suc s) q e = by_test (list_any (is_told_alike p) found)
-    (λ is. ap (λ b. list_any (is_told_alike q) (chosen found p ps b)) is ∙ is_among found ps s q e)
-    (λ isnt. ap (λ b. list_any (is_told_alike q) (chosen found p ps b)) isnt ∙ is_among (found ++ p ∷ []) ps s q e)
+    subst (λ r. list_any (is_reported_alike r) (different_from found (p ∷ ps)) ≡ true) (some_same p q e)
+    (by_test (list_any (is_reported_alike p) found)
+    (λ is. ap (λ b. list_any (is_reported_alike p) (chosen found p ps b)) is ∙ found_stays (is_reported_alike p) found ps is)
+    (λ isnt. ap (λ b. list_any (is_reported_alike p) (chosen found p ps b)) isnt ∙ found_stays (is_reported_alike p) (found ++ p ∷ []) ps (added p found)))
+is_among found (p ∷ ps) (suc s) q e = by_test (list_any (is_reported_alike p) found)
+    (λ is. ap (λ b. list_any (is_reported_alike q) (chosen found p ps b)) is ∙ is_among found ps s q e)
+    (λ isnt. ap (λ b. list_any (is_reported_alike q) (chosen found p ps b)) isnt ∙ is_among (found ++ p ∷ []) ps s q e)
 
 paper_at : (all : List MadeSheet) (s : ℕ) (sheet : MadeSheet) → slice_get all s ≡ Some sheet → slice_get (map (λ it. it.paper) all) s ≡ Some sheet.paper
 paper_at [] s sheet e = cc
@@ -79,7 +79,7 @@ paper_at (x ∷ all) zero sheet e = ap (λ it. Some it.paper) (some_same x sheet
 paper_at (x ∷ all) (suc s) sheet e = paper_at all s sheet e
 
 pub is_told : (all : List MadeSheet) (s : ℕ) (sheet : MadeSheet) → slice_get all s ≡ Some sheet
-    → list_any (is_told_alike sheet.paper) (papers_told (map (λ it. it.paper) all)) ≡ true
+    → list_any (is_reported_alike sheet.paper) (papers_reported (map (λ it. it.paper) all)) ≡ true
 is_told all s sheet e = is_among [] (map (λ it. it.paper) all) s sheet.paper (paper_at all s sheet e)
 
 -- ---- so a sheet sets its own, or all have one
@@ -87,12 +87,12 @@ alone : (b : Bool) → (b || false) ≡ true → b ≡ true
 alone true e = refl
 alone false e = e
 
-by_papers : (told : List Paper) (s : ℕ) (p q : Paper) → list_any (is_told_alike p) told ≡ true → list_any (is_told_alike q) told ≡ true
-    → SetLast p ((telling_of told).start s p) ⊎ StayAsSet p ((telling_of told).start s p) q
+by_papers : (told : List Paper) (s : ℕ) (p q : Paper) → list_any (is_reported_alike p) told ≡ true → list_any (is_reported_alike q) told ≡ true
+    → SetLast p ((reporting_of told).start s p) ⊎ StayAsSet p ((reporting_of told).start s p) q
 by_papers [] s p q e f = absurd (true≢false (sym e))
-by_papers (r ∷ []) s p q e f = inr (refl, alike_size q r (alone (is_told_alike q r) f) ∙ sym (alike_size p r (alone (is_told_alike p r) e)))
+by_papers (r ∷ []) s p q e f = inr (refl, alike_size q r (alone (is_reported_alike q r) f) ∙ sym (alike_size p r (alone (is_reported_alike p r) e)))
 by_papers (r ∷ t ∷ told) s p q e f = inl (take 3 (sheet_lines p), refl)
 
 pub size_is_set : SizeIsSet
 size_is_set all s t sheet other e f =
-    by_papers (papers_told (map (λ it. it.paper) all)) s sheet.paper other.paper (is_told all s sheet e) (is_told all t other f)
+    by_papers (papers_reported (map (λ it. it.paper) all)) s sheet.paper other.paper (is_told all s sheet e) (is_told all t other f)

@@ -8,7 +8,7 @@ use Rattle.imposed_again.proofs.Plainly.{no_ends_append, no_ends_points}
 use Rattle.imposed_again.specs.Seams.{no_ends}
 use Rattle.imposed_again.specs.MadeAgain.{AreTame, IsTame, IsTameDress}
 use Rattle.papers.specs.Own.{smallest_cover}
-use Rattle.papers.specs.Told.{TellingIsTame, box_line, box_lines, exact_box_line, is_in_whole_points, whole_paper, medium_line, medium_text, page_size_lines, papers_told, size_name, size_text, telling_of}
+use Rattle.papers.specs.Reported.{ReportingIsTame, box_line, box_lines, exact_box_line, is_in_whole_points, whole_paper, medium_line, medium_text, page_size_lines, papers_reported, size_name, size_text, reporting_of}
 
 -- ---- no line ends in them
 whole_sides : (p : Paper) (between : List ℕ) → no_ends between ≡ true → no_ends (points_text p.width ++ (between ++ points_text p.height)) ≡ true
@@ -103,7 +103,7 @@ set_size p = (
   ),
 )
 
-told : (ps : List Paper) → IsTameDress (telling_of ps)
+told : (ps : List Paper) → IsTameDress (reporting_of ps)
 told [] = record { header = tt; start = λ s paper. tt; finish = λ s paper. tt }
 told (p ∷ []) = record { header = boxes p _ (medium (codes "Plain") p refl, tt); start = λ s paper. tt; finish = λ s paper. tt }
 told (p ∷ q ∷ ps) =
@@ -113,5 +113,5 @@ told (p ∷ q ∷ ps) =
       finish = λ s paper. tt;
     }
 
-pub telling_is_tame : TellingIsTame
-telling_is_tame all = told (papers_told (map (λ sheet. sheet.paper) all))
+pub reporting_is_tame : ReportingIsTame
+reporting_is_tame all = told (papers_reported (map (λ sheet. sheet.paper) all))

@@ -72,13 +72,13 @@ abbrev pub named_medium : (known : List ℕ → Option Paper) → (value : List 
 named_medium known value = option_and_then known (first_medium value)
 
 -- the medium that a page names in its head
-abbrev pub medium_told : (head : List (List ℕ)) → Option (List ℕ)
-medium_told head = option_and_then first_medium (comment_value (codes "%%PageMedia") head)
+abbrev pub medium_of_page : (head : List (List ℕ)) → Option (List ℕ)
+medium_of_page head = option_and_then first_medium (comment_value (codes "%%PageMedia") head)
 
 -- the paper of a page's medium, if it names one that is known; a page that names its medium has a box of what is
 -- painted. Else the paper of its box, where this paper would be taken without it
-abbrev pub told_by_page : (known : List ℕ → Option Paper) → (other : Paper) → (head : List (List ℕ)) → Option Paper
-told_by_page known other head =
+abbrev pub given_by_page : (known : List ℕ → Option Paper) → (other : Paper) → (head : List (List ℕ)) → Option Paper
+given_by_page known other head =
     else_take (option_and_then (named_medium known) (comment_value (codes "%%PageMedia") head))
     (option_and_then (paper_of_box other) (comment_fields (codes "%%PageBoundingBox") head))
 
@@ -94,8 +94,8 @@ first_named_in named (names ∷ more) = else_take (first_named named (fields_in 
 
 -- the document's paper: its first medium's; else the first of its papers' names that is known, on its side if the box
 -- at 0 0 has its sides exchanged; else that of the box, where this paper is usual (RULES, 12.2)
-abbrev pub told_by_document : (named : List ℕ → Option Paper) → (usual : Paper) → (header trailer : List (List ℕ)) → Option Paper
-told_by_document named usual header trailer =
+abbrev pub given_by_document : (named : List ℕ → Option Paper) → (usual : Paper) → (header trailer : List (List ℕ)) → Option Paper
+given_by_document named usual header trailer =
     let box = box_of header trailer in
     else_take (option_and_then media_paper (comment_value (codes "%%DocumentMedia") header))
     (else_take (option_map (lying_as (option_and_then box_paper box)) (first_named_in named (comment_values (codes "%%DocumentPaperSizes") header)))

@@ -28,9 +28,9 @@ last_cut page [] = page
 last_cut page (next ∷ more) = last_cut next more
 
 -- the first and the last of some pages, how many they are, and the least paper that covers all of theirs
-abbrev pub told_of : List (ℕ × Paper) → Option Cut
-told_of [] = None
-told_of (page ∷ more) = Some (record {
+abbrev pub cut_summary : List (ℕ × Paper) → Option Cut
+cut_summary [] = None
+cut_summary (page ∷ more) = Some (record {
   first = page.0;
   last = (last_cut page more).0;
   pages = length more + 1;
@@ -39,4 +39,4 @@ told_of (page ∷ more) = Some (record {
 
 -- which pages a paper cuts, if pages have these papers of their own
 abbrev pub cut_of : Paper → (own : List Paper) → Option Cut
-cut_of paper own = told_of (cuts_from paper 0 own)
+cut_of paper own = cut_summary (cuts_from paper 0 own)

@@ -11,21 +11,21 @@ use Rattle.dsc.specs.Units.{units_of}
 use Rattle.rules.specs.Dress.{Dress, lines_text}
 use Rattle.rules.specs.Made.{MadeSheet}
 use Rattle.rules.specs.MadeOutput.{made_output}
-use Rattle.imposed_again.specs.Again.{depth_behind}
+use Rattle.imposed_again.specs.Again.{open_depth}
 use Rattle.imposed_again.specs.MadeAgain.{AreTame}
 use Rattle.papers.specs.Comments.{is_in_head}
 use Rattle.papers.specs.Own.{papers_of_each_page}
-use Rattle.papers.specs.Told.{in_print, telling}
+use Rattle.papers.specs.Reported.{in_print, reporting}
 
 -- a side that is read again as it is printed: from one point up to 99,999.99999 points
-pub record IsTellable (side : ℤ) : Type 0 where
+pub record IsReportable (side : ℤ) : Type 0 where
   pub parts : ℕ
   pub is : in_print side ≡ pos parts
   pub some : 100_000 ≤ parts
   pub few : parts ≤ 9_999_999_999
 
-abbrev pub IsTellablePaper : Paper → Type 0
-IsTellablePaper paper = IsTellable paper.width × IsTellable paper.height
+abbrev pub IsReportablePaper : Paper → Type 0
+IsReportablePaper paper = IsReportable paper.width × IsReportable paper.height
 
 -- a side as it is printed, in whole 10^-5 points; it is above 0
 abbrev pub printed_side : ℤ → ℤ
@@ -39,8 +39,8 @@ abbrev pub Finish : Type 0
 Finish = (sheet : ℕ) → Paper → List (List ℕ)
 
 -- sheets report their papers, and have these lines at their ends
-abbrev pub telling_and : Finish → List MadeSheet → Dress
-telling_and finish all = record { header = (telling all).header; start = (telling all).start; finish = finish }
+abbrev pub reporting_and : Finish → List MadeSheet → Dress
+reporting_and finish all = record { header = (reporting all).header; start = (reporting all).start; finish = finish }
 
 -- such lines begin nothing: no part, no data, no embedded document; nor does the first of them, or `showpage` if there is
 -- none, belong to the comments at a page's head
@@ -54,9 +54,9 @@ abbrev pub PapersAreFound : Type 0
 PapersAreFound =
     (named : List ℕ → Option Paper) (home : Paper) (border : Option Border) (finish : Finish) (all : List MadeSheet)
     (text : List ℕ) (us : List NestedUnit)
-    → AllByRecursion (λ sheet. IsTellablePaper sheet.paper) all → AreQuiet finish
-    → document_of text ≡ Ok us → depth_behind (page_run us) ≡ 0 → 0 < length all → length all ≤ most_pages
-    → length (made_output border (telling_and finish all) all us) ≤ most_input_bytes
-    → papers_of_each_page None named home (made_output border (telling_and finish all) all us)
-    (units_of (made_output border (telling_and finish all) all us))
+    → AllByRecursion (λ sheet. IsReportablePaper sheet.paper) all → AreQuiet finish
+    → document_of text ≡ Ok us → open_depth (page_run us) ≡ 0 → 0 < length all → length all ≤ most_pages
+    → length (made_output border (reporting_and finish all) all us) ≤ most_input_bytes
+    → papers_of_each_page None named home (made_output border (reporting_and finish all) all us)
+    (units_of (made_output border (reporting_and finish all) all us))
     ≡ map (λ sheet. as_printed sheet.paper) all

@@ -5,7 +5,7 @@
 pub mod Media
 pub mod Comments
 pub mod Own
-pub mod Told
+pub mod Reported
 pub mod SetSizes
 pub mod Found
 pub mod Named

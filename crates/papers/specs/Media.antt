@@ -57,12 +57,12 @@ abbrev pub plain_len : List ℕ → ℕ
 plain_len text = prefix_len (λ b. not (is_blank b)) text
 
 -- the length of the name that a text begins with, to a blank; that of a string to the first blank after its end
-abbrev pub len_behind : (string : Option ℕ) → List ℕ → ℕ
-len_behind None text = plain_len text
-len_behind (Some n) text = n + plain_len (drop n text)
+abbrev pub len_with_string : (string : Option ℕ) → List ℕ → ℕ
+len_with_string None text = plain_len text
+len_with_string (Some n) text = n + plain_len (drop n text)
 
 abbrev pub name_len : List ℕ → ℕ
-name_len text = len_behind (string_len text) text
+name_len text = len_with_string (string_len text) text
 
 -- the name that a text begins with, as it is written, and what follows it
 abbrev pub split_name : (text : List ℕ) → Option (List ℕ × List ℕ)
@@ -234,8 +234,8 @@ or_named usual lines trailer (Some paper) = Some (paper, DocumentMedia)
 or_named usual lines trailer None =
     or_box usual (box_of lines trailer) (paper_of_first_name_in (comment_values (codes "%%DocumentPaperSizes") lines))
 
-abbrev pub document_told : (usual : Paper) → List ℕ → Option (Paper × Comment)
-document_told usual text = or_named usual (header text) (trailer_lines (units_of text))
+abbrev pub given_by_comments : (usual : Paper) → List ℕ → Option (Paper × Comment)
+given_by_comments usual text = or_named usual (header text) (trailer_lines (units_of text))
     (option_and_then media_paper (comment_value (codes "%%DocumentMedia") (header text)))
 
 -- ---- a paper that the setup asks for
@@ -278,8 +278,8 @@ usual_in home text = unwrap_or (set_size (contents text)) home
 
 -- what comments say, or else the setup
 abbrev pub or_setup : (set : Option Paper) → Option (Paper × Comment) → Option (Paper × Comment)
-or_setup set (Some told) = Some told
+or_setup set (Some found) = Some found
 or_setup set None = option_map (λ paper. (paper, Setup)) set
 
 abbrev pub document_paper : (home : Paper) → List ℕ → Option (Paper × Comment)
-document_paper home text = or_setup (set_size (contents text)) (document_told (usual_in home text) text)
+document_paper home text = or_setup (set_size (contents text)) (given_by_comments (usual_in home text) text)

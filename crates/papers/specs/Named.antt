@@ -5,7 +5,7 @@ use Rattle.std.specs.Cmp.Lexicographic.{slice_cmp}
 use Rattle.std.specs.BTreeMap.{get_by}
 use Rattle.std.specs.Str.{bytes_eq}
 use Rattle.rules.specs.Papers.{Paper}
-use Rattle.papers.specs.Comments.{Medium, medium_told, page_head, paper_of_medium}
+use Rattle.papers.specs.Comments.{Medium, medium_of_page, page_head, paper_of_medium}
 use Rattle.papers.specs.declared.known_media.KnownMedia.{KnownMedia}
 
 -- what is kept at this name: of the first medium with it the paper, once it is found
@@ -33,11 +33,11 @@ with_media name found (m ∷ ms) = with_media name (with_medium name found m) ms
 
 -- a page's name is kept, and nothing is found of it
 abbrev pub IsNameKept : KnownMedia → (page : List ℕ) → Type 0
-IsNameKept known page = IfSome (medium_told (page_head page)) (λ name. found_at known name ≡ Some None)
+IsNameKept known page = IfSome (medium_of_page (page_head page)) (λ name. found_at known name ≡ Some None)
 
 -- by its name a page has the paper of the first of these media with it
 abbrev pub Knows : KnownMedia → List Medium → (page : List ℕ) → Type 0
-Knows known media page = IfSome (medium_told (page_head page)) (λ name. known_paper known name ≡ paper_of_medium name media)
+Knows known media page = IfSome (medium_of_page (page_head page)) (λ name. known_paper known name ≡ paper_of_medium name media)
 
 -- the known media are those of all of these pages
 abbrev pub KnowsAll : KnownMedia → List Medium → (pages : List (List ℕ)) → Type 0

@@ -4,7 +4,7 @@ use Rattle.std.specs.Prelude.{if◌then◌else◌, List, map, Option, Some, None
 use Rattle.rules.specs.Papers.{Paper}
 use Rattle.rules.specs.Parts.{NestedUnit, pages}
 use Rattle.papers.specs.Media.{header, trailer_lines, usual_in}
-use Rattle.papers.specs.Comments.{media, page_head, paper_of_medium, told_by_document, told_by_page}
+use Rattle.papers.specs.Comments.{media, page_head, paper_of_medium, given_by_document, given_by_page}
 
 -- what is said, and else this
 abbrev pub or_this : Option Paper → Paper → Paper
@@ -13,7 +13,7 @@ or_this None other = other
 
 -- what a page says itself, where its document has this paper, and else that one
 abbrev pub page_or : (known : List ℕ → Option Paper) → (head : List (List ℕ)) → Paper → Paper
-page_or known head document = or_this (told_by_page known document head) document
+page_or known head document = or_this (given_by_page known document head) document
 
 -- the paper of the medium with this name, by header comments
 abbrev pub medium_by : (header : List (List ℕ)) → (name : List ℕ) → Option Paper
@@ -23,7 +23,7 @@ medium_by header name = paper_of_medium name (media header)
 -- the lines of the trailer, are the document's (RULES, 12.3)
 abbrev pub own_paper : (named : List ℕ → Option Paper) → (home : Paper) → (header trailer : List (List ℕ)) → (page : List ℕ) → Paper
 own_paper named home header trailer page =
-    page_or (medium_by header) (page_head page) (or_this (told_by_document named home header trailer) home)
+    page_or (medium_by header) (page_head page) (or_this (given_by_document named home header trailer) home)
 
 -- the papers of a document's pages, in order: the one that was asked for, if one was, and else each page's own, where the one that the document's
 -- setup asks for goes before the one at home

@@ -92,9 +92,9 @@ with_all reach [] = reach
 with_all reach (page ∷ more) = Some (with_reaching_page reach page)
 
 -- the first of some pages, and how many they are
-abbrev pub told_reach : List (ℕ × Paper × Edges) → Option Reach
-told_reach [] = None
-told_reach (page ∷ more) = Some (record { first = page.0; paper = page.1; edges = page.2; pages = length more + 1 })
+abbrev pub reach_summary : List (ℕ × Paper × Edges) → Option Reach
+reach_summary [] = None
+reach_summary (page ∷ more) = Some (record { first = page.0; paper = page.1; edges = page.2; pages = length more + 1 })
 
 abbrev pub reach_of : Placing → (placed : List Paper) → Option Reach
-reach_of pages placed = told_reach (reaching pages 0 placed)
+reach_of pages placed = reach_summary (reaching pages 0 placed)

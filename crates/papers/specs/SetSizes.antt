@@ -2,7 +2,7 @@
 use Rattle.std.specs.Prelude.{◌≡◌, ◌⊎◌, ℕ, List, [], ◌∷◌, ◌++◌, Some, slice_get}
 use Rattle.rules.specs.Papers.{Paper}
 use Rattle.rules.specs.Made.{MadeSheet}
-use Rattle.papers.specs.Told.{setting_line, size_text, telling}
+use Rattle.papers.specs.Reported.{setting_line, size_text, reporting}
 
 -- the last of these lines sets the page size to this paper
 abbrev pub SetLast : Paper → List (List ℕ) → Type 0
@@ -16,4 +16,4 @@ StayAsSet paper lines set = (lines ≡ []) × (size_text set ≡ size_text paper
 -- its own paper: the last of the lines at its start sets it, or there are none, and it is the one that was set (RULES, 15)
 abbrev pub SizeIsSet : Type 0
 SizeIsSet = (all : List MadeSheet) (s t : ℕ) (sheet other : MadeSheet) → slice_get all s ≡ Some sheet → slice_get all t ≡ Some other
-    → SetLast sheet.paper ((telling all).start s sheet.paper) ⊎ StayAsSet sheet.paper ((telling all).start s sheet.paper) other.paper
+    → SetLast sheet.paper ((reporting all).start s sheet.paper) ⊎ StayAsSet sheet.paper ((reporting all).start s sheet.paper) other.paper

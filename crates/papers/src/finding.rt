@@ -4,12 +4,12 @@ ghost use Rattle.rules.specs.Parts.{bytes_of, pages};
 ghost use Rattle.dsc.specs.Units.{units_of};
 ghost use Rattle.paper_names.specs.Names.{paper_named};
 ghost use Rattle.papers.specs.Media.{comment_fields, comment_value, contents, header, paper_of_box as paper_of_box_at, trailer_lines};
-ghost use Rattle.papers.specs.Comments.{head_of, named_medium, page_head, told_by_document, told_by_page as told};
+ghost use Rattle.papers.specs.Comments.{head_of, named_medium, page_head, given_by_document, given_by_page as given};
 ghost use Rattle.papers.specs.Own.{medium_by, or_this, papers_of_each_page as papers_of_pages, page_or};
 ghost use Rattle.papers.specs.Named.{known_paper};
 
 use crate::known_media::KnownMedia;
-use crate::media::document_told;
+use crate::media::given_by_comments;
 use crate::page_heads::{after_first_line, medium_name, value_in_head};
 use crate::paper_of_box;
 use crate::setup::usual_in;
@@ -65,10 +65,10 @@ fn declared_papers(
 /// reach beyond `other`.
 fn document_or(text: &[u8], other: &Paper) -> Paper
     ensures { result
-        ≡ or_this (told_by_document paper_named other.now (header text.now) (trailer_lines (units_of text.now))) other.now }
+        ≡ or_this (given_by_document paper_named other.now (header text.now) (trailer_lines (units_of text.now))) other.now }
 {
-    match document_told(text, other) {
-        Some(told) => told.0,
+    match given_by_comments(text, other) {
+        Some(given) => given.0,
         None => *other,
     }
 }
@@ -86,8 +86,8 @@ fn each_with(
 {
     let mut papers = Vec::new(alloc);
     for page in 0..document.pages() {
-        let told = told_by_page(alloc, known, document.page(page), other)?;
-        papers.push(told.unwrap_or(*other))?;
+        let given = given_by_page(alloc, known, document.page(page), other)?;
+        papers.push(given.unwrap_or(*other))?;
     }
     Ok(papers)
 }
@@ -95,13 +95,13 @@ fn each_with(
 /// The paper that the comments after a page's first line give: that of the known medium in `%%PageMedia:`, or else
 /// that of the box in `%%PageBoundingBox:`. `other` is the document's paper, beyond which a box that doesn't begin at
 /// 0 0 must reach.
-fn told_by_page(
+fn given_by_page(
     alloc: Global,
     known: &KnownMedia,
     page: &[u8],
     other: &Paper,
 ) -> Result<Option<Paper>, AllocError>
-    ensures { IfOk result (λ paper. paper ≡ told (known_paper known.now) other.now (page_head page.now)) }
+    ensures { IfOk result (λ paper. paper ≡ given (known_paper known.now) other.now (page_head page.now)) }
 {
     let head = after_first_line(page);
     let named = named_paper(alloc, known, head)?;

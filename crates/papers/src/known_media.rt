@@ -3,7 +3,7 @@ ghost use Rattle.std.specs.Prelude.{◌≡◌, ◌<◌, ℕ, List, [], ◌∷◌
 ghost use Rattle.std.specs.Map.{update};
 ghost use Rattle.std.specs.Str.{bytes_eq};
 ghost use Rattle.rules.specs.Parts.{pages};
-ghost use Rattle.papers.specs.Media.{contents, continued, name_meant as name_told};
+ghost use Rattle.papers.specs.Media.{contents, continued, name_meant as meant_by};
 ghost use Rattle.papers.specs.Comments.{media, medium_in};
 ghost use Rattle.papers.specs.Named.{IsNameKept, KnowsAll, found_at, is_name_missing as is_not_found, known_paper, with_media, with_medium};
 
@@ -145,7 +145,7 @@ impl KnownMedia {
         alloc: Global,
         written: &[u8],
     ) -> Result<Option<Paper>, AllocError>
-        ensures { IfOk result (λ paper. paper ≡ known_paper self.now (name_told written.now)) }
+        ensures { IfOk result (λ paper. paper ≡ known_paper self.now (meant_by written.now)) }
     {
         let name = name_meant(alloc, written)?;
         Ok(self.paper_named(name.as_slice()))

@@ -1,12 +1,12 @@
 //! Laws of papers. Each function states one law in its `ensures`, and has an empty body.
-ghost use Rattle.papers.specs.Told.{TellingIsTame};
+ghost use Rattle.papers.specs.Reported.{ReportingIsTame};
 ghost use Rattle.papers.specs.SetSizes.{SizeIsSet};
 ghost use Rattle.papers.specs.Found.{PapersAreFound};
 ghost use Rattle.papers.specs.AsOne.{KindsAreOfLargest, NearAreOne, NothingIsCut, OrderIsNothing};
 
 /// The lines with which sheets report their papers begin no page, no trailer, no data and no embedded document.
-pub fn telling_is_tame()
-    ensures { TellingIsTame }
+pub fn reporting_is_tame()
+    ensures { ReportingIsTame }
 {}
 
 /// Suppose that, when a sheet begins, the page size is that of some sheet's paper. If the sheet reports its own paper,

@@ -47,16 +47,16 @@ pub fn document_paper(text: &[u8], usual: &Paper) -> Option<(Paper, Comment)>
     ensures { result ≡ meaning.document_paper usual.now text.now }
 {
     let set = set_size(text);
-    match document_told(text, &set.unwrap_or(*usual)) {
-        Some(told) => Some(told),
+    match given_by_comments(text, &set.unwrap_or(*usual)) {
+        Some(found) => Some(found),
         None => Some((set?, Comment::Setup)),
     }
 }
 
 /// The paper that the comments alone give, and the comment that gives it. A box that doesn't begin at 0 0 must reach
 /// beyond the paper `usual`. None if the comments give no paper.
-pub(crate) fn document_told(text: &[u8], usual: &Paper) -> Option<(Paper, Comment)>
-    ensures { result ≡ meaning.document_told usual.now text.now }
+pub(crate) fn given_by_comments(text: &[u8], usual: &Paper) -> Option<(Paper, Comment)>
+    ensures { result ≡ meaning.given_by_comments usual.now text.now }
 {
     let (header, _) = text.split_at(header_len(text));
     match media_in(header) {
@@ -80,12 +80,12 @@ fn named_or_boxed(header: &[u8], text: &[u8], usual: &Paper) -> Option<(Paper, C
     }
 }
 
-/// `paper`, turned on its side if `told`, the paper of a box, has the sides of `paper` exchanged, to within 15 points.
-fn lying_as(told: Option<Paper>, paper: Paper) -> Paper
-    ensures { result ≡ meaning.lying_as told paper }
+/// `paper`, turned on its side if `found`, the paper of a box, has the sides of `paper` exchanged, to within 15 points.
+fn lying_as(found: Option<Paper>, paper: Paper) -> Paper
+    ensures { result ≡ meaning.lying_as found paper }
 {
-    match told {
-        Some(told) if is_near(&told, &paper.turned()) => paper.turned(),
+    match found {
+        Some(found) if is_near(&found, &paper.turned()) => paper.turned(),
         _ => paper,
     }
 }

@@ -4,7 +4,7 @@ ghost use Rattle.rules.specs.Units.{content_of, line_len};
 ghost use Rattle.rules.specs.Bytes.{colon};
 ghost use Rattle.dsc.specs.Fields.{fields_in};
 ghost use Rattle.papers.specs.Media.{comment_fields, comment_value, name_meant};
-ghost use Rattle.papers.specs.Comments.{first_name as name_told, head_of, is_in_head, medium_told};
+ghost use Rattle.papers.specs.Comments.{first_name as name_given, head_of, is_in_head, medium_of_page};
 
 use crate::comments::value_after;
 use crate::fields::{name_and_rest, name_in};
@@ -54,7 +54,7 @@ pub(crate) fn value_in_head<'t>(text: &'t [u8], key: &[u8], with_colon: &[u8]) -
 /// The name of the medium in `%%PageMedia:`, among the comments at the start of the text, as it is written. None if
 /// there is no such comment, or if it names no medium.
 pub(crate) fn medium_name(text: &[u8]) -> Option<&[u8]>
-    ensures { option_map (λ name. name_meant name.now) result ≡ medium_told (head_of (length text.now) text.now) }
+    ensures { option_map (λ name. name_meant name.now) result ≡ medium_of_page (head_of (length text.now) text.now) }
 {
     let (name, _) = name_and_rest(value_in_head(text, b"%%PageMedia", b"%%PageMedia:")?)?;
     Some(name)
@@ -63,7 +63,7 @@ pub(crate) fn medium_name(text: &[u8]) -> Option<&[u8]>
 /// The name at the start of a comment's value, after any blanks. A name in parentheses is returned without them, but
 /// otherwise as it is written. None if the value has only blanks.
 pub fn first_name(value: &[u8]) -> Option<&[u8]>
-    ensures { option_map (λ name. name.now) result ≡ name_told value.now }
+    ensures { option_map (λ name. name.now) result ≡ name_given value.now }
 {
     let (name, _) = name_and_rest(value)?;
     Some(name_in(name))

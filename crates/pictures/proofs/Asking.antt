@@ -7,7 +7,7 @@ use Rattle.pictures.specs.Operators.{with_operands, judged, located, loaded, sam
 use Rattle.pictures.specs.Machine.{State, push, saved, worked}
 use Rattle.pictures.specs.Sheets.{run_of}
 use Rattle.pictures.proofs.Runs.{runs_one, runs_none}
-use Rattle.pictures.specs.Behind.{save_tokens, keeping_tokens}
+use Rattle.pictures.specs.AfterGuard.{save_tokens, keeping_tokens}
 use Rattle.pictures.specs.Lines.{asks_userdict, at_sheet_save, with_asking, with_dictionary, AsksUserdict, AskingShows}
 use Rattle.pictures.proofs.Absent.{known, known_below, through}
 use Rattle.pictures.proofs.Counting.{counted}

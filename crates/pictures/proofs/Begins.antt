@@ -16,8 +16,8 @@ use Rattle.pictures.proofs.Straight.{Known, straight, straight_runs}
 use Rattle.pictures.proofs.Opening.{snapshot_of, apart, is_apart}
 use Rattle.pictures.proofs.Tests.{first, second}
 use Rattle.pictures.proofs.Placed.{both_true}
-use Rattle.pictures.specs.Behind.{operator, save_tokens, clip_tokens, outer_tokens, showpage_tokens, looking_tokens, putting_back_tokens, keeping_tokens}
-use Rattle.pictures.specs.Behind.{pathforall_tokens as tracing_tokens}
+use Rattle.pictures.specs.AfterGuard.{operator, save_tokens, clip_tokens, outer_tokens, showpage_tokens, looking_tokens, putting_back_tokens, keeping_tokens}
+use Rattle.pictures.specs.AfterGuard.{pathforall_tokens as tracing_tokens}
 use Rattle.pictures.specs.Shelter.{Outer, outer_is, means, outer_entries, outer_made, sheltered, outline_tokens}
 use Rattle.pictures.specs.Pages.{HasGuard, TakesPages, Encloses, ShowsByGuard, around, placed_at, has_nothing, names_looked_up, looked_up_first, PageBegins}
 use Rattle.pictures.proofs.Absent.{known, known_below, keys_differ, through}

@@ -11,10 +11,10 @@ use Rattle.pictures.specs.Unaware.{absent}
 use Rattle.pictures.proofs.Tests.{by_test, first, second}
 use Rattle.pictures.proofs.Opening.{name_other}
 use Rattle.pictures.specs.Shelter.{all_absent}
-use Rattle.pictures.specs.Behind.{behind_guard}
+use Rattle.pictures.specs.AfterGuard.{after_guard}
 use Rattle.pictures.specs.Pages.{HasGuard, names_looked_up, looked_up_first, guarded_names, GuardIsEnough, StaysGuarded}
 
-guard_is_there : (sheet : Option Paper) (rest : List Token) → HasGuard (behind_guard sheet rest).work 0
+guard_is_there : (sheet : Option Paper) (rest : List Token) → HasGuard (after_guard sheet rest).work 0
 guard_is_there None rest =
     record { number = 2; save_is = refl; guard_is = refl; clip_is = refl; clip_alone = refl; path_is = refl; names = refl; few_operands = omega arith; operands = refl; dictionaries = refl }
 guard_is_there (Some paper) rest =

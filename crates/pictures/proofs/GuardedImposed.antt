@@ -11,11 +11,11 @@ use Rattle.rules.specs.Made.{MadeSheet}
 use Rattle.dsc.specs.Units.{units_of}
 use Rattle.guard.specs.Guard.{guarded}
 use Rattle.guard.proofs.TheGuard.{guard_stays}
-use Rattle.papers.specs.Told.{telling, telling_of, papers_told, different_from, is_told_alike, in_print, size_text, box_line, exact_box_line, exact_box_lines, is_in_whole_points, whole_paper, medium_line}
+use Rattle.papers.specs.Reported.{reporting, reporting_of, papers_reported, different_from, is_reported_alike, in_print, size_text, box_line, exact_box_line, exact_box_lines, is_in_whole_points, whole_paper, medium_line}
 use Rattle.pictures.specs.Imposed.{ends_nowhere, is_comment_line, are_comments, IsQuiet}
 use Rattle.pictures.proofs.Placed.{both_true}
 use Rattle.pictures.proofs.Comments.{points_stay, stay_both}
-use Rattle.pictures.specs.GuardedImposed.{AreOn, OnePaperIsToldAsOne, TellingIsQuiet, MadeDocumentIsShown, OwnMadeDocumentIsShown, SilencedMadeDocumentIsShown}
+use Rattle.pictures.specs.GuardedImposed.{AreOn, OnePaperIsReportedAsOne, ReportingIsQuiet, MadeDocumentIsShown, OwnMadeDocumentIsShown, SilencedMadeDocumentIsShown}
 use Rattle.pictures.proofs.Documents.{guarded_is_shown, guarded_bodies, guarded_again}
 use Rattle.pictures.proofs.OwnShowpage.{own_is_shown}
 use Rattle.pictures.proofs.Silenced.{silenced_is_shown}
@@ -37,7 +37,7 @@ box_is_comment p = size_stays p
 medium_is_comment : (p : Paper) → is_comment_line (medium_line (codes "%%DocumentMedia: ") (codes "Plain") p) ≡ true
 medium_is_comment p = stay_both (size_text p) (codes " 0 () ()") (size_stays p) refl
 
-one_is_quiet : (p : Paper) → IsQuiet (telling_of (p ∷ []))
+one_is_quiet : (p : Paper) → IsQuiet (reporting_of (p ∷ []))
 one_is_quiet p = record {
   header = both_true (is_comment_line (box_line (whole_paper p))) (are_comments (exact_box_lines p ++ medium_line (codes "%%DocumentMedia: ") (codes "Plain") p ∷ [])) (box_is_comment (whole_paper p))
       (boxes_are_comments (is_in_whole_points p) p (medium_line (codes "%%DocumentMedia: ") (codes "Plain") p ∷ [])
@@ -51,9 +51,9 @@ one_is_quiet p = record {
 abbrev papers : List MadeSheet → List Paper
 papers all = map (λ sheet. sheet.paper) all
 
-alike : (p : Paper) → list_any (is_told_alike p) (p ∷ []) ≡ true
+alike : (p : Paper) → list_any (is_reported_alike p) (p ∷ []) ≡ true
 alike p =
-    let same : is_told_alike p p ≡ true = both_true (int_eq (in_print p.width) (in_print p.width)) (int_eq (in_print p.height) (in_print p.height))
+    let same : is_reported_alike p p ≡ true = both_true (int_eq (in_print p.width) (in_print p.width)) (int_eq (in_print p.height) (in_print p.height))
     ((Decides-int_eq (in_print p.width) (in_print p.width)).1 refl) ((Decides-int_eq (in_print p.height) (in_print p.height)).1 refl) in
     ap (λ b. b || false) same
 
@@ -64,23 +64,23 @@ none_else p (sheet ∷ all) h =
     ∙ ap (λ b. if b then different_from (p ∷ []) (papers all) else different_from (p ∷ p ∷ []) (papers all)) (alike p)
     ∙ none_else p all h.1
 
-one_told : (p : Paper) (sheet : MadeSheet) (all : List MadeSheet) → AreOn p (sheet ∷ all) → papers_told (papers (sheet ∷ all)) ≡ p ∷ []
+one_told : (p : Paper) (sheet : MadeSheet) (all : List MadeSheet) → AreOn p (sheet ∷ all) → papers_reported (papers (sheet ∷ all)) ≡ p ∷ []
 one_told p sheet all h =
-    ap (λ q. papers_told (q ∷ papers all)) h.0 ∙ none_else p all h.1
+    ap (λ q. papers_reported (q ∷ papers all)) h.0 ∙ none_else p all h.1
 
-pub one_paper_is_told_as_one : OnePaperIsToldAsOne
-one_paper_is_told_as_one p [] h = omega arith
-one_paper_is_told_as_one p (sheet ∷ all) h =
-    let one : length (papers_told (papers (sheet ∷ all))) ≡ 1 = ap length (one_told p sheet all h) in
+pub one_paper_is_reported_as_one : OnePaperIsReportedAsOne
+one_paper_is_reported_as_one p [] h = omega arith
+one_paper_is_reported_as_one p (sheet ∷ all) h =
+    let one : length (papers_reported (papers (sheet ∷ all))) ≡ 1 = ap length (one_told p sheet all h) in
     omega (arith, one)
 
-told_is_quiet : (told : List Paper) → length told ≤ 1 → IsQuiet (telling_of told)
+told_is_quiet : (told : List Paper) → length told ≤ 1 → IsQuiet (reporting_of told)
 told_is_quiet [] few = record { header = refl; start = λ s paper. refl; finish = λ s paper. refl }
 told_is_quiet (p ∷ []) few = one_is_quiet p
 told_is_quiet (p ∷ q ∷ more) few = absurd (omega (arith, few))
 
-pub telling_is_quiet : TellingIsQuiet
-telling_is_quiet all few = told_is_quiet (papers_told (papers all)) few
+pub reporting_is_quiet : ReportingIsQuiet
+reporting_is_quiet all few = told_is_quiet (papers_reported (papers all)) few
 
 -- What impose makes.
 
@@ -88,13 +88,13 @@ pub made_document_is_shown : MadeDocumentIsShown
 made_document_is_shown sheet border all text us picture s on d few apart run h =
     let again : List NestedUnit = units_of (guarded sheet text) in
     let stays = guard_stays sheet text us d few in
-    guarded_is_shown border (telling all) all (guarded sheet text) again picture s (telling_is_quiet all on) stays.0 apart run
+    guarded_is_shown border (reporting all) all (guarded sheet text) again picture s (reporting_is_quiet all on) stays.0 apart run
     (guarded_bodies border again picture s run.5 all (guarded_again border us again picture s all stays.1.same_pages h))
 
 pub own_made_document_is_shown : OwnMadeDocumentIsShown
 own_made_document_is_shown sheet border all text us picture d s on doc few apart run has h =
-    own_is_shown sheet border (telling all) all text us picture d s (telling_is_quiet all on) doc few apart run has h
+    own_is_shown sheet border (reporting all) all text us picture d s (reporting_is_quiet all on) doc few apart run has h
 
 pub silenced_made_document_is_shown : SilencedMadeDocumentIsShown
 silenced_made_document_is_shown sheet border all text us picture s on doc few apart run has h =
-    silenced_is_shown sheet border (telling all) all text us picture s (telling_is_quiet all on) doc few apart run has h
+    silenced_is_shown sheet border (reporting all) all text us picture s (reporting_is_quiet all on) doc few apart run has h

@@ -15,7 +15,7 @@ use Rattle.pictures.proofs.Names.{not_true}
 use Rattle.pictures.proofs.Opening.{name_other}
 use Rattle.pictures.proofs.Tests.{first, second}
 use Rattle.pictures.proofs.Straight.{straight_runs}
-use Rattle.pictures.specs.Behind.{handing_tokens, printer_keys, setpagedevice_tokens, showpage_tokens, pathforall_tokens, own_clip_tokens, clips_tokens, save_tokens, page_begins_tokens}
+use Rattle.pictures.specs.AfterGuard.{handing_tokens, printer_keys, setpagedevice_tokens, showpage_tokens, pathforall_tokens, own_clip_tokens, clips_tokens, save_tokens, page_begins_tokens}
 use Rattle.pictures.specs.Shelter.{Outer, outer_is, means, outline_tokens, outline_names}
 use Rattle.pictures.specs.Lines.{PageIsLeft, DeviceIsLeft, with_setting, handed, DeviceIsHanded, ShowpageStaysAName, LoadedShowpage, MatrixIsThePages, DefaultIsThePages, Noted, AreNoted, clip_to, clips_to, after_clip, OuterIsKept, ClipIsThePages, GraphicsAreThePages, IsAnother, SaveSaves}
 use Rattle.pictures.proofs.Absent.{known}

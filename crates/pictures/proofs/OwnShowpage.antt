@@ -28,7 +28,7 @@ use Rattle.pictures.proofs.Runs.{AreRuns, free_are_runs, runs_join}
 use Rattle.pictures.proofs.Sheets.{Places, AllPlace, AllSheetsPlace, Prints, fresh, all_sheets_run}
 use Rattle.pictures.proofs.Tests.{by_test, first, second}
 use Rattle.pictures.proofs.Placed.{both_true}
-use Rattle.pictures.specs.Behind.{showpage_tokens}
+use Rattle.pictures.specs.AfterGuard.{showpage_tokens}
 use Rattle.pictures.specs.Shelter.{means, all_absent, outline_tokens, sheltered, PaintsSheltered}
 use Rattle.pictures.specs.Lines.{clip_to, asks_userdict, with_asking}
 use Rattle.pictures.specs.Pages.{names_looked_up, around, placed_at, IsOnPaper, AllShelteredFrom, AllSheetsShelteredFrom, PaintsFrom, state_after_sheets}

@@ -17,7 +17,7 @@ use Rattle.pictures.proofs.More.{runs_with_more}
 use Rattle.pictures.proofs.NumberTokens.{IsWord, Reads, reads_join, points_word}
 use Rattle.pictures.proofs.OpeningTokens.{add_number}
 use Rattle.pictures.proofs.Output.{complete_read}
-use Rattle.pictures.specs.Behind.{guard_text, behind_guard, GuardDefines}
+use Rattle.pictures.specs.AfterGuard.{guard_text, after_guard, GuardDefines}
 use Rattle.pictures.specs.Shelter.{all_absent}
 use Rattle.pictures.specs.Lines.{guard_line_names, GuardedTwice}
 use Rattle.pictures.proofs.Absent.{known}
@@ -91,15 +91,15 @@ with_rest : (ts rest : List Token) (w : Work) (kept : List KeptMatrix) → Runs 
 with_rest ts rest w kept run = runs_with_more rest (started ts) (left_with [] w kept) run
 
 -- in so many steps
-alone_runs : (sheet : Option Paper) → Runs false (started (guard_tokens sheet)) (behind_guard sheet [])
+alone_runs : (sheet : Option Paper) → Runs false (started (guard_tokens sheet)) (after_guard sheet [])
 alone_runs None = (249, refl)
 alone_runs (Some paper) = (264, refl)
 
 pub guard_defines : GuardDefines
 guard_defines sheet = (
   (guard_is_cut sheet).1,
-  λ rest. subst (λ ts. Runs false (started (ts ++ rest)) (behind_guard sheet rest)) (sym (guard_is_cut sheet).0)
-      (with_rest (guard_tokens sheet) rest (behind_guard sheet []).work (behind_guard sheet []).kept (alone_runs sheet)),
+  λ rest. subst (λ ts. Runs false (started (ts ++ rest)) (after_guard sheet rest)) (sym (guard_is_cut sheet).0)
+      (with_rest (guard_tokens sheet) rest (after_guard sheet []).work (after_guard sheet []).kept (alone_runs sheet)),
 )
 
 -- Guarded already.

@@ -15,7 +15,7 @@ use Rattle.pictures.specs.Sheets.{run_of, Numbers, zero_text}
 use Rattle.pictures.proofs.Runs.{nothing, runs_one, runs_none, some_is, follow}
 use Rattle.pictures.proofs.Tests.{first, second}
 use Rattle.pictures.proofs.Commutes.{Extends, body_goes_on}
-use Rattle.pictures.specs.Behind.{pathforall_tokens, clips_tokens, initclip_tokens, initgraphics_tokens}
+use Rattle.pictures.specs.AfterGuard.{pathforall_tokens, clips_tokens, initclip_tokens, initgraphics_tokens}
 use Rattle.pictures.specs.Shelter.{Outer, outer_is, is_zero_object, is_dictionary, is_matrix, is_unknown, keeps_outer, keeps_outers, are_same_tokens, is_procedure, is_no_chain, holds_the_place, all_absent, means, outline_names, outline_tokens, keeps_the_page, is_drawn_anew, unclipped, as_it_began, entered, performed, did, meant_sheltered, act_sheltered, step_sheltered, shelter_step}
 use Rattle.pictures.specs.Lines.{Noted, AreNoted, Notes}
 use Rattle.pictures.specs.Pages.{AroundGuarded, kept_at, guarded_snapshot_at, placed_at, AllHeld, IsOnPaper, ShelterCommutes}

@@ -29,7 +29,7 @@ use Rattle.pictures.proofs.Runs.{AreRuns, free_are_runs, runs_one, runs_join, ru
 use Rattle.pictures.proofs.Sheets.{Places, Prints, fresh, all_sheets_run}
 use Rattle.pictures.proofs.Tests.{by_test}
 use Rattle.pictures.proofs.Opening.{apart}
-use Rattle.pictures.specs.Behind.{save_tokens, showpage_tokens}
+use Rattle.pictures.specs.AfterGuard.{save_tokens, showpage_tokens}
 use Rattle.pictures.specs.Shelter.{means, outline_tokens, sheltered, PaintsSheltered}
 use Rattle.pictures.specs.Pages.{names_looked_up, looked_up_first, around, placed_at, PaintsFrom, state_after_sheets}
 use Rattle.pictures.specs.Silenced.{IsSilenced, with_showpage, after_pages, ShowpageIsPutBack, SilencedPageIsPlaced, SilencedSheetsArePrinted, SilencedDocumentIsShown}

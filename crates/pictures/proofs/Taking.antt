@@ -7,16 +7,16 @@ use Rattle.pictures.specs.Sheets.{among}
 use Rattle.pictures.proofs.Opening.{name_other, apart}
 use Rattle.pictures.proofs.Tests.{first, second}
 use Rattle.pictures.proofs.Placed.{both_true}
-use Rattle.pictures.specs.Behind.{behind_guard}
+use Rattle.pictures.specs.AfterGuard.{after_guard}
 use Rattle.pictures.specs.SheetsOfSheets.{none_newer, none_above_of, put_there, taken_names, GuardTakesSheets, StaysTakingSheets}
 use Rattle.pictures.proofs.Ground.{guard_is_enough, differs, all_differ, all_among, holder_other, guard_names, guard_stays_there}
 use Rattle.pictures.proofs.GuardedPlaced.{takes_pages}
 use Rattle.pictures.proofs.PutThere.{above_other}
 
 pub guard_takes_sheets : GuardTakesSheets
-guard_takes_sheets None rest = record { takes = takes_pages (behind_guard None rest) (guard_is_enough None rest); above = refl; outermost = refl; restore_is = refl; new = refl; older = tt }
+guard_takes_sheets None rest = record { takes = takes_pages (after_guard None rest) (guard_is_enough None rest); above = refl; outermost = refl; restore_is = refl; new = refl; older = tt }
 guard_takes_sheets (Some paper) rest =
-    record { takes = takes_pages (behind_guard (Some paper) rest) (guard_is_enough (Some paper) rest); above = refl; outermost = refl; restore_is = refl; new = refl; older = tt }
+    record { takes = takes_pages (after_guard (Some paper) rest) (guard_is_enough (Some paper) rest); above = refl; outermost = refl; restore_is = refl; new = refl; older = tt }
 
 is_apart : (key name : List ℕ) → bytes_eq key name ≡ false → apart key (name ∷ []) ≡ true
 is_apart key name e = ap (λ b. not b && true) e

@@ -17,7 +17,7 @@ use Rattle.rules.specs.Dress.{Dress, undressed}
 use Rattle.rules.specs.MadeOutput.{made_sheet_text, made_output}
 use Rattle.rules.proofs.Made.{made_is_output}
 use Rattle.dsc.specs.Units.{units_of}
-use Rattle.imposed_again.specs.Again.{depth_behind}
+use Rattle.imposed_again.specs.Again.{open_depth}
 use Rattle.imposed_again.specs.MadeAgain.{IsTameDress, made_texts}
 use Rattle.imposed_again.proofs.MadeAgain.{made_is_document}
 use Rattle.guard.specs.Guard.{guarded}
@@ -170,7 +170,7 @@ Facts sheet border dress all us out =
     length (guarded sheet out) ≤ most_input_bytes
     → (document_of (guarded sheet out) ≡ Ok (units_of (guarded sheet out))) × (pages (units_of (guarded sheet out)) ≡ made_texts border dress (pages us) all)
 
-facts : (sheet : Option Paper) (border : Option Border) (dress : Dress) (all : List MadeSheet) (text : List ℕ) (us : List NestedUnit) → IsTameDress dress → document_of text ≡ Ok us → depth_behind (page_run us) ≡ 0
+facts : (sheet : Option Paper) (border : Option Border) (dress : Dress) (all : List MadeSheet) (text : List ℕ) (us : List NestedUnit) → IsTameDress dress → document_of text ≡ Ok us → open_depth (page_run us) ≡ 0
     → 0 < length all → length all ≤ most_pages → length (made_output border dress all us) ≤ most_input_bytes → Facts sheet border dress all us (made_output border dress all us)
 facts sheet border dress all text us tame d shut some few long longer =
     let out : List ℕ = made_output border dress all us in

@@ -4,7 +4,7 @@ use Rattle.std.specs.Prelude.{◌≡◌, ℕ, List, [], ◌++◌, true, false, S
 use Rattle.pictures.specs.Objects.{Token, Procedure, Matrix, Resets, Looks, InitialMatrix, DefaultMatrix, InitialClip}
 use Rattle.pictures.specs.Machine.{State, push, perform}
 use Rattle.pictures.specs.Sheets.{run_of}
-use Rattle.pictures.specs.Behind.{initgraphics_tokens, initclip_tokens, initmatrix_tokens, defaultmatrix_tokens}
+use Rattle.pictures.specs.AfterGuard.{initgraphics_tokens, initclip_tokens, initmatrix_tokens, defaultmatrix_tokens}
 use Rattle.pictures.specs.Shelter.{Outer, keeps_the_page, is_drawn_anew, noting, did, RunsSheltered}
 
 -- Where an operator brings a free machine that has no place, there the guard's procedure brings the page by itself, as

@@ -8,7 +8,7 @@ use Rattle.rules.specs.Made.{MadeSheet}
 use Rattle.rules.specs.MadeOutput.{made_output}
 use Rattle.dsc.specs.Units.{units_of}
 use Rattle.guard.specs.Guard.{guarded}
-use Rattle.papers.specs.Told.{papers_told, telling}
+use Rattle.papers.specs.Reported.{papers_reported, reporting}
 use Rattle.pictures.specs.Machine.{State, Painting, Runs}
 use Rattle.pictures.specs.Scanner.{tokens}
 use Rattle.pictures.specs.Kept.{comments_apart_with}
@@ -24,16 +24,16 @@ AreOn paper [] = Unit {0}
 AreOn paper (sheet ∷ all) = (sheet.paper ≡ paper) × AreOn paper all
 
 -- the sheets are reported as one paper, so in the header alone
-abbrev pub AreToldAsOne : List MadeSheet → Type 0
-AreToldAsOne all = length (papers_told (map (λ sheet. sheet.paper) all)) ≤ 1
+abbrev pub AreReportedAsOne : List MadeSheet → Type 0
+AreReportedAsOne all = length (papers_reported (map (λ sheet. sheet.paper) all)) ≤ 1
 
 -- sheets of one paper are: a law
-abbrev pub OnePaperIsToldAsOne : Type 0
-OnePaperIsToldAsOne = (paper : Paper) (all : List MadeSheet) → AreOn paper all → AreToldAsOne all
+abbrev pub OnePaperIsReportedAsOne : Type 0
+OnePaperIsReportedAsOne = (paper : Paper) (all : List MadeSheet) → AreOn paper all → AreReportedAsOne all
 
 -- and of such sheets the lines that report their paper are comments: a law
-abbrev pub TellingIsQuiet : Type 0
-TellingIsQuiet = (all : List MadeSheet) → AreToldAsOne all → IsQuiet (telling all)
+abbrev pub ReportingIsQuiet : Type 0
+ReportingIsQuiet = (all : List MadeSheet) → AreReportedAsOne all → IsQuiet (reporting all)
 
 -- What impose writes of such sheets, with the lines by which they report their paper, and with the guard put in: the
 -- document's own pages are shown, each on its own paper, under the premises of a specification's sheets: a law
@@ -41,22 +41,22 @@ abbrev pub MadeDocumentIsShown : Type 0
 MadeDocumentIsShown =
     (sheet : Option Paper) (border : Option Border) (all : List MadeSheet) (text : List ℕ) (us : List NestedUnit)
     (picture : ℕ → List Painting) (s : State)
-    → AreToldAsOne all → document_of text ≡ Ok us → length (guarded sheet text) ≤ most_input_bytes
-    → comments_apart_with (telling all).header (units_of (guarded sheet text)) ≡ true
+    → AreReportedAsOne all → document_of text ≡ Ok us → length (guarded sheet text) ≤ most_input_bytes
+    → comments_apart_with (reporting all).header (units_of (guarded sheet text)) ≡ true
     → PreambleRuns IsGuarded (bytes_of (preamble (units_of (guarded sheet text)))) s
     → OnSheets (λ own p. GuardedPagePaints (page_frame border own) us s p (picture p)) all
-    → MadeIsPrinted border (telling all) all (units_of (guarded sheet text)) picture s
+    → MadeIsPrinted border (reporting all) all (units_of (guarded sheet text)) picture s
 
 -- the same of a document with a showpage of its own, if the first sheet has a page: a law
 abbrev pub OwnMadeDocumentIsShown : Type 0
 OwnMadeDocumentIsShown =
     (sheet : Option Paper) (border : Option Border) (all : List MadeSheet) (text : List ℕ) (us : List NestedUnit)
     (picture : ℕ → List Painting) (d : ℕ) (s : State)
-    → AreToldAsOne all → document_of text ≡ Ok us → length (guarded sheet text) ≤ most_input_bytes
-    → comments_apart_with (telling all).header (units_of (guarded sheet text)) ≡ true
+    → AreReportedAsOne all → document_of text ≡ Ok us → length (guarded sheet text) ≤ most_input_bytes
+    → comments_apart_with (reporting all).header (units_of (guarded sheet text)) ≡ true
     → PreambleRuns (HasItsOwn d) (bytes_of (preamble (units_of (guarded sheet text)))) s
     → FirstHas 1 all → OnSheetsFrom (PaintsFrom border us picture (asking d s)) 0 all
-    → Runs false (started (tokens (made_output border (telling all) all (units_of (guarded sheet text)))))
+    → Runs false (started (tokens (made_output border (reporting all) all (units_of (guarded sheet text)))))
     (state_after_sheets (asking d s) border (units_of (guarded sheet text)) picture all)
 
 -- and of one that leaves userdict's showpage empty: a law
@@ -64,9 +64,9 @@ abbrev pub SilencedMadeDocumentIsShown : Type 0
 SilencedMadeDocumentIsShown =
     (sheet : Option Paper) (border : Option Border) (all : List MadeSheet) (text : List ℕ) (us : List NestedUnit)
     (picture : ℕ → List Painting) (s : State)
-    → AreToldAsOne all → document_of text ≡ Ok us → length (guarded sheet text) ≤ most_input_bytes
-    → comments_apart_with (telling all).header (units_of (guarded sheet text)) ≡ true
+    → AreReportedAsOne all → document_of text ≡ Ok us → length (guarded sheet text) ≤ most_input_bytes
+    → comments_apart_with (reporting all).header (units_of (guarded sheet text)) ≡ true
     → PreambleRuns IsSilenced (bytes_of (preamble (units_of (guarded sheet text)))) s
     → FirstHas 1 all → OnSheetsFrom (PaintsFrom border us picture (after_pages s)) 0 all
-    → Runs false (started (tokens (made_output border (telling all) all (units_of (guarded sheet text)))))
+    → Runs false (started (tokens (made_output border (reporting all) all (units_of (guarded sheet text)))))
     (state_after_sheets (after_pages s) border (units_of (guarded sheet text)) picture all)

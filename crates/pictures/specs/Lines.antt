@@ -10,9 +10,9 @@ use Rattle.pictures.specs.Machine.{State, Clip, KeptMatrix, Runs, push, saved, r
 use Rattle.pictures.specs.Machine.{fonts}
 use Rattle.pictures.specs.Scanner.{tokens}
 use Rattle.pictures.specs.Sheets.{run_of, Numbers, edge}
-use Rattle.pictures.specs.Behind.{guard_text, printer_keys, setpagedevice_tokens, showpage_tokens, pathforall_tokens}
-use Rattle.pictures.specs.Behind.{defaultmatrix_tokens, initmatrix_tokens, initclip_tokens}
-use Rattle.pictures.specs.Behind.{clips_tokens, initgraphics_tokens, save_tokens}
+use Rattle.pictures.specs.AfterGuard.{guard_text, printer_keys, setpagedevice_tokens, showpage_tokens, pathforall_tokens}
+use Rattle.pictures.specs.AfterGuard.{defaultmatrix_tokens, initmatrix_tokens, initclip_tokens}
+use Rattle.pictures.specs.AfterGuard.{clips_tokens, initgraphics_tokens, save_tokens}
 use Rattle.pictures.specs.Shelter.{Outer, outer_is, means, all_absent, outline_tokens, outline_names}
 use Rattle.pictures.specs.Shelter.{is_drawn_anew}
 

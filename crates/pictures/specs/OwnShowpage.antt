@@ -17,7 +17,7 @@ use Rattle.pictures.specs.Sheets.{Shown, run_of, placed_tokens, page_picture}
 use Rattle.pictures.specs.Pictures.{printed_sheets, past_all, BeginsAt, sheets_tokens}
 use Rattle.pictures.specs.Documents.{started, PreambleRuns, FirstHas, OnSheetsFrom, all_sheets}
 use Rattle.pictures.specs.Kept.{preamble_comments_apart}
-use Rattle.pictures.specs.Behind.{showpage_tokens}
+use Rattle.pictures.specs.AfterGuard.{showpage_tokens}
 use Rattle.pictures.specs.Shelter.{means, outline_tokens, PaintsSheltered}
 use Rattle.pictures.specs.Lines.{with_asking}
 use Rattle.pictures.specs.Pages.{HasGuard, AllSheetsShelteredFrom, PaintsFrom, state_after_sheets}

@@ -23,7 +23,7 @@ use Rattle.pictures.specs.Sheets.{placed_tokens, place_in, border_in, page_pictu
 use Rattle.pictures.specs.Pictures.{printed_sheets, past, sheets_tokens}
 use Rattle.pictures.specs.Documents.{page_frame, document_page, sheet_pictures, pages_past_all, PreambleRuns, OnSheets, all_sheets, IsPrintedSheets}
 use Rattle.pictures.specs.Kept.{page_comments_apart, preamble_comments_apart}
-use Rattle.pictures.specs.Behind.{behind_guard, save_tokens, clip_tokens, pathforall_tokens, showpage_tokens}
+use Rattle.pictures.specs.AfterGuard.{after_guard, save_tokens, clip_tokens, pathforall_tokens, showpage_tokens}
 use Rattle.pictures.specs.Shelter.{Outer, outer_is, means, all_absent, outline_by, outline_tokens, sheltered}
 use Rattle.pictures.specs.Shelter.{RunsSheltered, PaintsSheltered}
 use Rattle.pictures.specs.Lines.{clip_to, clips_to}
@@ -72,7 +72,7 @@ pub record IsGuarded (s : State) : Type 0 where
 
 -- after the guard's text the state is guarded: a law
 abbrev pub GuardIsEnough : Type 0
-GuardIsEnough = (sheet : Option Paper) (rest : List Token) → IsGuarded (behind_guard sheet rest)
+GuardIsEnough = (sheet : Option Paper) (rest : List Token) → IsGuarded (after_guard sheet rest)
 
 -- the names that it rests on
 abbrev pub guarded_names : List (List ℕ)

@@ -17,7 +17,7 @@ use Rattle.pictures.specs.Documents.{numbers_of, document_page}
 use Rattle.pictures.specs.Kept.{page_comments_apart}
 use Rattle.pictures.specs.Shelter.{Outer, outer_is, means, outline_tokens, page_matrix, beginning, sheltered}
 use Rattle.pictures.specs.Shelter.{PaintsSheltered}
-use Rattle.pictures.specs.Behind.{behind_guard}
+use Rattle.pictures.specs.AfterGuard.{after_guard}
 use Rattle.pictures.specs.Pages.{IsGuarded, TakesPages, AllSheltered, placed_at, around, outline_of}
 use Rattle.pictures.specs.Pages.{guarded_names, defined}
 
@@ -89,7 +89,7 @@ pub record TakesSheets (outers : List Outer) (s : State) : Type 0 where
 
 -- after the guard's text sheets of sheets can be placed: a law
 abbrev pub GuardTakesSheets : Type 0
-GuardTakesSheets = (sheet : Option Paper) (rest : List Token) → TakesSheets [] (behind_guard sheet rest)
+GuardTakesSheets = (sheet : Option Paper) (rest : List Token) → TakesSheets [] (after_guard sheet rest)
 
 -- the names that it rests on
 abbrev pub taken_names : List (List ℕ)

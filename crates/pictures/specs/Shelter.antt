@@ -13,7 +13,7 @@ use Rattle.pictures.specs.Machine.{State, Graphics, Segment, Snapshot, KeptMatri
 use Rattle.pictures.specs.Machine.{viewed, reset, perform, may_precede, RunsBy}
 use Rattle.pictures.specs.Sheets.{Numbers, zero_text, in_userdict, LeavesAsItWas}
 use Rattle.pictures.specs.Unaware.{absent}
-use Rattle.pictures.specs.Behind.{pathforall_tokens, clips_tokens, initclip_tokens, initgraphics_tokens}
+use Rattle.pictures.specs.AfterGuard.{pathforall_tokens, clips_tokens, initclip_tokens, initgraphics_tokens}
 
 -- What is there.
 

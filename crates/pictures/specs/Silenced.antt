@@ -16,7 +16,7 @@ use Rattle.pictures.specs.Sheets.{Shown, run_of, placed_tokens, page_picture, in
 use Rattle.pictures.specs.Pictures.{printed_sheets, past_all, BeginsAt, sheets_tokens}
 use Rattle.pictures.specs.Documents.{started, PreambleRuns, FirstHas, OnSheetsFrom, all_sheets}
 use Rattle.pictures.specs.Kept.{preamble_comments_apart}
-use Rattle.pictures.specs.Behind.{save_tokens, showpage_tokens}
+use Rattle.pictures.specs.AfterGuard.{save_tokens, showpage_tokens}
 use Rattle.pictures.specs.Shelter.{outline_tokens, PaintsSheltered}
 use Rattle.pictures.specs.Lines.{at_sheet_save, with_dictionary}
 use Rattle.pictures.specs.Pages.{IsGuarded, defined, AllSheetsShelteredFrom, PaintsFrom, state_after_sheets}

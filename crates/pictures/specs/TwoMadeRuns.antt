@@ -9,7 +9,7 @@ use Rattle.rules.specs.Made.{MadeSheet}
 use Rattle.rules.specs.Dress.{Dress}
 use Rattle.rules.specs.MadeOutput.{made_output}
 use Rattle.dsc.specs.Units.{units_of}
-use Rattle.imposed_again.specs.Again.{depth_behind}
+use Rattle.imposed_again.specs.Again.{open_depth}
 use Rattle.imposed_again.specs.MadeAgain.{IsTameDress}
 use Rattle.guard.specs.Guard.{guarded}
 use Rattle.pictures.specs.Machine.{State, Painting}
@@ -52,7 +52,7 @@ TwoMadeRunsAreShown =
     (sheet : Option Paper) (border outer_border : Option Border) (dress outer_dress : Dress) (all outer_all : List MadeSheet)
     (text : List ℕ) (us : List NestedUnit) (picture : ℕ → List Painting) (s : State)
     → IsQuiet dress → IsTameDress dress → IsQuiet outer_dress
-    → document_of text ≡ Ok us → depth_behind (page_run us) ≡ 0
+    → document_of text ≡ Ok us → open_depth (page_run us) ≡ 0
     → 0 < length all → length all ≤ most_pages → length (made_output border dress all us) ≤ most_input_bytes
     → length (guarded sheet (made_output border dress all us)) ≤ most_input_bytes
     → comments_apart_with outer_dress.header (written_again sheet border dress all us) ≡ true
@@ -70,7 +70,7 @@ abbrev pub TwoRunsAreShown : Type 0
 TwoRunsAreShown =
     (sheet : Option Paper) (inner outer : Frame) (sides outer_sides : Option ℕ) (spec outer_spec : Spec) (text : List ℕ)
     (us : List NestedUnit) (picture : ℕ → List Painting) (s : State)
-    → document_of text ≡ Ok us → depth_behind (page_run us) ≡ 0 → 0 < length (all_sheets inner sides spec us)
+    → document_of text ≡ Ok us → open_depth (page_run us) ≡ 0 → 0 < length (all_sheets inner sides spec us)
     → length (all_sheets inner sides spec us) ≤ most_pages
     → length (output inner sides spec us) ≤ most_input_bytes
     → length (guarded sheet (output inner sides spec us)) ≤ most_input_bytes

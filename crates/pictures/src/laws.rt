@@ -9,10 +9,10 @@ ghost use Rattle.pictures.specs.Readings.{PointsArePut, ReadingFollows};
 ghost use Rattle.pictures.specs.Unaware.{OwnPicture, SheetsShowTheDocument, SheetsShowThePages};
 ghost use Rattle.pictures.specs.Scanner.{TokensJoin};
 ghost use Rattle.pictures.specs.Pictures.{PageIsPlaced, PlacesCompose, PlacingCommutes, SheetsArePrinted};
-ghost use Rattle.pictures.specs.Behind.{GuardDefines};
+ghost use Rattle.pictures.specs.AfterGuard.{GuardDefines};
 ghost use Rattle.pictures.specs.ByItself.{ByItselfAsTheOperators};
-ghost use Rattle.pictures.specs.GuardedImposed.{MadeDocumentIsShown, OnePaperIsToldAsOne, OwnMadeDocumentIsShown};
-ghost use Rattle.pictures.specs.GuardedImposed.{SilencedMadeDocumentIsShown, TellingIsQuiet};
+ghost use Rattle.pictures.specs.GuardedImposed.{MadeDocumentIsShown, OnePaperIsReportedAsOne, OwnMadeDocumentIsShown};
+ghost use Rattle.pictures.specs.GuardedImposed.{SilencedMadeDocumentIsShown, ReportingIsQuiet};
 ghost use Rattle.pictures.specs.NamedPapers.{PaperIsNothing, PapersAreLeft};
 ghost use Rattle.pictures.specs.OwnShowpage.{OwnPageIsPlaced, OwnSheetsArePrinted, OwnShowpageIsShown};
 ghost use Rattle.pictures.specs.Pages.{GuardIsEnough, GuardedDocumentIsShown, GuardedPageIsPlaced};
@@ -269,13 +269,13 @@ pub fn guarded_document_is_shown()
 {}
 
 /// If all sheets have the same paper, the output reports one paper, in its header.
-pub fn one_paper_is_told_as_one()
-    ensures { OnePaperIsToldAsOne }
+pub fn one_paper_is_reported_as_one()
+    ensures { OnePaperIsReportedAsOne }
 {}
 
 /// If all sheets are reported as having one paper, the lines that report this paper are comments.
-pub fn telling_is_quiet()
-    ensures { TellingIsQuiet }
+pub fn reporting_is_quiet()
+    ensures { ReportingIsQuiet }
 {}
 
 /// A machine that runs the output of impose for a document and any layout prints the pictures that the document's pages

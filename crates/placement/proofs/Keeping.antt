@@ -8,16 +8,16 @@ use Rattle.placement.specs.Kept.{Keeps}
 
 pub keeps_more : (old middle new : Vec ℕ Global) → Keeps old middle → Keeps middle new → Keeps old new
 keeps_more old middle new first second = record {
-  behind = first.behind ++ second.behind;
-  parts = second.parts ∙ (ap (λ m. m ++ second.behind) first.parts ∙ append_assoc old.items first.behind second.behind);
+  added = first.added ++ second.added;
+  parts = second.parts ∙ (ap (λ m. m ++ second.added) first.parts ∙ append_assoc old.items first.added second.added);
   room = let f = first.room in let s = second.room in omega arith;
 }
 
 -- what a call leaves that appends a text or nothing
 pub printed_keeps : {T E : Type 0} (old new : Vec ℕ Global) (r : Result T E) (text : List ℕ) → OnOk r (new.items ≡ old.items ++ text) → OnErr r (new.items ≡ old.items)
     → vec_capacity old ≤ vec_capacity new → Keeps old new
-printed_keeps old new (Ok x) text appended unchanged room = record { behind = text; parts = appended; room = room }
-printed_keeps old new (Err e) text appended unchanged room = record { behind = []; parts = unchanged ∙ sym (append-nil old.items); room = room }
+printed_keeps old new (Ok x) text appended unchanged room = record { added = text; parts = appended; room = room }
+printed_keeps old new (Err e) text appended unchanged room = record { added = []; parts = unchanged ∙ sym (append-nil old.items); room = room }
 
 -- a last part for which there is no room has none after the parts before it either
 pub full_behind : (old middle : Vec ℕ Global) (last all : List ℕ) → Keeps old middle → middle.items ++ last ≡ old.items ++ all

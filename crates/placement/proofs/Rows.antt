@@ -100,8 +100,8 @@ one_joined text (v ∷ []) (w ∷ w' ∷ ws) h (front, rest, parts, first, more)
 one_joined text (v ∷ v' ∷ vs) (w ∷ []) (front, rest, parts, first, more) k =
     let (same, value, none) = one_number text front [] (space ∷ rest) w v k first refl refl (append-nil text ∙ parts) in cc
 one_joined text (v ∷ v' ∷ vs) (w ∷ w' ∷ ws) (front, rest, parts, first, more) (front', rest', parts', first', more') =
-    let (same, value, behind) = one_number front front' (space ∷ rest) (space ∷ rest') v w first first' refl refl (sym parts ∙ parts') in
-    let tail : rest' ≡ rest = sym (same_tail _ _ rest rest' behind) in
+    let (same, value, added) = one_number front front' (space ∷ rest) (space ∷ rest') v w first first' refl refl (sym parts ∙ parts') in
+    let tail : rest' ≡ rest = sym (same_tail _ _ rest rest' added) in
     let others = one_joined rest (v' ∷ vs) (w' ∷ ws) more (subst (λ t. IsJoined space IsNumber t (w' ∷ ws)) tail more') in
     cc
 

@@ -5,6 +5,6 @@ use Rattle.std.specs.declared.alloc.Global.{Global}
 
 -- the new bytes begin with the old ones, and the vector has at least as much room
 pub record Keeps (old new : Vec ℕ Global) : Type 0 where
-  pub behind : List ℕ
-  pub parts : new.items ≡ old.items ++ behind
+  pub added : List ℕ
+  pub parts : new.items ≡ old.items ++ added
   pub room : vec_capacity old ≤ vec_capacity new

@@ -13,7 +13,7 @@ use sheet_plan::{MadeSheets, PlacedSlot};
 use std::alloc::{AllocError, Global};
 
 /// The greatest number of ways that have a line of their own.
-const MOST_TOLD: usize = 16;
+const MOST_LISTED: usize = 16;
 
 /// A way in which a page lies on a sheet: the page's paper, the sheet's paper, and the page's scale.
 #[derive(Clone, Copy, PartialEq, Eq)]
@@ -71,7 +71,7 @@ fn append_way_line(number: usize, way: &Way, out: &mut Vec<u8>) -> Result<(), Al
 fn append_way_text(number: usize, way: &Way, out: &mut Vec<u8>) -> Result<(), AllocError>
     ensures { OnOk result (out.new.items ≡ out.old.items ++ way_told number way.now) }
 {
-    if number < MOST_TOLD {
+    if number < MOST_LISTED {
         return append_way(way, out);
     }
     out.extend_from_slice(b"and in other ways")?;
@@ -164,5 +164,5 @@ fn add_way(way: Way, ways: &mut Vec<Way>) -> Result<(), AllocError>
 fn is_full_or_there(ways: &[Way], way: &Way) -> bool
     ensures { result ≡ (nat_lt most_ways (length ways.now) || list_any (is_same_way way.now) ways.now) }
 {
-    MOST_TOLD < ways.len() || ways.contains(way)
+    MOST_LISTED < ways.len() || ways.contains(way)
 }

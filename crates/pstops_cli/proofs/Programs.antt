@@ -18,7 +18,7 @@ use Rattle.world.specs.declared.rest.Rest.{Rest}
 use Rattle.std.specs.declared.io.ErrorKind.{ErrorKind}
 use Rattle.std.specs.declared.io.ErrorKind.TheVariants.{OutOfMemory}
 use Rattle.world.specs.Worlds.{HasRefused, WorldView, creating}
-use Rattle.pstops_cli.specs.Programs.{CreatesAndRuns, IsCreating, IsSaid, Ran}
+use Rattle.pstops_cli.specs.Programs.{CreatesAndRuns, FailsToCreate, IsSaid, Ran}
 use Rattle.pstops_cli.specs.declared.command.Request.{Request}
 use Rattle.pstops_cli.specs.declared.messages.Fault.{Fault}
 use Rattle.pstops_cli.specs.declared.messages.Fault.TheVariants as fault
@@ -33,7 +33,7 @@ three_is_said : (f : Fault) (status : ℕ) (line : List ℕ) → fault_exit_stat
 three_is_said f status line three (inl of_run) = of_run.0 ∙ three
 three_is_said f status line three (inr none) = none.0
 
-creating_is_three : {W : Type 0} (seen : W → WorldView) (name : Option (List ℕ)) (old new : W) (f : Fault) → IsCreating seen name old new f → fault_exit_status f ≡ 3
+creating_is_three : {W : Type 0} (seen : W → WorldView) (name : Option (List ℕ)) (old new : W) (f : Fault) → FailsToCreate seen name old new f → fault_exit_status f ≡ 3
 creating_is_three seen name old new fault.Create why = refl
 creating_is_three seen name old new (fault.Run e) why = ap (λ e. fault_exit_status (fault.Run e)) why.0
 creating_is_three seen name old new (fault.Command e) why = absurd why

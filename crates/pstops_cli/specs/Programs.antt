@@ -76,19 +76,19 @@ IsSaid f status line = ((status ≡ fault_exit_status f) × (line ≡ program_li
 
 -- An output of this name couldn't be created: there was no memory for its buffer, and the very world is back; or the world
 -- was asked for it, and refused, for want of memory or not.
-abbrev pub IsCreating : {W : Type 0} → (seen : W → WorldView) → (name : Option (List ℕ)) → (old new : W) → Fault → Type 0
-IsCreating seen name old new fault.Create =
+abbrev pub FailsToCreate : {W : Type 0} → (seen : W → WorldView) → (name : Option (List ℕ)) → (old new : W) → Fault → Type 0
+FailsToCreate seen name old new fault.Create =
     (cause : ErrorKind) × ¬ (cause ≡ OutOfMemory) × HasRefused (creating name) cause (seen old) (seen new)
-IsCreating seen name old new (fault.Run e) =
+FailsToCreate seen name old new (fault.Run e) =
     (e ≡ run.NoMemory 0) × ((new ≡ old) ⊎ HasRefused (creating name) OutOfMemory (seen old) (seen new))
-IsCreating seen name old new other = ⊥
+FailsToCreate seen name old new other = ⊥
 
 -- ---- the run
 
 -- The run of a request into an output that was just created, which now reports `written` and has failed so often: it ended
 -- in some way, with all that a run promises, and that way has this status and this line; or it finished and its last bytes
 -- couldn't be written, which is said. The output has a first part of what the run handed on, and at status 0 all of it.
--- The failures of the run's sink are the output's.
+-- The output failed at least as often as the run's sink, and at status 0 as often.
 pub record Ran (r : Request) (input : List ℕ) (reports_outputs : Bool) (written : Option (List ℕ)) (failures status : ℕ)
     (line : List ℕ) : Type 0 where
   pub ended : Result Report RunError
@@ -105,7 +105,7 @@ pub record Ran (r : Request) (input : List ℕ) (reports_outputs : Bool) (writte
 abbrev pub CreatesAndRuns : {W O : Type 0} → (seen : W → WorldView) → Request → (input : List ℕ) → (reports_outputs : Bool) → (world : W) → (rest : Rest W O)
     → (written : Option (List ℕ)) → (failures status : ℕ) → (line : List ℕ) → Type 0
 CreatesAndRuns {W} seen r input reports_outputs world rest written failures status line =
-    ((f : Fault) × (left : W) × IsCreating seen (option_map string_bytes r.outfile) world left f × IsSaid f status line × (rest ≡ World left))
+    ((f : Fault) × (left : W) × FailsToCreate seen (option_map string_bytes r.outfile) world left f × IsSaid f status line × (rest ≡ World left))
     ⊎ ((has_output rest ≡ true) × Ran r input reports_outputs written failures status line)
 
 -- ---- all of it

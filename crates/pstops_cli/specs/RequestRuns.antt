@@ -4,7 +4,7 @@ use Rattle.std.specs.Prelude.{OnOk, string_bytes}
 use Rattle.std.specs.Io.KnownBytes.{Appends}
 use Rattle.rules.specs.Output.{output}
 use Rattle.sheet_writer.specs.Sinks.{SinkView}
-use Rattle.imposer.specs.Runs.{Accepted, HasWritten, IsRunRefusal, Reports, frame_of, request}
+use Rattle.imposer.specs.Runs.{Accepted, HasWritten, AgreesWithChecks, Reports, frame_of, request}
 use Rattle.imposer.specs.Outcomes.{FailedIn}
 use Rattle.imposer.specs.Runs as runs
 use Rattle.imposer.specs.declared.outcome.Report.{Report}
@@ -25,7 +25,7 @@ pub record EndsRun (a : runs.Request) (old new : SinkView) (ended : Result Repor
       Accepted a (λ spec us. Appends old.bytes new.bytes (output (frame_of a.options) a.options.sides spec us)
       × Reports (frame_of a.options) a.options.sides spec us r))
   -- a refusal names the first check that fails
-  pub refused : IfErr ended (λ e. IsRunRefusal a e)
+  pub refused : IfErr ended (λ e. AgreesWithChecks a e)
   -- after an error the sink has the first bytes of the output, as many as the error says, and none after a refusal
   pub written : IfErr ended (λ e. HasWritten a old new e)
   -- the sink didn't fail if the run finished, and else as often as the error allows: once if a write failed

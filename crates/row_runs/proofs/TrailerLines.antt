@@ -12,7 +12,7 @@ use Rattle.dsc.proofs.LineLengths.{content_len, line_len-pos, line_len_is}
 use Rattle.dsc.proofs.PlainLines.{line_split}
 use Rattle.papers.specs.Media.{contents}
 use Rattle.papers.proofs.Contents.{contents_step}
-use Rattle.row_runs.specs.DeclaredPages.{begins_line, is_trailer_line, behind_trailer, last_lines, trailer_at}
+use Rattle.row_runs.specs.DeclaredPages.{begins_line, is_trailer_line, lines_after_trailer, last_lines, trailer_at}
 
 abbrev pub TRAILER : List ℕ
 TRAILER = 37 ∷ 37 ∷ 84 ∷ 114 ∷ 97 ∷ 105 ∷ 108 ∷ 101 ∷ 114 ∷ []
@@ -175,17 +175,17 @@ abbrev pub after : ℕ → List ℕ → List ℕ
 after at text = drop (line_len (drop at text)) (drop at text)
 
 abbrev choose : (all more : List (List ℕ)) → Bool → List (List ℕ)
-choose all more begins = if begins then behind_trailer more more else behind_trailer all more
+choose all more begins = if begins then lines_after_trailer more more else lines_after_trailer all more
 
-either : (all more lines : List (List ℕ)) (begins : Bool) → behind_trailer more more ≡ lines → behind_trailer all more ≡ lines → choose all more begins ≡ lines
+either : (all more lines : List (List ℕ)) (begins : Bool) → lines_after_trailer more more ≡ lines → lines_after_trailer all more ≡ lines → choose all more begins ≡ lines
 either all more lines true e f = e
 either all more lines false e f = f
 
 lines_step : (all : List (List ℕ)) (b : ℕ) (bs : List ℕ)
-    → behind_trailer all (contents (b ∷ bs)) ≡ choose all (contents (drop (line_len (b ∷ bs)) (b ∷ bs))) (is_trailer_line (content_of (b ∷ bs)))
-lines_step all b bs = ap (behind_trailer all) (contents_step b bs)
+    → lines_after_trailer all (contents (b ∷ bs)) ≡ choose all (contents (drop (line_len (b ∷ bs)) (b ∷ bs))) (is_trailer_line (content_of (b ∷ bs)))
+lines_step all b bs = ap (lines_after_trailer all) (contents_step b bs)
 
-none_left : (most : ℕ) (all : List (List ℕ)) (text : List ℕ) → length text ≤ most → ((k : ℕ) → trailer_at k text ≡ true → ⊥) → behind_trailer all (contents text) ≡ all
+none_left : (most : ℕ) (all : List (List ℕ)) (text : List ℕ) → length text ≤ most → ((k : ℕ) → trailer_at k text ≡ true → ⊥) → lines_after_trailer all (contents text) ≡ all
 none_left most all [] h none = refl
 none_left zero all (b ∷ bs) h none = absurd (omega (arith, h))
 none_left (suc most) all (b ∷ bs) h none =
@@ -197,12 +197,12 @@ none_left (suc most) all (b ∷ bs) h none =
     lines_step all b bs ∙ ap (choose all (contents (drop l text))) isnt
     ∙ none_left most all (drop l text) (omega (arith, h, moves, left)) (λ k is. none (l + k) (later_line b bs k is))
 
-first_begins : (all : List (List ℕ)) (text : List ℕ) → trailer_at 0 text ≡ true → behind_trailer all (contents text) ≡ behind_trailer (contents (after 0 text)) (contents (after 0 text))
+first_begins : (all : List (List ℕ)) (text : List ℕ) → trailer_at 0 text ≡ true → lines_after_trailer all (contents text) ≡ lines_after_trailer (contents (after 0 text)) (contents (after 0 text))
 first_begins all [] is = absurd (false≢true is)
 first_begins all (b ∷ bs) is = lines_step all b bs ∙ ap (choose all (contents (drop (line_len (b ∷ bs)) (b ∷ bs)))) is
 
 reached : (most at : ℕ) (all : List (List ℕ)) (text : List ℕ) → length text ≤ most → trailer_at at text ≡ true
-    → behind_trailer all (contents text) ≡ behind_trailer (contents (after at text)) (contents (after at text))
+    → lines_after_trailer all (contents text) ≡ lines_after_trailer (contents (after at text)) (contents (after at text))
 reached most zero all text h is = first_begins all text is
 reached zero (suc k) all text h is = let fits = (trailer_occurs (suc k) text is).fits in absurd (omega (arith, fits, h))
 reached (suc most) (suc k) all [] h is = let fits = (trailer_occurs (suc k) [] is).fits in absurd (omega (arith, fits))
@@ -222,8 +222,8 @@ reached (suc most) (suc k) all (b ∷ bs) h is =
     let left = length-drop l text in
     let on : trailer_at j rest ≡ true = trailer_on l j text (ap (λ n. trailer_at n text) whole ∙ is) in
     let same : drop j rest ≡ drop (suc k) text = drop-drop j l text ∙ ap (λ n. drop n text) whole in
-    let later : (any : List (List ℕ)) → behind_trailer any (contents rest) ≡ behind_trailer (contents (after (suc k) text)) (contents (after (suc k) text)) =
-    (λ any. reached most j any rest (omega (arith, h, moves, left)) on ∙ ap (λ t. behind_trailer (contents (drop (line_len t) t)) (contents (drop (line_len t) t))) same) in
+    let later : (any : List (List ℕ)) → lines_after_trailer any (contents rest) ≡ lines_after_trailer (contents (after (suc k) text)) (contents (after (suc k) text)) =
+    (λ any. reached most j any rest (omega (arith, h, moves, left)) on ∙ ap (λ t. lines_after_trailer (contents (drop (line_len t) t)) (contents (drop (line_len t) t))) same) in
     lines_step all b bs ∙ either all (contents rest) _ (is_trailer_line (content_of text)) (later (contents rest)) (later all)
 
 -- a line after one that begins further on
@@ -235,7 +235,7 @@ pub last_found : (at : ℕ) (text : List ℕ) → trailer_at at text ≡ true �
 last_found at text is none =
     let here : at + 0 ≡ at = omega arith in
     let first : trailer_at 0 (drop at text) ≡ true = trailer_on at 0 text (ap (λ n. trailer_at n text) here ∙ is) in
-    let left : behind_trailer (contents (after at text)) (contents (after at text)) ≡ contents (after at text) =
+    let left : lines_after_trailer (contents (after at text)) (contents (after at text)) ≡ contents (after at text) =
     none_left (length (after at text)) (contents (after at text)) (after at text) (omega arith)
     (λ k ends.
     let w = after_first (drop at text) k first ends in

@@ -35,18 +35,18 @@ abbrev pub trailer_at : ℕ → List ℕ → Bool
 trailer_at at text = begins_line at text && is_trailer_line (content_of (drop at text))
 
 -- the lines after the last `%%Trailer`, or these if there is none
-abbrev pub behind_trailer : (all : List (List ℕ)) → List (List ℕ) → List (List ℕ)
-behind_trailer all [] = all
-behind_trailer all (line ∷ more) =
-    if is_trailer_line line then behind_trailer more more else behind_trailer all more
+abbrev pub lines_after_trailer : (all : List (List ℕ)) → List (List ℕ) → List (List ℕ)
+lines_after_trailer all [] = all
+lines_after_trailer all (line ∷ more) =
+    if is_trailer_line line then lines_after_trailer more more else lines_after_trailer all more
 
 -- the lines at the end of a document
 abbrev pub last_lines : (text : List ℕ) → List (List ℕ)
-last_lines text = behind_trailer (contents text) (contents text)
+last_lines text = lines_after_trailer (contents text) (contents text)
 
 -- how many embedded documents are open after a line
-abbrev pub depth_behind : ℕ → (line : List ℕ) → ℕ
-depth_behind depth line =
+abbrev pub depth_after_line : ℕ → (line : List ℕ) → ℕ
+depth_after_line depth line =
     if has_key (codes "%%BeginDocument" ∷ []) line then depth + 1
     else (if has_key (codes "%%EndDocument" ∷ []) line then depth - 1 else depth)
 
@@ -57,7 +57,7 @@ pages_at depth line = if is_comment (codes "%%Pages") line && (depth == 0) then 
 -- those of the first such line, where so many embedded documents are open before the lines
 abbrev pub pages_outside : (depth : ℕ) → List (List ℕ) → Option (List (List ℕ))
 pages_outside depth [] = None
-pages_outside depth (line ∷ more) = first_there (pages_at depth line) (pages_outside (depth_behind depth line) more)
+pages_outside depth (line ∷ more) = first_there (pages_at depth line) (pages_outside (depth_after_line depth line) more)
 
 -- what a field of the header says of the number of pages, where these lines are at the end
 abbrev pub count_by : (field : List ℕ) → (end : List (List ℕ)) → Option ℕ

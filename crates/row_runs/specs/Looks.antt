@@ -10,7 +10,7 @@ use Rattle.row_runs.specs.Runs.{ArePlanned, swapped_room_for}
 use Rattle.row_runs.specs.declared.run.RowJob.{RowJob}
 
 -- the text of the plan of the sheets that a run would impose, as they are read
-pub record TellsPlan (j : RowJob) (most : ℕ) (text : List ℕ) : Type 0 where
+pub record IsPlanText (j : RowJob) (most : ℕ) (text : List ℕ) : Type 0 where
   pub made : List MadeSheet
   pub planned : ArePlanned j made
   pub told : text ≡ plan_text (reading_in (swapped_room_for j) j.asked.laying) most made
@@ -20,7 +20,7 @@ abbrev pub guides_on : RowJob → List Guide
 guides_on j = if j.swapped then [] else guides_with j.marks j.asked.laying
 
 -- the picture of these sheets, with these lines on each
-pub record TellsPicture (j : RowJob) (most : ℕ) (text : List ℕ) : Type 0 where
+pub record IsPictureText (j : RowJob) (most : ℕ) (text : List ℕ) : Type 0 where
   pub made : List MadeSheet
   pub planned : ArePlanned j made
   pub told : text ≡ preview_text (sides_by (swapped_room_for j) j.asked.laying) (guides_on j) most made

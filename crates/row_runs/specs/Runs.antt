@@ -9,7 +9,7 @@ use Rattle.row_runs.specs.Turning.{turn_on, turned_sheet}
 use Rattle.row_runs.specs.SwappedMargins.{swapped_room_in, swapped}
 use Rattle.row_runs.specs.Reaching.{are_reached, is_changed}
 use Rattle.sheet_plan.specs.MadeRefusals.{RefusesMade}
-use Rattle.row_runs.specs.SheetsRuns.{told_output}
+use Rattle.row_runs.specs.SheetsRuns.{reporting_output}
 use Rattle.row_runs.specs.Sheets.{AreAsked, MayBeAsked, row_chosen}
 use Rattle.row_runs.specs.Sheets as sheets
 use Rattle.row_runs.specs.Marked.{strokes_in}
@@ -79,7 +79,7 @@ border_on j = border_within j.inset j.border
 
 -- the output of such sheets
 abbrev pub output_on : RowJob → List MadeSheet → List ℕ
-output_on j made = told_output (border_on j) (drawn_of j) made j.document.now
+output_on j made = reporting_output (border_on j) (drawn_of j) made j.document.now
 
 -- a refusal names the first fault: of the row; if there is one, of a page in its cell or as a poster; if its pages have their places, of
 -- the sheets, or that a page that is turned or moved, or its number, would come out of reach. Out of memory comes after the

@@ -157,7 +157,7 @@ WrittenInCells = (j : RowJob) (made : List MadeSheet) → (are : AreTurned j mad
 
 -- ---- between the margins and apart, also turned
 
--- if nothing is trimmed, and no page is left as it is, each sheet is in the room of its side: its pages lie between the margins,
+-- if nothing is trimmed, and the setting leaves pages of no paper as they are, each sheet is in the room of its side: its pages lie between the margins,
 -- and are apart by the gap
 abbrev pub KeepRoom : (exchanged : Bool) → Setting → List MadeSheet → Type 0
 KeepRoom exchanged t made = t.room.trim ≡ 0 → ((page : Paper) → is_whole t page ≡ false)

@@ -61,7 +61,7 @@ fn value_outside(lines: &[u8]) -> Option<&[u8]>
         if let Some(value) = value_at(depth, content) {
             return Some(value);
         }
-        depth = depth_behind(depth, content);
+        depth = depth_after_line(depth, content);
         let (_, others) = rest.split_at(line_end_after(rest, content.len()));
         rest = others;
     }
@@ -78,9 +78,9 @@ fn value_at(depth: usize, content: &[u8]) -> Option<&[u8]>
 }
 
 /// The number of embedded documents that are open after a line with this content, if `depth` were open before it.
-fn depth_behind(depth: usize, content: &[u8]) -> usize
+fn depth_after_line(depth: usize, content: &[u8]) -> usize
     requires { depth < usize.MAX }
-    ensures value { result ≡ meaning.depth_behind depth content.now }
+    ensures value { result ≡ meaning.depth_after_line depth content.now }
     ensures most { result ≤ depth + 1 }
 {
     let key = key_of(content);

@@ -6,7 +6,7 @@ ghost use Rattle.row_runs.specs.Turning.{TurnedStands, TurnsAddUp};
 ghost use Rattle.row_runs.specs.NumbersLie.{NumbersInCells, NumbersInHalves};
 ghost use Rattle.row_runs.specs.Written.{NothingIsMoved, TurnedStaysInCell, UprightIsUnturned, WrittenAreRead, WrittenInCells, WrittenInPlaces, WrittenIsBound, WrittenKeepRoom, WrittenStand};
 
-/// On sheets as they are laid, pages are fitted into their cells, in reading order. Stacks and leaves are in the order of the row once their sheets
+/// On sheets as they are laid, pages on grids, cards, stacks and leaves are fitted into their cells, in reading order. Stacks and leaves are in the order of the row once their sheets
 /// are cut and piled, and zines once their sheets are folded and cut. The fold marks of a booklet whose halves have room for pages are on its fold.
 /// Each point of a page that is made into a poster is on at least one of the page's sheets.
 pub fn asked_stand_in_places()
@@ -50,8 +50,8 @@ pub fn turned_stays_in_cell()
 
 /// The places of pages on the sheets that are written. If no page is turned, pages lie between the margins of their side, and apart from each other
 /// or off a booklet's fold (`stand`). If no margins are exchanged either, these sheets have the places that `asked_stand_in_places` states
-/// (`places`). Whether turned or not, each page lies in its cell but for rounding (`cells`). If nothing is trimmed and no page is a whole sheet,
-/// pages lie between the margins and apart from each other, except on zines (`room`). Cells, stacks and zines (`read`) and booklets (`bound`) are
+/// (`places`). Whether turned or not, each page lies in its cell but for rounding (`cells`). If nothing is trimmed and no page of any paper would be a whole
+/// sheet, pages lie between the margins and apart from each other, except on zines (`room`). Cells, stacks and zines (`read`) and booklets (`bound`) are
 /// read in the order of the row.
 pub fn written_keeps_place()
     ensures stand { WrittenStand }

@@ -5,7 +5,7 @@ ghost use Rattle.sheet_plan.specs.MadeRefusals.{RefusesMade};
 ghost use Rattle.preview.specs.Drawing.{preview_text as picture_of};
 ghost use Rattle.row_runs.specs.Sheets.{MayBeAsked};
 ghost use Rattle.row_runs.specs.Runs.{ArePlanned, RefusesRun, swapped_room_for};
-ghost use Rattle.row_runs.specs.Looks.{TellsPicture, TellsPlan, guides_on};
+ghost use Rattle.row_runs.specs.Looks.{IsPictureText, IsPlanText, guides_on};
 ghost use Rattle.row_runs.specs.Readings.{sides_by as sides_of_swapped_room};
 
 use crate::error::{SheetError, plan_error};
@@ -24,7 +24,7 @@ use std::alloc::{AllocError, Global};
 /// listed, `most` in all. The errors are those of the run.
 pub fn row_plan(alloc: Global, job: &RowJob<'_, '_>, most: u32) -> Result<Vec<u8>, SheetError>
     requires asked { MayBeAsked job.now.asked }
-    ensures told { IfOk result (λ text. TellsPlan job.now most text.items) }
+    ensures text { IfOk result (λ text. IsPlanText job.now most text.items) }
     ensures refused { IfErr result (RefusesRun job.now) }
 {
     let sheets = planned_sheets(alloc, job)?;
@@ -38,7 +38,7 @@ pub fn row_plan(alloc: Global, job: &RowJob<'_, '_>, most: u32) -> Result<Vec<u8
 /// backs. If there are more than `most` sheets, only the first `most` are drawn. The errors are those of the run.
 pub fn row_preview(alloc: Global, job: &RowJob<'_, '_>, most: u32) -> Result<Vec<u8>, SheetError>
     requires asked { MayBeAsked job.now.asked }
-    ensures told { IfOk result (λ text. TellsPicture job.now most text.items) }
+    ensures text { IfOk result (λ text. IsPictureText job.now most text.items) }
     ensures refused { IfErr result (RefusesRun job.now) }
 {
     let sheets = planned_sheets(alloc, job)?;

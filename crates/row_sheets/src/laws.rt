@@ -55,7 +55,7 @@ pub fn zine_is_read()
     ensures { ZineIsRead }
 {}
 
-/// If no page is refused, each page of a zine lies in its cell, and the pages in the first row of cells are upside down.
+/// If no page is refused, each page of a zine lies in its cell. The pages in the first row are upside down, and may pass their cells by 3·10^-5 pt.
 pub fn zine_lies_in_cells()
     ensures { ZineLiesInCells }
 {}

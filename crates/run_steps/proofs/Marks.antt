@@ -13,7 +13,7 @@ use Rattle.gather_table.specs.Laws.{closes_last}
 use Rattle.gather_table.specs.History.{Entry, Publish, Mark, CloseGroup}
 use Rattle.gather_table.specs.Shared.{TableView, SeatView, IsSeatOf, MadeCall, MakesCalls}
 use Rattle.gather_table.proofs.Calls.{makes-append, same_makes}
-use Rattle.run_steps.specs.Delivery.{is_filling, place_calls, answer_list, completes_sheet, delivery_calls, completed_by, completed}
+use Rattle.run_steps.specs.Delivery.{is_filling, place_calls, answer_list, completes_sheet, delivery_calls, sheet_completed, completed}
 
 -- one place more
 pub places_push : (xs : List (ℕ × ℕ)) (i : ℕ) (d : ℕ × ℕ) (rs : List Reply) (r : Reply) (cs ds : List Closing)
@@ -76,8 +76,8 @@ completed_place x (Fills g) (Some c) = two (closes_last c)
 pub completed-append : (xs ys : List Entry) → completed (xs ++ ys) ≡ completed xs ++ completed ys
 completed-append [] ys = refl
 completed-append (x ∷ xs) ys =
-    ap (λ l. completed_by x ++ l) (completed-append xs ys)
-    ∙ sym (append_assoc (completed_by x) (completed xs) (completed ys))
+    ap (λ l. sheet_completed x ++ l) (completed-append xs ys)
+    ∙ sym (append_assoc (sheet_completed x) (completed xs) (completed ys))
 
 pub still_seat : (table : TableView) (old new : SeatView) (es : List Entry) → IsSeatOf table old → MakesCalls old es new → IsSeatOf table new
 still_seat table old new es is m = let s = same_makes old new es m in (ap (λ (z : SeatView). z.table) s ∙ is.0, ap (λ (z : SeatView). z.key) s ∙ is.1)

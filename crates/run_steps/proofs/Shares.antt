@@ -11,7 +11,7 @@ use Rattle.gather_table.specs.declared.answers.Reply.TheVariants.{Fresh, Repeate
 use Rattle.gather_table.specs.declared.answers.Closing.{Closing}
 use Rattle.gather_table.specs.History.{Entry, Publish, Mark, Look, PageAt, CloseGroup, LookGroup}
 use Rattle.gather_table.specs.Laws.{is_completing, closes_last, completes, fillings, closings}
-use Rattle.run_steps.specs.Delivery.{is_filling, closing_after, left_after, place_calls, completed_by, completed}
+use Rattle.run_steps.specs.Delivery.{is_filling, closing_after, left_after, place_calls, sheet_completed, completed}
 use Rattle.run_steps.specs.Delivery.{DeliveriesClose, CompletedAreCounted, CompletedAreFew}
 use Rattle.run_steps.specs.Duty.{Duty, worth, of_place, duties, shares, DeliveriesWeigh, SharesAreAll}
 
@@ -81,7 +81,7 @@ times_where : (s x : ℕ) (b : Bool) → occurrences s (if b then x ∷ [] else 
 times_where s x true = omega arith
 times_where s x false = refl
 
-one_completed : (s : ℕ) (e : Entry) → occurrences s (completed_by e) ≡ (if completes s e then 1 else 0)
+one_completed : (s : ℕ) (e : Entry) → occurrences s (sheet_completed e) ≡ (if completes s e then 1 else 0)
 one_completed s (Publish p i r) = refl
 one_completed s (Mark r k reply) = times_where s r (is_completing reply)
 one_completed s (Look r m) = refl
@@ -93,8 +93,8 @@ pub completed_counted : CompletedAreCounted
 completed_counted s [] = refl
 completed_counted s (e ∷ es) =
     let rest = completed_counted s es in
-    let both : occurrences s (completed_by e ++ completed es) ≡ occurrences s (completed_by e) + occurrences s (completed es) =
-    total-append _ (completed_by e) (completed es) in
+    let both : occurrences s (sheet_completed e ++ completed es) ≡ occurrences s (sheet_completed e) + occurrences s (completed es) =
+    total-append _ (sheet_completed e) (completed es) in
     let one = one_completed s e in
     omega arith
 

@@ -77,18 +77,18 @@ abbrev pub IsReady : Layout → List Entry → ℕ × ℕ → Type 0
 IsReady layout front x = (x.0 < length layout.sheets) × IsMarkable layout (after_history layout front) x.0 x.1
 
 -- the sheet that a call completed
-abbrev pub completed_by : Entry → List ℕ
-completed_by (Publish p i r) = []
-completed_by (Mark s k r) = if is_completing r then s ∷ [] else []
-completed_by (Look s m) = []
-completed_by (PageAt p o) = []
-completed_by (CloseGroup s g c) = if closes_last c then s ∷ [] else []
-completed_by (LookGroup s g m) = []
+abbrev pub sheet_completed : Entry → List ℕ
+sheet_completed (Publish p i r) = []
+sheet_completed (Mark s k r) = if is_completing r then s ∷ [] else []
+sheet_completed (Look s m) = []
+sheet_completed (PageAt p o) = []
+sheet_completed (CloseGroup s g c) = if closes_last c then s ∷ [] else []
+sheet_completed (LookGroup s g m) = []
 
 -- the sheets that these calls completed, in order
 abbrev pub completed : List Entry → List ℕ
 completed [] = []
-completed (e ∷ es) = completed_by e ++ completed es
+completed (e ∷ es) = sheet_completed e ++ completed es
 
 -- they are as many as there are calls that complete a sheet: a law
 abbrev pub CompletedAreCounted : Type 0

@@ -2,7 +2,7 @@
 use Rattle.std.specs.Prelude.{ℕ, Bool, true, false, List, [], ◌++◌, Option, Some, None}
 use Rattle.rules.specs.Papers.{Paper}
 use Rattle.rules.specs.Dress.{Dress}
-use Rattle.papers.specs.Told.{sheet_lines}
+use Rattle.papers.specs.Reported.{sheet_lines}
 use Rattle.sheet_text.specs.PageNumbers.{number_lines}
 use Rattle.sheet_text.specs.declared.dress.SheetExtras as code
 use Rattle.sheet_text.specs.declared.numbers.Numbers.{Numbers}

@@ -5,8 +5,8 @@ ghost use Rattle.sheet_text.specs.Dressings.{report_lines_if, with_numbers};
 
 use crate::lines::Lines;
 use crate::numbers::{Numbers, append_numbers};
+use crate::paper_report::append_paper_report;
 use crate::rope::Rope;
-use crate::told::append_paper_report;
 use lengths::Paper;
 use std::alloc::AllocError;
 

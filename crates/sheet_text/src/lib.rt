@@ -7,11 +7,11 @@ mod job;
 mod lines;
 mod numbers;
 mod openings;
+mod paper_report;
 mod rope;
 mod sheet;
 mod sheet_papers;
 mod texts;
-mod told;
 
 pub use dress::SheetExtras;
 pub use job::Job;

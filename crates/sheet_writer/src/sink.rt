@@ -90,7 +90,7 @@ pub struct WriteSink<T: io::Write> {
 impl<T: io::Write> WriteSink<T> {
     /// A sink for this writer. It hasn't refused a call yet.
     pub fn new(writer: T) -> Self
-        ensures told { (⟦<WriteSink<T> as Sink>⟧.seen result).bytes ≡ T.contents writer }
+        ensures bytes { (⟦<WriteSink<T> as Sink>⟧.seen result).bytes ≡ T.contents writer }
         ensures fresh { (⟦<WriteSink<T> as Sink>⟧.seen result).failures ≡ 0 }
     {
         WriteSink {

@@ -7,14 +7,14 @@ use Rattle.std.proofs.lemmas.List.{flat_map_more}
 use Rattle.std.proofs.lemmas.Str.{encode_ascii}
 use Rattle.suggestions.specs.Shown.{IsLines, IsMessageOn, escaped_text, shown_char, shown_line, shown_text}
 
-pub on_word : (word before behind first second third : List ℕ) → first ≡ flat_map shown_char before → second ≡ first ++ shown_text word
-    → third ≡ second ++ flat_map shown_char behind → IsMessageOn word third
-on_word word before behind first second third e f g = record {
+pub on_word : (word before ending first second third : List ℕ) → first ≡ flat_map shown_char before → second ≡ first ++ shown_text word
+    → third ≡ second ++ flat_map shown_char ending → IsMessageOn word third
+on_word word before ending first second third e f g = record {
   before = before;
-  behind = behind;
+  ending = ending;
   text =
-      g ∙ ap (λ t. t ++ flat_map shown_char behind) (f ∙ ap (λ t. t ++ shown_text word) e)
-      ∙ append_assoc (flat_map shown_char before) (shown_text word) (flat_map shown_char behind);
+      g ∙ ap (λ t. t ++ flat_map shown_char ending) (f ∙ ap (λ t. t ++ shown_text word) e)
+      ∙ append_assoc (flat_map shown_char before) (shown_text word) (flat_map shown_char ending);
 }
 
 pub if_ok : {T E : Type 0} (r : Result T E) (now more old : List ℕ) → now ≡ (if is_ok r then more else old) → OnOk r (now ≡ more)

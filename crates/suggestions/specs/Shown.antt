@@ -22,14 +22,14 @@ abbrev pub escaped_text : (text : List ℕ) → List ℕ
 escaped_text text = flat_map shown_char (chars text)
 
 -- these texts, with a word between them
-abbrev pub message_text : (before word behind : List ℕ) → List ℕ
-message_text before word behind = escaped_text before ++ shown_text word ++ escaped_text behind
+abbrev pub message_text : (before word ending : List ℕ) → List ℕ
+message_text before word ending = escaped_text before ++ shown_text word ++ escaped_text ending
 
 -- a message about a word: some text, the word as it is shown, and some text
 pub record IsMessageOn (word message : List ℕ) : Type 0 where
   pub before : List ℕ
-  pub behind : List ℕ
-  pub text : message ≡ flat_map shown_char before ++ (shown_text word ++ flat_map shown_char behind)
+  pub ending : List ℕ
+  pub text : message ≡ flat_map shown_char before ++ (shown_text word ++ flat_map shown_char ending)
 
 -- a line, and a text of several lines
 abbrev pub shown_line : (text : List ℕ) → List ℕ

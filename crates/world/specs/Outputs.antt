@@ -23,13 +23,13 @@ IsFrontOf now None = ⊤
 IsFrontOf now (Some all) = (front rest : List ℕ) × (now ≡ Some front) × (all ≡ front ++ rest)
 
 -- the bytes after the name that an output reports, if it reports one
-abbrev pub reported_bytes : (told : List ℕ) → Option (List ℕ)
+abbrev pub reported_bytes : (reported : List ℕ) → Option (List ℕ)
 reported_bytes [] = None
 reported_bytes (b ∷ bs) = if b == 0 then Some bs else reported_bytes bs
 
 -- what is reported, if it begins with a name
-abbrev pub named : (told : Option (List ℕ)) → Option (List ℕ)
-named told = option_and_then (λ all. if is_some (reported_bytes all) then Some all else None) told
+abbrev pub named : (reported : Option (List ℕ)) → Option (List ℕ)
+named reported = option_and_then (λ all. if is_some (reported_bytes all) then Some all else None) reported
 
 -- ---- what is seen of it
 
@@ -44,8 +44,8 @@ pub record OutputView : Type 0 where
   pub cause : Option Error
 
 -- one to which nothing was written
-abbrev pub fresh_output : (told : Option (List ℕ)) → OutputView
-fresh_output told = record { bytes = told; has_taken = false; failures = 0; cause = None }
+abbrev pub fresh_output : (reported : Option (List ℕ)) → OutputView
+fresh_output reported = record { bytes = reported; has_taken = false; failures = 0; cause = None }
 
 -- it didn't fail
 abbrev pub IsSteady : (old new : OutputView) → Type 0

@@ -60,7 +60,7 @@ pub struct Buffered<T> {
 impl<T: Output> Buffered<T> {
     /// Puts this buffer in front of an output. The content of the buffer is dropped, and its capacity is the number of bytes that can wait in it.
     pub fn new(buffer: Vec<u8>, output: T) -> Buffered<T>
-        ensures told { (⟦<Buffered<T> as Sink>⟧.seen result).bytes ≡ (T.seen output).bytes }
+        ensures bytes { (⟦<Buffered<T> as Sink>⟧.seen result).bytes ≡ (T.seen output).bytes }
         ensures failures { (⟦<Buffered<T> as Sink>⟧.seen result).failures ≡ (T.seen output).failures }
     {
         let mut buffer = buffer;

@@ -20,7 +20,7 @@ pub fn created<W: World>(
     world: W,
 ) -> Result<Buffered<W::Output>, Refused<W>>
     requires countable { (W.seen world).failures < u64.MAX }
-    ensures told { IfOk result (λ sink. (⟦<Buffered<W::Output> as Sink>⟧.seen sink).bytes
+    ensures bytes { IfOk result (λ sink. (⟦<Buffered<W::Output> as Sink>⟧.seen sink).bytes
         ≡ reported_if (W.reports_outputs world) (option_map (λ n. n.now) name.entry) []) }
     ensures fresh { IfOk result (λ sink. (⟦<Buffered<W::Output> as Sink>⟧.seen sink).failures ≡ 0) }
     ensures refused { IfErr result (λ refused.

@@ -7,7 +7,7 @@ use Rattle.rules.specs.Made.{Placed, MadeSheet}
 use Rattle.rules.specs.MadeOutput.{made_output}
 use Rattle.dsc.specs.Units.{units_of}
 use Rattle.guard.specs.Guard.{guarded}
-use Rattle.papers.specs.Told.{telling}
+use Rattle.papers.specs.Reported.{reporting}
 use Rattle.dressing.specs.Drawn.{strokes_added}
 use Rattle.dressing.specs.declared.strokes.Stroke.{Stroke}
 use Rattle.pictures.specs.Machine.{State, Runs}
@@ -21,7 +21,7 @@ use Rattle.pictures.proofs.Examples.GuardedApplied.{paper, text, us, behind, pre
 use Rattle.pictures.proofs.Examples.AppliedMade.{stands, wide, own}
 use Rattle.open_pictures.specs.Marks.{marking_names}
 use Rattle.open_pictures.specs.Sizes.{sizing_names, sized}
-use Rattle.open_pictures.specs.DressedDocuments.{told_by, TakesLines, dressed_at}
+use Rattle.open_pictures.specs.DressedDocuments.{papers_reported_by, TakesLines, dressed_at}
 use Rattle.open_pictures.proofs.AllSheets.{dressed_document_is_shown}
 
 abbrev all : List MadeSheet
@@ -32,11 +32,11 @@ all =
 abbrev pub marks : List Stroke
 marks = record { start = (pos 200 *ℤ pos 127_000_000_000, pos 0); end = (pos 200 *ℤ pos 127_000_000_000, pos 10 *ℤ pos 127_000_000_000) } ∷ []
 
-told : told_by all ≡ wide ∷ own ∷ []
+told : papers_reported_by all ≡ wide ∷ own ∷ []
 told = refl
 
 -- the lines' names mean the operators
-takes : TakesLines (told_by all) marks behind
+takes : TakesLines (papers_reported_by all) marks behind
 takes = record {
   sizes = λ le. known sizing_names behind.work.dictionaries behind.work.entries refl;
   marks = λ lt. known marking_names behind.work.dictionaries behind.work.entries refl;
@@ -86,6 +86,6 @@ first_on_its_own = (
 )
 
 -- so the sheets show the pages, each with its stroke
-shown : Runs false (started (tokens (made_output None (strokes_added marks (telling all)) all (units_of (guarded paper text))))) (dressed_at None marks (units_of (guarded paper text)) picture behind all)
+shown : Runs false (started (tokens (made_output None (strokes_added marks (reporting all)) all (units_of (guarded paper text))))) (dressed_at None marks (units_of (guarded paper text)) picture behind all)
 unfolding digits
 shown = dressed_document_is_shown paper None marks all text us picture behind refl (omega arith) refl preamble_runs takes ((second_on_wide, (first_on_wide, tt)), ((first_on_its_own, tt), tt))

@@ -6,7 +6,7 @@ use Rattle.std.specs.Fmt.{digits}
 use Rattle.rules.specs.Parts.{preamble, bytes_of}
 use Rattle.rules.specs.Made.{Placed, MadeSheet}
 use Rattle.rules.specs.MadeOutput.{made_output}
-use Rattle.papers.specs.Told.{telling}
+use Rattle.papers.specs.Reported.{reporting}
 use Rattle.dressing.specs.Drawn.{strokes_added}
 use Rattle.pictures.specs.Objects.{Call}
 use Rattle.pictures.specs.Machine.{State, Graphics, Runs, step}
@@ -18,7 +18,7 @@ use Rattle.pictures.proofs.Examples.ByHand.{says}
 use Rattle.pictures.proofs.Examples.OnTwoSheets.{document, us, ready, plain, picture}
 use Rattle.pictures.proofs.Examples.AppliedMade.{stands, wide, own}
 use Rattle.open_pictures.specs.Sizes.{sized}
-use Rattle.open_pictures.specs.DressedDocuments.{told_by, dressed_at}
+use Rattle.open_pictures.specs.DressedDocuments.{papers_reported_by, dressed_at}
 use Rattle.open_pictures.specs.Unguarded.{TakesPlainLines}
 use Rattle.open_pictures.proofs.Unguarded.{ground_still, dressed_sheets_show_the_pages}
 use Rattle.open_pictures.proofs.Examples.DressedApplied.{marks}
@@ -33,7 +33,7 @@ unfolding digits
 preamble_runs = (refl, (0, refl), refl, refl, refl, plain)
 
 -- the document has defined nothing
-takes : TakesPlainLines (told_by all) marks ready
+takes : TakesPlainLines (papers_reported_by all) marks ready
 takes = record {
   lines = record { sizes = λ le name m. refl; marks = λ lt name m. refl };
   asks = λ le name m. refl;
@@ -70,7 +70,7 @@ first_on_its_own =
     page_prints (step false) unaware_step us on_its_own 0 9 gray (picture 0) (ground_still on_wide own plain_on_wide) refl refl refl refl refl refl
 
 -- so the sheets show the pages, each with its stroke
-shown : Runs false (started (tokens (made_output None (strokes_added marks (telling all)) all us))) (dressed_at None marks us picture ready all)
+shown : Runs false (started (tokens (made_output None (strokes_added marks (reporting all)) all us))) (dressed_at None marks us picture ready all)
 unfolding digits
 shown =
     dressed_sheets_show_the_pages None marks all document us picture ready refl refl preamble_runs takes

@@ -8,9 +8,9 @@ use Rattle.rules.specs.Specification.{Item, Upright}
 use Rattle.rules.specs.Made.{Blank, Placed, MadeSheet}
 use Rattle.dsc.specs.Units.{units_of}
 use Rattle.guard.specs.Guard.{guarded}
-use Rattle.papers.specs.Told.{telling}
+use Rattle.papers.specs.Reported.{reporting}
 use Rattle.pictures.specs.Imposed.{is_comment_line, MadeIsPrinted}
-use Rattle.pictures.proofs.GuardedImposed.{one_paper_is_told_as_one, made_document_is_shown}
+use Rattle.pictures.proofs.GuardedImposed.{one_paper_is_reported_as_one, made_document_is_shown}
 use Rattle.pictures.proofs.Examples.GuardedApplied.{paper, text, us, behind, preamble_runs, picture, first_page, second_page}
 
 -- moved by so many points to the right
@@ -29,14 +29,14 @@ all =
     ∷ record { paper = wide; slots = Blank ∷ Placed 0 (stands (pos 200)) own ∷ [] } ∷ []
 
 -- the lines by which they report their paper
-told : (telling all).header ≡ codes "%%BoundingBox: 0 0 400 300" ∷ codes "%%DocumentMedia: Plain 400 300 0 () ()" ∷ []
+told : (reporting all).header ≡ codes "%%BoundingBox: 0 0 400 300" ∷ codes "%%DocumentMedia: Plain 400 300 0 () ()" ∷ []
 unfolding digits
 told = refl
 
 -- so the sheets show the pages
-shown : MadeIsPrinted None (telling all) all (units_of (guarded paper text)) picture behind
+shown : MadeIsPrinted None (reporting all) all (units_of (guarded paper text)) picture behind
 unfolding digits
-shown = made_document_is_shown paper None all text us picture behind (one_paper_is_told_as_one wide all (refl, (refl, tt))) refl (omega arith) refl preamble_runs ((second_page, (first_page, tt)), ((first_page, tt), tt))
+shown = made_document_is_shown paper None all text us picture behind (one_paper_is_reported_as_one wide all (refl, (refl, tt))) refl (omega arith) refl preamble_runs ((second_page, (first_page, tt)), ((first_page, tt), tt))
 
 -- a line that would be run isn't one that may be added; nor one that a form feed ends
 run : is_comment_line (codes "BoundingBox: 0 0 400 300") ≡ false

@@ -14,7 +14,7 @@ use Rattle.pictures.specs.Sheets.{in_userdict}
 use Rattle.pictures.specs.Documents.{started, document_page, PreambleRuns, all_sheets}
 use Rattle.pictures.proofs.Examples.Premises.{document_with, half, frame, stroke}
 use Rattle.pictures.proofs.Examples.Applied.{units}
-use Rattle.pictures.specs.Behind.{behind_guard}
+use Rattle.pictures.specs.AfterGuard.{after_guard}
 use Rattle.pictures.specs.Shelter.{sheltered}
 use Rattle.pictures.specs.Lines.{with_asking}
 use Rattle.pictures.specs.Pages.{GuardedPagePaints, outline_of, state_after_sheets}
@@ -30,12 +30,12 @@ us = units text
 
 -- after the preamble: the dictionary is the fourth thing that was made
 abbrev pub behind : State
-behind = record (behind_guard paper []) {
-  work = record (behind_guard paper []).work {
+behind = record (after_guard paper []) {
+  work = record (after_guard paper []).work {
     dictionaries = 4 ∷ 0 ∷ [];
     entries =
         record { dictionary = 4; key = codes "showpage"; value = Procedure [] }
-        ∷ in_userdict (codes "d") (Dictionary 4) ∷ (behind_guard paper []).work.entries;
+        ∷ in_userdict (codes "d") (Dictionary 4) ∷ (after_guard paper []).work.entries;
     made = 4;
   };
 }

@@ -14,7 +14,7 @@ use Rattle.pictures.specs.Sheets.{in_userdict}
 use Rattle.pictures.specs.Documents.{started, document_page, PreambleRuns, all_sheets}
 use Rattle.pictures.proofs.Examples.Premises.{document_with, half, frame, stroke}
 use Rattle.pictures.proofs.Examples.Applied.{units}
-use Rattle.pictures.specs.Behind.{behind_guard, showpage_tokens}
+use Rattle.pictures.specs.AfterGuard.{after_guard, showpage_tokens}
 use Rattle.pictures.specs.Shelter.{sheltered}
 use Rattle.pictures.specs.Pages.{GuardedPagePaints, outline_of, state_after_sheets}
 use Rattle.pictures.specs.Silenced.{IsSilenced, with_showpage, after_pages}
@@ -29,11 +29,11 @@ us = units text
 
 -- after the preamble
 abbrev behind : State
-behind = record (behind_guard paper []) {
-  work = record (behind_guard paper []).work {
+behind = record (after_guard paper []) {
+  work = record (after_guard paper []).work {
     entries =
         in_userdict (codes "showpage") (Procedure [])
-        ∷ in_userdict (codes "e") (Procedure showpage_tokens) ∷ (behind_guard paper []).work.entries;
+        ∷ in_userdict (codes "e") (Procedure showpage_tokens) ∷ (after_guard paper []).work.entries;
   };
 }
 

@@ -8,7 +8,7 @@ use Rattle.rules.specs.Units.{◌>>=◌}
 use Rattle.rules.specs.Run.{document_of, DocumentFault}
 use Rattle.rules.specs.Output.{output}
 use Rattle.guard.specs.Guard.{guarded}
-use Rattle.pictures.specs.Behind.{printer_keys, guard_text}
+use Rattle.pictures.specs.AfterGuard.{printer_keys, guard_text}
 use Rattle.pictures.specs.Sheets.{among}
 use Rattle.pictures.proofs.Examples.TwoUp.{sheets_of}
 use Rattle.pictures.proofs.Examples.Premises.{document_with, half, frame, outline, stroke, placed, not_placed}

@@ -14,7 +14,7 @@ use Rattle.pictures.specs.Documents.{document_page, PreambleRuns, IsPrintedSheet
 use Rattle.pictures.proofs.Examples.TwoUp.{far}
 use Rattle.pictures.proofs.Examples.Premises.{document_with, half, frame, stroke}
 use Rattle.pictures.proofs.Examples.Applied.{units}
-use Rattle.pictures.specs.Behind.{behind_guard}
+use Rattle.pictures.specs.AfterGuard.{after_guard}
 use Rattle.pictures.specs.Shelter.{Outer, sheltered, step_sheltered}
 use Rattle.pictures.specs.Pages.{IsGuarded, defined, GuardedPagePaints, outline_of}
 use Rattle.pictures.proofs.Ground.{guard_is_enough, stays_guarded}
@@ -33,10 +33,10 @@ us = units text
 
 -- after the preamble
 abbrev pub behind : State
-behind = defined (in_userdict (codes "e") (Procedure (Name (codes "showpage") ∷ []))) (behind_guard paper [])
+behind = defined (in_userdict (codes "e") (Procedure (Name (codes "showpage") ∷ []))) (after_guard paper [])
 
 pub guarded_behind : IsGuarded behind
-guarded_behind = stays_guarded (behind_guard paper []) (in_userdict (codes "e") (Procedure (Name (codes "showpage") ∷ []))) (guard_is_enough paper []) refl
+guarded_behind = stays_guarded (after_guard paper []) (in_userdict (codes "e") (Procedure (Name (codes "showpage") ∷ []))) (guard_is_enough paper []) refl
 
 pub preamble_runs : PreambleRuns IsGuarded (bytes_of (preamble (units_of (guarded paper text)))) behind
 unfolding digits

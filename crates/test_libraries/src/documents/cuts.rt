@@ -101,7 +101,7 @@ fn numbers(out: &mut Answer, document: &Document<'_>) {
     let pages = document.pages();
     match document.pages_after_trailer() {
         0 => out.labelled("pages", pages),
-        after => out.line(format_args!("pages {pages}, behind the trailer {after}")),
+        after => out.line(format_args!("pages {pages}, after the trailer {after}")),
     }
 }
 

@@ -1,5 +1,5 @@
 use Rattle.std.proofs.Common.{rules, ◌≡◌, ◌∙◌, ap, [], ◌∷◌, ◌++◌, List, ℕ}
-use Rattle.papers.specs.Told.{box_line, whole_paper}
+use Rattle.papers.specs.Reported.{box_line, whole_paper}
 use Rattle.papers.proofs.Tame.{box}
 use Rattle.dressing.proofs.Plain.{may_stand}
 use Rattle.dressing.proofs.paper_lines.push_box.Goals as goal

@@ -1,5 +1,5 @@
 use Rattle.std.proofs.Common.{rules, ◌≡◌, ◌∙◌, ap, [], ◌∷◌, ◌++◌, List, ℕ}
-use Rattle.papers.specs.Told.{exact_box_line}
+use Rattle.papers.specs.Reported.{exact_box_line}
 use Rattle.papers.proofs.Tame.{exact_box}
 use Rattle.dressing.proofs.Plain.{may_stand}
 use Rattle.dressing.proofs.paper_lines.push_exact_box.Goals as goal

@@ -1,5 +1,5 @@
 use Rattle.std.proofs.Common.{rules, ◌≡◌, ◌∙◌, ap, refl, [], ◌∷◌, ◌++◌, List, ℕ, codes}
-use Rattle.papers.specs.Told.{medium_line}
+use Rattle.papers.specs.Reported.{medium_line}
 use Rattle.papers.proofs.Tame.{medium}
 use Rattle.dressing.proofs.Plain.{may_stand}
 use Rattle.dressing.proofs.paper_lines.push_medium.Goals as goal

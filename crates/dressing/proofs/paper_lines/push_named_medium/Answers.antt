@@ -1,5 +1,5 @@
 use Rattle.std.proofs.Common.{rules, ◌≡◌, ◌∙◌, ap, [], ◌∷◌, ◌++◌, List, ℕ, codes}
-use Rattle.papers.specs.Told.{medium_line, size_name}
+use Rattle.papers.specs.Reported.{medium_line, size_name}
 use Rattle.papers.proofs.Tame.{medium, whole_name}
 use Rattle.dressing.proofs.Plain.{may_stand}
 use Rattle.dressing.proofs.paper_lines.push_named_medium.Goals as goal

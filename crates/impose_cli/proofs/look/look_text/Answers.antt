@@ -4,10 +4,10 @@ use Rattle.impose_cli.specs.Endings.{RefusesRowRun}
 use Rattle.impose_cli.proofs.Looking.{refuses_row, tells_row}
 use Rattle.impose_cli.proofs.look.look_text.Goals as goal
 
-pub returns-clause-told : goal.returns-clause-told
-returns-clause-told c =
+pub returns-clause-text : goal.returns-clause-text
+returns-clause-text c =
     tells_row c.args.request.now c.args.input.items c.in_ok-task.task c.args.look c.in_ok-text.text.items c.in_ok-task.ensures.is_task
-    c.in_ok-text.ensures.told
+    c.in_ok-text.ensures.text
 
 pub returns-in_err-text-clause-refused : goal.returns-in_err-text-clause-refused
 returns-in_err-text-clause-refused c =

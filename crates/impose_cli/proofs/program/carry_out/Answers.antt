@@ -1,7 +1,7 @@
 use Rattle.std.proofs.Common.{ap, inl, inr, refl, subst}
 use Rattle.impose_cli.specs.Endings.{edge_of_world, shown}
 use Rattle.std.specs.Prelude.{option_map, string_bytes}
-use Rattle.impose_cli.specs.Programs.{IsDrawnOver, IsForTerminal, IsReading}
+use Rattle.impose_cli.specs.Programs.{IsDrawnOver, IsForTerminal, FailsToRead}
 use Rattle.impose_cli.proofs.Programs.{stopped_before, took}
 use Rattle.impose_cli.proofs.program.carry_out.Goals as goal
 
@@ -71,5 +71,5 @@ returns-in-Err-roomy_input g c =
     c.refused_before-in-Err-roomy_input.ensures.outcome c.refused_before-in-Err-roomy_input.ensures.rest
     (inr (
       (c.in-Ok.ensures.possible, undrawn, elsewhere, c.if-is_foreign.false),
-      subst (λ n. IsReading n (g.W.World.seen c.args.world) (g.W.World.seen c.roomy_input.new.world) c.in-Err-roomy_input.fault) c.name_of.ensures c.in-Err-roomy_input.ensures.refused,
+      subst (λ n. FailsToRead n (g.W.World.seen c.args.world) (g.W.World.seen c.roomy_input.new.world) c.in-Err-roomy_input.fault) c.name_of.ensures c.in-Err-roomy_input.ensures.refused,
     ))

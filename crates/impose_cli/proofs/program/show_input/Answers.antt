@@ -8,7 +8,7 @@ pub returns-in-Ok : goal.returns-in-Ok
 returns-in-Ok g c =
     shown_whole c.args.look (option_map (λ n. n.now) c.args.name) c.args.request.now c.args.input.items (edge_of_world (g.W.World.reports_outputs c.args.world) g.W.World.seen g.W.Output.Output.seen)
     c.in-Ok.text.items c.create_with_text.result.outcome c.args.world c.create_with_text.result.rest
-    (shown g.W.Output.Output.seen c.create_with_text.result.rest) c.in-Ok.ensures.told (rw c.as_slice.ensures.value at c.create_with_text.ensures)
+    (shown g.W.Output.Output.seen c.create_with_text.result.rest) c.in-Ok.ensures.text (rw c.as_slice.ensures.value at c.create_with_text.ensures)
 
 pub returns-in-Err : goal.returns-in-Err
 returns-in-Err g c =

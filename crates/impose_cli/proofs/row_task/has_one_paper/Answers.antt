@@ -6,8 +6,8 @@ use Rattle.impose_cli.proofs.OnePaper.{tells_one}
 use Rattle.impose_cli.proofs.Rows.{row_paper_of}
 use Rattle.impose_cli.proofs.row_task.has_one_paper.Goals as goal
 
-pub returns-clause-told : goal.returns-clause-told
-returns-clause-told c =
+pub returns-clause-decided : goal.returns-clause-decided
+returns-clause-decided c =
     let findings = c.in_ok-found.found.findings in
     tells_one c.args.request.now c.args.input.now (findings.page_paper, findings.origin) c.in_ok-found.found.papers.items c.args.paper.now _
     (row_paper_of c.args.request.now c.args.input.now findings c.in_ok-found.ensures.findings) c.in_ok-found.ensures.papers (rw c.as_slice.ensures.value at c.are_all.ensures)

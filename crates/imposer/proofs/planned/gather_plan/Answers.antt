@@ -9,7 +9,7 @@ returns-clause-of_job g c =
     let gathered = c.gather_objects-gathered in
     let room : HasRoomForAll c.in_ok-table.table.layout c.args.workers.preparers c.in_ok-table.tokens.pass = search rules in
     record {
-      own_table = search rules;
+      same_layout = search rules;
       handed_back = gathered.ensures.tokens;
       left = leaves_if _ _ ⊤ _ gathered.result (λ _. room) gathered.ensures.whole;
     }

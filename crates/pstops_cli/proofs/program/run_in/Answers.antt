@@ -16,7 +16,7 @@ returns-then-not-is_whole g c =
     (inr (
       refl,
       cut c.args.request.now c.args.input.now reports_outputs _ _ _ _ h.0 _ _ _ _
-          (c.in-Ok.ensures.told ∙ ap (λ n. reported_if reports_outputs n []) c.name_of-name.ensures) c.in-Ok.ensures.fresh
+          (c.in-Ok.ensures.bytes ∙ ap (λ n. reported_if reports_outputs n []) c.name_of-name.ensures) c.in-Ok.ensures.fresh
           h.1 h.2 c.if-status-eq0.true c.finish-is_whole.ensures.part (c.finish-is_whole.ensures.failed (search rules)) c.ended_with-then-not-is_whole.ensures.said,
     ))
 
@@ -27,6 +27,6 @@ returns g c =
     inr (
       refl,
       ran c.args.request.now c.args.input.now reports_outputs _ _ _ _ h.0 _ _
-          (c.in-Ok.ensures.told ∙ ap (λ n. reported_if reports_outputs n []) c.name_of-name.ensures) c.in-Ok.ensures.fresh
+          (c.in-Ok.ensures.bytes ∙ ap (λ n. reported_if reports_outputs n []) c.name_of-name.ensures) c.in-Ok.ensures.fresh
           h.1 c.finish-is_whole.ensures.part (search rules) (search rules) c.finish-is_whole.ensures.counted (inl h.2),
     )

@@ -31,7 +31,7 @@ returns-clause-left c =
       legal = k.legal;
       begins = (f.rest, f.begins);
       alone = λ all. sym (whole_front layout kept.0 s.views _ v k.seats final.1.1 all);
-      tells = λ word found at. word_tells layout kept.0 s.words word found k.legal k.words (subst (λ (ws : List ℕ). get_elem? ws word ≡ some found) (sym final.2) (is_elem words word found at));
+      each_shown = λ word found at. word_tells layout kept.0 s.words word found k.legal k.words (subst (λ (ws : List ℕ). get_elem? ws word ≡ some found) (sym final.2) (is_elem words word found at));
     } in
     shown c.words_of-words.result (λ v. v.items) words (λ ws. IsLeft c.args.self.layout c.args.seat.front c.args.seat.share ws) c.words_of-words.ensures
     (subst (λ (p : Layout). IsLeft p c.args.seat.front c.args.seat.share words) (ap (λ t. t.layout) c.self.view_is)

@@ -1,5 +1,5 @@
 use Rattle.std.proofs.Common.{◌≡◌, ◌∙◌, ap, ap₂, subst, List, map, ℕ, Option, true}
-use Rattle.papers.specs.Told.{telling}
+use Rattle.papers.specs.Reported.{reporting}
 use Rattle.layouts.specs.Placed.{Room}
 use Rattle.sheet_text.specs.declared.numbers.Numbers.{Numbers}
 use Rattle.dressing.specs.Numbered.{drawn_on}
@@ -54,4 +54,4 @@ returns-clause-dressed c =
     let numbers = c.in_ok-numbers.ensures.made
     ∙ ap₂ (λ (n : ℕ) (m : Option Room). numbers_asked n j.papers.now j.asked m j.marks.numbers) c.pages-count.ensures.count c.swapped_room_in-swap.ensures in
     c.in_ok-dress.ensures
-    ∙ ap₂ (λ (s : List Stroke) (n : Option Numbers). drawn_on (record { strokes = s; numbers = n }) (telling c.in_ok-turned.turned)) strokes numbers
+    ∙ ap₂ (λ (s : List Stroke) (n : Option Numbers). drawn_on (record { strokes = s; numbers = n }) (reporting c.in_ok-turned.turned)) strokes numbers
