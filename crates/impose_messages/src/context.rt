@@ -6,6 +6,9 @@ use std::alloc::{AllocError, Global};
 use std::io;
 use suggestions::{is_range, shown_word};
 
+/// The message that memory was refused.
+pub(crate) const OUT_OF_MEMORY: &str = "out of memory";
+
 /// The parts of a request that messages mention, and the allocator for the messages.
 #[derive(Clone, Copy)]
 pub(crate) struct Context<'r> {

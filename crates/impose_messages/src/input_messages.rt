@@ -1,8 +1,7 @@
 //! Messages about inputs and outputs that aren't what they should be.
 
-use crate::context::Context;
+use crate::context::{Context, OUT_OF_MEMORY};
 use crate::fault::Compression;
-use crate::messages::OUT_OF_MEMORY;
 use dsc::DscError;
 use std::alloc::AllocError;
 use std::io;

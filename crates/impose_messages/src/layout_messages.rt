@@ -1,7 +1,6 @@
 //! Messages about pages that can't be laid out, and about sheets that can't be planned.
 
-use crate::context::Context;
-use crate::messages::OUT_OF_MEMORY;
+use crate::context::{Context, OUT_OF_MEMORY};
 use crate::rooms::no_room_text;
 use layouts::ArrangementError;
 use row_sheets::PosterError;

@@ -1,6 +1,6 @@
 //! The message about a fault.
 
-use crate::context::Context;
+use crate::context::{Context, OUT_OF_MEMORY};
 use crate::fault::ImposeFault;
 use crate::input_messages::{
     DOS_EPS, EPS, JOB_LANGUAGE, NO_INPUT, PDF, TOO_LONG, UTF_16, compressed_text, document_text,
@@ -14,8 +14,6 @@ use pagespec::SpecError;
 use std::alloc::{AllocError, Global};
 use std::io;
 use suggestions::value_text;
-
-pub(crate) const OUT_OF_MEMORY: &str = "out of memory";
 
 const OUT_OF_REACH: &str =
     "a turned page would be placed 100,000 points or more away: take smaller papers or fewer sheets, or leave --turn out";

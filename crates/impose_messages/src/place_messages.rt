@@ -1,7 +1,6 @@
 //! Messages about page ranges and specifications, with a caret at the place of the fault.
 
-use crate::context::Context;
-use crate::messages::OUT_OF_MEMORY;
+use crate::context::{Context, OUT_OF_MEMORY};
 use command_words::{caret_below, group_place, item_place, large_place, range_place};
 use pagespec::SpecError;
 use rows::RowError;

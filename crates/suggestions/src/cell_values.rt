@@ -1,5 +1,5 @@
 //! Messages about first arguments that aren't numbers of pages or grids.
-use crate::values::Wording;
+use crate::wordings::Wording;
 use crate::words::looks_like_file;
 use impose_words::CellCommand;
 use std::alloc::{AllocError, Global};

@@ -1,6 +1,6 @@
 //! Messages about values that aren't lengths, margins or gaps.
 use crate::shown::shown_word;
-use crate::values::{Wording, refusal};
+use crate::wordings::{Wording, refusal};
 use impose_words::{OptionId, lacks_unit};
 use std::alloc::{AllocError, Global};
 

@@ -11,6 +11,7 @@ mod paper_values;
 mod shown;
 mod tips;
 mod values;
+mod wordings;
 mod words;
 
 pub use mistakes::words_text;

@@ -2,7 +2,7 @@
 use crate::mistakes::begins_with_digit;
 use crate::nearest::nearest_papers;
 use crate::shown::shown_word;
-use crate::values::Wording;
+use crate::wordings::Wording;
 use impose_words::OptionId;
 use papers::{PaperError, read_paper};
 use std::alloc::{AllocError, Global};
