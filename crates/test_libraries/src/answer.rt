@@ -40,11 +40,7 @@ impl Answer {
             self.bytes.clear();
             self.verdict(true);
         }
-        if self.is_whole {
-            Some(self.bytes)
-        } else {
-            None
-        }
+        self.is_whole.then_some(self.bytes)
     }
 
     /// Appends another answer. If that answer isn't whole, this one isn't either.

@@ -41,10 +41,7 @@ pub fn without_form<'w>(out: &mut Answer, words: &'w [String]) -> &'w [String] {
         _ => return words,
     };
     out.form = form;
-    match words {
-        [_, rest @ ..] => rest,
-        [] => words,
-    }
+    words.get(1..).unwrap_or(words)
 }
 
 pub fn word(words: &[String], at: usize) -> Option<&str> {
@@ -57,10 +54,7 @@ pub fn number(words: &[String], at: usize) -> Option<i128> {
 }
 
 pub fn number_in(text: &str) -> Option<i128> {
-    match text.parse::<i128>() {
-        Ok(number) => Some(number),
-        Err(_) => None,
-    }
+    text.parse::<i128>().ok()
 }
 
 /// The number that a text gives in units of 10^-9. `None` if the text isn't a whole number, or if the number is out of range.
@@ -84,10 +78,9 @@ pub fn paper(words: &[String], at: usize) -> Option<Paper> {
     if let Some(paper) = paper_by_name(text) {
         return Some(paper);
     }
-    let (sides, unit) = match text.strip_suffix('g') {
-        Some(sides) => (sides, 1),
-        None => (text, 1_270_000),
-    };
+    let (sides, unit) = text
+        .strip_suffix('g')
+        .map_or((text, 1_270_000), |sides| (sides, 1));
     let (width, height) = sides.split_once('x')?;
     Paper::new(length(width, unit)?, length(height, unit)?)
 }
@@ -104,12 +97,10 @@ pub fn papers_of(alloc: Global, names: &[String]) -> Option<Vec<Paper>> {
 /// The bytes of the document that word `at`, counted from 0, names. `None` if no document has this name.
 pub fn text_of<'d>(documents: &'d [Document], words: &[String], at: usize) -> Option<&'d [u8]> {
     let name = word(words, at)?;
-    for document in documents {
-        if document.name.as_str() == name {
-            return Some(document.bytes.as_slice());
-        }
-    }
-    None
+    let document = documents
+        .iter()
+        .find(|document| document.name.as_str() == name)?;
+    Some(document.bytes.as_slice())
 }
 
 /// The length that a text gives as a number of units. `unit` is the number of grains in a unit. `None` if the text gives no length.
@@ -161,10 +152,8 @@ pub fn specification(out: &mut Answer, words: &[String], at: usize) -> Option<Sp
 
 /// The first item of the specification that a text gives. `None` if the text is refused.
 pub fn item(alloc: Global, text: &str) -> Option<Item> {
-    match read_spec(alloc, text) {
-        Ok(spec) => spec.groups().first()?.first().copied(),
-        Err(_) => None,
-    }
+    let spec = read_spec(alloc, text).ok()?;
+    spec.groups().first()?.first().copied()
 }
 
 /// The row that words give: page numbers, counted from 0, and `-` for a blank. `None` if a word is neither.

@@ -44,18 +44,6 @@ const WHOLE: u64 = 4_294_967_296;
 /// The number of times that a wait yields before it runs out.
 const YIELDS: u32 = 20_000_000;
 
-/// The first page in each of 64 slots.
-const PAGE_64_TIMES: &str = "\
-    0+0+0+0+0+0+0+0+0+0+0+0+0+0+0+0+0+0+0+0+0+0+0+0+0+0+0+0+0+0+0+0+0+0+0+0+0+0+0+0+0+0+0+0+0+0+0+0+0+0+\
-    0+0+0+0+0+0+0+0+0+0+0+0+0+0\
-";
-
-/// The first page in each of 65 slots.
-const PAGE_65_TIMES: &str = "\
-    0+0+0+0+0+0+0+0+0+0+0+0+0+0+0+0+0+0+0+0+0+0+0+0+0+0+0+0+0+0+0+0+0+0+0+0+0+0+0+0+0+0+0+0+0+0+0+0+0+0+\
-    0+0+0+0+0+0+0+0+0+0+0+0+0+0+0\
-";
-
 /// Waits until `word` has reached `height`, or until some wait has run out. A wait that runs out is counted in `run_out`.
 fn wait_for(word: &AtomicUsize, height: usize, run_out: &AtomicUsize) {
     for _ in 0..YIELDS {
@@ -86,6 +74,16 @@ struct Trial<'a> {
     document: &'a str,
     items: &'a str,
     counts: (u32, u32),
+}
+
+impl<'a> Trial<'a> {
+    fn new(document: &'a str, items: &'a str, counts: (u32, u32)) -> Trial<'a> {
+        Trial {
+            document,
+            items,
+            counts,
+        }
+    }
 }
 
 /// Runs a trial with this gate into this sink. Returns the report or the error of the run.

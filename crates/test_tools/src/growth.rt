@@ -29,10 +29,5 @@ pub trait Refused<R> {
 /// Makes the call again and again, with its first growth refused, then its second, and so on, until no growth is refused. Returns whether that
 /// happened within `MOST_GROWTHS - 1` calls.
 pub fn refuse_each<R, C: Refused<R>>(rt: &R, alloc: Global, call: &C) -> bool {
-    for number in 1..MOST_GROWTHS {
-        if !call.refuse(rt, alloc, number) {
-            return true;
-        }
-    }
-    false
+    (1..MOST_GROWTHS).any(|number| !call.refuse(rt, alloc, number))
 }

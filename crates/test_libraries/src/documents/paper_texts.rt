@@ -66,10 +66,7 @@ fn papers_at(
     home: &Paper,
 ) -> Result<Vec<Paper>, DscError> {
     let document = Document::read(alloc, text)?;
-    match page_papers(alloc, &document, asked, home) {
-        Ok(papers) => Ok(papers),
-        Err(_) => Err(DscError::NoMemory),
-    }
+    page_papers(alloc, &document, asked, home).map_err(|_| DscError::NoMemory)
 }
 
 /// Prints a line for each page, with its number, counted from 1, and its paper.

@@ -50,17 +50,9 @@ pub fn run(out: &mut Answer, words: &[String]) -> Option<()> {
 }
 
 fn up_to_64_tried(out: &mut Answer, kept: Kept) -> Option<()> {
-    let numbers = up_to_64(out.alloc)?;
+    let numbers: Vec<u32> = (1..65u32).collect(out.alloc).ok()?;
     tried(out, &Trial::Pages(numbers.as_slice(), kept), true);
     Some(())
-}
-
-fn up_to_64(alloc: Global) -> Option<Vec<u32>> {
-    let mut numbers = Vec::new(alloc);
-    for n in 1..65u32 {
-        numbers.push(n).ok()?;
-    }
-    Some(numbers)
 }
 
 /// A paper by its name, and its sides in points.

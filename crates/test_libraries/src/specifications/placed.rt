@@ -163,17 +163,16 @@ fn placed_by(numbers: &[i64], sides: (i64, i64)) -> Option<Placed> {
 /// Whether all pages are on a sheet with these sides, and at least `margin` away from its edges. The sides are in points, the margin is in 10^-9 of a
 /// point.
 pub fn are_inside(pages: &[Placed], sides: (i64, i64), margin: i64) -> bool {
-    for page in pages {
-        let area = page.on_sheet;
-        if area.left < margin
-            || area.bottom < margin
-            || sides.0.saturating_mul(1_000_000_000) < area.right.saturating_add(margin)
-            || sides.1.saturating_mul(1_000_000_000) < area.top.saturating_add(margin)
-        {
-            return false;
-        }
-    }
-    true
+    let (width, height) = (
+        sides.0.saturating_mul(1_000_000_000),
+        sides.1.saturating_mul(1_000_000_000),
+    );
+    pages.iter().map(|page| page.on_sheet).all(|area| {
+        margin <= area.left
+            && margin <= area.bottom
+            && area.right.saturating_add(margin) <= width
+            && area.top.saturating_add(margin) <= height
+    })
 }
 
 /// Whether all pages are at least `gap` apart from each other, in 10^-9 of a point.
@@ -190,15 +189,13 @@ pub fn are_apart(pages: &[Placed], gap: i64) -> bool {
 
 /// The number of pages in the first row: those whose upper edges are as high as that of the first page, with the sheet held for reading.
 pub fn columns_of(pages: &[Placed]) -> usize {
-    let mut columns = 0usize;
-    for page in pages {
-        if let Some(first) = pages.first() {
-            if page.held.top == first.held.top {
-                columns = columns.saturating_add(1);
-            }
-        }
-    }
-    columns
+    let Some(first) = pages.first() else {
+        return 0;
+    };
+    pages
+        .iter()
+        .filter(|page| page.held.top == first.held.top)
+        .count()
 }
 
 /// Whether the pages fill rows of `columns` pages, from the top row down and each row from the left, with the sheet held for reading.
@@ -221,12 +218,9 @@ pub fn are_in_order(pages: &[Placed], columns: usize) -> bool {
 
 /// Whether all pages have this turn and this scale.
 pub fn are_like(pages: &[Placed], quarters: u32, scale: i64) -> bool {
-    for page in pages {
-        if page.quarters != quarters || page.scale != scale {
-            return false;
-        }
-    }
-    true
+    pages
+        .iter()
+        .all(|page| page.quarters == quarters && page.scale == scale)
 }
 
 /// The margin along the edges of a sheet and the gap between cells, in 10^-5 of a point.

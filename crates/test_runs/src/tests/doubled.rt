@@ -2,8 +2,8 @@
 ghost use Rattle.std.specs.Prelude.{◌<◌};
 
 use super::callers::gatherer::{Gatherer, Outcome, gatherer_of, outcome_of};
+use super::table_and_shelf;
 use super::tally::Tally;
-use super::{PAGE_65_TIMES, table_and_shelf};
 use crate::tests::checks::{assert_that, done};
 use dsc::Document;
 use gather_table::{Closing, Published, Reply};
@@ -19,7 +19,7 @@ use std::sync::Wait;
 use std::sync::atomic::AtomicUsize;
 use std::sync::atomic::Ordering::SeqCst;
 use std::thread::{Threads, for_each_mut};
-use test_tools::document_of;
+use test_tools::{document_of, same_items};
 
 /// The number of sheets, the number of slots on each sheet, and the number of slots that have the same page.
 #[derive(Clone, Copy)]
@@ -298,13 +298,14 @@ fn deliver_each<R: Threads + Wait + Sync + Abort>(
 )
     requires { 0 < threads }
 {
+    let page_65_times = done(rt, same_items(alloc, "0", 65));
     for (items, sheets, slots, places) in [
         ("0", 1, 1, 1),
         ("2:0+1", 1, 2, 1),
         ("2:0+1", 2, 2, 1),
         ("2:0+1", 10, 2, 1),
         (SIXTY_FIVE_PAGES, 2, 65, 1),
-        (PAGE_65_TIMES, 1, 65, 65),
+        (page_65_times.as_str(), 1, 65, 65),
     ] {
         let sizes = Sizes {
             sheets,

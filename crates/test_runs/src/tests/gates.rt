@@ -84,11 +84,7 @@ fn assert_met<R: Threads + Wait + Sync + Abort>(
         run_out: AtomicUsize::new(0),
     };
     let text = done(rt, document_of(alloc, pages));
-    let trial = Trial {
-        document: &text,
-        items: "0",
-        counts,
-    };
+    let trial = Trial::new(&text, "0", counts);
     let report = report_of(rt, alloc, &trial, &gate);
     let all = (1usize << pages.min(MOST_PAGES)).saturating_sub(1);
     let met = [
@@ -118,11 +114,7 @@ fn as_many_threads_run_as_were_asked_for(rt: HostRuntime) {
 
 /// The number of sheets made at the end of a run on one page, with `count` workers of each kind.
 fn swept_of_one<R: Threads + Wait + Sync + Abort>(rt: &R, alloc: Global, count: u32) -> u32 {
-    let trial = Trial {
-        document: ONE_PAGE,
-        items: "0",
-        counts: (count, count),
-    };
+    let trial = Trial::new(ONE_PAGE, "0", (count, count));
     report_of(rt, alloc, &trial, &Open).swept
 }
 
@@ -264,11 +256,7 @@ fn run_late<R: Threads + Wait + Sync + Abort>(
     side: Side,
 ) -> (u32, usize, usize) {
     let gate = Late::new(look, side);
-    let trial = Trial {
-        document: ONE_PAGE,
-        items: "0",
-        counts: (1, 1),
-    };
+    let trial = Trial::new(ONE_PAGE, "0", (1, 1));
     let mut sink = OneSheet {
         late: &gate,
         calls: 0,

@@ -10,7 +10,7 @@ use sheet_writer::{
     MemorySink, Progress, ReorderBuffer, Sink, Spent, WriteSink, write_early, write_rest,
 };
 use std::alloc::{AllocError, Global};
-use std::io::{self, ErrorKind, Write};
+use std::io::{self, Write};
 use std::process::Abort;
 
 /// The bodies of the four pages. The body `long` of the third page isn't copied to its sheet, because it is long.
@@ -147,10 +147,8 @@ struct Calls {
 
 impl Write for Calls {
     fn write(&mut self, bytes: &[u8]) -> io::Result<usize> {
-        match self.lengths.push(bytes.len()) {
-            Ok(()) => Ok(bytes.len()),
-            Err(_) => Err(io::Error::from(ErrorKind::OutOfMemory)),
-        }
+        self.lengths.push(bytes.len())?;
+        Ok(bytes.len())
     }
 
     fn flush(&mut self) -> io::Result<()> {

@@ -19,11 +19,7 @@ const PER_CALL: usize = 7;
 
 /// A run of two pages on a sheet, with these numbers of workers.
 fn pair_by(counts: (u32, u32)) -> Trial<'static> {
-    Trial {
-        document: TWO_PAGES,
-        items: TWO_UP,
-        counts,
-    }
+    Trial::new(TWO_PAGES, TWO_UP, counts)
 }
 
 /// A sink in memory that counts the calls that it refuses.
@@ -77,11 +73,7 @@ fn the_first_bytes_are_written_before_a_failure(rt: HostRuntime) {
     let alloc = rt.alloc();
     let output = done(&rt, one_up_output(alloc));
     for counts in COUNTS {
-        let trial = Trial {
-            document: ONE_PAGE,
-            items: "0",
-            counts,
-        };
+        let trial = Trial::new(ONE_PAGE, "0", counts);
         for room in 0..=273usize {
             let sink = done(&rt, MemorySink::new(alloc, room, 1_000, 1_000));
             assert_that(

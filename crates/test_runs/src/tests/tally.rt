@@ -40,12 +40,9 @@ impl Tally {
 
     /// Whether each of `count` numbers, from `first` on, was added once.
     pub(super) fn are_once(&self, first: usize, count: usize) -> bool {
-        for place in 0..count {
-            match self.counts.as_slice().get(first.saturating_add(place)) {
-                Some(times) if times.load(SeqCst) == 1 => (),
-                _ => return false,
-            }
-        }
-        true
+        (first..first.saturating_add(count)).all(|number| {
+            let times = self.counts.as_slice().get(number);
+            times.is_some_and(|times| times.load(SeqCst) == 1)
+        })
     }
 }

@@ -184,11 +184,7 @@ fn no_sheet_is_imposed_far_before_its_turn(rt: HostRuntime) {
         (small.as_str(), FOUR_TIMES, 6, 0, 6),
     ] {
         for imposers in [1, 2, 4] {
-            let trial = Trial {
-                document,
-                items,
-                counts: (preparers, imposers),
-            };
+            let trial = Trial::new(document, items, (preparers, imposers));
             assert_in_turn(&rt, rt.alloc(), &trial, first_page, sheets);
         }
     }
@@ -226,11 +222,7 @@ fn no_turn_is_waited_for_after_a_failed_write(rt: HostRuntime) {
     let document = six_pages(&rt, rt.alloc());
     for counts in [(1, 1), (2, 2), (6, 4)] {
         for items in [FORWARD, BACKWARD] {
-            let trial = Trial {
-                document: &document,
-                items,
-                counts,
-            };
+            let trial = Trial::new(&document, items, counts);
             assert_stopped(&rt, rt.alloc(), &trial);
         }
     }
@@ -283,11 +275,7 @@ fn is_stopped_under_way<R: Threads + Wait + Sync>(
     waits: Waits,
 ) -> bool {
     let words = Words::new();
-    let trial = Trial {
-        document,
-        items: FORWARD,
-        counts: (1, imposers),
-    };
+    let trial = Trial::new(document, FORWARD, (1, imposers));
     let gate = FailureFirst {
         words: &words,
         waits,

@@ -5,7 +5,6 @@ ghost use Rattle.gather_table.specs.Shared.{IsSeatOf};
 ghost use Rattle.gather_table.specs.Table.{HasGroup, slots};
 
 use super::stories::{Called, call_of, show, tell};
-use crate::tests::PAGE_64_TIMES;
 use crate::tests::checks::{assert_that, done};
 use gather_table::{Closing, GatherTable, PlainTable, Published, Reply, Seat};
 use pagespec::read_spec;
@@ -219,23 +218,14 @@ impl<'t, 'p, R> Called<R> for Tables<'t, 'p> {
 fn told<R: Abort>(rt: &R, alloc: Global, text: &str, pages: u32, story: &str) -> Vec<u64> {
     let spec = done(rt, read_spec(alloc, text));
     let plan = done(rt, Plan::new(alloc, &spec, pages));
-    told_of(rt, alloc, &plan, story)
-}
-
-fn told_of<'p, R: Abort>(rt: &R, alloc: Global, plan: &'p Plan<'p>, story: &str) -> Vec<u64> {
-    let plain = done(rt, PlainTable::new(alloc, plan));
-    let (shared, seat) = done(rt, GatherTable::new(alloc, plan));
+    let (shared, seat) = done(rt, GatherTable::new(alloc, &plan));
     let mut tables = Tables {
-        plain,
+        plain: done(rt, PlainTable::new(alloc, &plan)),
         shared,
-        plan,
+        plan: &plan,
         seat,
     };
     tell(rt, alloc, &mut tables, MOST_GROWTHS, story);
-    words_of(rt, alloc, tables)
-}
-
-fn words_of<R: Abort>(rt: &R, alloc: Global, tables: Tables<'_, '_>) -> Vec<u64> {
     let Tables {
         plain: _,
         shared,
@@ -535,10 +525,11 @@ fn two_pages_and_blank_slots(rt: HostRuntime) {
 
 #[test]
 fn lanes_follow_one_another(rt: HostRuntime) {
+    let page_64_times = done(&rt, same_items(rt.alloc(), "0", 64));
     for (text, pages, story) in [
         ("2:0+1", 100, PAIRS),
         ("3:0+1,2", 100, MIXED),
-        (PAGE_64_TIMES, 2, WHOLE_WORDS),
+        (page_64_times.as_str(), 2, WHOLE_WORDS),
         (OF_65_AMONG_PAIRS, 100, AMONG_WIDE_SHEETS),
     ] {
         told(&rt, rt.alloc(), text, pages, story);

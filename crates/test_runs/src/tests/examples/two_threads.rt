@@ -35,11 +35,7 @@ impl<'w> Gate for Written<'w> {
 fn run_written<R: Threads + Wait + Sync + Abort>(rt: &R, alloc: Global) -> (usize, u32) {
     let words = Words::new();
     let gate = Written { words: &words };
-    let trial = Trial {
-        document: TWO_PAGES,
-        items: "0",
-        counts: (1, 1),
-    };
+    let trial = Trial::new(TWO_PAGES, "0", (1, 1));
     let mut sink = LimitedSink::new(&words, usize::MAX);
     let report = done(rt, run_into(rt, alloc, &trial, &gate, &mut sink));
     (words.run_out.load(SeqCst), report.swept)
@@ -104,11 +100,7 @@ fn counts_of(words: &[AtomicUsize; 2]) -> (usize, usize) {
 
 /// Imposes two pages on two sheets, with this gate.
 fn run_counted<R: Threads + Wait + Sync + Abort>(rt: &R, alloc: Global, gate: &Counted) {
-    let trial = Trial {
-        document: TWO_PAGES,
-        items: "0",
-        counts: (2, 2),
-    };
+    let trial = Trial::new(TWO_PAGES, "0", (2, 2));
     report_of(rt, alloc, &trial, gate);
 }
 

@@ -133,11 +133,7 @@ fn runs_by_few_and_by_many(rt: HostRuntime) {
         (8, TWO_UP, (16, 16)),
     ] {
         let document = done(&rt, document_of(rt.alloc(), pages));
-        let trial = Trial {
-            document: &document,
-            items,
-            counts,
-        };
+        let trial = Trial::new(&document, items, counts);
         refuse_each(&rt, rt.alloc(), &trial, ON_TIME, false);
     }
 }
@@ -147,11 +143,7 @@ fn runs_by_few_and_by_many(rt: HostRuntime) {
 fn runs_whose_sheets_wait_for_their_turn(rt: HostRuntime) {
     let document = large_pages(&rt, rt.alloc(), 12, 10_000);
     for counts in [(1, 1), (2, 3)] {
-        let trial = Trial {
-            document: &document,
-            items: "0",
-            counts,
-        };
+        let trial = Trial::new(&document, "0", counts);
         refuse_each(&rt, rt.alloc(), &trial, ON_TIME, true);
     }
 }
@@ -169,11 +161,7 @@ fn runs_whose_first_sheet_comes_last(rt: HostRuntime) {
         (many.as_str(), "-0", (1, 1), ON_TIME),
         (many.as_str(), "0", (2, 1), LATE),
     ] {
-        let trial = Trial {
-            document,
-            items,
-            counts,
-        };
+        let trial = Trial::new(document, items, counts);
         refuse_each(&rt, rt.alloc(), &trial, gate, true);
     }
 }

@@ -1,5 +1,4 @@
 //! Tests that make tables, queues and shelves, some of them as large as the limits allow. With enough memory all of them can be made.
-use crate::tests::PAGE_65_TIMES;
 use crate::tests::checks::{assert_that, done};
 use gather_table::{GatherTable, PlainTable};
 use handover::{Ready, Shelf};
@@ -8,7 +7,7 @@ use sheet_plan::Plan;
 use sheet_writer::ReorderBuffer;
 use std::alloc::Global;
 use std::process::Abort;
-use test_tools::{BOOKLET, Refused, has_refused, refuse, refuse_each};
+use test_tools::{BOOKLET, Refused, has_refused, refuse, refuse_each, same_items};
 
 /// Returns whether a growth was refused while this object was made. Asserts that making it failed exactly in that case.
 fn is_refused<R: Abort, T: Drop, E: Drop>(rt: &R, alloc: Global, made: Result<T, E>) -> bool {
@@ -57,9 +56,10 @@ impl<'t, R: Abort> Refused<R> for Made<'t> {
 // The last plan has the most pages, sheets and places.
 #[test]
 fn tables_queues_and_shelves(rt: HostRuntime) {
+    let page_65_times = done(&rt, same_items(rt.alloc(), "0", 65));
     for (items, pages, sheets) in [
         (BOOKLET, 5, 4),
-        (PAGE_65_TIMES, 5, 5),
+        (page_65_times.as_str(), 5, 5),
         ("0+0+0+0", 1_000_000, 1_000_000),
     ] {
         let made = Made {
