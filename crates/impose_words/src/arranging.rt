@@ -113,22 +113,17 @@ pub(crate) const NO_MARKS: Marks = Marks {
 pub(crate) fn booklet_marks_named(text: &str) -> Option<Marks>
     ensures { result ≡ meaning.booklet_marks_named text.now }
 {
-    match text {
-        "fold" => Some(Marks {
-            fold: true,
-            ..NO_MARKS
-        }),
-        "cut" => Some(Marks {
-            cut: true,
-            ..NO_MARKS
-        }),
-        "fold,cut" | "cut,fold" => Some(Marks {
-            fold: true,
-            cut: true,
-            ..NO_MARKS
-        }),
-        _ => None,
-    }
+    let (fold, cut) = match text {
+        "fold" => (true, false),
+        "cut" => (false, true),
+        "fold,cut" | "cut,fold" => (true, true),
+        _ => return None,
+    };
+    Some(Marks {
+        fold,
+        cut,
+        ..NO_MARKS
+    })
 }
 
 /// The marks that the text names for sheets that are cut but not folded. `None` for a text other than `cut`.

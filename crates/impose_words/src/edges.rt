@@ -164,29 +164,16 @@ fn edge_in(edges: Edges, text: &str, is_listed: bool) -> Option<Edges>
 fn with_edge(edges: Edges, name: &str, margin: Grains) -> Option<Edges>
     ensures { result ≡ meaning.with_edge edges name.now margin }
 {
+    let mut edges = edges;
     match name {
-        "inner" => Some(Edges {
-            inner: once(edges.inner, margin)?,
-            ..edges
-        }),
-        "left" => Some(Edges {
-            left: once(edges.left, margin)?,
-            ..edges
-        }),
-        "right" => Some(Edges {
-            right: once(edges.right, margin)?,
-            ..edges
-        }),
-        "top" => Some(Edges {
-            top: once(edges.top, margin)?,
-            ..edges
-        }),
-        "bottom" => Some(Edges {
-            bottom: once(edges.bottom, margin)?,
-            ..edges
-        }),
-        _ => None,
+        "inner" => edges.inner = once(edges.inner, margin)?,
+        "left" => edges.left = once(edges.left, margin)?,
+        "right" => edges.right = once(edges.right, margin)?,
+        "top" => edges.top = once(edges.top, margin)?,
+        "bottom" => edges.bottom = once(edges.bottom, margin)?,
+        _ => return None,
     }
+    Some(edges)
 }
 
 /// This margin, for an edge whose margin was `before`. `None` if the edge already had a margin.

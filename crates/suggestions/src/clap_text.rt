@@ -21,23 +21,16 @@ pub(crate) struct Quoted<'t> {
 
 /// The words that clap's text about a mistake of this kind has in quotes.
 pub(crate) fn quoted_words(kind: ErrorKind, text: &str) -> Quoted<'_> {
-    match kind {
-        ErrorKind::UnknownArgument => Quoted {
-            refused: between_quotes(text).unwrap_or(""),
-            meant: match text.split_once(SIMILAR_OPTION) {
-                Some((_, tip)) => between_quotes(tip),
-                None => None,
-            },
-        },
-        ErrorKind::InvalidSubcommand => Quoted {
-            refused: between_quotes(text).unwrap_or(""),
-            meant: None,
-        },
-        _ => Quoted {
-            refused: "",
-            meant: None,
-        },
-    }
+    let word = between_quotes(text).unwrap_or("");
+    let (refused, meant) = match kind {
+        ErrorKind::UnknownArgument => {
+            let similar = text.split_once(SIMILAR_OPTION);
+            (word, similar.and_then(|(_, tip)| between_quotes(tip)))
+        }
+        ErrorKind::InvalidSubcommand => (word, None),
+        _ => ("", None),
+    };
+    Quoted { refused, meant }
 }
 
 const SIMILAR_OPTION: &str = "  tip: a similar argument exists: ";
