@@ -253,7 +253,8 @@ fn scheme_for(layout: &Layout, spacing: &Spacing, cells: Cells) -> Scheme
         },
         Layout::Notes { pages } => Scheme::Grid { cells: *pages },
         Layout::Zine => Scheme::Zine,
-        _ => Scheme::Grid { cells },
+        Layout::NUp(_) | Layout::Booklet { .. } | Layout::Poster(_) => Scheme::Grid { cells },
+        Layout::Spec(_) | Layout::SpecRow { .. } | Layout::Selection => Scheme::Grid { cells },
     }
 }
 

@@ -40,7 +40,9 @@ fn push_guides(laying: &Laying<'_>, guides: &mut Vec<Guide>) -> Result<(), Alloc
             Scheme::Grid { .. } => push_margin(&setting.room, guides),
             Scheme::Booklet { .. } => push_lines(GuideKind::Fold, setting, guides),
             Scheme::Zine => push_lines(GuideKind::Fold, setting, guides),
-            _ => push_lines(GuideKind::Cut, setting, guides),
+            Scheme::Cards { .. } | Scheme::Stack { .. } | Scheme::Leaves => {
+                push_lines(GuideKind::Cut, setting, guides)
+            }
         },
         Laying::Poster { poster } => push_margin(&tile_room(poster), guides),
     }
@@ -62,9 +64,10 @@ fn push_notes(
                 push_note_guides(lines.as_slice(), guides)?;
                 Ok(())
             }
-            _ => Ok(()),
+            Scheme::Cards { .. } | Scheme::Stack { .. } | Scheme::Leaves => Ok(()),
+            Scheme::Booklet { .. } | Scheme::Zine => Ok(()),
         },
-        _ => Ok(()),
+        Laying::AsTheyAre { .. } | Laying::BySpec { .. } | Laying::Poster { .. } => Ok(()),
     }
 }
 

@@ -22,7 +22,8 @@ pub(crate) fn limit_in(laying: &Laying<'_>, entries: usize) -> Option<MadeError>
     match laying {
         Laying::InCells { scheme, .. } => match scheme {
             Scheme::Cards { cells } => limit_passed(entries as u128, u128::from(*cells)),
-            _ => None,
+            Scheme::Grid { .. } | Scheme::Stack { .. } | Scheme::Leaves => None,
+            Scheme::Booklet { .. } | Scheme::Zine => None,
         },
         Laying::Poster { poster } => {
             let tiles = u128::from(poster.rows) * u128::from(poster.columns);

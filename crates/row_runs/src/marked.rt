@@ -26,12 +26,16 @@ pub(crate) fn strokes_of(
             Scheme::Grid { .. } => cut_and_ruled(alloc, marks, setting),
             Scheme::Booklet { .. } => booklet_strokes(alloc, marks, setting),
             Scheme::Zine => Ok(Vec::new(alloc)),
-            _ => cut_if(alloc, marks.cut, setting),
+            Scheme::Cards { .. } | Scheme::Stack { .. } | Scheme::Leaves => {
+                cut_if(alloc, marks.cut, setting)
+            }
         },
         Laying::Poster { poster } if marks.cut => {
             tile_marks(alloc, &tile_room(poster), tiles_of(poster), poster.overlap)
         }
-        _ => Ok(Vec::new(alloc)),
+        Laying::AsTheyAre { .. } | Laying::BySpec { .. } | Laying::Poster { .. } => Ok(Vec::new(
+            alloc,
+        )),
     }
 }
 
