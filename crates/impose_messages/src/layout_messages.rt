@@ -21,7 +21,7 @@ pub(crate) fn layout_text(
         ArrangementError::NothingLeftOfPage =>
             "nothing is left of a page that is trimmed so: trim less",
         ArrangementError::UnevenMargins =>
-            "margins are alike along opposite edges of what is folded or printed on both sides, and along all edges of a poster",
+            "what is folded or printed on both sides needs equal margins at opposite edges, and a poster at all edges",
         ArrangementError::FoldOnLongEdge => return fold_text(context),
         ArrangementError::NoRoom(room) => return no_room_text(context.alloc, room),
         ArrangementError::ScaleOutOfRange if context.is_scaled =>
@@ -29,7 +29,7 @@ pub(crate) fn layout_text(
         ArrangementError::ScaleOutOfRange =>
             "the pages would be too small or too large on the sheet: name other papers by --paper and --sheet",
         ArrangementError::ScaleTooLarge =>
-            "pages of this scale are larger than their cells: take a smaller one",
+            "pages of this scale are larger than their cells: take a smaller scale, or smaller margins (0.01 mm for an exact fit)",
         ArrangementError::CreepOverFold =>
             "there is no room at the fold for leaves to creep so far: take a smaller --creep or a larger --gap",
         ArrangementError::NoMemory => OUT_OF_MEMORY,

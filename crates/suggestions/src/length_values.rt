@@ -56,9 +56,13 @@ fn no_unit_wording(
     } else {
         format!(in alloc; "{shown} in '")?
     };
-    let after = format!(in alloc;
-        "' after --{id} has no unit: write {shown}cm, {shown}mm, {shown}in or {shown}pt{units}"
-    )?;
+    let after = if option == OptionId::Numbers {
+        format!(in alloc; "' after --{id} has no unit: write {shown}pt")?
+    } else {
+        format!(in alloc;
+            "' after --{id} has no unit: write {shown}cm, {shown}mm, {shown}in or {shown}pt{units}"
+        )?
+    };
     Ok(Wording { before, after })
 }
 

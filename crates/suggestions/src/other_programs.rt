@@ -67,7 +67,6 @@ const OF_OTHERS: &[Tip] = tips! {
         "without an option a booklet is for printers that flip on the short edge: leave it out",
     "--copies" | "--repeat" =>
         "each page is on a sheet several times by: impose cards 2 in.ps out.ps; and the document several times after itself by --pages 1-,1-",
-    "--blank" | "--insert" => "a blank page is named among the others, as in: --pages 1,blank,2-",
     "--verbose" | "-v" => "there is no longer report; --plan prints which page is where",
     "--dry-run" => "--plan prints which page is where on each sheet, and imposes nothing",
     "-n" | "-N" | "--nup" | "--up" | "--number-up" | "--per-page" | "--pages-per-sheet" =>
@@ -84,8 +83,6 @@ const OF_OTHERS: &[Tip] = tips! {
     "--odd-pages" | "--even-pages" | "--page-set" =>
         "every second page is taken by --odd or --even, as in: impose select 1- --odd in.ps out.ps",
     "--version" => "the version is printed without a command: impose --version",
-    "-d" | "--frame" | "--frames" | "--draw" | "--line" | "--page-border" =>
-        "a line round each page is drawn by --border, as in: impose nup 2 --border 1pt in.ps out.ps",
     "-s" | "--zoom" | "--factor" =>
         "the scale of pages is named by --scale, as in: impose nup 2 --scale 0.7 in.ps out.ps",
     "-c" | "--column" | "--column-major" =>
@@ -98,18 +95,10 @@ const OF_OTHERS: &[Tip] = tips! {
 
 /// Further tips on options of other programs. One table with all tips would be too long for the prover.
 const FURTHER: &[Tip] = tips! {
-    "--inner-margin" | "--outer-margin" | "--top-margin" | "--bottom-margin" | "--left-margin"
-    | "--right-margin" | "--inner" =>
-        "margins are named by their edges, as in: impose nup 1 --margin inner=2cm,top=1cm in.ps out.ps",
     "-b" | "--delta" | "--spacing" | "--gutter" | "--padding" | "--space" =>
         "room between pages is kept by --gap, as in: impose nup 4 --gap 5mm in.ps out.ps",
     "-w" | "-W" | "-H" | "--width" | "--height" =>
         "a size is one word, that of the sheets as in: --sheet 210x297mm, and that of the pages after --paper",
-    "-P" | "--size" | "--papersize" | "--paper-size" | "--pagesize" | "--page-size" | "--media"
-    | "--format" | "--paper_size" | "--fitpaper" =>
-        "the paper of the pages comes after --paper, that of the sheets after --sheet, as in: --sheet a4",
-    "-a" | "--a4paper" | "--a4" | "--a5paper" | "--letterpaper" | "--letter" =>
-        "the paper of the sheets comes after --sheet, as in: --sheet a4",
     "--offset" | "--shift" | "--move" =>
         "pages are moved by a specification, as in: impose spec '0(5mm,0)' in.ps out.ps",
     "--clip" | "--crop" | "--viewport" | "--cut" =>
@@ -126,21 +115,17 @@ const FURTHER: &[Tip] = tips! {
         "a booklet is bound at the left without an option, and at the right by: impose booklet --rtl in.ps out.ps",
     "--twoside" | "--twosided" | "--two-sided" | "--double-sided" | "--sides" =>
         "which sides are printed is for the printer to know, as in: impose booklet in.ps | lp -o sides=two-sided-short-edge",
-    "--tumble" | "--long" | "--flip-long-edge" =>
+    "--tumble" | "--long" | "--flip" | "--flip-other-edge" | "--flip-long-edge" =>
         "a booklet flips on the short edge; on the long one by: impose booklet --long-edge in.ps out.ps",
     "--fit" | "--scaling" | "--fit-page" | "--fit-to-page" | "--shrink" | "--scale-to-fit"
     | "--autoscale" | "--noautoscale" | "--no-scale" | "--actual-size" =>
         "pages are as large as they fit; in their own size by: impose nup 2 --scale 1 --sheet a3 in.ps out.ps",
     "--center" | "--centre" | "--centered" | "--align" =>
         "pages are in the middle of their cells without an option: leave it out",
-    "--pagenumbers" | "--page-numbers" | "--number" | "--numbering" =>
-        "pages are numbered by --numbers, as in: impose nup 2 --numbers 10pt in.ps out.ps",
     "--first" | "--first-page" | "--firstpage" | "--last" | "--last-page" | "--lastpage"
     | "--from" | "--to" | "--start" | "--end" | "--page" | "--range" | "--ranges"
     | "--page-range" | "--page-ranges" =>
         "pages are named by their numbers, as in: --pages 3-8, and after select without an option",
-    "--sheets" | "--pages-per-signature" | "--signature-size" | "--leaves" =>
-        "leaves are folded some at a time by a number of sides, as in: impose booklet --signature 16 in.ps out.ps",
     "--booklet" | "--book" | "--brochure" => "booklet is a command: impose booklet in.ps out.ps",
     "--poster" | "--poster-size" | "--tile" | "--tiles" =>
         "poster is a command: impose poster 2x2 in.ps out.ps",
@@ -152,7 +137,7 @@ const FURTHER: &[Tip] = tips! {
         "a blank before the first page opens at the right: --pages blank,1-",
     "--cover" =>
         "a cover for other paper is: impose booklet --pages 1-2,_2-_1 in.ps out.ps; the rest is --pages 3-_3",
-    "--mirror" | "--reflect" | "--flip" | "--flip-other-edge" =>
+    "--mirror" | "--reflect" =>
         "pages are mirrored by the printer: lp -o mirror out.ps",
 };
 
@@ -166,26 +151,31 @@ const OF_PRINTING: &[Tip] = tips! {
         "pages wider than high are turned by --turn wide, as in: impose nup 2 --turn wide in.ps out.ps",
     "--doublepages" | "--doublepagestwist" | "--doublepagestwistodd" | "--duplicatepages" =>
         "each page is on a sheet several times by: impose cards 2 in.ps out.ps",
-    "--templatesize" | "--sheet-size" | "--sheetsize" | "--a3paper" | "--a3" | "--b5paper"
-    | "--legalpaper" | "--executivepaper" =>
+    "-a" | "--a4paper" | "--a4" | "--a5paper" | "--letterpaper" | "--letter" | "--templatesize"
+    | "--sheet-size" | "--sheetsize" | "--a3paper" | "--a3" | "--b5paper" | "--legalpaper"
+    | "--executivepaper" =>
         "the paper of the sheets comes after --sheet, as in: --sheet a4",
-    "--paper-format" | "--papertype" | "--paper-type" =>
+    "-P" | "--size" | "--papersize" | "--paper-size" | "--pagesize" | "--page-size" | "--media"
+    | "--format" | "--paper_size" | "--fitpaper" | "--paper-format" | "--papertype" | "--paper-type" =>
         "the paper of the pages comes after --paper, that of the sheets after --sheet, as in: --sheet a4",
     "--exclude" | "--skip-pages" | "--omit" =>
         "pages are left out by naming the others, as in: impose nup 2 --pages 1,3- in.ps out.ps",
-    "--blank-pages" | "--blanks" =>
+    "--blank" | "--insert" | "--blank-pages" | "--blanks" =>
         "a blank page is named among the others, as in: --pages 1,blank,2-",
-    "--sheets-per-booklet" =>
+    "--sheets" | "--pages-per-signature" | "--signature-size" | "--leaves" | "--sheets-per-booklet" =>
         "leaves are folded some at a time by a number of sides, as in: impose booklet --signature 16 in.ps out.ps",
-    "--margin-left" | "--margin-right" | "--margin-top" | "--margin-bottom" | "--margin-inner" =>
+    "--inner-margin" | "--outer-margin" | "--top-margin" | "--bottom-margin" | "--left-margin"
+    | "--right-margin" | "--inner" | "--margin-left" | "--margin-right" | "--margin-top"
+    | "--margin-bottom" | "--margin-inner" =>
         "margins are named by their edges, as in: impose nup 1 --margin inner=2cm,top=1cm in.ps out.ps",
     "--hspace" | "--vspace" =>
         "room between pages is kept by --gap, across and upwards, as in: impose nup 4 --gap 5mm,1cm in.ps out.ps",
     "--trim-left" | "--trim-right" | "--trim-top" | "--trim-bottom" | "--crop-box" =>
         "all edges of pages are left out by one length, as in: impose nup 2 --trim 15mm in.ps out.ps",
-    "--border-width" | "--line-width" =>
+    "-d" | "--frame" | "--frames" | "--draw" | "--line" | "--page-border" | "--border-width"
+    | "--line-width" =>
         "a line round each page is drawn by --border, as in: impose nup 2 --border 1pt in.ps out.ps",
-    "--pagenumber" | "--bates" =>
+    "--pagenumbers" | "--page-numbers" | "--number" | "--numbering" | "--pagenumber" | "--bates" =>
         "pages are numbered by --numbers, as in: impose nup 2 --numbers 10pt in.ps out.ps",
     "--resize" => "pages are scaled to another paper by: impose nup 1 --sheet a5 in.ps out.ps",
     "--input" | "--infile" =>
