@@ -851,7 +851,7 @@ init
 	/* RunInput::collect, take_turn */
 	hand_to_sink(0, 0);
 	do
-	:: halted -> break
+	:: halted || next == S -> break
 	:: else ->
 #ifndef BAD_IMPOSERS_READ_LATE
 		none_left = (imposers_left == 0);

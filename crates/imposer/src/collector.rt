@@ -47,7 +47,8 @@ impl<'s, 'r, 't, 'd, 'a, T: SheetTexts, G: Gate, S: Sink> Collector<CollectorSta
         IsProgress input.shared.now.floor.job.now (S.seen old.sink.now) (S.seen new.sink.now) new.progress
         × IsDeskOf input.shared.now.floor.job.now new.desk.now };
 
-    /// Writes the header. Then takes finished sheets from the channel and writes them, until all imposers have ended or nothing more may be written.
+    /// Writes the header. Then takes finished sheets from the channel and writes them, until all are written, all imposers have ended, or nothing more
+    /// may be written.
     fn collect<R: Wait>(&self, rt: &R, state: &mut CollectorState<'a, 'r, S>) {
         state.progress = write_text(state.sink, state.progress, state.desk.header.as_slice());
         if state.progress.halted.is_some() {
@@ -63,7 +64,7 @@ impl<'s, 'r, 't, 'd, 'a, T: SheetTexts, G: Gate, S: Sink> Collector<CollectorSta
 }
 
 /// Takes one message from the channel and writes the sheets that are next in order. If there is no message, but one may still come, waits for a short
-/// time. Returns false if no further message will come, or if nothing more may be written.
+/// time. Returns false if all sheets are written, if no further message will come, or if nothing more may be written.
 fn take_turn<'r, R: Wait, T: SheetTexts, G: Gate, S: Sink>(
     rt: &R,
     input: &RunInput<'_, 'r, '_, '_, T, G>,
@@ -113,5 +114,6 @@ fn take_turn<'r, R: Wait, T: SheetTexts, G: Gate, S: Sink>(
     );
     shared.window.come_to(state.progress.next);
     idling.end();
-    state.progress.halted.is_none()
+    // After the last sheet the caller waits for the threads themselves, which wake it when they end.
+    state.progress.halted.is_none() && state.progress.next < shared.floor.job.sheets()
 }

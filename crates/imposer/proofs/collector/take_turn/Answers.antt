@@ -12,5 +12,8 @@ write_early-state-requires g c κs =
     let early = c.put.ensures.early job (have_of_job g.T.SheetTexts.text job ruled.job.now c.in-Ok.batch c.args.input.now.same_job ruled.texts c.in-Ok.ensures.rule) c.requires.desk.early in
     ((refl, tt), (c.requires.countable, (c.requires.going, early)))
 
-pub returns-clause-desk : goal.returns-clause-desk
-returns-clause-desk g c = record { header = c.requires.desk.header; trailer = c.requires.desk.trailer; early = c.write_early-state.ensures.early }
+pub returns-then-is_none-clause-desk : goal.returns-then-is_none-clause-desk
+returns-then-is_none-clause-desk g c = record { header = c.requires.desk.header; trailer = c.requires.desk.trailer; early = c.write_early-state.ensures.early }
+
+pub returns-else-is_none-clause-desk : goal.returns-else-is_none-clause-desk
+returns-else-is_none-clause-desk g c = record { header = c.requires.desk.header; trailer = c.requires.desk.trailer; early = c.write_early-state.ensures.early }

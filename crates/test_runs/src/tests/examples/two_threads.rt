@@ -118,5 +118,5 @@ fn a_gate_is_called_before_each_step_and_look_and_after_it(rt: HostRuntime) {
     let (before, after) = counts_of(&gate.looks_at_queue);
     assert_that(&rt, before == after && before >= 4);
     let (before, after) = counts_of(&gate.looks_at_channel);
-    assert_that(&rt, before == after && before >= 2);
+    assert_that(&rt, before == after && before >= 1);
 }
