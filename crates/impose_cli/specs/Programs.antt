@@ -7,7 +7,7 @@ use Rattle.std.specs.declared.io.ErrorKind.TheVariants.{OutOfMemory}
 use Rattle.clap.specs.Words.{Text}
 use Rattle.world.specs.Outputs.{reported_if}
 use Rattle.world.specs.Input.{document_in, most_bytes}
-use Rattle.world.specs.Rests.{has_output}
+use Rattle.world.specs.Rests.{has_output, shown}
 use Rattle.world.specs.Worlds.{HasGranted, WasAsked, WorldView, opening}
 use Rattle.rules.specs.Papers.{Paper}
 use Rattle.paper_names.specs.Home.{default_paper}
@@ -184,17 +184,25 @@ abbrev pub IsCreatedFor : {W O : Type 0} → Result Done ImposeFault → (rest :
 IsCreatedFor (Ok what) rest = ⊤
 IsCreatedFor (Err f) rest = (has_output rest ≡ false) ⊎ AfterWrite f (λ n. ⊤) (λ n. ⊤)
 
+-- what the program finds around it: what inputs give, which files are regular, which are the same as the input, whether standard output
+-- is a terminal, and what is seen of the world and its outputs
+pub record Surroundings (W O : Type 0) : Type 0 where
+  pub gives : Inputs
+  pub regular : W → RegularFiles
+  pub same : SameFiles
+  pub terminal : Option Bool
+  pub edge : Edge W O
+
 -- How the program ends: the words are refused, and the world is back; or they make a request, with the paper at home; OUTFILE is looked at,
 -- and this comes of it.
-abbrev pub EndsProgram : {W O : Type 0} → (seen : W → WorldView) → (words : List Text) → (variable : List ℕ) → Inputs
-    → (regular : W → RegularFiles) → SameFiles → (terminal : Option Bool) → (edge : Edge W O) → Option ImposeRequest → Result Done ImposeFault → (world : W)
-    → (rest : Rest W O) → (written : Option (List ℕ)) → Type 0
-EndsProgram seen words variable gives regular same terminal edge None (Ok what) world rest written = ⊥
-EndsProgram seen words variable gives regular same terminal edge None (Err (fault.Command f)) world rest written =
-    RefusesCommand words f × (rest ≡ World world)
-EndsProgram seen words variable gives regular same terminal edge None (Err other) world rest written = ⊥
-EndsProgram {W} seen words variable gives regular same terminal edge (Some r) outcome world rest written =
+abbrev pub EndsProgram : {W O : Type 0} → (words : List Text) → (variable : List ℕ) → Surroundings W O → Option ImposeRequest
+    → Result Done ImposeFault → (world : W) → (rest : Rest W O) → Type 0
+EndsProgram words variable around None (Ok what) world rest = ⊥
+EndsProgram words variable around None (Err (fault.Command f)) world rest = RefusesCommand words f × (rest ≡ World world)
+EndsProgram words variable around None (Err other) world rest = ⊥
+EndsProgram {W} words variable around (Some r) outcome world rest =
     Entered words (λ name found. ReadsRequest name found r) × (looked : W)
-    × FindsHome variable gives (regular world) (seen world) (seen looked) r.default_paper
-    × (found : W) × (foreign : Bool) × FindsForeign r gives (regular looked) same (seen looked) (seen found) foreign
-    × EndsRequest seen r gives same terminal foreign edge outcome found rest written
+    × FindsHome variable around.gives (around.regular world) (around.edge.seen world) (around.edge.seen looked) r.default_paper
+    × (found : W) × (foreign : Bool)
+    × FindsForeign r around.gives (around.regular looked) around.same (around.edge.seen looked) (around.edge.seen found) foreign
+    × EndsRequest around.edge.seen r around.gives around.same around.terminal foreign around.edge outcome found rest (shown around.edge.shows rest)

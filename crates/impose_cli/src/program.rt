@@ -66,10 +66,15 @@ pub fn impose<R: Threads + Wait + Sync, W: World>(
     mut world: W,
 ) -> Ended<W>
     requires countable { (W.seen world).failures + 2 < u64.MAX }
-    ensures ended { EndsProgram W.seen (map string_bytes words.now) paper_size.now (W.gives world) W.regular
-        (W.same world) (W.terminal world) (edge_of_world (W.reports_outputs world) W.seen W.Output.seen) result.request result.outcome world result.rest (shown W.Output.seen result.rest) }
-    // If the request is refused, no output has been created, and the world is given back. If an output has been created, it has all bytes that were
-    // to be written, or a write failed, or memory ran out.
+    ensures ended { EndsProgram (map string_bytes words.now) paper_size.now (record {
+      gives = W.gives world;
+      regular = W.regular;
+      same = W.same world;
+      terminal = W.terminal world;
+      edge = edge_of_world (W.reports_outputs world) W.seen W.Output.seen;
+    }) result.request result.outcome world result.rest }
+    // If the request is refused, no output has been created, and the world is given back. If an output has been created, the request
+    // was carried out, or a write failed, or memory ran out.
     ensures created { IsCreatedFor result.outcome result.rest }
 {
     match read_command(alloc, words) {
