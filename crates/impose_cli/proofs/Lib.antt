@@ -15,3 +15,4 @@ pub mod Programs
 pub mod TakenPages
 pub mod ReachingTaken
 mod Guarding
+pub mod Places

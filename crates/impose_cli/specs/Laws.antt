@@ -1,13 +1,14 @@
 -- What holds of what impose wrote.
 use Rattle.std.proofs.Common.{inl, inr}
-use Rattle.std.specs.Prelude.{◌≡◌, ℕ, ◌<◌, ◌≤◌, List, ◌∷◌, ◌++◌, length, Option, None, Some, Ok}
+use Rattle.std.specs.Prelude.{◌≡◌, ℕ, Bool, ◌<◌, ◌≤◌, List, ◌∷◌, ◌++◌, length, Option, None, Some, Ok}
+use Rattle.std.specs.Io.KnownBytes.{Appends}
 use Rattle.rules.specs.Papers.{Paper}
 use Rattle.rules.specs.Parts.{NestedUnit, page_run, pages, trailer}
 use Rattle.rules.specs.Sheets.{Slot, sheets}
 use Rattle.rules.specs.Output.{Border, Frame}
 use Rattle.rules.specs.Run.{document_of, most_input_bytes}
 use Rattle.dsc.specs.Units.{units_of}
-use Rattle.rules.specs.Choice.{imposed_row}
+use Rattle.rules.specs.Choice.{imposed_row, sides_for}
 use Rattle.rules.specs.Made.{MadeSheet}
 use Rattle.rules.specs.Rows.{Row}
 use Rattle.row_sheets.specs.RowSheets.{selected}
@@ -16,10 +17,19 @@ use Rattle.imposed_again.specs.Again.{IsAgain, open_depth, sheet_texts}
 use Rattle.imposed_again.specs.MadeAgain.{IsMadeAgain, made_texts}
 use Rattle.papers.specs.Reported.{reporting}
 use Rattle.dressing.specs.Numbered.{drawn_on}
-use Rattle.row_runs.specs.Runs.{border_on, drawn_of}
+use Rattle.layouts.specs.declared.setting.Setting.{Setting}
+use Rattle.rows.specs.Sewing.{signing_of}
+use Rattle.rows.specs.declared.sewing.Signing.{Signing}
+use Rattle.row_runs.specs.ReadAsBound.{AreReadAs}
+use Rattle.row_runs.specs.Runs.{AreTurned, border_on, drawn_of, output_on}
+use Rattle.row_runs.specs.Sheets.{laying_for, leaves_in, row_printed, sewn}
+use Rattle.row_runs.specs.Turning.{turn_on}
+use Rattle.row_runs.specs.Written.{AreInTheirCells, AreReadInOrder, KeepTheirRoom, NoneIsTurned, StandAsWritten}
+use Rattle.row_runs.specs.declared.run.RowJob.{RowJob}
+use Rattle.row_runs.specs.declared.sheet_request.Scheme.TheVariants as scheme
 use Rattle.row_runs.specs.declared.sheet_request.Laying.{Laying}
 use Rattle.row_runs.specs.declared.sheet_request.Laying.TheVariants as laying
-use Rattle.impose_cli.specs.RowTasks.{LaysBy, guarded_paper}
+use Rattle.impose_cli.specs.RowTasks.{FinishesRow, LaysBy, guarded_paper}
 use Rattle.impose_cli.specs.Tasks.{FinishesSpec, frame_used}
 use Rattle.impose_words.specs.Choices.{choice_in}
 use Rattle.impose_cli.specs.Endings.{Finishes}
@@ -64,6 +74,27 @@ WroteDocument =
     (r : ImposeRequest) (input old text : List ℕ) (done : Finished)
     → (h : Finishes r input (Some old) (Some (old ++ text)) done) → length text ≤ most_input_bytes
     → IsAgainFor h text
+
+-- What was written for a job is exactly the output of sheets whose pages keep their places, as the job's laying has them: each is in its
+-- cell, and they are read in the order of the row; if no page is turned, pages are between the margins and apart
+pub record KeepsPlaces (j : RowJob) (old new : Option (List ℕ)) : Type 0 where
+  pub made : List MadeSheet
+  pub turned : AreTurned j made
+  pub written : Appends old new (output_on j made)
+  pub stand : NoneIsTurned j → StandAsWritten j.swapped j.asked.laying made
+  pub cells : AreInTheirCells (turn_on j.turns.now) j.swapped (laying_for j.asked j.papers.now turned.asked.row)
+      (leaves_in (sewn j.asked) turned.asked.row) made
+  pub room : KeepTheirRoom j.swapped (laying_for j.asked j.papers.now turned.asked.row) (leaves_in (sewn j.asked) turned.asked.row) made
+  pub read : AreReadInOrder (laying_for j.asked j.papers.now turned.asked.row) (row_printed j.asked turned.asked.row) made
+  pub bound : (t : Setting) (turned_backs : Bool) (creep : ℕ) (how : Signing)
+      → j.asked.laying ≡ laying.InCells t (scheme.Booklet turned_backs creep) → j.asked.row.signing ≡ Some how
+      → AreReadAs t.order.right_to_left turned_backs (sides_for (signing_of how) (length turned.asked.row)) turned.asked.row made
+
+-- a request that lays a row and was carried out wrote such sheets, as `impose booklet` does: a law
+abbrev pub ImposedKeepsPlaces : Type 0
+ImposedKeepsPlaces =
+    (r : ImposeRequest) (input : List ℕ) (old new : Option (List ℕ)) (done : Finished)
+    → (h : FinishesRow r input old new done) → KeepsPlaces h.job old new
 
 -- the first sheet of a laying has this paper: in cells, on posters and by a specification they all have one
 abbrev pub IsOfFirst : Laying → List Paper → Row → Paper → Type 0
