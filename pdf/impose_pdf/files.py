@@ -6,7 +6,7 @@ import signal
 import stat
 from typing import Any
 
-from pikepdf import DataDecodingError, ObjectStreamMode, Pdf, PdfError, StreamDecodeLevel
+from pikepdf import DataDecodingError, ObjectStreamMode, PasswordError, Pdf, PdfError, StreamDecodeLevel
 
 from impose_pdf import images
 from impose_pdf.making import PRODUCER
@@ -80,7 +80,7 @@ def is_foreign(name: str) -> bool:
         try:
             with Pdf.open(stream) as pdf:
                 return str(pdf.docinfo.get("/Producer")) != PRODUCER
-        except (PdfError, AttributeError, ValueError):  # /Info may be anything
+        except (PdfError, PasswordError, AttributeError, RuntimeError, ValueError):  # /Info may be anything
             return True
 
 
