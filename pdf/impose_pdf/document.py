@@ -12,7 +12,7 @@ from impose_pdf import images, notes
 from impose_pdf.forms import Forms, pictures_of
 from impose_pdf.links import Link, Ways
 from impose_pdf.pages import Box, bounds, box_of, leaves, meet, number_of, shape_of, then
-from impose_pdf.plan import Matrix, Placed, Size
+from impose_pdf.plan import POSTSCRIPT, Matrix, Placed, Size
 from impose_pdf.trees import named
 from impose_pdf.words import RANGES, pages_of, refusal, shown
 
@@ -54,8 +54,8 @@ def opened(name: str) -> Pdf:
     if first.startswith((images.JPEG, images.PNG)):
         return image(name, held)
     if b"%PDF-" not in first:
-        is_postscript = first.lstrip(b"\0").startswith(b"%!")
-        raise refusal(1, f"{shown(name)} is {'PostScript, not a PDF; use impose' if is_postscript else 'not a PDF'}")
+        kind = "PostScript, not a PDF; use impose" if POSTSCRIPT.match(first) else "not a PDF"
+        raise refusal(1, f"{shown(name)} is {kind}")
     return unlocked(name, held)
 
 

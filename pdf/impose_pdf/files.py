@@ -10,9 +10,11 @@ from pikepdf import DataDecodingError, ObjectStreamMode, PasswordError, Pdf, Pdf
 
 from impose_pdf import images
 from impose_pdf.making import PRODUCER
+from impose_pdf.plan import POSTSCRIPT
 from impose_pdf.words import Refusal, Request, refusal, shown
 
 SIGNALS = (signal.SIGHUP, signal.SIGINT, signal.SIGTERM)
+PRINTERS_JOB, BINARY_EPS = b"\x1b%-12345X", b"\xc5\xd0\xd3\xc6"  # heads of documents that impose protects too
 OTHER_ENDINGS = (".ps", ".eps", ".svg", ".gz", ".txt", ".png", ".jpg", ".jpeg")
 
 
@@ -76,7 +78,8 @@ def is_foreign(name: str) -> bool:
     with open(name, "rb") as stream:
         head = stream.read(1024)
         if b"%PDF-" not in head:
-            return head.startswith((images.JPEG, images.PNG, b"%!"))
+            heads = images.JPEG, images.PNG, PRINTERS_JOB, BINARY_EPS
+            return head.startswith(heads) or POSTSCRIPT.match(head) is not None
         try:
             with Pdf.open(stream) as pdf:
                 return str(pdf.docinfo.get("/Producer")) != PRODUCER

@@ -15,6 +15,7 @@ from impose_pdf.words import Refusal, Request, refusal, shown
 
 Matrix = tuple[float, float, float, float, float, float]
 Size = tuple[float, float]
+POSTSCRIPT = re.compile(rb"[\0\x04\t\n\f\r ]*%!")  # the head of what impose reads
 
 
 @dataclass
