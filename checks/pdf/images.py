@@ -10,9 +10,9 @@ from PIL import Image, ImageCms
 
 
 def image(lines: list[str], name: str) -> bytes:
-    """A JPEG or PNG, by its name, as size, dpi, turned, exif-dpi and exif (of a photograph), colour, right and lower
-    (the colours of these halves), profile (in which red and green are swapped), alpha, mode, packed (how hard), chunks
-    (their length), frames say."""
+    """A JPEG or PNG, by its name, as size, dpi, per-cm, turned, exif-dpi and exif (of a photograph), colour, right and
+    lower (the colours of these halves), profile (in which red and green are swapped), alpha, mode, packed (how hard),
+    chunks (their length), frames say."""
     values = dict(line.split() for line in lines)
     width, height = (int(side) for side in values["size"].split("x"))
     red, green, blue = (int(part) for part in values["colour"].split(","))
@@ -27,6 +27,8 @@ def image(lines: list[str], name: str) -> bytes:
         picture.paste((red, green, blue), (0, height // 2, width, height))
     if "dpi" in values:
         how["dpi"] = (int(values["dpi"]), int(values["dpi"]))
+    if "per-cm" in values:
+        how["dpi"] = (int(values["per-cm"]), int(values["per-cm"]))
     if "packed" in values:
         how["compress_level"] = int(values["packed"])
     exif = Image.Exif()
@@ -50,6 +52,8 @@ def image(lines: list[str], name: str) -> bytes:
         how["append_images"] = [picture.resize((16, 16))] * (int(values["frames"]) - 1)
     picture.save(out, kind, **how)
     data = out.getvalue()
+    if "per-cm" in values:  # the unit stands after the name and the version
+        data = data.replace(b"JFIF\0\1\1\1", b"JFIF\0\1\1\2", 1)
     return in_chunks(data, int(values["chunks"])) if "chunks" in values else data
 
 

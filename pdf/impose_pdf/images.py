@@ -13,6 +13,7 @@ from impose_pdf.pages import array, numerals
 
 JPEG, PNG = b"\xff\xd8\xff", b"\x89PNG\r\n\x1a\n"
 USUAL = 96, 96  # dots per inch, where an image names none
+PER_CENTIMETRE = 2  # the unit of a photograph's resolution
 COMPONENTS = {"L": 1, "RGB": 3, "CMYK": 4}
 SPACES = {1: (Name.DeviceGray, b"GRAY"), 3: (Name.DeviceRGB, b"RGB "), 4: (Name.DeviceCMYK, b"CMYK")}
 TURNS = {3: 180, 4: 180, 5: 270, 6: 90, 7: 90, 8: 270}  # by the orientation of a photograph
@@ -51,7 +52,10 @@ def exif_of(image: Any) -> Any:
 
 
 def dots_of(image: Any) -> tuple[float, float]:
-    """The dots per inch of an image. Pillow gives 72 to a photograph whose EXIF data names none."""
+    """The dots per inch of an image. Pillow knows none by the centimetre, and takes 72 where EXIF data names none."""
+    if image.info.get("jfif_unit") == PER_CENTIMETRE:
+        across, up = image.info["jfif_density"]
+        return across * 2.54, up * 2.54
     is_named = image.format == "PNG" or image.info.get("jfif_unit") or 0x11A in image.getexif()
     dots: tuple[float, float] = image.info.get("dpi", USUAL) if is_named else USUAL
     return dots
