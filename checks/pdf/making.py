@@ -339,7 +339,8 @@ class Maker:
         made.AP, made.AS, made.Subtype, made.FT = Dictionary(N=looks), self.named(state), Name.Widget, Name.Btn
 
     def do_field(self, number: str, box: str, name: str, value: str, how: str = "") -> None:
-        """A field with its value as its look; `without-look`, which readers make; or in a font of the page's own."""
+        """A field with its value as its look; `without-look`, which readers make for all fields; `bare`, which has none
+        either, and `bare-box`, a box without one; `stale`, with another value; or in a font of the page's own."""
         left, bottom, right, top = numbers(box)
         look = self.look(f"/Tx BMC q BT /F 12 Tf 2 4 Td ({value}) Tj ET Q EMC", right - left, top - bottom)
         look.Resources = Dictionary(Font=Dictionary(F=self.font))
@@ -364,9 +365,14 @@ class Maker:
             Dictionary(Fields=Array(), DR=Dictionary(Font=Dictionary(F=self.font)), DA=String("/F 12 Tf 0 g")),
         )
         form.Fields.append(made)
-        if how == "without-look":
+        if how in ("without-look", "bare", "bare-box"):
             del made.AP
+        if how == "without-look":
             form.NeedAppearances = True
+        if how == "bare-box":
+            made.FT = Name.Btn
+        if how == "stale":
+            made.V = String("stale")
         self.pdf.Root.AcroForm = form
 
     def look(self, content: str, width: float, height: float) -> Any:

@@ -129,11 +129,8 @@ class Source:
         self.put: dict[int, Any] = {}
         self.links: dict[int, list[Link]] = {}
         self.annotations: dict[int, list[Any]] = {}
-        fields = self.root.get("/AcroForm")
-        if isinstance(fields, Dictionary) and fields.get("/NeedAppearances") is True:
-            self.pdf.generate_appearance_streams()
-            for page, _ in self.pages:
-                notes.settle(page)
+        if isinstance(form := self.root.get("/AcroForm"), Dictionary):
+            notes.draw_fields(self.pdf, form, pages)
 
     def find_unshown(self, shown: set[tuple["Source", int]]) -> None:
         """Finds the forms and images of pages that aren't shown."""
