@@ -91,7 +91,7 @@ class Source:
     """An INFILE: its pages, and their shapes."""
 
     def __init__(self, name: str):
-        self.name = name
+        self.name, self.found = name, list[Any]()
         try:
             self.pdf = opened(name)
             self.root = self.pdf.Root
@@ -105,6 +105,7 @@ class Source:
             raise refusal(3, f"cannot read {shown(name)}: {(error.strerror or '').lower()}") from None
         if not self.pages:
             raise refusal(1, f"{shown(name)} has no pages")
+        self.keep_warnings()
 
     def taken(self, ranges: str) -> list[int]:
         """The pages that RANGES choose."""
@@ -172,13 +173,32 @@ class Source:
             if isinstance(file, Dictionary):
                 yield bytes(name), self.ways.brought(file)
 
+    def keep_warnings(self) -> None:
+        """Keeps what qpdf has found by now, all of which is about this PDF."""
+        self.found += self.pdf.get_warnings()
+
     def warning(self) -> str:
         """A line on what was mended, and one on pages that are lost, or nothing."""
-        found, lines = self.pdf.get_warnings(), ""
-        if found:
-            more = f", and {len(found) - 1} more" if len(found) > 1 else ""
-            lines = f"impose-pdf: {shown(self.name)} is damaged, and was mended: {cause(found[0], self.name)}{more}\n"
+        lines = damage(shown(self.name), self.found, self.name)
         if self.counted > len(self.pages):
             told = f"counts {self.counted:.0f} pages, and {len(self.pages)} can be found"
             lines += f"impose-pdf: {shown(self.name)} {told}\n"
         return lines
+
+
+def damage(which: str, found: list[Any], name: str = "") -> str:
+    """The line on what was mended in a PDF, or nothing."""
+    more = f", and {len(found) - 1} more" if len(found) > 1 else ""
+    return f"impose-pdf: {which} is damaged, and was mended: {cause(found[0], name)}{more}\n" if found else ""
+
+
+def warnings_of(sources: list[Source]) -> str:
+    """The lines on what was mended. Of a stream that was brought, qpdf names no place, and the PDF that has it now."""
+    lines, placeless = "", list[Any]()
+    for source in sources:
+        name = source.pdf.filename
+        for one in source.pdf.get_warnings():
+            is_own = len(sources) == 1 or str(one).startswith((f"{name} (", f"{name}, "))
+            (source.found if is_own else placeless).append(one)
+        lines += source.warning()
+    return lines + damage("one of the PDFs", placeless, sources[0].name)

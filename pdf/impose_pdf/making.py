@@ -60,6 +60,8 @@ class Making:
                 "/OpenAction": self.opening(),
             }
         )
+        for source in self.sources:
+            source.keep_warnings()
 
     def placed(self, sheet: Sheet) -> Iterator[tuple[Source, int, Placed]]:
         """The pages on a sheet: the INFILE and the number there of each, and how it is placed."""

@@ -105,7 +105,7 @@ def look_at_words(request: Request, program: str) -> None:
 
 def impose(request: Request, program: str) -> None:
     """Puts the pages of INFILEs on sheets."""
-    from impose_pdf.document import Source
+    from impose_pdf.document import Source, warnings_of
     from impose_pdf.files import Outfile
     from impose_pdf.making import Making
     from impose_pdf.sheets import turn_to_read
@@ -132,7 +132,7 @@ def impose(request: Request, program: str) -> None:
         outfile.write(making.pdf)
         if "--quiet" not in request.options:
             say(outfile.warning())
-    say("".join(source.warning() for source in opened.values()))
+    say(warnings_of(list(opened.values())))
     all_pages = sum(len(source.pages) for source in opened.values())
     say(reported(report, len(set(sizes)) == 1, len(set(row)), all_pages))
 
