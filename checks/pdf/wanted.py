@@ -122,16 +122,22 @@ class Source:
             for placed in sheet.pages:
                 for link in self.links_of(self.page(placed.page)):
                     goal = self.goal(link.goal, sheets) if isinstance(link.goal, Goal) else link.goal
-                    if goal is not None:
-                        found.append(Link(at, self.moved(link, placed), goal))
+                    area = self.moved(link, placed, sheet)
+                    if goal is not None and area is not None:
+                        found.append(Link(at, area, goal))
         return found
 
     def links_of(self, page: int | None) -> list[Link]:
         return [link for link in reading.links(self.pdf) if link.page == page]
 
-    def moved(self, link: Link, placed: Placed) -> Box:
-        """The box of a link on a sheet."""
-        return self.bounds(link.page, placed, link.box)
+    def moved(self, link: Link, placed: Placed, sheet: Sheet) -> Box | None:
+        """What is seen of the box of a link on a sheet: it ends where its page, the page's paper and the sheet do."""
+        sides = (min(pair) for pair in zip(self.shapes[link.page].size, placed.paper))
+        xs, ys = zip(placed.point(0, 0), placed.point(*sides))
+        left, bottom, right, top = self.bounds(link.page, placed, link.box)
+        left, right = max(left, 0, *sorted(xs)[:1]), min(right, sheet.paper[0], *sorted(xs)[1:])
+        bottom, top = max(bottom, 0, *sorted(ys)[:1]), min(top, sheet.paper[1], *sorted(ys)[1:])
+        return (left, bottom, right, top) if left <= right and bottom <= top else None
 
     def bounds(self, page: int, placed: Placed, sides: tuple[float, ...]) -> Box:
         """The sides on a sheet of a box on a page."""

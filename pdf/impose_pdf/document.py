@@ -11,7 +11,7 @@ from pikepdf import Array, Dictionary, Name, PasswordError, Pdf, PdfError
 from impose_pdf import images, notes
 from impose_pdf.forms import Forms, pictures_of
 from impose_pdf.links import Link, Ways
-from impose_pdf.pages import Box, bounds, box_of, leaves, meet, number_of, shape_of, then
+from impose_pdf.pages import Box, bounds, box_of, common, leaves, number_of, shape_of, then
 from impose_pdf.plan import POSTSCRIPT, Matrix, Placed, Size
 from impose_pdf.trees import named
 from impose_pdf.words import RANGES, pages_of, refusal, shown
@@ -159,12 +159,15 @@ class Source:
         return then(self.shapes[k].matrix, placed.matrix)
 
     def links_at(self, k: int, placed: Placed, sheet: Size) -> Iterator[Any]:
-        """The links of a page on a sheet of this size, without those that aren't seen there."""
+        """The links of a page on a sheet of this size, as far as they are seen there."""
+        if k not in self.links:
+            return
         shape, matrix = self.shapes[k], self.matrix(k, placed)
         seen: Box = (0, 0, min(shape.size[0], placed.paper[0]), min(shape.size[1], placed.paper[1]))
+        cut = common(bounds(seen, placed.matrix), (0, 0, *sheet))
         for link in self.links.get(k, ()):
-            if meet(bounds(link.box, shape.matrix), seen) and meet(bounds(link.box, matrix), (0, 0, *sheet)):
-                yield self.ways.placed(link, matrix)
+            if cut and common(bounds(link.box, matrix), cut):
+                yield self.ways.placed(link, matrix, cut)
 
     def attachments(self) -> Iterator[tuple[bytes, Any]]:
         """Its attachments, by their names."""

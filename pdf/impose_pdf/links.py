@@ -8,7 +8,7 @@ from typing import Any
 
 from pikepdf import Array, Dictionary, Name, Object, Pdf, String
 
-from impose_pdf.pages import Box, Shape, array, bounds, drop, keys_of, moved, name_of, numbers, numerals
+from impose_pdf.pages import Box, Shape, array, bounds, drop, keys_of, moved, name_of, nearest, numbers, numerals
 from impose_pdf.plan import Matrix
 from impose_pdf.trees import free, named
 
@@ -158,18 +158,19 @@ class Ways:
             corners = numbers(annotation.get("/QuadPoints"))
             yield Link(annotation, box, corners if len(corners) % 8 == 0 else [], *found)
 
-    def placed(self, link: Link, matrix: Matrix) -> Any:
-        """A link at a place of its page. At the first it is the old one itself, which saves a third of the memory."""
+    def placed(self, link: Link, matrix: Matrix, cut: Box) -> Any:
+        """A link at a place of its page, cut at a box. The first is the old one, which saves a third of the memory."""
         made, has_look = link.old, "/AP" in link.old
         if self.source is self.made and made.is_indirect and made.objgen not in self.changed:
             self.changed.add(made.objgen)
             drop(made, LOST)
         else:
             made = self.bare(made, LOST)
-        made.Rect = array(*bounds(link.box, matrix))
+        left, bottom, right, top = bounds(link.box, matrix)
+        made.Rect = array(*nearest(left, bottom, cut), *nearest(right, top, cut))
         if link.corners:
             points = zip(link.corners[::2], link.corners[1::2])
-            made.QuadPoints = array(*(value for point in points for value in moved(*point, matrix)))
+            made.QuadPoints = array(*(value for point in points for value in nearest(*moved(*point, matrix), cut)))
         if has_look:  # which is drawn, and stands for a border
             drop(made, {"/BS"})
             made.Border = array(0, 0, 0)

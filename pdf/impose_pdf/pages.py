@@ -35,9 +35,15 @@ def bounds(box: Box, m: Matrix) -> Box:
     return min(xs), min(ys), max(xs), max(ys)
 
 
-def meet(a: Box, b: Box) -> bool:
-    """Whether two boxes have a point in common."""
-    return a[0] <= b[2] and b[0] <= a[2] and a[1] <= b[3] and b[1] <= a[3]
+def common(a: Box, b: Box) -> Box | None:
+    """What two boxes have in common, or None if that isn't even a point."""
+    box = max(a[0], b[0]), max(a[1], b[1]), min(a[2], b[2]), min(a[3], b[3])
+    return box if box[0] <= box[2] and box[1] <= box[3] else None
+
+
+def nearest(x: float, y: float, box: Box) -> tuple[float, float]:
+    """The point of a box that is nearest to a point."""
+    return max(box[0], min(box[2], x)), max(box[1], min(box[3], y))
 
 
 def numerals(*values: float) -> str:
