@@ -82,21 +82,47 @@ class Source:
         """Its page at a place of the row."""
         return self.taken[row - self.first] if 0 <= row - self.first < len(self.taken) else None
 
-    def place(self, page: int, sheets: list[Sheet]) -> tuple[int, Placed] | None:
-        """The first sheet on which a page of it is, and how."""
-        return next(
-            (
-                (at, placed)
-                for at, sheet in enumerate(sheets)
-                for placed in sheet.pages
-                if self.page(placed.page) == page
-            ),
-            None,
-        )
+    def places(self, page: int, sheets: list[Sheet]) -> list[tuple[int, Placed]]:
+        """The sheets on which a page of it is, and how."""
+        return [
+            (at, placed) for at, sheet in enumerate(sheets) for placed in sheet.pages if self.page(placed.page) == page
+        ]
+
+    def place(self, goal: Goal, sheets: list[Sheet]) -> tuple[int, Placed] | None:
+        """The first sheet that has the point to which something leads, and more of the page right of and below it; or
+        the first with the page."""
+        found = self.places(goal.page, sheets)
+        if goal.kind in ("Fit", "FitB") or not found:
+            return found[0] if found else None
+        width, height = self.shapes[goal.page].size
+        x, y = self.point(goal)
+        x, y = min(max(x, 0), width - 2 * NEAR) + NEAR, max(min(y, height), 2 * NEAR) - NEAR
+        for at, placed in found:
+            across, up = placed.point(x, y)
+            width, height = sheets[at].paper
+            if 0 < across < width and 0 < up < height:
+                return at, placed
+        return found[0]
+
+    def point(self, goal: Goal) -> tuple[float, float]:
+        """The point of the page, as it is shown, to which something leads."""
+        shape = self.shapes[goal.page]
+        left, _, _, top = shape.seen
+        values = (*goal.values, None, None, None, None)
+        if goal.kind == "FitR" and None not in values[:4]:
+            corners = [shape.shown(x, y) for x in values[:4:2] for y in values[1:4:2]]  # type: ignore[arg-type]
+            return min(x for x, _ in corners), max(y for _, y in corners)
+        x, y = {
+            "XYZ": values[:2],
+            "FitR": (values[0], values[3]),
+            "FitV": (values[0], None),
+            "FitBV": (values[0], None),
+        }.get(goal.kind, (None, values[0]))
+        return shape.shown(left if x is None else x, top if y is None else y)
 
     def goal(self, goal: Goal, sheets: list[Sheet]) -> Goal | None:
         """Where a place of a page is on sheets: a sheet, and the point, or a whole sheet for a whole page."""
-        found = self.place(goal.page, sheets)
+        found = self.place(goal, sheets)
         if found is None:
             return None
         at, placed = found
@@ -104,16 +130,7 @@ class Source:
             return Goal(at, "Fit", ())
         if goal.kind == "FitR" and None not in goal.values[:4]:
             return Goal(at, "FitR", self.bounds(goal.page, placed, goal.values[:4]))  # type: ignore[arg-type]
-        left, _, _, top = self.shapes[goal.page].seen
-        values = (*goal.values, None, None, None, None)
-        x, y = {
-            "XYZ": values[:2],
-            "FitR": (values[0], values[3]),
-            "FitV": (values[0], None),
-            "FitBV": (values[0], None),
-        }.get(goal.kind, (None, values[0]))
-        point = self.shapes[goal.page].shown(left if x is None else x, top if y is None else y)
-        return Goal(at, "XYZ", placed.point(*point))
+        return Goal(at, "XYZ", placed.point(*self.point(goal)))
 
     def links(self, sheets: list[Sheet]) -> list[Link]:
         """The links that sheets have to have of this PDF."""

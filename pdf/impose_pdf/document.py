@@ -12,7 +12,7 @@ from impose_pdf import images, notes
 from impose_pdf.forms import Forms, pictures_of
 from impose_pdf.links import Link, Ways
 from impose_pdf.pages import Box, bounds, box_of, common, leaves, number_of, shape_of, then
-from impose_pdf.plan import POSTSCRIPT, Matrix, Placed, Size
+from impose_pdf.plan import POSTSCRIPT, Placed, Size
 from impose_pdf.trees import named
 from impose_pdf.words import RANGES, pages_of, refusal, shown
 
@@ -154,15 +154,12 @@ class Source:
         if found := [link for old, box in boxed if box for link in self.ways.link(old, box)]:
             self.links[k] = found
 
-    def matrix(self, k: int, placed: Placed) -> Matrix:
-        """The matrix of a page from its own space to the sheet on which it is placed."""
-        return then(self.shapes[k].matrix, placed.matrix)
-
     def links_at(self, k: int, placed: Placed, sheet: Size) -> Iterator[Any]:
         """The links of a page on a sheet of this size, as far as they are seen there."""
         if k not in self.links:
             return
-        shape, matrix = self.shapes[k], self.matrix(k, placed)
+        shape = self.shapes[k]
+        matrix = then(shape.matrix, placed.matrix)
         seen: Box = (0, 0, min(shape.size[0], placed.paper[0]), min(shape.size[1], placed.paper[1]))
         cut = common(bounds(seen, placed.matrix), (0, 0, *sheet))
         for link in self.links.get(k, ()):

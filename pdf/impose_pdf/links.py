@@ -8,14 +8,15 @@ from typing import Any
 
 from pikepdf import Array, Dictionary, Name, Object, Pdf, String
 
-from impose_pdf.pages import Box, Shape, array, bounds, drop, keys_of, moved, name_of, nearest, numbers, numerals
-from impose_pdf.plan import Matrix
+from impose_pdf.pages import Box, Shape, array, bounds, drop, keys_of, moved, name_of, nearest, numbers, numerals, then
+from impose_pdf.plan import Matrix, Placed, Size
 from impose_pdf.trees import free, named
 
 # Actions that are kept as they are. Others are scripts, or lead to notes and threads, which aren't there any more.
 KEPT_ACTIONS = {"/URI", "/GoToR", "/GoToE", "/Launch", "/Named", "/SetOCGState"}
 LOST = {"/P", "/Parent", "/Popup", "/StructParent", "/AA", "/AP", "/AS", "/Dest", "/A", "/QuadPoints"}
 DEEPEST = 100  # of actions after actions
+NEAR = 0.02  # points, which a sheet shows of a page at least where something leads to it
 TARGET = re.compile(rb"\[ ([0-9]+) (?:([0-9]+) R )?(.*)\]", re.DOTALL)  # a page by its number, or as an object
 POINTS = {b"/XYZ": (0, 1), b"/FitV": (0, None), b"/FitBV": (0, None), b"/FitH": (None, 0), b"/FitBH": (None, 0)}
 
@@ -45,7 +46,7 @@ class Ways:
     def __init__(self, source: Pdf, made: Pdf, pages: list[Any], shapes: list[Shape]):
         self.source, self.made, self.shapes = source, made, shapes
         self.numbers = {page.objgen: k for k, page in reversed(list(enumerate(pages)))}
-        self.first: dict[int, tuple[Any, Matrix]] = {}  # the first sheet of a page, and the matrix to it
+        self.places: dict[int, list[tuple[Any, Size, Placed]]] = {}  # of each page: its sheets, their papers, and how
         self.renamed: dict[bytes, bytes] = {}  # names that lead to a sheet, and what they are called there
         self.dests: dict[bytes, Any] = {}  # where they lead, by their new names
         self.old_style: Any = Dictionary()  # names that are no strings, and where they led
@@ -66,29 +67,48 @@ class Ways:
                 match = TARGET.match(Array(list(dest)).unparse(True)) or match
             page, of_page, rest = match.groups()
             target = int(page) if of_page is None else self.numbers.get((int(page), int(of_page)), -1)
-            return self.led(target, rest.split()) if target in self.first else None
+            return self.led(target, rest.split()) if target in self.places else None
         if isinstance(dest, String):
             new = self.renamed.get(bytes(dest))
             return None if new is None else String(new)
         return self.lead_value(self.old_style.get(dest)) if isinstance(dest, Name) else None
 
     def led(self, page: int, words: list[bytes]) -> Any:
-        """The destination on the first sheet of a page, by the words after the page in an old one."""
-        sheet, matrix = self.first[page]
-        left, bottom, right, top = self.shapes[page].box
+        """The destination on the first sheet with the point of an old one, by the words after the page in that."""
+        sheet, shape = self.places[page][0][0], self.shapes[page]
+        left, bottom, right, top = shape.box
         kind, values = words[0] if words else b"/Fit", [number(word) for word in words[1:]]
         if kind == b"/FitR" and len(values) == 4 and None not in values:
             a, b, c, d = (value or 0.0 for value in values)
+            area = bounds((a, b, c, d), shape.matrix)
+            sheet, matrix = self.place(page, area[0], area[3])
             text = f"/FitR {numerals(*bounds((a, b, c, d), matrix))}"
         elif kind in POINTS:
             x, y = (values[k] if k is not None and k < len(values) else None for k in POINTS[kind])
-            point = moved(left if x is None else x, top if y is None else y, matrix)
+            x, y = left if x is None else x, top if y is None else y
+            sheet, matrix = self.place(page, *moved(x, y, shape.matrix))
+            point = moved(x, y, matrix)
             text = f"/XYZ {numerals(*(round(value, 3) for value in point))} null"
         else:
             text = "/Fit"
         made = Object.parse(f"[null {text}]".encode())
         made[0] = sheet
         return made
+
+    def place(self, page: int, x: float, y: float) -> tuple[Any, Matrix]:
+        """The first sheet that shows what is right of and below a point of an upright page, and the matrix to it.
+
+        If none does, it is the first sheet of the page.
+        """
+        shape, places = self.shapes[page], self.places[page]
+        x, y = (max(NEAR, min(side - NEAR, value)) for side, value in zip(shape.size, (x + NEAR, y - NEAR)))
+        for sheet, paper, placed in places:
+            across, up = moved(x, y, placed.matrix)
+            if 0 <= across <= paper[0] and 0 <= up <= paper[1]:
+                break
+        else:
+            sheet, _, placed = places[0]
+        return sheet, then(shape.matrix, placed.matrix)
 
     def lead_names(self, root: Any, taken: set[bytes]) -> None:
         """Leads all names, which get other ones where they are taken."""

@@ -80,7 +80,7 @@ class Making:
             made.Rotate = turned
         made = self.pdf.make_indirect(made)
         for source, k, placed in self.placed(sheet):
-            source.ways.first.setdefault(k, (made, source.matrix(k, placed)))
+            source.ways.places.setdefault(k, []).append((made, sheet.paper, placed))
         return made
 
     def links(self, sheet: Sheet) -> list[Any]:
