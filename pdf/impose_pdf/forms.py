@@ -4,7 +4,17 @@ import zlib
 from copy import copy
 from typing import Any
 
-from pikepdf import Array, Dictionary, Name, Pdf, PdfError, Stream, StreamDecodeLevel, parse_content_stream
+from pikepdf import (
+    Array,
+    DataDecodingError,
+    Dictionary,
+    Name,
+    Pdf,
+    PdfError,
+    Stream,
+    StreamDecodeLevel,
+    parse_content_stream,
+)
 
 from impose_pdf.pages import UPRIGHT, Shape, array, keys_of, name_of, numerals
 from impose_pdf.plan import Matrix
@@ -38,7 +48,7 @@ def drawn_by(form: Any) -> dict[str, Any] | None:
     """The forms and images that a form draws, if these can be told."""
     try:
         names = {name_of(name) for operands, _ in parse_content_stream(form, "Do") for name in operands}
-    except PdfError:
+    except (PdfError, DataDecodingError):
         return None
     drawn = {name: form.Resources.XObject[name] for name in names if name and name in form.Resources.XObject}
     are_all = "" not in names and all(isinstance(one, Stream) and is_whole(one) for one in drawn.values())

@@ -84,9 +84,10 @@ def run(words: list[str], here: str) -> None:
         import pikepdf
     except ImportError:
         raise refusal(3, "pikepdf is missing: install python3-pikepdf") from None
+    broken = pikepdf.PdfError, pikepdf.DataDecodingError, pikepdf.ForeignObjectError
     try:
         impose(request, imposer(here))
-    except (pikepdf.PdfError, pikepdf.ForeignObjectError, RuntimeError, LookupError, TypeError, ValueError) as error:
+    except (*broken, RuntimeError, LookupError, TypeError, ValueError) as error:
         # which pikepdf has for things that a PDF mustn't have
         names = ", ".join(shown(name) for name, _ in request.infiles)
         raise refusal(1, f"{names} can't be put on sheets: {error}") from None
