@@ -27,8 +27,13 @@ def imposer(here: str) -> str:
 
 def put(text: bytes) -> None:
     """Writes to standard output."""
-    with open(1, "wb", closefd=False) as stream:
-        stream.write(text)
+    try:
+        with open(1, "wb", closefd=False) as stream:
+            stream.write(text)
+    except BrokenPipeError:
+        raise Refusal(3, "") from None  # a reader that leaves knows why
+    except OSError as error:
+        raise refusal(3, f"cannot write to standard output: {(error.strerror or '').lower()}") from None
 
 
 def say(text: str) -> None:
@@ -50,13 +55,12 @@ def main(words: list[str], here: str) -> int:
     except Refusal as refused:
         say(str(refused))
         return refused.status
-    except BrokenPipeError:
-        return 3
     except MemoryError:
         say("impose-pdf: out of memory\n")
         return 3
     except OSError as error:
-        say(f"impose-pdf: cannot write to standard output: {(error.strerror or '').lower()}\n")
+        name = f"{shown(error.filename)}: " if isinstance(error.filename, str) else ""
+        say(f"impose-pdf: {name}{(error.strerror or '').lower()}\n")
         return 3
     return 0
 
