@@ -66,7 +66,6 @@ class Forms:
     def __init__(self, pdf: Pdf, name: str):
         self.pdf, self.name = pdf, name
         self.unshown: set[tuple[int, int]] = set()  # objects that hold forms and images of pages that aren't shown
-        self.used: set[tuple[int, int]] = set()  # streams that are forms now
         self.made: dict[tuple[object, ...], Any] = {}
 
     def of(self, number: int, page: Any, resources: Any, shape: Shape, notes: list[Note]) -> Any:
@@ -109,8 +108,7 @@ class Forms:
         """The contents of a page as one stream: the very one, unless there are several or it has another use."""
         if len(streams) == 1:
             (stream,) = streams
-            if stream.objgen not in self.used and "/Type" not in stream and "/Subtype" not in stream:
-                self.used.add(stream.objgen)
+            if "/Type" not in stream and "/Subtype" not in stream:
                 return stream
             own = self.pdf.make_stream(stream.read_raw_bytes())
             for key in ("/Filter", "/DecodeParms"):

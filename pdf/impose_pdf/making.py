@@ -101,8 +101,7 @@ class Making:
         dests = {name: dest for source in self.sources for name, dest in source.ways.dests.items()}
         files = {free(name, taken): file for source in self.sources for name, file in source.attachments()}
         trees = {"/Dests": dests, "/EmbeddedFiles": files}
-        made = Dictionary({key: tree_of(things) for key, things in trees.items() if things})
-        return made if len(made.keys()) else None
+        return Dictionary({key: tree_of(things) for key, things in trees.items() if things}) or None
 
     def opening(self) -> Any:
         """What is done when the PDF is opened."""
