@@ -52,7 +52,15 @@ def drawn_by(form: Any) -> dict[str, Any] | None:
         return None
     drawn = {name: form.Resources.XObject[name] for name in names if name and name in form.Resources.XObject}
     are_all = "" not in names and all(isinstance(one, Stream) and is_whole(one) for one in drawn.values())
-    return drawn if are_all else None
+    return drawn if are_all and not has_glyphs_of_page(form.Resources) else None
+
+
+def has_glyphs_of_page(resources: Any) -> bool:
+    """Whether glyphs may draw forms and images of their page: those of Type 3 without resources of their own do."""
+    held = resources.get("/Font")
+    fonts = [held[name] for name in keys_of(held)] if isinstance(held, Dictionary) else []
+    dictionaries = [font for font in fonts if isinstance(font, Dictionary)]
+    return any(font.get("/Subtype") == Name.Type3 and "/Resources" not in font for font in dictionaries)
 
 
 def is_whole(picture: Any) -> bool:
