@@ -26,7 +26,7 @@ ROOT = Path(__file__).resolve().parent.parent.parent
 PDFS = ROOT / "cases/pdfs"
 SETTINGS = (
     *("stdin", "limit", "stdout", "signal", "user", "rights", "umask", "link", "file", "pipe", "text", "papersize"),
-    *("room", "open", "impose"),
+    *("room", "open", "impose", "copies"),
 )
 
 
@@ -52,7 +52,14 @@ class Case:
 
     @property
     def words(self) -> list[str]:
-        return [unescaped(word) for word in shlex.split(self.command)[1:]]
+        """The words; one that names copies is their names, as a shell has it."""
+        words = [unescaped(word) for word in shlex.split(self.command)[1:]]
+        return [name for word in words for name in self.copies(word) or [word]]
+
+    def copies(self, word: str) -> list[str]:
+        """The names of the copies of a document, numbered at the place of a *."""
+        pattern, _, count = self.setting("copies") or ("", "", "0")
+        return [pattern.replace("*", str(k)) for k in range(int(count))] if word == pattern else []
 
     def setting(self, name: str) -> list[str] | None:
         return next((line[1:] for line in self.settings if line[0] == name), None)
@@ -162,6 +169,9 @@ def prepared(case: Case, folder: Path) -> None:
     for kind, *rest in case.settings:
         if kind == "file":
             (folder / unescaped(rest[0])).write_bytes(case.documents[rest[1]].data)
+        elif kind == "copies":
+            for name in case.copies(rest[0]):
+                (folder / name).write_bytes(case.documents[rest[1]].data)
         elif kind == "text":
             (folder / rest[0]).write_bytes(rest[1].encode().decode("unicode_escape").encode("latin-1"))
         elif kind == "link":

@@ -395,6 +395,11 @@ class Maker:
         )
         page.Contents.write(content)
 
+    def do_layers(self, count: str) -> None:
+        """So many layers without anything in them."""
+        for number in range(int(count)):
+            self.layer(f"layer-{number}", "on")
+
     def do_note_of_layer(self, number: str, box: str, name: str, state: str) -> None:
         """A note in a layer. Such notes share one look."""
         self.do_note(number, box, name)
@@ -423,6 +428,11 @@ class Maker:
 
     def do_attachment(self, name: str, text: str) -> None:
         self.pdf.attachments[name] = pikepdf.AttachedFileSpec(self.pdf, text.encode(), filename=name)
+
+    def do_attached_again(self, times: str) -> None:
+        """The attachment above is in the tree of names so many times."""
+        files = self.pdf.Root.Names.EmbeddedFiles
+        files.Names = Array(list(files.Names) * int(times))
 
     def do_title(self, text: str) -> None:
         with self.pdf.open_metadata() as meta:

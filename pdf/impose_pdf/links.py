@@ -110,7 +110,7 @@ class Ways:
             sheet, _, placed = places[0]
         return sheet, then(shape.matrix, placed.matrix)
 
-    def lead_names(self, root: Any, taken: set[bytes]) -> None:
+    def lead_names(self, root: Any, taken: dict[bytes, int]) -> None:
         """Leads all names, which get other ones where they are taken."""
         if isinstance(names := root.get("/Names"), Dictionary):
             for name, dest in named(names.get("/Dests")):

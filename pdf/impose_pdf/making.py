@@ -36,7 +36,7 @@ class Making:
         for source in self.sources:
             source.find_unshown(shown)
         pages = [self.page(sheet, turned) for sheet in sheets]
-        taken: set[bytes] = set()
+        taken: dict[bytes, int] = {}
         for source in self.sources:
             source.ways.lead_names(source.root, taken)
         for source, k in self.row:
@@ -97,7 +97,7 @@ class Making:
 
     def names(self) -> Any:
         """The names and attachments of all INFILEs. An attachment whose name is taken gets another one."""
-        taken: set[bytes] = set()
+        taken: dict[bytes, int] = {}
         dests = {name: dest for source in self.sources for name, dest in source.ways.dests.items()}
         files = {free(name, taken): file for source in self.sources for name, file in source.attachments()}
         trees = {"/Dests": dests, "/EmbeddedFiles": files}
@@ -110,9 +110,8 @@ class Making:
 
     def layers(self) -> None:
         """Adds the layers of the other INFILEs to those of the first."""
-        for source in self.sources[1:]:
-            if isinstance(layers := source.root.get("/OCProperties"), Dictionary):
-                add_layers(self.pdf.Root, source.ways.brought(layers))
+        found = [(source.ways, source.root.get("/OCProperties")) for source in self.sources[1:]]
+        add_layers(self.pdf.Root, [ways.brought(layers) for ways, layers in found if isinstance(layers, Dictionary)])
 
     def enter(self, entries: dict[str, Any]) -> None:
         """Gives the catalog its new entries, and takes away what isn't kept, the old pages too."""

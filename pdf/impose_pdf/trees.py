@@ -29,26 +29,41 @@ def tree_of(values: dict[bytes, Any]) -> Any:
     return Dictionary(Names=Array([part for name in sorted(values) for part in (String(name), values[name])]))
 
 
-def free(name: bytes, taken: set[bytes]) -> bytes:
-    """A name like this one that isn't taken; it is then."""
-    chosen, k = name, 2
+def free(name: bytes, taken: dict[bytes, int]) -> bytes:
+    """A name like this one that isn't taken; it is then. Each name that is taken has the number that is tried next."""
+    chosen = name
     while chosen in taken:
-        chosen, k = name + b"-%d" % k, k + 1
-    taken.add(chosen)
+        chosen = name + b"-%d" % taken[name]
+        taken[name] += 1
+    taken[chosen] = 2
     return chosen
 
 
-def add_layers(root: Any, other: Any) -> None:
-    """Lists the layers of another PDF, brought here, with those of a catalog; each is shown or hidden as it was."""
-    layers = root.get("/OCProperties")
-    if not isinstance(layers, Dictionary) or not isinstance(layers.get("/D"), Dictionary):
-        root.OCProperties = other
+def add_layers(root: Any, others: list[Any]) -> None:
+    """Lists the layers of other PDFs, brought here, with those of a catalog; each is shown or hidden as it was."""
+    left = list(reversed(others))
+    while left and state_of(root.get("/OCProperties")) is None:
+        root.OCProperties = left.pop()
+    if not left:
         return
-    extend(layers, "/OCGs", other)
-    state = other.get("/D") if isinstance(other.get("/D"), Dictionary) else Dictionary()
-    state.ON, state.OFF = states(other, state)
-    for key in OF_LAYERS:
-        extend(layers.D, key, state)
+    layers, groups = root.OCProperties, list[Any]()
+    added: dict[str, list[Any]] = {key: [] for key in OF_LAYERS}
+    for other in reversed(left):
+        groups += arrayed(other, "/OCGs")
+        found = state_of(other)
+        state = Dictionary() if found is None else found
+        state.ON, state.OFF = states(other, state)
+        for key, more in added.items():
+            more += arrayed(state, key)
+    extend(layers, "/OCGs", groups)
+    for key, more in added.items():
+        extend(layers.D, key, more)
+
+
+def state_of(layers: Any) -> Any:
+    """How layers are shown at first, or None if that isn't told."""
+    state = layers.get("/D") if isinstance(layers, Dictionary) else None
+    return state if isinstance(state, Dictionary) else None
 
 
 def states(layers: Any, state: Any) -> tuple[Any, Any]:
@@ -60,9 +75,9 @@ def states(layers: Any, state: Any) -> tuple[Any, Any]:
     return (Array(one), Array(other)) if is_off else (Array(other), Array(one))
 
 
-def extend(into: Any, key: str, other: Any) -> None:
-    """Appends the array that one dictionary has to that of another."""
-    if more := arrayed(other, key):
+def extend(into: Any, key: str, more: list[Any]) -> None:
+    """Gives a dictionary a longer array in place of one that it has, which may have other uses."""
+    if more:
         into[key] = Array(arrayed(into, key) + more)
 
 
