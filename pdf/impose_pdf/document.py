@@ -44,7 +44,7 @@ def opened(name: str) -> Pdf:
         held = content(name)
         first = start(name, held)
     except FileNotFoundError:
-        of_ranges = "ranges come after select, or after their INFILE"
+        of_ranges = "ranges come after select, as in: select 1-3 in.pdf, or else after their INFILE"
         hint = of_ranges if RANGES.fullmatch(name) else "INFILE and OUTFILE come last"
         raise refusal(3, f"cannot read {shown(name)}: no such file ({hint})") from None
     except IsADirectoryError:

@@ -15,6 +15,8 @@ from impose_pdf.words import Refusal, Request, refusal, shown
 
 SIGNALS = (signal.SIGHUP, signal.SIGINT, signal.SIGTERM)
 PRINTERS_JOB, BINARY_EPS = b"\x1b%-12345X", b"\xc5\xd0\xd3\xc6"  # heads of documents that impose protects too
+# Heads of ODF and OOXML, older Office files, RTF, TIFF and GIF.
+OTHER_HEADS = b"PK\x03\x04", b"\xd0\xcf\x11\xe0", rb"{\rtf", b"II*\0", b"MM\0*", b"GIF8"
 OTHER_ENDINGS = (".ps", ".eps", ".svg", ".gz", ".txt", ".png", ".jpg", ".jpeg")
 
 
@@ -78,13 +80,26 @@ def is_foreign(name: str) -> bool:
     with open(name, "rb") as stream:
         head = stream.read(1024)
         if b"%PDF-" not in head:
-            heads = images.JPEG, images.PNG, PRINTERS_JOB, BINARY_EPS
+            heads = images.JPEG, images.PNG, PRINTERS_JOB, BINARY_EPS, *OTHER_HEADS
             return head.startswith(heads) or POSTSCRIPT.match(head) is not None
         try:
             with Pdf.open(stream) as pdf:
                 return str(pdf.docinfo.get("/Producer")) != PRODUCER
         except (PdfError, PasswordError, AttributeError, RuntimeError, ValueError):  # /Info may be anything
             return True
+
+
+def take_last(request: Request) -> None:
+    """Takes a last file by another program for an INFILE too, if nothing is written there."""
+    name = request.outfile
+    if (
+        request.looks
+        and name not in ("", "-")
+        and os.path.isfile(name)
+        and os.access(name, os.R_OK)
+        and is_foreign(name)
+    ):
+        request.infiles.append((name, ""))
 
 
 class Outfile:
