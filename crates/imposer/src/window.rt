@@ -42,6 +42,9 @@ const SHORTEST_NAP: u64 = 50;
 /// The length of the longest nap, in microseconds.
 const LONGEST_NAP: u64 = 400;
 
+/// The number of times that a thread yields the processor in place of its first naps. While threads start, work comes sooner than a nap ends.
+const FIRST_YIELDS: u32 = 100;
+
 /// The sheets that may be imposed now: `len` sheets, beginning with `next`, or all further sheets if the window has no end. Finished texts take
 /// memory until they are written. So an imposer only notes the number of a sheet past the window, and imposes the sheet when the window reaches it.
 #[derive(Drop)]
@@ -117,7 +120,7 @@ impl Window {
 
     /// Spins briefly, yields the processor once, or sleeps for at most 400 microseconds. Nothing wakes a sleeping thread earlier.
     pub(crate) fn rest<R: Wait>(&self, rt: &R, idling: &mut Idling) {
-        if self.step == 1 && !idling.backoff.is_completed() {
+        if self.step == 1 && idling.may_yield() {
             idling.backoff.snooze();
         } else {
             self.next.park_timeout(rt, self.next(), idling.next_nap());
@@ -128,17 +131,21 @@ impl Window {
     pub(crate) fn idling(&self) -> Idling {
         Idling {
             backoff: Backoff::new(),
+            yields: FIRST_YIELDS,
             nap: SHORTEST_NAP,
             grows: self.step > 1,
         }
     }
 }
 
-/// The way in which a thread waits for work. If sheets are large, it first spins and yields the processor a few times, and then takes short naps,
-/// until it has found work. If sheets are small, it takes a nap at once, and each nap is twice as long as the one before, up to the longest.
+/// The way in which a thread waits for work. If sheets are large, it first spins and yields the processor a few times, at the start of the run more
+/// often, and then takes short naps, until it has found work. If sheets are small, it takes a nap at once, and each nap is twice as long as the one
+/// before, up to the longest.
 #[derive(Drop)]
 pub(crate) struct Idling {
     backoff: Backoff,
+    /// The number of times that the thread still yields the processor in place of its first naps.
+    yields: u32,
     /// The length of the next nap, in microseconds. If this number is greater than the longest nap, the longest nap is taken.
     nap: u64,
     /// Whether naps become longer.
@@ -149,6 +156,16 @@ impl Idling {
     /// Notes that work was found. A thread that spins and yields before its naps does so again when it next waits.
     pub(crate) fn end(&self) {
         self.backoff.reset();
+    }
+
+    /// Whether the thread spins or yields once more. After the yields of its backoff, counts one of those in place of its first naps.
+    fn may_yield(&mut self) -> bool {
+        if !self.backoff.is_completed() {
+            return true;
+        }
+        let is_left = self.yields > 0;
+        self.yields = self.yields.saturating_sub(1);
+        is_left
     }
 
     /// The length of the nap to take now. If naps become longer, the next nap is twice as long, up to the longest.
