@@ -5,7 +5,7 @@ _impose_commands='nup booklet zine cards stack notes poster select spec help'
 _impose_papers='a0 a1 a2 a3 a4 a5 a6 a7 b0 b1 b2 b3 b4 b5 b6 c4 c5 c6 dl jisb4 jisb5 ra3 ra4 sra3 sra4 letter legal tabloid ledger statement executive folio quarto 10x14'
 _impose_options_of() {
     local all='--paper --border --unguarded --replace --quiet --help -p -q -h'
-    local sheet='--sheet' spec='--sheet --print-spec'
+    local sheet='--sheet'
     local parts='--odd --even --reverse'
     local shown='--plan --preview'
     local looks="--turn $shown"
@@ -15,15 +15,15 @@ _impose_options_of() {
     local cells="--order --turned $laid"
     case "$1" in
         '') echo '--help --version -h -V' ;;
-        nup) echo "--skip $cells $spec $all" ;;
+        nup) echo "--skip $cells $sheet $all" ;;
         cards) echo "--skip $cells $sheet $all" ;;
-        booklet) echo "--signature --creep --long-edge --cover $laid $spec $all" ;;
+        booklet) echo "--signature --creep --long-edge --cover $laid $sheet $all" ;;
         zine) echo "--same-scale --margin --gap --rtl $row $looks $sheet $all" ;;
         stack) echo "--duplex $cells $sheet $all" ;;
         notes) echo "--same-scale --margin --gap --trim $numbers $row $looks $sheet $all" ;;
         poster) echo "--scale --overlap --margin --marks $row $looks $sheet $all" ;;
         select) echo "$numbers $parts $looks $all" ;;
-        spec) echo "--signature $row $shown $spec $all" ;;
+        spec) echo "--signature --print-spec $row $shown $sheet $all" ;;
     esac
 }
 

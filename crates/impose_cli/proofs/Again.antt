@@ -1,14 +1,12 @@
 -- What was written for a request is a document again.
-use Rattle.std.proofs.Common.{◌≤◌, ◌<◌, ◌≡◌, ◌∙◌, ℕ, ◌++◌, List, ap, drop, length, subst, sym, inl, inr, true, false, Bool, None, Option, Result, Ok, refl}
+use Rattle.std.proofs.Common.{◌≤◌, ◌<◌, ◌≡◌, ◌∙◌, ℕ, ◌++◌, List, ap, drop, length, subst, sym, true, false, Bool, Option, Result, Ok, refl}
 use Rattle.std.specs.Prelude.{Some, nat_lt}
 use Rattle.std.proofs.Math.Seq.{drop-append_seam}
 use Rattle.std.proofs.lemmas.Bool.{ltb-false}
-use Rattle.rules.specs.Admissible.{most_slots}
-use Rattle.rules.specs.Output.{output}
 use Rattle.rules.specs.Run.{most_input_bytes, most_pages, most_sheets, refuse_if}
 use Rattle.rules.specs.Made.{MadeSheet}
 use Rattle.rules.specs.MadePlans.{MadeTooManyPages, MadeTooManySheets, made_plan_of}
-use Rattle.imposed_again.proofs.Again.{imposed_again, trailer_shuts}
+use Rattle.imposed_again.proofs.Again.{trailer_shuts}
 use Rattle.imposed_again.proofs.MadeAgain.{made_is_document}
 use Rattle.papers.specs.Reported.{reporting}
 use Rattle.papers.proofs.Tame.{reporting_is_tame}
@@ -16,33 +14,14 @@ use Rattle.rules.specs.Dress.{Dress}
 use Rattle.dressing.specs.Numbered.{drawn_on}
 use Rattle.dressing.proofs.Tame.{drawn_is_tame}
 use Rattle.row_runs.specs.Runs.{border_on, drawn_of, output_on}
-use Rattle.impose_cli.specs.Tasks.{FinishesSpec, frame_used, taken_text}
-use Rattle.impose_words.specs.SheetPapers.{sheet_paper_for}
 use Rattle.impose_cli.specs.RowTasks.{FinishesRow, text_for}
-use Rattle.impose_cli.specs.Laws.{IsDocumentAgain, IsMadeDocument, WroteDocument, sheets_named}
+use Rattle.impose_cli.specs.Laws.{IsMadeDocument, WroteDocument}
 use Rattle.impose_words.specs.declared.request.ImposeRequest.{ImposeRequest}
 use Rattle.impose_messages.specs.declared.finished.Finished.{Finished}
 
 -- bytes behind the same ones are the same
 behind : (old one other : List ℕ) → old ++ one ≡ old ++ other → one ≡ other
 behind old one other e = sym (drop-append_seam old one) ∙ ap (drop (length old)) e ∙ drop-append_seam old other
-
--- ---- by a specification
-
-spec_again : (r : ImposeRequest) (input old text : List ℕ) (done : Finished) (h : FinishesSpec r input (Some old) (Some (old ++ text)) done)
-    → length (output (frame_used r done) None h.spec h.units) ≤ most_input_bytes
-    → IsDocumentAgain (frame_used r done) (sheets_named h) h.units (output (frame_used r done) None h.spec h.units)
-spec_again r input old text done h l =
-    let taken = taken_text r.is_guarded (sheet_paper_for r.layout r.sheet_paper done.findings.page_paper) input in
-    let i = imposed_again most_slots (frame_used r done) None h.spec taken h.units (sheets_named h) h.taken tt (record { text = h.text; taken = h.takes }) h.plan l in
-    record {
-      accepted = i.0;
-      again = i.1;
-      shut = i.2;
-      with_trailer = λ some. i.2 (trailer_shuts taken h.units h.taken some);
-    }
-
--- ---- on a row
 
 passes : {A E : Type 0} (t : Bool) (fault : E) (next : Result A E) (x : A) → refuse_if t fault next ≡ Ok x → (t ≡ false) × (next ≡ Ok x)
 passes true fault next x e = cc
@@ -73,11 +52,7 @@ row_again r input old text done h l some =
     }
 
 pub wrote_document : WroteDocument
-wrote_document r input old text done (inl h) l =
-    let e = sym (behind old text _ h.written) in
-    subst (IsDocumentAgain (frame_used r done) (sheets_named h) h.units) e
-    (spec_again r input old text done h (subst (λ t. length t ≤ most_input_bytes) (sym e) l))
-wrote_document r input old text done (inr h) l =
-    λ some. let e = sym (behind old text _ h.imposes.written) in
+wrote_document r input old text done h l some =
+    let e = sym (behind old text _ h.imposes.written) in
     subst (IsMadeDocument (border_on h.job) (dress_on h) h.imposes.made h.job.document.now) e
     (row_again r input old text done h (subst (λ t. length t ≤ most_input_bytes) (sym e) l) some)

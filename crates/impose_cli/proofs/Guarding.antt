@@ -46,12 +46,11 @@ by_layout (layout.Cards cells) s page sheet found papers row l is chosen = is_la
 by_layout (layout.Stack cells duplex) s page sheet found papers row l is chosen = is_laid papers row sheet _ l is refl
 by_layout (layout.Notes pages) s page sheet found papers row l is chosen = is_laid papers row sheet _ l is refl
 by_layout layout.Zine s page sheet found papers row l is chosen = is_laid papers row sheet _ l is refl
-by_layout (layout.Spec specs) s page sheet found papers row l is chosen = absurd (none-some l is)
-by_layout (layout.SpecRow specs signing) s page sheet found papers row l is chosen = absurd (none-some l is)
+by_layout (layout.Spec specs signing) s page sheet found papers row l is chosen = absurd (none-some l is)
 
 -- a specification's sheets have one paper
 by_name : (how : Layout) (spec : Spec) (first sheet given : Paper) → TakesNamed how spec → given ≡ sheet → given ≡ guarded_in how first sheet
-by_name (layout.SpecRow specs signing) spec first sheet given named is = is
+by_name (layout.Spec specs signing) spec first sheet given named is = is
 by_name other spec first sheet given named is = absurd named
 
 pub guard_is_of_first : GuardIsOfFirst

@@ -1,11 +1,8 @@
-pub mod Placing
 pub mod RowOptions
-pub mod OnePaper
 pub mod ZineCells
 pub mod InCells
 pub mod Counted
 pub mod Coming
-pub mod Ending
 pub mod Rows
 pub mod Looking
 pub mod Again

@@ -1,22 +1,15 @@
 -- What comes of a request.
-use Rattle.std.proofs.Common.{◌≡◌, ◌∙◌, ap, arith, ℕ, ◌+◌, ◌<◌, ◌≤◌, List, [], length, take, Bool, true, false, Option, Some, None, Result, Ok, Err, inl, inr, refl, subst, sym}
-use Rattle.clap.specs.Words.{Row, Text}
+use Rattle.std.proofs.Common.{◌≡◌, ◌∙◌, ap, arith, ℕ, ◌+◌, ◌<◌, ◌≤◌, List, [], length, take, Bool, Option, Some, None, Result, Ok, Err, inl, inr, refl, subst, sym}
 use Rattle.std.specs.Prelude.{⊤, ◌⊎◌, option_map, string_bytes}
 use Rattle.std.specs.Io.KnownBytes.{Appends}
 use Rattle.world.specs.Outputs.{OutputView, fresh_output, reported_if}
 use Rattle.impose_cli.specs.Endings.{AfterWrite, Edge, IsSaidOf, IsUncreatedFault, RunsRequest, has_output, shown}
 use Rattle.imposer.specs.declared.outcome.RunError.TheVariants as run
 use Rattle.world.specs.Worlds.{WorldView}
-use Rattle.impose_cli.specs.Looks.{MayBeMade, IsRowText}
-use Rattle.impose_words.specs.Products.{lays_rows}
+use Rattle.impose_cli.specs.Looks.{IsRowText}
 use Rattle.impose_cli.specs.Fronts.{FindsForeign, Inputs, RegularFiles, SameFiles}
 use Rattle.impose_cli.specs.Programs.{BreaksAt, EndsRequest, FailsToWrite, HasGiven, IsCreatedFor, IsReadOf, FailsToRead, MakesProduct, MayReadInput, Prints, RefusesUnopened, ShowsSheets, Writes}
-use Rattle.impose_cli.specs.RowTasks.{LaysRows}
-use Rattle.rules.specs.Papers.{Paper}
-use Rattle.impose_words.specs.Words.{Entered, MakesBy, ReadsRequest}
-use Rattle.impose_cli.specs.Printed.{printed_text}
-use Rattle.impose_cli.specs.Refusals.{HasNoFault}
-use Rattle.impose_cli.specs.Tasks.{IsTask}
+use Rattle.impose_cli.specs.Printed.{IsSpecText}
 use Rattle.world.specs.declared.rest.Rest.{Rest}
 use Rattle.world.specs.declared.rest.Rest.TheVariants.{Output, World}
 use Rattle.impose_messages.specs.declared.fault.ImposeFault.{ImposeFault}
@@ -24,12 +17,9 @@ use Rattle.impose_messages.specs.declared.fault.ImposeFault.TheVariants as fault
 use Rattle.impose_messages.specs.declared.finished.Done.{Done}
 use Rattle.impose_messages.specs.declared.finished.Done.TheVariants as done
 use Rattle.impose_cli.specs.declared.look.Overview.{Overview}
-use Rattle.impose_words.specs.declared.request.Layout.{Layout}
-use Rattle.impose_words.specs.declared.request.Layout.TheVariants as layout
 use Rattle.impose_words.specs.declared.request.Product.{Product}
 use Rattle.impose_words.specs.declared.request.Product.TheVariants as product
 use Rattle.impose_words.specs.declared.request.ImposeRequest.{ImposeRequest}
-use Rattle.impose_cli.specs.declared.task.Task.{Task}
 
 -- nothing was created: the request is refused unread, or the input can't be read
 pub stopped_before : {V O : Type 0} (seen : V → WorldView) (r : ImposeRequest) (gives : Inputs) (same : SameFiles) (terminal : Option Bool) (foreign : Bool) (reports_outputs : Edge V O) (f : ImposeFault) (outcome : Result Done ImposeFault)
@@ -96,19 +86,12 @@ uncreated name text what reports_outputs f outcome world rest written told none 
     subst (λ o. Writes name text what reports_outputs o world rest written) (sym told) (inl none)
 
 -- the specification was printed to standard output
-printed_whole : {V O : Type 0} (r : ImposeRequest) (input : List ℕ) (reports_outputs : Edge V O) (task : Task) (outcome : Result Done ImposeFault) (world : V) (rest : Rest V O)
-    (written : Option (List ℕ)) → IsTask r input task → HasNoFault r input
-    → Writes None (printed_text r task) done.Printed reports_outputs outcome world rest written → Prints r input reports_outputs outcome world rest written
-printed_whole r input reports_outputs task (Ok what) world rest written is_task none h =
-    subst (λ d. Prints r input reports_outputs (Ok d) world rest written) (sym h.0) (task, is_task, none, h.1, h.2)
-printed_whole r input reports_outputs task (Err f) world rest written is_task none h = inr (task, is_task, none, h)
-
-pub printed : {V O : Type 0} (r : ImposeRequest) (input : List ℕ) (reports_outputs : Edge V O) (task : Task) (lines : List ℕ) (outcome : Result Done ImposeFault)
-    (world : V) (rest : Rest V O) (written : Option (List ℕ)) → lines ≡ printed_text r task → IsTask r input task → HasNoFault r input
-    → Writes None lines done.Printed reports_outputs outcome world rest written → Prints r input reports_outputs outcome world rest written
-printed r input reports_outputs task lines outcome world rest written is is_task none h =
-    printed_whole r input reports_outputs task outcome world rest written is_task none
-    (subst (λ l. Writes None l done.Printed reports_outputs outcome world rest written) is h)
+pub printed : {V O : Type 0} (r : ImposeRequest) (input : List ℕ) (reports_outputs : Edge V O) (text : List ℕ) (outcome : Result Done ImposeFault)
+    (world : V) (rest : Rest V O) (written : Option (List ℕ)) → IsSpecText r input text
+    → Writes None text done.Printed reports_outputs outcome world rest written → Prints r input reports_outputs outcome world rest written
+printed r input reports_outputs text (Ok what) world rest written told h =
+    subst (λ d. Prints r input reports_outputs (Ok d) world rest written) (sym h.0) (text, told, h.1, h.2)
+printed r input reports_outputs text (Err f) world rest written told h = inr (text, told, h)
 
 -- the plan or the picture was written to the output of that name
 pub shown_whole : {V O : Type 0} (l : Overview) (name : Option (List ℕ)) (r : ImposeRequest) (input : List ℕ) (reports_outputs : Edge V O) (text : List ℕ)
@@ -117,26 +100,6 @@ pub shown_whole : {V O : Type 0} (l : Overview) (name : Option (List ℕ)) (r : 
 shown_whole l name r input reports_outputs text (Ok what) world rest written told h =
     subst (λ d. ShowsSheets l name r input reports_outputs (Ok d) world rest written) (sym h.0) (text, told, h.1, h.2)
 shown_whole l name r input reports_outputs text (Err f) world rest written told h = inr (text, told, h)
-
-lays : (l : Layout) → lays_rows l ≡ true → LaysRows l
-lays (layout.Spec specs) e = cc
-lays other e = tt
-
--- only a layout that lays rows is asked for a plan or a picture
-made_by : (rows : Bool) (found : List Row) (p : Product) (l : Layout) → (rows ≡ true → LaysRows l) → MakesBy rows found p → MayBeMade p l
-made_by rows found product.Sheets l lays h = tt
-made_by rows found product.Specification l lays h = tt
-made_by true found product.Plan l lays h = lays refl
-made_by false found product.Plan l lays h = let e = h.planned in cc
-made_by true found (product.Picture file) l lays h = lays refl
-made_by false found (product.Picture file) l lays h = let e = h.pictured in cc
-
-may_be_made : (name : Text) (found : List Row) (r : ImposeRequest) → ReadsRequest name found r → MayBeMade r.product r.layout
-may_be_made name found r h = made_by (lays_rows r.layout) found r.product r.layout (lays r.layout) h.product
-
-pub may_be_made_at_home : (words : List Text) (r given : ImposeRequest) (home : Paper) → given ≡ record r { default_paper = home } → Entered words (λ name found. ReadsRequest name found r)
-    → MayBeMade given.product given.layout
-may_be_made_at_home words r given home e h = subst (λ (q : ImposeRequest). MayBeMade q.product q.layout) (sym e) (may_be_made h.0 h.1 r h.3)
 
 -- ---- an output that exists
 
@@ -175,7 +138,7 @@ made_created : {V O : Type 0} (p : Product) (r : ImposeRequest) (input : List �
 made_created product.Sheets r input reports_outputs f world rest written h = run_created r input reports_outputs f world rest written h
 made_created product.Specification r input reports_outputs f world rest written h = elim h [
   | inl stopped ↦ inl (ap has_output stopped.1)
-  | inr some ↦ text_created None (printed_text r some.0) reports_outputs f world rest written some.3
+  | inr some ↦ text_created None some.0 reports_outputs f world rest written some.2
 ]
 made_created product.Plan r input reports_outputs f world rest written h = elim h [
   | inl stopped ↦ inl (ap has_output stopped.1)

@@ -1,5 +1,5 @@
 -- What comes of a task with a row, and of a request.
-use Rattle.std.proofs.Common.{◌≡◌, ◌⊎◌, ◌∙◌, ap, ap₂, sym, subst, refl, arith, inl, inr, Bool, Bor, true, false, true≢false, List, [], ◌∷◌, ℕ, Option, Some, None, Result, Ok, Err}
+use Rattle.std.proofs.Common.{◌≡◌, ◌<◌, ◌≤◌, ◌⊎◌, ◌∙◌, ap, ap₂, sym, subst, refl, arith, inl, inr, Bool, Bor, true, false, true≢false, List, [], ◌∷◌, ℕ, Option, Some, None, Result, Ok, Err}
 use Rattle.std.specs.Prelude.{length, map, option_map, replicate, string_bytes}
 use Rattle.rules.specs.Choice.{RowFault}
 use Rattle.rules.specs.Rows.{Row}
@@ -11,11 +11,12 @@ use Rattle.papers.specs.Own.{own_paper, papers_of_each_page}
 use Rattle.dsc.proofs.Reading.{accepted_cut}
 use Rattle.dsc.proofs.Slices.{text_whole}
 use Rattle.rules.specs.Parts.{NestedUnit, bytes_of, pages}
-use Rattle.rules.specs.Run.{document_of}
+use Rattle.rules.specs.Run.{document_of, most_pages}
 use Rattle.imposer.specs.declared.outcome.Report.{Report}
 use Rattle.row_runs.specs.declared.run.RowJob.{RowJob}
 use Rattle.impose_cli.specs.RowRuns.{Imposes}
-use Rattle.impose_cli.specs.Endings.{Edge, Comes, IsImposed, RefusesImposing, RefusesRowRun, RefusesRowJob, RefusesRowTaskRun, RunsRequest, reported_by}
+use Rattle.impose_cli.specs.Endings.{Edge, Comes, IsImposed, RefusesRowRun, RefusesRowJob, RefusesRowTaskRun, RunsRequest, reported_by}
+use Rattle.impose_cli.proofs.Counted.{has_pages}
 use Rattle.impose_cli.proofs.Coming.{comes_as, comes_refused, comes_reported}
 use Rattle.papers.specs.AsOne.{kinds, most_kinds, kind_paper}
 use Rattle.pagespec.specs.declared.item.Turn.{Turn}
@@ -30,10 +31,10 @@ use Rattle.impose_messages.specs.declared.finished.PaperOrigin.{PaperOrigin}
 use Rattle.impose_cli.specs.Claims.{AreClaimsOf}
 use Rattle.impose_messages.specs.declared.finished.Findings.{Findings}
 use Rattle.impose_messages.specs.declared.scales.Scales.{Scales}
-use Rattle.impose_cli.specs.Tasks.{FindsBySpec, HasPageCount, page_paper_found}
+use Rattle.impose_cli.specs.Tasks.{HasPageCount, page_paper_found}
 use Rattle.impose_cli.specs.Refusals.{HasGoodName, RefusesDocument, RefusesFor, RefusesNamed, RefusesOptions, RefusesRowLayout, RefusesRowTask}
-use Rattle.impose_cli.specs.Reaches.{reach_in, reach_over}
-use Rattle.impose_cli.specs.RowTasks.{ArePapersOf, FindsForRow, cut_in, papers_in, papers_to_place, row_paper, text_for, why_no_row, FinishesRow, ImposesTask, IsJobOf, IsRowJob, IsRowPaper, IsRowTask, LaysRows, HasTurns, IsLaidBy, IsLaidSo, IsLayingOf, LaysSo, TakesNamed, cells_paper, counted_among, counted_in, first_paper, guarded_in, has_cuts_apart, paper_turned, turns_in, laying_in, own_in, paper_for, row_papers, sheet_paper_in}
+use Rattle.impose_cli.specs.Reaches.{reach_in}
+use Rattle.impose_cli.specs.RowTasks.{ArePapersOf, FindsForRow, cut_in, papers_in, papers_to_place, row_paper, text_for, why_no_row, FinishesRow, ImposesTask, IsJobOf, IsRowJob, IsRowPaper, IsRowTask, HasTurns, IsLaidBy, IsLaidSo, IsLayingOf, LaysSo, TakesNamed, cells_paper, counted_among, counted_in, first_paper, guarded_in, has_cuts_apart, paper_turned, turns_in, laying_in, own_in, paper_for, row_papers, sheet_paper_in}
 use Rattle.impose_cli.specs.Taken.{row_in, row_or_none, taken_below, taken_in}
 use Rattle.row_runs.specs.declared.sheet_request.Laying.{Laying}
 use Rattle.row_runs.specs.declared.sheet_request.Laying.TheVariants as laying
@@ -58,8 +59,7 @@ never_by_spec : (l : Layout) (s : Spacing) (page sheet : Paper) → is_by_spec (
 never_by_spec (layout.Booklet signing long_edge) s page sheet = refl
 never_by_spec (layout.Poster cells) s page sheet = refl
 never_by_spec layout.Selection s page sheet = refl
-never_by_spec (layout.Spec specs) s page sheet = refl
-never_by_spec (layout.SpecRow specs signing) s page sheet = refl
+never_by_spec (layout.Spec specs signing) s page sheet = refl
 never_by_spec other s page sheet = refl
 
 plainly : (l : Layout) (s : Spacing) (page sheet : Paper) (plain : Laying) (spec : Bor Spec) (of paper : Paper) → laying_in l s page sheet ≡ Some plain → plain ≡ laying.BySpec spec of paper → ⊥
@@ -149,19 +149,6 @@ finds_for_row r input us f read paper cut reach after_trailer taken claims = let
       claims = subst (λ t. AreClaimsOf r t f.claims) same claims;
     }
 
-pub finds_by_spec : (r : ImposeRequest) (input : List ℕ) (us : List NestedUnit) (f : Findings) → document_of input ≡ Ok us → (f.page_paper, f.origin) ≡ page_paper_found r.page_paper r.default_paper input → f.cut ≡ None
-    → f.reach ≡ reach_over r f.page_paper (bytes_of us) us → f.after_trailer ≡ pages_after us → f.taken ≡ taken_in r us → AreClaimsOf r input f.claims → FindsBySpec r input f
-finds_by_spec r input us f read paper cut reach after_trailer taken claims = record {
-  units = us;
-  document = read;
-  page_paper = paper;
-  cut = cut;
-  reach = reach ∙ ap (λ t. reach_over r f.page_paper t us) (whole input us read);
-  after_trailer = after_trailer;
-  taken = taken;
-  claims = claims;
-}
-
 -- a document's own parts serve for it, and are those of its text
 pub are_parts : (input : List ℕ) (us : List NestedUnit) (p : Parts) → document_of input ≡ Ok us → ArePartsOf (bytes_of us) p → ArePartsOf input p
 are_parts input us p read are = subst (λ text. ArePartsOf text p) (whole input us read) are
@@ -184,7 +171,7 @@ papers_len None names home text us = length-map (pages us) (own_paper names (usu
 
 placed_len : (l : Layout) (one : Paper) (taken own : List Paper) → length (papers_to_place l one taken own) ≡ length own
 placed_len layout.Selection one taken own = length-map own (kind_paper (kinds most_kinds taken))
-placed_len (layout.SpecRow specs signing) one taken own = length-map own (λ paper. one)
+placed_len (layout.Spec specs signing) one taken own = length-map own (λ paper. one)
 placed_len other one taken own = refl
 
 pub as_many : (r : ImposeRequest) (us : List NestedUnit) (one : Paper) (taken own counted papers : List Paper) (n : ℕ) → n ≡ length (pages us)
@@ -192,6 +179,15 @@ pub as_many : (r : ImposeRequest) (us : List NestedUnit) (one : Paper) (taken ow
     → n ≡ length papers
 as_many r us one taken own counted papers n count is placed turned = count
     ∙ sym (ap length turned ∙ length-map counted (cells_paper r) ∙ ap length placed ∙ placed_len r.layout one taken own ∙ ap length is ∙ papers_len r.page_paper paper_named r.default_paper (bytes_of us) us)
+
+-- a document has a page, and so a paper, but not too many
+pub papers_count : (r : ImposeRequest) (input : List ℕ) (papers : List Paper) → ArePapersOf r input papers → (0 < length papers) × (length papers ≤ most_pages)
+papers_count r input papers is =
+    let us = is.0 in
+    let own = own_in r input us in
+    let count : length papers ≡ length (pages us) = ap length is.2 ∙ length-map (counted_in r input us) (cells_paper r)
+    ∙ placed_len r.layout (row_paper r input us).0 (row_papers (row_in r us) own) own ∙ papers_len r.page_paper paper_named r.default_paper input us in
+    subst (λ n. (0 < n) × (n ≤ most_pages)) (sym count) (has_pages input us is.1)
 
 -- a choice that gives no row has no first entry
 first_of : (found : Result Row RowFault) (papers : List Paper) (blank : Paper) → first_paper (Ok (row_or_none found)) papers blank ≡ first_paper found papers blank
@@ -246,26 +242,21 @@ finishes_row r input t scales old new report is h = record {
   imposes = h.2;
 }
 
--- a request whose layout lays rows is refused as one on its row
-on_row : (l : Layout) (r : ImposeRequest) (input : List ℕ) (f : ImposeFault) → LaysRows l → RefusesRowRun r input f → RefusesImposing l r input f
-on_row (layout.Spec specs) r input f rows h = absurd rows
-on_row other r input f rows h = h
-
 -- there is no task
-pub row_stops : {V O : Type 0} (r : ImposeRequest) (input : List ℕ) (reports_outputs : Edge V O) (f : ImposeFault) (outcome : Result Done ImposeFault) (world : V) (rest : Rest V O) (written : Option (List ℕ)) → LaysRows r.layout → outcome ≡ Err f → rest ≡ World world
+pub row_stops : {V O : Type 0} (r : ImposeRequest) (input : List ℕ) (reports_outputs : Edge V O) (f : ImposeFault) (outcome : Result Done ImposeFault) (world : V) (rest : Rest V O) (written : Option (List ℕ)) → outcome ≡ Err f → rest ≡ World world
     → RefusesRowTask r input f → RunsRequest r input reports_outputs outcome world rest written
-row_stops r input reports_outputs f outcome world rest written rows is none why =
-    comes_refused (RefusesImposing r.layout r input) (IsImposed r input) _ reports_outputs f outcome world rest written is none (on_row r.layout r input f rows (inl why))
+row_stops r input reports_outputs f outcome world rest written is none why =
+    comes_refused (RefusesRowRun r input) (IsImposed r input) _ reports_outputs f outcome world rest written is none (inl why)
 
 -- what comes of its run comes of the request
 pub row_runs : {V O : Type 0} (r : ImposeRequest) (input : List ℕ) (t : RowTask) (scales : Option Scales) (reports_outputs : Edge V O) (outcome : Result Done ImposeFault) (left : Result Report ImposeFault) (world : V) (rest : Rest V O) (written : Option (List ℕ))
-    → LaysRows r.layout → IsRowTask r input t → outcome ≡ reported_by t.findings scales left
+    → IsRowTask r input t → outcome ≡ reported_by t.findings scales left
     → Comes (RefusesRowTaskRun r t) (ImposesTask r t scales) (option_map string_bytes r.outfile) reports_outputs left world rest written → RunsRequest r input reports_outputs outcome world rest written
-row_runs r input t scales reports_outputs outcome left world rest written rows is reports h =
+row_runs r input t scales reports_outputs outcome left world rest written is reports h =
     subst (λ o. RunsRequest r input reports_outputs o world rest written) (sym reports)
-    (comes_reported (RefusesRowTaskRun r t) (RefusesImposing r.layout r input) (ImposesTask r t scales) (IsImposed r input) t.findings scales (option_map string_bytes r.outfile) reports_outputs left world rest written
-    (λ f why. on_row r.layout r input f rows (inr (record { task = t; is_task = is; refused = why })))
-    (λ old new report done. inr (finishes_row r input t scales old new report is done)) h)
+    (comes_reported (RefusesRowTaskRun r t) (RefusesRowRun r input) (ImposesTask r t scales) (IsImposed r input) t.findings scales (option_map string_bytes r.outfile) reports_outputs left world rest written
+    (λ f why. inr (record { task = t; is_task = is; refused = why }))
+    (λ old new report done. finishes_row r input t scales old new report is done) h)
 
 -- what comes of its job comes of a task
 pub task_comes : {V O : Type 0} (r : ImposeRequest) (t : RowTask) (job : RowJob) (scales : Option Scales) (name other : Option (List ℕ)) (reports_outputs : Edge V O) (outcome : Result Report ImposeFault) (world : V) (rest : Rest V O) (written : Option (List ℕ))

@@ -6,38 +6,30 @@ use Rattle.std.specs.IoError.{error_kind}
 use Rattle.std.specs.declared.io.ErrorKind.{ErrorKind}
 use Rattle.std.below.std_io.specs.declared.io.error.Error.{Error}
 use Rattle.std.specs.declared.io.ErrorKind.TheVariants.{OutOfMemory}
-use Rattle.rules.specs.Output.{output}
 use Rattle.sheet_text.specs.Jobs.{JobView, output_of}
 use Rattle.sheet_writer.specs.Sinks.{SinkView}
 use Rattle.world.specs.Outputs.{OutputView, named, reported_if}
 use Rattle.world.specs.Worlds.{HasRefused, WorldView, creating}
 pub use Rattle.world.specs.Rests.{has_output, shown}
 use Rattle.imposer.specs.Gathering.{ReportsOf}
-use Rattle.imposer.specs.Runs.{Accepted, AgreesWithChecks, IsUnwritten, Reports, frame_of}
 use Rattle.imposer.specs.declared.outcome.Report.{Report}
-use Rattle.imposer.specs.declared.outcome.RunError.{RunError}
 use Rattle.imposer.specs.declared.outcome.RunError.TheVariants as run
 use Rattle.row_runs.specs.Runs.{RefusesRun, page_count}
 use Rattle.row_runs.specs.declared.error.SheetError.{SheetError}
 use Rattle.row_runs.specs.declared.run.RowJob.{RowJob}
 use Rattle.impose_messages.specs.Faults.{without_memory}
 use Rattle.impose_cli.specs.Faults.{of_asked}
-use Rattle.impose_cli.specs.Tasks.{FinishesSpec, IsTask, run_asked}
 use Rattle.impose_cli.specs.RowTasks.{FinishesRow, IsJobOf, IsRowTask}
-use Rattle.impose_cli.specs.Refusals.{RefusesRowTask, RefusesTask, RefusesText}
+use Rattle.impose_cli.specs.Refusals.{RefusesRowTask, RefusesText}
 use Rattle.world.specs.declared.rest.Rest.{Rest}
 use Rattle.world.specs.declared.rest.Rest.TheVariants.{Output, World}
 use Rattle.impose_cli.specs.declared.row_task.RowTask.{RowTask}
-use Rattle.impose_cli.specs.declared.task.Task.{Task}
-use Rattle.impose_words.specs.declared.request.Layout.{Layout}
-use Rattle.impose_words.specs.declared.request.Layout.TheVariants as layout
 use Rattle.impose_words.specs.declared.request.ImposeRequest.{ImposeRequest}
 use Rattle.impose_messages.specs.declared.fault.ImposeFault.{ImposeFault}
 use Rattle.impose_messages.specs.declared.fault.ImposeFault.TheVariants as fault
 use Rattle.impose_messages.specs.declared.finished.Done.{Done}
 use Rattle.impose_messages.specs.declared.finished.Done.TheVariants as done
 use Rattle.impose_messages.specs.declared.finished.Findings.{Findings}
-use Rattle.impose_messages.specs.declared.finished.Finished.{Finished}
 use Rattle.impose_messages.specs.declared.scales.Scales.{Scales}
 
 -- ---- what is written
@@ -132,28 +124,7 @@ Comes {T} Refuses Wrote name edge (Err f) world rest written =
 abbrev pub WritesJob : JobView → (old new : Option (List ℕ)) → Report → Type 0
 WritesJob j old new report = Appends old new (output_of j) × ReportsOf j report
 
--- ---- by a specification
-
--- the fault names the first check of a run of the task that fails
-abbrev pub RefusesTaskRun : Task → ImposeFault → Type 0
-RefusesTaskRun t f = (error : RunError) × (f ≡ fault.Run error) × AgreesWithChecks (run_asked t) error × IsUnwritten error
-
--- exactly the output of the task's specification was appended, and the report has its numbers
-abbrev pub WritesTask : Task → (old new : Option (List ℕ)) → Report → Type 0
-WritesTask t old new report = Accepted (run_asked t) (λ spec us.
-    Appends old new (output (frame_of t.options) t.options.sides spec us)
-    × Reports (frame_of t.options) t.options.sides spec us report)
-
-pub record RefusesInTask (r : ImposeRequest) (input : List ℕ) (f : ImposeFault) : Type 0 where
-  pub task : Task
-  pub is_task : IsTask r input task
-  pub refused : RefusesTaskRun task f
-
--- there is no task, or its run is refused
-abbrev pub RefusesSpecRun : ImposeRequest → (input : List ℕ) → ImposeFault → Type 0
-RefusesSpecRun r input f = RefusesTask r input f ⊎ RefusesInTask r input f
-
--- ---- on the row of a layout
+-- ---- of a request
 
 -- the fault names the first check of a job that fails
 abbrev pub RefusesRowJob : RowJob → ImposeFault → Type 0
@@ -172,29 +143,17 @@ pub record RefusesInRow (r : ImposeRequest) (input : List ℕ) (f : ImposeFault)
 abbrev pub RefusesRowRun : ImposeRequest → (input : List ℕ) → ImposeFault → Type 0
 RefusesRowRun r input f = RefusesRowTask r input f ⊎ RefusesInRow r input f
 
--- ---- all of them
-
 -- the outcome of a run, with the scales of its pages and what the request found before it; a fault stays as it is
 abbrev pub reported_by : Findings → Option Scales → Result Report ImposeFault → Result Done ImposeFault
 reported_by findings scales (Ok report) = Ok (done.Imposed (record { report = report; scales = scales; findings = findings }))
 reported_by findings scales (Err f) = Err f
 
--- the request was carried out, by its specification or on its row
-abbrev pub Finishes : ImposeRequest → (input : List ℕ) → (old new : Option (List ℕ)) → Finished → Type 0
-Finishes r input old new done =
-    FinishesSpec r input old new done ⊎ FinishesRow r input old new done
-
 abbrev pub IsImposed : ImposeRequest → (input : List ℕ) → (old new : Option (List ℕ)) → Done → Type 0
-IsImposed r input old new (done.Imposed finished) = Finishes r input old new finished
+IsImposed r input old new (done.Imposed finished) = FinishesRow r input old new finished
 IsImposed r input old new other = ⊥
-
--- its first fault: by its specification, or on the row of another layout
-abbrev pub RefusesImposing : Layout → ImposeRequest → (input : List ℕ) → ImposeFault → Type 0
-RefusesImposing (layout.Spec specs) r input f = RefusesSpecRun r input f
-RefusesImposing other r input f = RefusesRowRun r input f
 
 -- what comes of a request to impose this input
 abbrev pub RunsRequest : {W O : Type 0} → ImposeRequest → (input : List ℕ) → (edge : Edge W O) → Result Done ImposeFault
     → (world : W) → (rest : Rest W O) → (written : Option (List ℕ)) → Type 0
 RunsRequest r input edge outcome world rest written =
-    Comes (RefusesImposing r.layout r input) (IsImposed r input) (option_map string_bytes r.outfile) edge outcome world rest written
+    Comes (RefusesRowRun r input) (IsImposed r input) (option_map string_bytes r.outfile) edge outcome world rest written

@@ -1,11 +1,9 @@
 -- What holds of what impose wrote.
-use Rattle.std.proofs.Common.{inl, inr}
 use Rattle.std.specs.Prelude.{◌≡◌, ℕ, Bool, ◌<◌, ◌≤◌, List, ◌∷◌, ◌++◌, length, Option, None, Some, Ok}
 use Rattle.std.specs.Io.KnownBytes.{Appends}
 use Rattle.rules.specs.Papers.{Paper}
 use Rattle.rules.specs.Parts.{NestedUnit, page_run, pages, trailer}
-use Rattle.rules.specs.Sheets.{Slot, sheets}
-use Rattle.rules.specs.Output.{Border, Frame}
+use Rattle.rules.specs.Output.{Border}
 use Rattle.rules.specs.Run.{document_of, most_input_bytes}
 use Rattle.dsc.specs.Units.{units_of}
 use Rattle.rules.specs.Choice.{imposed_row, sides_for}
@@ -13,7 +11,7 @@ use Rattle.rules.specs.Made.{MadeSheet}
 use Rattle.rules.specs.Rows.{Row}
 use Rattle.row_sheets.specs.RowSheets.{selected}
 use Rattle.rules.specs.Dress.{Dress}
-use Rattle.imposed_again.specs.Again.{IsAgain, open_depth, sheet_texts}
+use Rattle.imposed_again.specs.Again.{open_depth}
 use Rattle.imposed_again.specs.MadeAgain.{IsMadeAgain, made_texts}
 use Rattle.papers.specs.Reported.{reporting}
 use Rattle.dressing.specs.Numbered.{drawn_on}
@@ -30,23 +28,13 @@ use Rattle.row_runs.specs.declared.sheet_request.Scheme.TheVariants as scheme
 use Rattle.row_runs.specs.declared.sheet_request.Laying.{Laying}
 use Rattle.row_runs.specs.declared.sheet_request.Laying.TheVariants as laying
 use Rattle.impose_cli.specs.RowTasks.{FinishesRow, LaysBy, guarded_paper}
-use Rattle.impose_cli.specs.Tasks.{FinishesSpec, frame_used}
 use Rattle.impose_words.specs.Choices.{choice_in}
-use Rattle.impose_cli.specs.Endings.{Finishes}
 use Rattle.impose_words.specs.declared.request.ImposeRequest.{ImposeRequest}
 use Rattle.impose_messages.specs.declared.finished.Finished.{Finished}
 
--- The text, written of a document with these sheets, is a document again: it is accepted, and its preamble and trailer
+-- The text, written of a document with these made sheets and lines, is a document again: it is accepted, and its preamble and trailer
 -- are the texts that were written. Its pages are the sheets if the document's last page leaves no embedded document
 -- open, and so if the document has a trailer.
-pub record IsDocumentAgain (frame : Frame) (all : List (List Slot)) (us : List NestedUnit)
-    (text : List ℕ) : Type 0 where
-  pub accepted : document_of text ≡ Ok (units_of text)
-  pub again : IsAgain frame all us (units_of text)
-  pub shut : open_depth (page_run us) ≡ 0 → pages (units_of text) ≡ sheet_texts frame (pages us) all
-  pub with_trailer : 0 < length (trailer us) → pages (units_of text) ≡ sheet_texts frame (pages us) all
-
--- the same of a text that was written with made sheets, and with these lines besides
 pub record IsMadeDocument (border : Option Border) (dress : Dress) (all : List MadeSheet) (us : List NestedUnit) (text : List ℕ)
     : Type 0 where
   pub accepted : document_of text ≡ Ok (units_of text)
@@ -54,26 +42,12 @@ pub record IsMadeDocument (border : Option Border) (dress : Dress) (all : List M
   pub shut : open_depth (page_run us) ≡ 0 → pages (units_of text) ≡ made_texts border dress (pages us) all
   pub with_trailer : 0 < length (trailer us) → pages (units_of text) ≡ made_texts border dress (pages us) all
 
--- the sheets that a specification names for the pages of the document
-abbrev pub sheets_named : {r : ImposeRequest} {input : List ℕ} {old new : Option (List ℕ)} {done : Finished}
-    → FinishesSpec r input old new done → List (List Slot)
-sheets_named h = sheets h.spec (length (pages h.units))
-
--- the text is a document again, with the sheets that were made
-abbrev pub IsAgainFor : {r : ImposeRequest} {input : List ℕ} {old new : Option (List ℕ)} {done : Finished}
-    → Finishes r input old new done → (text : List ℕ) → Type 0
-IsAgainFor {r} {input} {old} {new} {done} (inl h) text =
-    IsDocumentAgain (frame_used r done) (sheets_named h) h.units text
-IsAgainFor (inr h) text =
-    0 < length h.imposes.made
-    → IsMadeDocument (border_on h.job) (drawn_on (drawn_of h.job) (reporting h.imposes.made)) h.imposes.made h.job.document.now text
-
 -- what was appended for a request that was carried out is a document again, if it has no more than 2^30 bytes
 abbrev pub WroteDocument : Type 0
 WroteDocument =
     (r : ImposeRequest) (input old text : List ℕ) (done : Finished)
-    → (h : Finishes r input (Some old) (Some (old ++ text)) done) → length text ≤ most_input_bytes
-    → IsAgainFor h text
+    → (h : FinishesRow r input (Some old) (Some (old ++ text)) done) → length text ≤ most_input_bytes → 0 < length h.imposes.made
+    → IsMadeDocument (border_on h.job) (drawn_on (drawn_of h.job) (reporting h.imposes.made)) h.imposes.made h.job.document.now text
 
 -- What was written for a job is exactly the output of sheets whose pages keep their places, as the job's laying has them: each is in its
 -- cell, and they are read in the order of the row; if no page is turned, pages are between the margins and apart

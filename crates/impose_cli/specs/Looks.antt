@@ -1,24 +1,14 @@
 -- What is reported of a request in place of carrying it out: the plan of its sheets, or their picture.
-use Rattle.std.specs.Prelude.{⊤, ℕ, List}
+use Rattle.std.specs.Prelude.{ℕ, List}
 use Rattle.rules.specs.Papers.{Paper}
 use Rattle.row_runs.specs.Looks.{IsPictureText, IsPlanText}
 use Rattle.row_runs.specs.declared.run.RowJob.{RowJob}
-use Rattle.impose_cli.specs.RowTasks.{ArePapersOf, IsJobOf, IsRowJob, IsRowPaper, LaysRows}
+use Rattle.impose_cli.specs.RowTasks.{ArePapersOf, IsJobOf, IsRowJob, IsRowPaper}
 use Rattle.impose_cli.specs.declared.look.Overview.{Overview}
 use Rattle.impose_cli.specs.declared.look.Overview.TheVariants.{Plan, Picture}
-use Rattle.impose_words.specs.declared.request.Layout.{Layout}
-use Rattle.impose_words.specs.declared.request.Product.{Product}
-use Rattle.impose_words.specs.declared.request.Product.TheVariants as product
 use Rattle.impose_words.specs.declared.request.ImposeRequest.{ImposeRequest}
 use Rattle.impose_cli.specs.declared.row_task.RowTask.{RowTask}
 use Rattle.impose_messages.specs.declared.finished.PaperOrigin.{PaperOrigin}
-
--- a plan or a picture is asked for of a layout that lays rows
-abbrev pub MayBeMade : Product → Layout → Type 0
-MayBeMade product.Sheets l = ⊤
-MayBeMade product.Specification l = ⊤
-MayBeMade product.Plan l = LaysRows l
-MayBeMade (product.Picture file) l = LaysRows l
 
 -- how many sheets or leaves are listed, or sheets drawn (RULES, 17)
 abbrev pub most_listed : ℕ

@@ -5,7 +5,7 @@ use Rattle.rules.specs.Papers.{Paper}
 use Rattle.rules.specs.Choice.{NotARange, row_of_text}
 use Rattle.rows.specs.declared.error.RowError.TheVariants as row
 use Rattle.impose_cli.specs.RowTasks.{cells_of_layout, cells_paper, sheet_paper_in, why_no_layout}
-use Rattle.impose_cli.specs.Refusals.{IsSpecification, RefusesLayout, RefusesSpecification}
+use Rattle.impose_cli.specs.Refusals.{HasGoodName, RefusesNamed, RefusesRowLayout}
 use Rattle.impose_words.specs.declared.request.Spacing.{Spacing}
 use Rattle.impose_words.specs.declared.request.Layout.{Layout}
 use Rattle.impose_words.specs.declared.request.Layout.TheVariants as layout
@@ -25,8 +25,7 @@ abbrev pub kept_free : Layout → Spacing → Option Free
 kept_free (layout.Booklet signing long_edge) s = Some (binding_in s long_edge).free
 kept_free (layout.Poster cells) s = None
 kept_free layout.Selection s = None
-kept_free (layout.Spec specs) s = None
-kept_free (layout.SpecRow specs signing) s = None
+kept_free (layout.Spec specs signing) s = None
 kept_free other s = Some (cells_of_layout other s).free
 
 -- why pages of any paper have no room on these sheets
@@ -40,19 +39,13 @@ why_no_sheets l s sheet_paper = option_and_then (why_not_on l s) sheet_paper
 -- the text of a specification is one; if the paper of the pages is named, the layout lays them on such sheets; and if it isn't,
 -- pages of any paper may have room on the sheets that are
 abbrev pub IsPossible : Layout → Spacing → (page_paper sheet_paper : Option Paper) → Type 0
-IsPossible (layout.Spec specs) s page_paper sheet_paper = IsSpecification (string_bytes specs)
-IsPossible (layout.SpecRow specs signing) s page_paper sheet_paper = IsSpecification (string_bytes specs)
-IsPossible other s None sheet_paper = why_no_sheets other s sheet_paper ≡ None
-IsPossible other s (Some page_paper) sheet_paper =
-    why_no_layout other s page_paper (sheet_paper_in other sheet_paper page_paper) ≡ None
+IsPossible l s None sheet_paper = HasGoodName l × (why_no_sheets l s sheet_paper ≡ None)
+IsPossible l s (Some page_paper) sheet_paper = HasGoodName l × (why_no_layout l s page_paper (sheet_paper_in l sheet_paper page_paper) ≡ None)
 
 -- a fault says that this isn't so; or it is out of memory
 abbrev pub RefusesUnread : Layout → Spacing → (page_paper sheet_paper : Option Paper) → ImposeFault → Type 0
-RefusesUnread (layout.Spec specs) s page_paper sheet_paper f = RefusesSpecification (string_bytes specs) f
-RefusesUnread (layout.SpecRow specs signing) s page_paper sheet_paper f = RefusesSpecification (string_bytes specs) f
-RefusesUnread other s None sheet_paper f = why_no_sheets other s sheet_paper ≡ Some f
-RefusesUnread other s (Some page_paper) sheet_paper f =
-    RefusesLayout other s page_paper (sheet_paper_in other sheet_paper page_paper) f
+RefusesUnread l s None sheet_paper f = RefusesNamed l f ⊎ (why_no_sheets l s sheet_paper ≡ Some f)
+RefusesUnread l s (Some page_paper) sheet_paper f = RefusesRowLayout l s page_paper (sheet_paper_in l sheet_paper page_paper) f
 
 -- pages aren't named by what is no range, in whatever document
 abbrev pub AreGoodRanges : PageChoice → Type 0

@@ -1,10 +1,23 @@
 -- What `--print-spec` prints: the specification, the command line of pstops that imposes by it, and what that doesn't do.
-use Rattle.std.specs.Prelude.{◌++◌, ◌&&◌, ℕ, pos, Bool, not, is_some, List, codes, option_map, string_bytes}
-use Rattle.std.specs.Ordering.{int_eq}
+use Rattle.std.specs.Prelude.{◌≡◌, ◌⊎◌, ◌++◌, ◌&&◌, ℕ, Bool, true, false, if◌then◌else◌, List, length, Option, None, Some, codes, option_map, string_bytes}
+use Rattle.rules.specs.Choice.{sides_for}
+use Rattle.rules.specs.Papers.{Paper}
 use Rattle.command_words.specs.Shell.{begins_with_minus, border_option, files_text, length_text, sides_option, text_if}
-use Rattle.imposer.specs.declared.options.Options.{Options}
+use Rattle.rows.specs.Printed.{is_plain}
+use Rattle.rows.specs.Sewing.{signing_of}
+use Rattle.pagespec.specs.declared.item.Turn.TheVariants as turned
+use Rattle.impose_words.specs.declared.request.Layout.{Layout}
+use Rattle.impose_words.specs.declared.request.Layout.TheVariants as layout
+use Rattle.impose_words.specs.declared.request.Turning.{Turning}
+use Rattle.impose_words.specs.declared.request.Turning.TheVariants as turning
 use Rattle.impose_words.specs.declared.request.ImposeRequest.{ImposeRequest}
-use Rattle.impose_cli.specs.declared.task.Task.{Task}
+use Rattle.impose_messages.specs.Faults.{without_memory}
+use Rattle.impose_messages.specs.declared.fault.ImposeFault.{ImposeFault}
+use Rattle.impose_messages.specs.declared.fault.ImposeFault.TheVariants as fault
+use Rattle.impose_messages.specs.declared.finished.PaperOrigin.{PaperOrigin}
+use Rattle.impose_cli.specs.Refusals.{RefusesRowTask}
+use Rattle.impose_cli.specs.RowTasks.{ArePapersOf, IsRowPaper, why_no_row}
+use Rattle.impose_cli.specs.RowsAsked.{row_asked, signing_in}
 
 -- ---- words
 
@@ -13,28 +26,54 @@ use Rattle.impose_cli.specs.declared.task.Task.{Task}
 abbrev pub quoted_spec : (spec : List ℕ) → List ℕ
 quoted_spec spec = text_if (begins_with_minus spec) (codes "1:") ++ spec
 
-abbrev pub options_text : Options → List ℕ
-options_text o = sides_option o.sides ++ codes " -w " ++ length_text o.paper.width ++ codes " -h " ++ length_text o.paper.height
-    ++ border_option o.border
-
 -- ---- all of it
 
-abbrev pub call_text : ImposeRequest → Options → List ℕ
-call_text r o = codes "pstops" ++ text_if r.is_quiet (codes " -q") ++ options_text o
+abbrev pub call_text : ImposeRequest → Paper → (sides : Option ℕ) → List ℕ
+call_text r paper sides = codes "pstops" ++ text_if r.is_quiet (codes " -q") ++ sides_option sides ++ codes " -w " ++ length_text paper.width
+    ++ codes " -h " ++ length_text paper.height ++ border_option r.border
 
-abbrev pub printed_command : ImposeRequest → Task → List ℕ
-printed_command r t = call_text r t.options ++ codes " '" ++ quoted_spec (string_bytes t.spec) ++ codes "'"
+abbrev pub printed_command : ImposeRequest → (spec : List ℕ) → Paper → (sides : Option ℕ) → List ℕ
+printed_command r spec paper sides = call_text r paper sides ++ codes " '" ++ quoted_spec spec ++ codes "'"
     ++ files_text (option_map string_bytes r.infile) (option_map string_bytes r.outfile)
 
-abbrev pub is_border_trimmed : ImposeRequest → Task → Bool
-is_border_trimmed r t = is_some t.options.border && not (int_eq r.spacing.free.trim (pos 0))
+-- pstops puts no guard in
+abbrev pub comment_text : ImposeRequest → List ℕ
+comment_text r = text_if r.is_guarded (codes "# impose also puts its guard into the document, which pstops doesn't\n")
 
--- pstops draws a border along the page's edges, whatever is trimmed, and puts no guard in
-abbrev pub comments_text : ImposeRequest → Task → List ℕ
-comments_text r t =
-    text_if (is_border_trimmed r t)
-    (codes "# impose draws the border round what is left of a trimmed page, pstops round the page\n")
-    ++ text_if r.is_guarded (codes "# impose also puts its guard into the document, which pstops doesn't\n")
+abbrev pub printed_text : ImposeRequest → (spec : List ℕ) → Paper → (sides : Option ℕ) → List ℕ
+printed_text r spec paper sides = quoted_spec spec ++ codes "\n" ++ printed_command r spec paper sides ++ codes "\n" ++ comment_text r
 
-abbrev pub printed_text : ImposeRequest → Task → List ℕ
-printed_text r t = quoted_spec (string_bytes t.spec) ++ codes "\n" ++ printed_command r t ++ codes "\n" ++ comments_text r t
+-- ---- of a request
+
+-- no page is turned
+abbrev pub is_unturned : Turning → Bool
+is_unturned (turning.All turned.None) = true
+is_unturned other = false
+
+abbrev pub named_in : Layout → Option (List ℕ)
+named_in (layout.Spec specs signing) = Some (string_bytes specs)
+named_in other = None
+
+-- the specification that a request names, if it says all that is asked for: all pages, in their order, blanks after them, and unturned
+-- (RULES, 16, step 10)
+abbrev pub said_in : ImposeRequest → Option (List ℕ)
+said_in r = if is_plain (row_asked r) && is_unturned r.turn then named_in r.layout else None
+
+-- this is printed for so many pages of this paper
+abbrev pub IsPrintedFor : ImposeRequest → Paper → (pages : ℕ) → (text : List ℕ) → Type 0
+IsPrintedFor r paper pages text = (spec : List ℕ) × (said_in r ≡ Some spec)
+    × (text ≡ printed_text r spec paper (option_map (λ how. sides_for (signing_of how) pages) (signing_in r.layout)))
+
+-- for this document, whose pages can be laid so
+pub record IsSpecText (r : ImposeRequest) (input : List ℕ) (text : List ℕ) : Type 0 where
+  pub page_paper : Paper × PaperOrigin
+  pub found : IsRowPaper r input page_paper
+  pub papers : List Paper
+  pub are_papers : ArePapersOf r input papers
+  pub possible : why_no_row r page_paper.0 ≡ None
+  pub printed : IsPrintedFor r page_paper.0 (length papers) text
+
+-- why nothing is: there is no task; or memory ran out, or no specification says what is asked for
+abbrev pub RefusesPrinting : ImposeRequest → (input : List ℕ) → ImposeFault → Type 0
+RefusesPrinting r input f = RefusesRowTask r input f
+    ⊎ ((f ≡ without_memory) ⊎ ((f ≡ fault.NoSpecification) × (said_in r ≡ None)))

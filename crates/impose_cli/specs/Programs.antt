@@ -15,10 +15,8 @@ use Rattle.impose_cli.specs.Endings.{AfterWrite, Edge, HasFailed, IsUncreatedFau
 use Rattle.impose_messages.specs.Faults.{without_memory}
 use Rattle.impose_cli.specs.Fronts.{FindsForeign, Inputs, LooksAt, RegularFiles, SameFiles}
 use Rattle.impose_cli.specs.Looks.{IsRowText}
-use Rattle.impose_cli.specs.Printed.{printed_text}
-use Rattle.impose_cli.specs.Refusals.{HasNoFault, RefusesTask}
+use Rattle.impose_cli.specs.Printed.{IsSpecText, RefusesPrinting}
 use Rattle.impose_messages.specs.Statuses.{fault_status}
-use Rattle.impose_cli.specs.Tasks.{IsTask}
 use Rattle.impose_cli.specs.Precheck.{MayBeRead, RefusesRequest}
 use Rattle.impose_words.specs.Faults.{RefusesCommand}
 use Rattle.impose_words.specs.Words.{Entered, ReadsRequest}
@@ -33,7 +31,6 @@ use Rattle.impose_cli.specs.declared.look.Overview.TheVariants as look
 use Rattle.impose_words.specs.declared.request.Product.{Product}
 use Rattle.impose_words.specs.declared.request.Product.TheVariants as product
 use Rattle.impose_words.specs.declared.request.ImposeRequest.{ImposeRequest}
-use Rattle.impose_cli.specs.declared.task.Task.{Task}
 
 -- the exit status: 0 if something was done
 abbrev pub status_of : Result Done ImposeFault → ℕ
@@ -102,20 +99,17 @@ Writes name text what edge (Ok said) world rest written =
     (said ≡ what) × Appends (reported_if edge.reports_outputs name []) written text × IsUnfailed edge rest
 Writes name text what edge (Err f) world rest written = FailsToWrite name text edge f world rest written
 
--- What comes of a request to print the specification for this input: there is a task, which nothing refuses, and standard
--- output has what was printed of it; or there is none, or no memory, and the world is back; or there is such a task, and a
--- write failed.
+-- What comes of a request to print the specification for this input: standard output has what is printed for it; or nothing is,
+-- and the world is back; or there is such a text, and a write failed.
 abbrev pub Prints : {W O : Type 0} → ImposeRequest → (input : List ℕ) → (edge : Edge W O) → Result Done ImposeFault
     → (world : W) → (rest : Rest W O) → (written : Option (List ℕ)) → Type 0
 Prints r input edge (Ok (done.Imposed finished)) world rest written = ⊥
 Prints r input edge (Ok done.Printed) world rest written =
-    (task : Task) × IsTask r input task × HasNoFault r input
-    × Appends (reported_if edge.reports_outputs None []) written (printed_text r task) × IsUnfailed edge rest
+    (text : List ℕ) × IsSpecText r input text × Appends (reported_if edge.reports_outputs None []) written text × IsUnfailed edge rest
 Prints r input edge (Ok done.Shown) world rest written = ⊥
 Prints r input edge (Err f) world rest written =
-    ((RefusesTask r input f ⊎ (f ≡ without_memory)) × (rest ≡ World world))
-    ⊎ ((task : Task) × IsTask r input task × HasNoFault r input
-    × FailsToWrite None (printed_text r task) edge f world rest written)
+    (RefusesPrinting r input f × (rest ≡ World world))
+    ⊎ ((text : List ℕ) × IsSpecText r input text × FailsToWrite None text edge f world rest written)
 
 -- What comes of a request to show the sheets for this input: the output of this name has exactly the text that reports on the
 -- sheets that would be imposed; or the request is refused as its run would be, and the world is back; or there is such a

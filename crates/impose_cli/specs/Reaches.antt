@@ -1,7 +1,7 @@
 -- Pages that reach beyond the papers by which they are placed, of those that a request takes.
-use Rattle.std.specs.Prelude.{ℕ, Bool, false, List, map, unwrap_or, Option, None}
+use Rattle.std.specs.Prelude.{ℕ, Bool, List, unwrap_or, Option, None}
 use Rattle.rules.specs.Papers.{Paper}
-use Rattle.rules.specs.Parts.{NestedUnit, pages}
+use Rattle.rules.specs.Parts.{NestedUnit}
 use Rattle.rules.specs.Rows.{Row}
 use Rattle.paper_names.specs.Names.{paper_named}
 use Rattle.papers.specs.Own.{papers_of_each_page}
@@ -23,7 +23,3 @@ reported_own r input us = papers_of_each_page None paper_named (unwrap_or r.page
 abbrev pub reach_in : (cut_apart : Bool) → ImposeRequest → (placed : List Paper) → (input : List ℕ) → List NestedUnit → Option Reach
 reach_in apart r placed input us =
     reach_on apart (row_in r us) placed (reported_own r input us) (page_boxes input us)
-
--- the same of pages that are all placed by one paper, where none is reported apart
-abbrev pub reach_over : ImposeRequest → Paper → (input : List ℕ) → List NestedUnit → Option Reach
-reach_over r paper input us = reach_in false r (map (λ page. paper) (pages us)) input us

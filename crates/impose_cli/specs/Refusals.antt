@@ -1,12 +1,10 @@
 -- What a refused request says.
-use Rattle.std.specs.Prelude.{◌≡◌, ◌⊎◌, ⊤, string_bytes, ◌||◌, not, if◌then◌else◌, ℕ, pos, IfSome, List, Option, None, Some, Ok, Err, Bool, true, false}
-use Rattle.std.specs.Ordering.{int_eq}
+use Rattle.std.specs.Prelude.{◌≡◌, ◌⊎◌, ⊤, string_bytes, ℕ, IfSome, List, Option, None, Some, Err}
 use Rattle.rules.specs.Admissible.{Takes, most_slots}
 use Rattle.rules.specs.Papers.{Paper}
 use Rattle.rules.specs.Specification.{Spec}
 use Rattle.pagespec.specs.Refusals.{IsSyntaxPlace, IsRefusal}
 use Rattle.pagespec.specs.declared.error.SpecError.{SpecError}
-use Rattle.rules.specs.Parts.{NestedUnit}
 use Rattle.rules.specs.Run.{document_of}
 use Rattle.imposer.specs.declared.outcome.RunError.TheVariants as run
 use Rattle.dsc.specs.declared.errors.DscError.{DscError}
@@ -14,9 +12,7 @@ use Rattle.dsc.specs.Faults as dsc
 use Rattle.imposer.specs.Outcomes.{of_document as of_read, of_spec}
 use Rattle.impose_messages.specs.Faults.{without_memory}
 use Rattle.impose_messages.specs.Inputs.{refused_document}
-use Rattle.impose_cli.specs.RowTasks.{HasOptions, IsRowPaper, DecidesOnePaper, has_specification, is_of_one_paper, why_no_row, why_no_layout}
-use Rattle.impose_cli.specs.Tasks.{is_said, page_paper_found}
-use Rattle.impose_words.specs.SheetPapers.{sheet_paper_for}
+use Rattle.impose_cli.specs.RowTasks.{HasOptions, IsRowPaper, why_no_row, why_no_layout}
 use Rattle.impose_words.specs.declared.request.Spacing.{Spacing}
 use Rattle.impose_words.specs.declared.request.Layout.{Layout}
 use Rattle.impose_words.specs.declared.request.Layout.TheVariants as layout
@@ -61,65 +57,15 @@ RefusesSpecification text f = (e : SpecError) × (f ≡ fault.Run (of_spec e)) �
 
 -- the text that the layout names for a row is that of a specification, if it names one
 abbrev pub HasGoodName : Layout → Type 0
-HasGoodName (layout.SpecRow specs signing) = IsSpecification (string_bytes specs)
+HasGoodName (layout.Spec specs signing) = IsSpecification (string_bytes specs)
 HasGoodName other = ⊤
 
 -- or it is refused as none
 abbrev pub RefusesNamed : Layout → ImposeFault → Type 0
-RefusesNamed (layout.SpecRow specs signing) f = RefusesSpecification (string_bytes specs) f
+RefusesNamed (layout.Spec specs signing) f = RefusesSpecification (string_bytes specs) f
 RefusesNamed other f = ⊥
 
--- ---- a task by a specification
-
--- the fault of a test that fails, and otherwise what follows
-abbrev pub fault_unless : Bool → ImposeFault → Option ImposeFault → Option ImposeFault
-fault_unless holds f next = if holds then next else Some f
-
--- a specification says the layout: one that is named, or one that is made for it, unless leaves creep
-abbrev pub is_specified : Layout → Spacing → Bool
-is_specified (layout.NUp cells) s = true
-is_specified (layout.Booklet signing long_edge) s = int_eq s.creep (pos 0)
-is_specified (layout.Spec specs) s = true
-is_specified (layout.SpecRow specs signing) s = true
-is_specified other s = false
-
--- why none does, with pages of this paper on sheets of that
-abbrev pub why_not_specified : Layout → Spacing → (page_paper sheet_paper : Paper) → Option ImposeFault
-why_not_specified l s page_paper sheet_paper =
-    fault_unless (is_specified l s) fault.NoSpecification (why_no_layout l s page_paper sheet_paper)
-
--- if a specification is made for the layout, all pages have this paper
-abbrev pub are_alike : ImposeRequest → (input : List ℕ) → List NestedUnit → Paper → Bool
-are_alike r input us paper = not (has_specification r.layout) || is_of_one_paper r input us paper
-
--- the first reason why no specification says what is asked for of a document: pages are chosen or turned, or marks or one scale asked
--- for; or pages have other papers; or the layout has none, or is refused (RULES, 16, steps 8 and 9)
-abbrev pub why_no_task : ImposeRequest → (input : List ℕ) → List NestedUnit → Option ImposeFault
-why_no_task r input us = let page_paper = (page_paper_found r.page_paper r.default_paper input).0 in
-    fault_unless (is_said r) fault.NoSpecification
-    (fault_unless (are_alike r input us page_paper) fault.SeveralPapers
-    (why_not_specified r.layout r.spacing page_paper (sheet_paper_for r.layout r.sheet_paper page_paper)))
-
--- the document is accepted, and there is no such reason
-abbrev pub HasNoFault : ImposeRequest → (input : List ℕ) → Type 0
-HasNoFault r input = (us : List NestedUnit) × (document_of input ≡ Ok us) × (why_no_task r input us ≡ None)
-
--- why there is no task: the document is refused; or it isn't, and this is the first such reason. Out of memory may come in
--- place of what follows the document
-abbrev pub RefusesTask : ImposeRequest → (input : List ℕ) → ImposeFault → Type 0
-RefusesTask r input f =
-    RefusesDocument input f
-    ⊎ ((us : List NestedUnit) × (document_of input ≡ Ok us) × RefusesFor (why_no_task r input us) f)
-
--- what a check of the papers alone says: a specification is made for the layout, and not all pages have this paper
-abbrev pub HasOtherPapers : ImposeRequest → (input : List ℕ) → Paper → Type 0
-HasOtherPapers r input paper = (has_specification r.layout ≡ true) × DecidesOnePaper r input paper false
-
--- or none is made, or all have it
-abbrev pub HasOnePaper : ImposeRequest → (input : List ℕ) → Paper → Type 0
-HasOnePaper r input paper = (has_specification r.layout ≡ false) ⊎ DecidesOnePaper r input paper true
-
--- ---- a task with a row
+-- ---- a task
 
 -- the options of a request are refused: a signature can't be folded or has too many sides, or a border is as wide as nothing
 abbrev pub RefusesOptions : ImposeRequest → ImposeFault → Type 0
@@ -129,7 +75,7 @@ RefusesOptions r f = (f ≡ fault.Run run.Options) × (HasOptions r → ⊥)
 abbrev pub RefusesRowLayout : Layout → Spacing → (page_paper sheet_paper : Paper) → ImposeFault → Type 0
 RefusesRowLayout l s page_paper sheet_paper f = RefusesLayout l s page_paper sheet_paper f ⊎ RefusesNamed l f
 
--- why there is no task with a row: the document is refused; or it isn't, and the layout is, or the specification that it names;
+-- why there is no task: the document is refused; or it isn't, and the layout is, or the specification that it names;
 -- or they aren't, and the options are. Out of memory may come in place of what follows the document (RULES, 16, steps 7, 9, 10)
 abbrev pub RefusesRowTask : ImposeRequest → (input : List ℕ) → ImposeFault → Type 0
 RefusesRowTask r input f =

@@ -1,6 +1,5 @@
 -- What is imposed of a row of pages, and how: a request for a document, if its layout lays rows on sheets.
 use Rattle.std.specs.Prelude.{◌≡◌, ⊤, string_bytes, ℕ, ◌+◌, Bool, true, false, ◌&&◌, if◌then◌else◌, List, [], ◌∷◌, length, Option, Some, None, Result, Ok, Err, IfSome, option_map, option_and_then, map, slice_get, ◌||◌, not}
-use Rattle.std.specs.List.{list_all}
 use Rattle.std.specs.Ordering.{int_eq}
 use Rattle.rules.specs.Admissible.{Takes, most_slots}
 use Rattle.rules.specs.Papers.{Paper}
@@ -13,7 +12,7 @@ use Rattle.row_sheets.specs.RowSheets.{selected_sheet}
 use Rattle.rows.specs.Printed.{asked_by}
 use Rattle.rows.specs.Sewing.{MayBeSewn}
 use Rattle.layouts.specs.Fitted.{binding_setting_of, setting_of}
-use Rattle.layouts.specs.Grids.{cells_per_sheet, rounded_down, rounded_up, is_same}
+use Rattle.layouts.specs.Grids.{cells_per_sheet, rounded_down, rounded_up}
 use Rattle.layouts.specs.Refusals.{error_unless, is_length, why_not_arranged, why_not_bound}
 use Rattle.layouts.specs.declared.arrangement.Cells.{Cells}
 use Rattle.layouts.specs.declared.arrangement.Cells.TheVariants.{AtLeast, Exactly}
@@ -108,8 +107,7 @@ laying_in (layout.Booklet signing long_edge) s page sheet =
     Some (laying.InCells (binding_setting_of sheet (binding_in s long_edge)) (scheme.Booklet long_edge (rounded_down s.creep)))
 laying_in (layout.Poster cells) s page sheet = Some (laying.Poster (poster_in s cells page sheet))
 laying_in layout.Selection s page sheet = Some (laying.AsTheyAre sheet)
-laying_in (layout.Spec specs) s page sheet = None
-laying_in (layout.SpecRow specs signing) s page sheet = None
+laying_in (layout.Spec specs signing) s page sheet = None
 laying_in other s page sheet = Some (filled_in other s (cells_of_layout other s) page sheet)
 
 -- as much is kept free along opposite edges, or along all
@@ -134,8 +132,7 @@ why_not_placed (layout.Poster cells) s page sheet = if is_length s.free.left && 
     then option_map fault.Poster (why_no_poster page (poster_in s cells page sheet))
     else Some (fault.Layout why.LengthOutOfRange)
 why_not_placed layout.Selection s page sheet = None
-why_not_placed (layout.Spec specs) s page sheet = None
-why_not_placed (layout.SpecRow specs signing) s page sheet = None
+why_not_placed (layout.Spec specs signing) s page sheet = None
 why_not_placed other s page sheet = option_map fault.Layout (why_not_arranged page sheet (cells_of_layout other s))
 
 -- and with others
@@ -157,7 +154,7 @@ turns_of turning papers = map (turn_for turning) papers
 
 -- the layout names this specification for a row
 abbrev pub TakesNamed : Layout → Spec → Type 0
-TakesNamed (layout.SpecRow specs signing) spec = Takes most_slots (string_bytes specs) spec
+TakesNamed (layout.Spec specs signing) spec = Takes most_slots (string_bytes specs) spec
 TakesNamed other spec = ⊥
 
 -- a layout lays a row of pages of this paper so on sheets of that: by the specification that it names, or in its own way
@@ -236,7 +233,7 @@ or_first found (Some first) = (first, FirstPage)
 
 -- a specification places all pages by the document's paper
 abbrev pub paper_for : Layout → Paper × PaperOrigin → (taken : List Paper) → Paper × PaperOrigin
-paper_for (layout.SpecRow specs signing) found taken = found
+paper_for (layout.Spec specs signing) found taken = found
 paper_for other found taken = or_first found (first_instead_of found.0 taken)
 
 -- a selection's counts among those of the row's pages as theirs do, since its blanks lie between these (RULES, 12.5)
@@ -260,7 +257,7 @@ IsRowPaper r input found = (us : List NestedUnit) × (document_of input ≡ Ok u
 -- specification places all by one
 abbrev pub papers_to_place : Layout → (one : Paper) → (taken own : List Paper) → List Paper
 papers_to_place layout.Selection one taken own = merge_near_sizes taken own
-papers_to_place (layout.SpecRow specs signing) one taken own = map (λ paper. one) own
+papers_to_place (layout.Spec specs signing) one taken own = map (λ paper. one) own
 papers_to_place other one taken own = own
 
 abbrev pub counted_in : ImposeRequest → (input : List ℕ) → List NestedUnit → List Paper
@@ -280,23 +277,8 @@ HasTurns r input turns = (us : List NestedUnit) × (document_of input ≡ Ok us)
 
 -- pages that the named paper cuts are reported apart from those that reach beyond their papers, but by a specification
 abbrev pub has_cuts_apart : Layout → Bool
-has_cuts_apart (layout.SpecRow specs signing) = false
+has_cuts_apart (layout.Spec specs signing) = false
 has_cuts_apart other = true
-
--- a specification is made for the layout
-abbrev pub has_specification : Layout → Bool
-has_specification (layout.NUp cells) = true
-has_specification (layout.Booklet signing long_edge) = true
-has_specification other = false
-
--- all pages have this paper, and sheets and cells are made for it: then a specification says what the row is
--- (RULES, 16, step 8)
-abbrev pub is_of_one_paper : ImposeRequest → (input : List ℕ) → List NestedUnit → Paper → Bool
-is_of_one_paper r input us paper = is_same (row_paper r input us).0 paper && list_all (is_same paper) (papers_in r input us)
-
--- the document is accepted, and this says whether all of its pages have that paper
-abbrev pub DecidesOnePaper : ImposeRequest → (input : List ℕ) → Paper → Bool → Type 0
-DecidesOnePaper r input paper is = (us : List NestedUnit) × (document_of input ≡ Ok us) × (is ≡ is_of_one_paper r input us paper)
 
 -- papers of pages from this number on, with another one for each page that the row doesn't take
 abbrev pub taken_from : Row → (other : Paper) → (first : ℕ) → (own : List Paper) → List Paper
@@ -330,11 +312,6 @@ pub record FindsForRow (r : ImposeRequest) (input : List ℕ) (f : Findings) : T
   pub after_trailer : f.after_trailer ≡ pages_after units
   pub taken : f.taken ≡ taken_in r units
   pub claims : AreClaimsOf r input f.claims
-
--- the layout lays rows on sheets
-abbrev pub LaysRows : Layout → Type 0
-LaysRows (layout.Spec specs) = ⊥
-LaysRows other = ⊤
 
 -- the task is what the request asks for with this document
 pub record IsRowTask (r : ImposeRequest) (input : List ℕ) (t : RowTask) : Type 0 where

@@ -17,7 +17,7 @@ use Rattle.impose_words.specs.declared.request.ImposeRequest.{ImposeRequest}
 -- how a layout's row is sewn
 abbrev pub signing_in : Layout → Option Signing
 signing_in (layout.Booklet signing long_edge) = Some signing
-signing_in (layout.SpecRow specs signing) = signing
+signing_in (layout.Spec specs signing) = signing
 signing_in other = None
 
 -- where the row begins on the first sheet

@@ -1,5 +1,5 @@
 //! The laying of a row of pages on sheets, for each layout.
-ghost use Rattle.std.specs.Prelude.{◌≡◌, ◌↔◌, ◌≤◌, IfErr, IfOk, IfSome, IsTrue, OnOk, None, Some, option_map, true};
+ghost use Rattle.std.specs.Prelude.{◌≡◌, ◌↔◌, ◌≤◌, IfErr, IfOk, IsTrue, OnOk, None, Some, option_map, true};
 ghost use Rattle.layouts.specs.Grids.{cells_per_sheet};
 ghost use Rattle.layouts.specs.Refusals.{most_on_sheet, why_not_arranged};
 ghost use Rattle.rows.specs.Printed.{asked_by};
@@ -7,14 +7,14 @@ ghost use Rattle.rows.specs.Sewing.{MayBeSewn};
 ghost use Rattle.sheet_text.specs.Jobs.{is_border};
 ghost use Rattle.row_runs.specs.Sheets.{MayBeLaid};
 ghost use Rattle.rules.specs.Admissible.{Takes, most_slots};
-ghost use Rattle.impose_cli.specs.Refusals.{HasGoodName, RefusesRowLayout, RefusesSpecification};
-ghost use Rattle.impose_cli.specs.RowTasks.{IsLaidSo, IsLayingOf, LaysRows, MayBeLaidSo};
-ghost use Rattle.impose_cli.specs.Refusals.{RefusesLayout, RefusesOptions};
+ghost use Rattle.impose_cli.specs.Refusals.{HasGoodName, RefusesNamed, RefusesRowLayout, RefusesSpecification};
+ghost use Rattle.impose_cli.specs.RowTasks.{IsLaidSo, IsLayingOf, MayBeLaidSo};
+ghost use Rattle.impose_cli.specs.Refusals.{RefusesOptions};
 ghost use Rattle.impose_cli.specs.RowTasks.{has_even_margins as are_even, is_even_enough as are_even_enough};
 ghost use Rattle.impose_cli.specs.RowsAsked.{begun_in, row_asked as row_asked_by, scheme_in, signing_in};
 ghost use Rattle.impose_cli.specs.RowTasks.{HasOptions, cells_of_layout, filled_in, laying_in, why_no_layout, why_not_placed};
 ghost use Rattle.impose_cli.specs.RowTasks.{cells_paper, sheet_paper_in};
-ghost use Rattle.impose_cli.specs.Precheck.{kept_free as kept_free_in, why_no_sheets};
+ghost use Rattle.impose_cli.specs.Precheck.{IsPossible, RefusesUnread, kept_free as kept_free_in, named_cells_paper, why_no_sheets};
 ghost use Rattle.impose_words.specs.declared.request.Layout.TheVariants as layout;
 ghost use Rattle.impose_messages.specs.declared.fault.ImposeFault.TheVariants as faults;
 
@@ -79,80 +79,96 @@ impl RowLaying {
     }
 }
 
-/// The way in which the layout of a request lays its row of pages on sheets. The error says why the row can't be laid in this way.
-pub(crate) fn row_laying(
-    alloc: Global,
-    request: &ImposeRequest,
-    papers: &Papers,
-) -> Result<RowLaying, ImposeFault>
-    requires rows { LaysRows request.now.layout }
-    ensures laying { IfOk result
-        (IsLaidSo request.now.layout request.now.spacing papers.now.page papers.now.sheet) }
-    ensures may_be { IfOk result MayBeLaidSo }
-    ensures possible { OnOk result
-        (why_no_layout request.now.layout request.now.spacing papers.now.page papers.now.sheet ≡ None) }
-    ensures named { OnOk result (HasGoodName request.now.layout) }
-    ensures refused { IfErr result
-        (RefusesRowLayout request.now.layout request.now.spacing papers.now.page papers.now.sheet) }
-{
-    if let Layout::SpecRow { specs, .. } = &request.layout {
-        let spec = spec_named(alloc, specs.as_str())?;
-        return Ok(RowLaying::Named {
-            spec,
-            sheet: papers.sheet,
-            page: papers.page,
-        });
-    }
-    match laying_for(&request.layout, &request.spacing, papers) {
-        Ok(Some(laying)) => Ok(RowLaying::Plain(laying)),
-        Ok(None) => unreachable!(),
-        Err(fault) => Err(fault),
-    }
-}
-
 /// The specification that this text gives. The error says why the text can't be read.
-pub(crate) fn spec_named(alloc: Global, specs: &str) -> Result<Spec, ImposeFault>
+fn spec_named(alloc: Global, specs: &str) -> Result<Spec, ImposeFault>
     ensures taken { IfOk result (λ spec. Takes most_slots specs.now spec) }
     ensures refused { IfErr result (RefusesSpecification specs.now) }
 {
     read_spec(alloc, specs).map_err(|error| ImposeFault::Run(RunError::from(error)))
 }
 
-/// The way in which the layout lays pages on sheets. `None` if the layout is a specification. The error says why the pages can't be laid in this way.
+/// The way in which the layout lays a row of pages on sheets. The error says why the row can't be laid in this way.
 pub(crate) fn laying_for(
+    alloc: Global,
     layout: &Layout,
     spacing: &Spacing,
     papers: &Papers,
-) -> Result<Option<Laying<'static>>, ImposeFault>
-    ensures laying { IfOk result (λ laying.
-        laying ≡ laying_in layout.now spacing.now papers.now.page papers.now.sheet) }
-    ensures may_be { IfOk result (λ laying. IfSome laying MayBeLaid) }
+) -> Result<RowLaying, ImposeFault>
+    ensures laying { IfOk result (IsLaidSo layout.now spacing.now papers.now.page papers.now.sheet) }
+    ensures may_be { IfOk result MayBeLaidSo }
     ensures possible { OnOk result (why_no_layout layout.now spacing.now papers.now.page papers.now.sheet ≡ None) }
-    ensures refused { IfErr result (RefusesLayout layout.now spacing.now papers.now.page papers.now.sheet) }
+    ensures named { OnOk result (HasGoodName layout.now) }
+    ensures refused { IfErr result (RefusesRowLayout layout.now spacing.now papers.now.page papers.now.sheet) }
 {
     if !is_even_enough(layout, &spacing.free) {
         return Err(ImposeFault::Layout(ArrangementError::UnevenMargins));
     }
     match layout {
-        Layout::NUp(_) | Layout::Cards(_) | Layout::Stack { .. } => {
-            cell_laying(layout, spacing, papers)
+        Layout::Spec { specs, .. } => {
+            let spec = spec_named(alloc, specs.as_str())?;
+            Ok(RowLaying::Named {
+                spec,
+                sheet: papers.sheet,
+                page: papers.page,
+            })
         }
-        Layout::Notes { .. } => cell_laying(layout, spacing, papers),
-        Layout::Zine => cell_laying(layout, spacing, papers),
         Layout::Booklet { signing, long_edge } => {
-            booklet_laying(*signing, *long_edge, spacing, papers)
+            let laying = booklet_laying(*signing, *long_edge, spacing, papers)?;
+            Ok(RowLaying::Plain(laying))
         }
-        Layout::Poster(cells) => poster_laying(*cells, spacing, papers),
-        Layout::Selection => Ok(Some(Laying::AsTheyAre {
+        Layout::Poster(cells) => {
+            let laying = poster_laying(*cells, spacing, papers)?;
+            Ok(RowLaying::Plain(laying))
+        }
+        Layout::Selection => Ok(RowLaying::Plain(Laying::AsTheyAre {
             blank: papers.sheet,
         })),
-        Layout::Spec(_) | Layout::SpecRow { .. } => Ok(None),
+        _ => {
+            let laying = cell_laying(layout, spacing, papers)?;
+            Ok(RowLaying::Plain(laying))
+        }
+    }
+}
+
+/// Checks the layout as far as possible without the document, so that a mistake is found before the input is read. A specification must have no
+/// fault. Any other layout is tried with the paper of the pages, if the command line names it. If the command line names only the paper of the
+/// sheets, and the layout has cells, the margins must leave some of that paper.
+pub fn check_layout(alloc: Global, request: &ImposeRequest) -> Result<(), ImposeFault>
+    ensures possible { OnOk result
+        (IsPossible request.now.layout request.now.spacing (named_cells_paper request.now) request.now.sheet_paper) }
+    ensures refused { IfErr result
+        (RefusesUnread request.now.layout request.now.spacing (named_cells_paper request.now) request.now.sheet_paper) }
+{
+    match &request.page_paper {
+        Some(page_paper) => {
+            let papers = papers_for(request, page_paper);
+            laying_for(alloc, &request.layout, &request.spacing, &papers)?;
+            Ok(())
+        }
+        None => {
+            check_spec(alloc, &request.layout)?;
+            check_sheets(&request.layout, &request.spacing, &request.sheet_paper)
+        }
+    }
+}
+
+/// Checks the text of a specification. Other layouts pass.
+fn check_spec(alloc: Global, layout: &Layout) -> Result<(), ImposeFault>
+    ensures possible { OnOk result (HasGoodName layout.now) }
+    ensures refused { IfErr result (RefusesNamed layout.now) }
+{
+    match layout {
+        Layout::Spec { specs, .. } => {
+            spec_named(alloc, specs.as_str())?;
+            Ok(())
+        }
+        _ => Ok(()),
     }
 }
 
 /// Checks that the margins leave some of a sheet of `sheet_paper`, whatever the size of the pages. The error is `NoRoom` if they leave nothing.
 /// Lengths out of range pass. If `sheet_paper` is `None`, or the layout has no cells, there is nothing to check.
-pub(crate) fn check_sheets(
+fn check_sheets(
     layout: &Layout,
     spacing: &Spacing,
     sheet_paper: &Option<Paper>,
@@ -179,8 +195,7 @@ fn kept_free(layout: &Layout, spacing: &Spacing) -> Option<Free>
         ),
         Layout::Zine => Some(cells_for(layout, spacing).free),
         Layout::Booklet { long_edge, .. } => Some(spacing.binding(*long_edge).free),
-        Layout::Poster(_) | Layout::Selection => None,
-        Layout::Spec(_) | Layout::SpecRow { .. } => None,
+        Layout::Poster(_) | Layout::Selection | Layout::Spec { .. } => None,
     }
 }
 
@@ -197,16 +212,16 @@ fn is_even_enough(layout: &Layout, free: &Free) -> bool
     }
 }
 
-/// The laying of pages in the cells that the layout asks for, never `Ok(None)`. The error says why the pages can't be put into these cells.
+/// The laying of pages in the cells that the layout asks for. The error says why the pages can't be put into these cells.
 fn cell_laying(
     layout: &Layout,
     spacing: &Spacing,
     papers: &Papers,
-) -> Result<Option<Laying<'static>>, ImposeFault>
+) -> Result<Laying<'static>, ImposeFault>
     requires { are_even_enough layout.now spacing.now.free ≡ true }
     ensures laying { IfOk result (λ laying.
-        laying ≡ Some (filled_in layout.now spacing.now (cells_of_layout layout.now spacing.now) papers.now.page papers.now.sheet)) }
-    ensures may_be { IfOk result (λ laying. IfSome laying MayBeLaid) }
+        laying ≡ filled_in layout.now spacing.now (cells_of_layout layout.now spacing.now) papers.now.page papers.now.sheet) }
+    ensures may_be { IfOk result MayBeLaid }
     ensures possible { OnOk result (option_map faults.Layout
         (why_not_arranged papers.now.page papers.now.sheet (cells_of_layout layout.now spacing.now)) ≡ None) }
     ensures refused { IfErr result (λ fault. option_map faults.Layout
@@ -214,10 +229,10 @@ fn cell_laying(
 {
     let arrangement = cells_for(layout, spacing);
     match Setting::of(papers, &arrangement) {
-        Ok(setting) => Ok(Some(Laying::InCells {
+        Ok(setting) => Ok(Laying::InCells {
             setting,
             scheme: scheme_for(layout, spacing, arrangement.cells),
-        })),
+        }),
         Err(error) => Err(ImposeFault::Layout(error)),
     }
 }
@@ -253,8 +268,7 @@ fn scheme_for(layout: &Layout, spacing: &Spacing, cells: Cells) -> Scheme
         },
         Layout::Notes { pages } => Scheme::Grid { cells: *pages },
         Layout::Zine => Scheme::Zine,
-        Layout::NUp(_) | Layout::Booklet { .. } | Layout::Poster(_) => Scheme::Grid { cells },
-        Layout::Spec(_) | Layout::SpecRow { .. } | Layout::Selection => Scheme::Grid { cells },
+        _ => Scheme::Grid { cells },
     }
 }
 
@@ -294,10 +308,10 @@ fn booklet_laying(
     long_edge: bool,
     spacing: &Spacing,
     papers: &Papers,
-) -> Result<Option<Laying<'static>>, ImposeFault>
+) -> Result<Laying<'static>, ImposeFault>
     ensures laying { IfOk result (λ laying.
-        laying ≡ laying_in (layout.Booklet signing long_edge) spacing.now papers.now.page papers.now.sheet) }
-    ensures may_be { IfOk result (λ laying. IfSome laying MayBeLaid) }
+        Some laying ≡ laying_in (layout.Booklet signing long_edge) spacing.now papers.now.page papers.now.sheet) }
+    ensures may_be { IfOk result MayBeLaid }
     ensures possible { OnOk result
         (why_not_placed (layout.Booklet signing long_edge) spacing.now papers.now.page papers.now.sheet ≡ None) }
     ensures refused { IfErr result (λ fault.
@@ -308,13 +322,13 @@ fn booklet_laying(
     }
     let creep = rounded_down(spacing.creep);
     match Setting::of_binding(papers, &spacing.binding(long_edge)) {
-        Ok(setting) => Ok(Some(Laying::InCells {
+        Ok(setting) => Ok(Laying::InCells {
             setting,
             scheme: Scheme::Booklet {
                 turned_backs: long_edge,
                 creep,
             },
-        })),
+        }),
         Err(error) => Err(ImposeFault::Layout(error)),
     }
 }
@@ -323,10 +337,10 @@ fn poster_laying(
     cells: Cells,
     spacing: &Spacing,
     papers: &Papers,
-) -> Result<Option<Laying<'static>>, ImposeFault>
+) -> Result<Laying<'static>, ImposeFault>
     ensures laying { IfOk result (λ laying.
-        laying ≡ laying_in (layout.Poster cells) spacing.now papers.now.page papers.now.sheet) }
-    ensures may_be { IfOk result (λ laying. IfSome laying MayBeLaid) }
+        Some laying ≡ laying_in (layout.Poster cells) spacing.now papers.now.page papers.now.sheet) }
+    ensures may_be { IfOk result MayBeLaid }
     ensures possible { OnOk result
         (why_not_placed (layout.Poster cells) spacing.now papers.now.page papers.now.sheet ≡ None) }
     ensures refused { IfErr result (λ fault.
@@ -353,7 +367,7 @@ fn poster_laying(
         Cells::AtLeast(_) => one.on_fewest_sheets(&papers.page),
     };
     match check_poster(&poster, &papers.page) {
-        Ok(()) => Ok(Some(Laying::Poster { poster })),
+        Ok(()) => Ok(Laying::Poster { poster }),
         Err(error) => Err(ImposeFault::Poster(error)),
     }
 }
@@ -382,18 +396,18 @@ pub(crate) fn check_options(request: &ImposeRequest) -> Result<(), ImposeFault>
     }
 }
 
-fn named_signing(layout: &Layout) -> Option<Signing>
+pub(crate) fn named_signing(layout: &Layout) -> Option<Signing>
     ensures { result ≡ signing_in layout.now }
 {
     match layout {
         Layout::Booklet { signing, .. } => Some(*signing),
-        Layout::SpecRow { signing, .. } => *signing,
+        Layout::Spec { signing, .. } => *signing,
         _ => None,
     }
 }
 
 /// Whether the border, if there is one, has a width above 0.
-pub(crate) fn is_drawn(border: Option<Grains>) -> bool
+fn is_drawn(border: Option<Grains>) -> bool
     ensures { result ≡ is_border border }
 {
     border.is_none_or(|width| width.get() > 0)

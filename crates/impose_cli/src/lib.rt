@@ -14,7 +14,6 @@ mod reach;
 mod row_task;
 mod runs;
 mod taken;
-mod task;
 
 pub use guard::RoomyText;
 pub use impose_messages::{
@@ -26,9 +25,9 @@ pub use impose_words::{
     RequestFault, Spacing, cells_named, parse_number, read_command, run_named, signing_named,
     size_named, tiles_named, turned_named,
 };
+pub use laying::check_layout;
 pub use look::{Overview, look_text};
 pub use precheck::check_request;
-pub use printed::printed_task;
+pub use printed::spec_text;
 pub use program::{Ended, impose};
-pub use task::{Task, check_layout, task_for};
 pub use world::Rest;

@@ -5,7 +5,7 @@ ghost use Rattle.row_runs.specs.Runs.{RefusesRun};
 ghost use Rattle.row_runs.specs.Sheets.{MayBeAsked};
 ghost use Rattle.impose_cli.specs.Endings.{RefusesRowRun, RefusesRowTaskRun};
 ghost use Rattle.impose_cli.specs.Looks.{IsOverviewText, IsRowText, IsTaskText};
-ghost use Rattle.impose_cli.specs.RowTasks.{HasOptions, LaysRows, MayBeLaidSo};
+ghost use Rattle.impose_cli.specs.RowTasks.{HasOptions, MayBeLaidSo};
 
 use crate::laying::row_asked;
 use crate::row_task::{RowTask, asked_fault_of, row_task};
@@ -36,7 +36,6 @@ pub fn look_text(
     input: RoomyText,
     look: Overview,
 ) -> Result<Vec<u8>, ImposeFault>
-    requires rows { LaysRows request.now.layout }
     ensures text { IfOk result (λ text. IsRowText request.now input.items look text.items) }
     ensures refused { IfErr result (RefusesRowRun request.now input.items) }
 {

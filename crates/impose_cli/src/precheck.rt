@@ -3,7 +3,7 @@ ghost use Rattle.std.specs.Prelude.{◌≡◌, option_map, IfErr, OnOk};
 ghost use Rattle.impose_cli.specs.Precheck as meaning;
 ghost use Rattle.impose_cli.specs.Precheck.{AreGoodRanges, MayBeRead, RefusesRanges, RefusesRequest};
 
-use crate::task::check_layout;
+use crate::laying::check_layout;
 use command_words::name_of;
 use impose_messages::ImposeFault;
 use impose_words::{ImposeRequest, PageChoice, Product};

@@ -1,42 +1,122 @@
-//! Prints the specification of a task, and a command line of pstops that places pages by this specification.
-ghost use Rattle.std.specs.Prelude.{◌≡◌, ◌++◌, IfOk, OnOk};
-ghost use Rattle.impose_cli.specs.Printed.{call_text, printed_command, comments_text, is_border_trimmed};
-ghost use Rattle.impose_cli.specs.Printed.{printed_text, quoted_spec};
+//! Prints the specification of a request, and a command line of pstops that places pages by this specification.
+ghost use Rattle.std.specs.Prelude.{◌≡◌, ◌++◌, ◌<◌, ◌≤◌, ◌⊎◌, IfErr, IfOk, IfSome, OnOk, None, length, option_map};
+ghost use Rattle.rules.specs.Choice.{sides_for};
+ghost use Rattle.rules.specs.Run.{most_pages};
+ghost use Rattle.rows.specs.Sewing.{MayBeSewn, signing_of};
+ghost use Rattle.impose_messages.specs.Faults.{without_memory};
+ghost use Rattle.impose_cli.specs.RowTasks.{HasOptions};
+ghost use Rattle.impose_cli.specs.Printed.{IsPrintedFor, IsSpecText, RefusesPrinting, call_text, comment_text, printed_command, printed_text, quoted_spec, said_in};
+ghost use Rattle.impose_messages.specs.declared.fault.ImposeFault.TheVariants as faults;
 
-use crate::task::Task;
+use crate::laying::{named_signing, row_asked};
+use crate::row_task::{RowTask, row_task};
 use command_words::{
     append_border_option, append_files, append_if, append_length, append_sides, begins_with_minus,
     name_of,
 };
-use impose_words::ImposeRequest;
-use imposer::Options;
+use guard::RoomyText;
+use impose_messages::ImposeFault;
+use impose_words::{ImposeRequest, Layout, Turning};
+use lengths::Paper;
+use pagespec::Turn;
+use rows::Signing;
 use std::alloc::{AllocError, Global};
 
-/// The specification on one line, then a pstops command with it on the next line. Comments follow on the ways in which this command differs from the
-/// request: pstops draws a border along the edges of the whole page even if the page is trimmed, and it inserts no guard. The only error is refused
-/// memory.
-pub fn printed_task(
+/// The specification that the request names, on one line, and a pstops command with it on the next line. The first fault of a run of the request is
+/// reported, and then `NoSpecification` for a layout other than `spec`, chosen or turned pages, or another order.
+pub fn spec_text(
     alloc: Global,
     request: &ImposeRequest,
-    task: &Task,
+    input: RoomyText,
+) -> Result<Vec<u8>, ImposeFault>
+    ensures text { IfOk result (λ text. IsSpecText request.now input.items text.items) }
+    ensures refused { IfErr result (RefusesPrinting request.now input.items) }
+{
+    let (task, _) = row_task(alloc, request, input)?;
+    let text = printed_task(alloc, request, &task)?;
+    Ok(text)
+}
+
+/// The specification on one line, then a pstops command with it on the next line. A comment follows if the request asks for a guard, because pstops
+/// inserts none.
+fn printed_task(
+    alloc: Global,
+    request: &ImposeRequest,
+    task: &RowTask,
+) -> Result<Vec<u8>, ImposeFault>
+    requires some { 0 < length task.now.papers.items }
+    requires few { length task.now.papers.items ≤ most_pages }
+    requires options { HasOptions request.now }
+    ensures printed { IfOk result (λ lines.
+        IsPrintedFor request.now task.now.findings.page_paper (length task.now.papers.items) lines.items) }
+    ensures refused { IfErr result (λ f.
+        (f ≡ without_memory) ⊎ ((f ≡ faults.NoSpecification) × (said_in request.now ≡ None))) }
+{
+    match specs_said(request) {
+        Some(specs) => {
+            let sides = signature_sides(named_signing(&request.layout), task.papers.len());
+            let lines = printed_lines(alloc, request, specs, &task.findings.page_paper, sides)?;
+            Ok(lines)
+        }
+        None => Err(ImposeFault::NoSpecification),
+    }
+}
+
+fn printed_lines(
+    alloc: Global,
+    request: &ImposeRequest,
+    specs: &str,
+    paper: &Paper,
+    sides: Option<u32>,
 ) -> Result<Vec<u8>, AllocError>
-    ensures { IfOk result (λ lines. lines.items ≡ printed_text request.now task.now) }
+    ensures { IfOk result (λ lines. lines.items ≡ printed_text request.now specs.now paper.now sides) }
 {
     let mut out = Vec::new(alloc);
-    append_spec(task.spec.as_str(), &mut out)?;
+    append_spec(specs, &mut out)?;
     out.extend_from_slice(b"\n")?;
-    append_command(request, task, &mut out)?;
+    append_command(request, specs, paper, sides, &mut out)?;
     out.extend_from_slice(b"\n")?;
-    append_comments(request, task, &mut out)?;
+    append_comment(request, &mut out)?;
     Ok(out)
 }
 
-fn append_command(request: &ImposeRequest, task: &Task, out: &mut Vec<u8>) -> Result<(), AllocError>
-    ensures { OnOk result (out.new.items ≡ out.old.items ++ printed_command request.now task.now) }
+/// The number of sides of each signature, for a row with this number of entries. `None` without signatures.
+fn signature_sides(signing: Option<Signing>, entries: usize) -> Option<u32>
+    requires sewn { IfSome signing MayBeSewn }
+    requires some { 0 < entries }
+    requires few { entries ≤ most_pages }
+    ensures { result ≡ option_map (λ how. sides_for (signing_of how) entries) signing }
 {
-    append_call(request, &task.options, out)?;
+    match signing {
+        Some(how) => Some(how.sides(entries)),
+        None => None,
+    }
+}
+
+/// The text of the request's specification, if it says all that the request asks for: all pages, in their order and unturned.
+fn specs_said(request: &ImposeRequest) -> Option<&str>
+    ensures { option_map (λ s. s.now) result ≡ said_in request.now }
+{
+    match (&request.layout, request.turn) {
+        (Layout::Spec { specs, .. }, Turning::All(Turn::None)) if row_asked(request).is_plain() => {
+            Some(specs.as_str())
+        }
+        _ => None,
+    }
+}
+
+fn append_command(
+    request: &ImposeRequest,
+    specs: &str,
+    paper: &Paper,
+    sides: Option<u32>,
+    out: &mut Vec<u8>,
+) -> Result<(), AllocError>
+    ensures { OnOk result (out.new.items ≡ out.old.items ++ printed_command request.now specs.now paper.now sides) }
+{
+    append_call(request, paper, sides, out)?;
     out.extend_from_slice(b" '")?;
-    append_spec(task.spec.as_str(), out)?;
+    append_spec(specs, out)?;
     out.extend_from_slice(b"'")?;
     append_files(name_of(&request.infile), name_of(&request.outfile), out)
 }
@@ -44,41 +124,27 @@ fn append_command(request: &ImposeRequest, task: &Task, out: &mut Vec<u8>) -> Re
 /// Appends the start of the pstops command line: `pstops` and its options.
 fn append_call(
     request: &ImposeRequest,
-    options: &Options,
+    paper: &Paper,
+    sides: Option<u32>,
     out: &mut Vec<u8>,
 ) -> Result<(), AllocError>
-    ensures { OnOk result (out.new.items ≡ out.old.items ++ call_text request.now options.now) }
+    ensures { OnOk result (out.new.items ≡ out.old.items ++ call_text request.now paper.now sides) }
 {
     out.extend_from_slice(b"pstops")?;
     append_if(request.is_quiet, b" -q", out)?;
-    append_sides(options.sides, out)?;
+    append_sides(sides, out)?;
     out.extend_from_slice(b" -w ")?;
-    append_length(options.paper.width(), out)?;
+    append_length(paper.width(), out)?;
     out.extend_from_slice(b" -h ")?;
-    append_length(options.paper.height(), out)?;
-    append_border_option(options.border, out)
+    append_length(paper.height(), out)?;
+    append_border_option(request.border, out)
 }
 
-fn append_comments(
-    request: &ImposeRequest,
-    task: &Task,
-    out: &mut Vec<u8>,
-) -> Result<(), AllocError>
-    ensures { OnOk result (out.new.items ≡ out.old.items ++ comments_text request.now task.now) }
+fn append_comment(request: &ImposeRequest, out: &mut Vec<u8>) -> Result<(), AllocError>
+    ensures { OnOk result (out.new.items ≡ out.old.items ++ comment_text request.now) }
 {
-    append_if(has_trimmed_border(request, task), TRIM_COMMENT, out)?;
     append_if(request.is_guarded, GUARD_COMMENT, out)
 }
-
-/// Whether a border is drawn round trimmed pages.
-fn has_trimmed_border(request: &ImposeRequest, task: &Task) -> bool
-    ensures { result ≡ is_border_trimmed request.now task.now }
-{
-    task.options.border.is_some() && request.spacing.free.trim.get() != 0
-}
-
-const TRIM_COMMENT: &[u8] =
-    b"# impose draws the border round what is left of a trimmed page, pstops round the page\n";
 
 const GUARD_COMMENT: &[u8] =
     b"# impose also puts its guard into the document, which pstops doesn't\n";

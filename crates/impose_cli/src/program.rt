@@ -3,18 +3,15 @@ ghost use Rattle.std.specs.Prelude.{◌≡◌, ◌+◌, ◌<◌, ◌≤◌, drop
 ghost use Rattle.world.specs.Input.{document_in};
 ghost use Rattle.std.specs.Prelude.{Some, IfOk, IfErr, OnOk};
 ghost use Rattle.impose_cli.specs.Endings.{edge_of_world, shown};
-ghost use Rattle.impose_cli.specs.Looks.{MayBeMade};
 ghost use Rattle.impose_cli.specs.Programs.{EndsRequest, EndsProgram, FindsHome, HasGiven, IsCreatedFor, IsDrawnOver, IsForTerminal, IsReadOf, FailsToRead};
 ghost use Rattle.impose_cli.specs.Programs.{IsUnread, MakesProduct, Prints, ShowsSheets, Writes, status_of};
-ghost use Rattle.impose_cli.specs.RowTasks.{LaysRows};
 
 use crate::attempt::{Attempt, refused_before};
 use crate::fronts::{finds_foreign, front_of};
 use crate::look::{Overview, look_text};
 use crate::precheck::check_request;
-use crate::printed::printed_task;
+use crate::printed::spec_text;
 use crate::runs::run_on_document;
-use crate::task::task_for;
 use command_words::name_of;
 use guard::RoomyText;
 use impose_messages::{Done, ImposeFault, fault_status};
@@ -136,7 +133,6 @@ fn carry_out<R: Threads + Wait + Sync, W: World>(
     is_foreign: bool,
     mut world: W,
 ) -> Attempt<W, Done>
-    requires product { MayBeMade request.now.product request.now.layout }
     requires countable { (W.seen world).failures < u64.MAX }
     ensures { EndsRequest W.seen request.now (W.gives world) (W.same world) (W.terminal world) is_foreign (edge_of_world (W.reports_outputs world) W.seen W.Output.seen) result.outcome world result.rest
         (shown W.Output.seen result.rest) }
@@ -194,7 +190,6 @@ fn make<R: Threads + Wait + Sync, W: World>(
     input: RoomyText,
     world: W,
 ) -> Attempt<W, Done>
-    requires product { MayBeMade request.now.product request.now.layout }
     requires countable { (W.seen world).failures < u64.MAX }
     ensures { MakesProduct request.now.product request.now input.items (edge_of_world (W.reports_outputs world) W.seen W.Output.seen) result.outcome world result.rest
         (shown W.Output.seen result.rest) }
@@ -285,15 +280,10 @@ fn print_input<W: World>(
     ensures { Prints request.now input.items (edge_of_world (W.reports_outputs world) W.seen W.Output.seen) result.outcome world result.rest
         (shown W.Output.seen result.rest) }
 {
-    let (task, _) = match task_for(alloc, request, input) {
-        Ok(found) => found,
-        Err(fault) => return refused_before(fault, world),
-    };
-    let lines = match printed_task(alloc, request, &task) {
-        Ok(lines) => lines,
-        Err(_) => return refused_before(ImposeFault::no_memory(), world),
-    };
-    create_with_text(None, lines.as_slice(), Done::Printed, world)
+    match spec_text(alloc, request, input) {
+        Ok(text) => create_with_text(None, text.as_slice(), Done::Printed, world),
+        Err(fault) => refused_before(fault, world),
+    }
 }
 
 /// Writes the list or drawing of the sheets to the file of this name, or to standard output if there is no name. If the request is refused, no output
@@ -306,7 +296,6 @@ fn show_input<W: World>(
     name: Option<&str>,
     world: W,
 ) -> Attempt<W, Done>
-    requires rows { LaysRows request.now.layout }
     requires countable { (W.seen world).failures < u64.MAX }
     ensures { ShowsSheets look (option_map (λ n. n.now) name.entry) request.now input.items (edge_of_world (W.reports_outputs world) W.seen W.Output.seen) result.outcome
         world result.rest (shown W.Output.seen result.rest) }

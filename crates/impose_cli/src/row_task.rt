@@ -1,5 +1,5 @@
 //! The task of laying a row of pages on sheets.
-ghost use Rattle.std.specs.Prelude.{◌≡◌, ◌<◌, ◌&&◌, ◌⊎◌, ℕ, length, true, IfErr, IfOk, None, Ok};
+ghost use Rattle.std.specs.Prelude.{◌≡◌, ◌⊎◌, ℕ, length, IfErr, IfOk, None, Ok};
 ghost use Rattle.std.specs.Prelude.{if◌then◌else◌, map};
 ghost use Rattle.rules.specs.Parts.{bytes_of};
 ghost use Rattle.impose_messages.specs.Faults.{without_memory};
@@ -9,10 +9,8 @@ ghost use Rattle.impose_words.specs.Arranging.{turn_for as turn_by};
 ghost use Rattle.impose_words.specs.Choices.{choice_in};
 ghost use Rattle.impose_cli.specs.RowTasks.{guarded_in, first_paper as first_paper_of};
 ghost use Rattle.impose_cli.specs.Claims.{AreClaimsOf};
-ghost use Rattle.impose_cli.specs.RowTasks.{ArePapersOf, FindsForRow, HasTurns, IsRowTask, LaysRows, counted_in};
-ghost use Rattle.std.specs.List.{list_all};
-ghost use Rattle.impose_cli.specs.RowTasks.{DecidesOnePaper, has_cuts_apart as cuts_apart};
-ghost use Rattle.layouts.specs.Grids.{is_same as are_same};
+ghost use Rattle.impose_cli.specs.RowTasks.{ArePapersOf, FindsForRow, HasTurns, IsRowTask, counted_in};
+ghost use Rattle.impose_cli.specs.RowTasks.{has_cuts_apart as cuts_apart};
 ghost use Rattle.impose_cli.specs.RowTasks.{counted_among, cut_by_named, cut_in, cut_on, paper_for, paper_turned, papers_in as papers_found, papers_to_place, row_paper, turns_in, turns_of};
 ghost use Rattle.impose_cli.specs.Reaches.{reach_in, reach_on, reported_own};
 ghost use Rattle.paper_names.specs.Names.{paper_named};
@@ -26,14 +24,13 @@ ghost use Rattle.dsc.specs.Serving.{ArePartsOf, Serve};
 ghost use Rattle.dsc.specs.declared.parts.Parts.{Parts};
 
 use crate::claims::claims_of;
-use crate::laying::{RowLaying, check_options, papers_for, row_laying};
+use crate::laying::{RowLaying, check_options, laying_for, papers_for};
 use crate::reach::reach_of_row;
 use crate::taken::{papers_on_row, papers_taken, row_of_choice, taken_count};
 use dsc::{Document, Parts};
 use guard::RoomyText;
 use impose_messages::{Findings, ImposeFault, PaperOrigin, refused_document};
 use impose_words::{ImposeRequest, Layout, Turning};
-use layouts::is_of_size;
 use lengths::Paper;
 use pagespec::Turn;
 use papers::{Cut, Reach, cut_by, document_paper, first_instead_of, merge_near_sizes, page_papers};
@@ -74,7 +71,6 @@ pub(crate) fn row_task(
     request: &ImposeRequest,
     input: RoomyText,
 ) -> Result<(RowTask, Parts), ImposeFault>
-    requires rows { LaysRows request.now.layout }
     ensures is_task { IfOk result (λ found. IsRowTask request.now input.items found.0) }
     ensures parts { IfOk result (λ found. Serve found.1 found.0.text.items) }
     ensures refused { IfErr result (RefusesRowTask request.now input.items) }
@@ -82,7 +78,7 @@ pub(crate) fn row_task(
     // The document is read before the guard is inserted, so that a fault names its place in the input.
     let (found, parts) = pages_of(alloc, request, input.as_slice())?;
     let papers = papers_for(request, &found.findings.page_paper);
-    let laying = row_laying(alloc, request, &papers)?;
+    let laying = laying_for(alloc, &request.layout, &request.spacing, &papers)?;
     check_options(request)?;
     let sheet = guarded_paper(request, &found, &papers.sheet);
     let text = text_to_impose(request.is_guarded, &sheet, input)?;
@@ -117,36 +113,6 @@ fn pages_of(
     };
     let found = pages_in(alloc, request, &document)?;
     Ok((found, document.into_parts()))
-}
-
-/// Whether `paper` has the size of all papers by which the document's pages are placed, and of the paper for which sheets and cells are made. Fails
-/// only if the document or memory is refused.
-pub(crate) fn has_one_paper(
-    alloc: Global,
-    request: &ImposeRequest,
-    input: &[u8],
-    paper: &Paper,
-) -> Result<bool, ImposeFault>
-    ensures decided { IfOk result (DecidesOnePaper request.now input.now paper.now) }
-    ensures refused { IfErr result (λ f. RefusesDocument input.now f ⊎ (f ≡ without_memory)) }
-{
-    let (found, _) = pages_of(alloc, request, input)?;
-    Ok(are_all(&found.findings.page_paper, found.papers.as_slice(), paper))
-}
-
-/// Whether the paper `first` and all of the papers `others` have the size of `paper`.
-fn are_all(first: &Paper, others: &[Paper], paper: &Paper) -> bool
-    ensures { result ≡ (are_same first.now paper.now && list_all (are_same paper.now) others.now) }
-{
-    if !is_of_size(first, paper) {
-        return false;
-    }
-    for other in others {
-        if !is_of_size(paper, other) {
-            return false;
-        }
-    }
-    true
 }
 
 fn pages_in(
@@ -250,7 +216,7 @@ fn paper_of_row(request: &ImposeRequest, input: &[u8], taken: &[Paper]) -> (Pape
     ensures { result ≡ paper_for request.now.layout (page_paper_found request.now.page_paper request.now.default_paper input.now) taken.now }
 {
     let (page_paper, origin) = paper_of_pages(request, input);
-    if matches!(&request.layout, Layout::SpecRow { .. }) {
+    if matches!(&request.layout, Layout::Spec { .. }) {
         return (page_paper, origin);
     }
     match first_instead_of(&page_paper, taken) {
@@ -291,7 +257,7 @@ fn papers_placed(
 {
     match layout {
         Layout::Selection => merge_near_sizes(alloc, taken, own),
-        Layout::SpecRow { .. } => {
+        Layout::Spec { .. } => {
             let mut papers = Vec::new(alloc);
             papers.resize(own.len(), *one)?;
             Ok(papers)
@@ -357,7 +323,7 @@ fn cut_if(
 fn has_cuts_apart(layout: &Layout) -> bool
     ensures { result ≡ cuts_apart layout.now }
 {
-    !matches!(layout, Layout::SpecRow { .. })
+    !matches!(layout, Layout::Spec { .. })
 }
 
 /// The paper whose size the guard sets: `sheet`, the paper of the sheets, or the paper of a selection's first sheet. A selection whose first sheet is
@@ -384,7 +350,7 @@ fn paper_of_first(row: &[Option<u32>], papers: &[Paper], blank: &Paper) -> Paper
 
 /// The document, with the guard if `is_guarded`. `Document::from_parts` can read this text with the parts of `input`. The only error is refused
 /// memory.
-pub(crate) fn text_to_impose(
+fn text_to_impose(
     is_guarded: bool,
     sheet_paper: &Paper,
     input: RoomyText,
@@ -401,7 +367,7 @@ pub(crate) fn text_to_impose(
 }
 
 /// The paper of the pages, and where it is taken from: the command line, or else the document, or else the user's default paper.
-pub(crate) fn paper_of_pages(request: &ImposeRequest, input: &[u8]) -> (Paper, PaperOrigin)
+fn paper_of_pages(request: &ImposeRequest, input: &[u8]) -> (Paper, PaperOrigin)
     ensures { result ≡ page_paper_found request.now.page_paper request.now.default_paper input.now }
 {
     match request.page_paper {

@@ -1,36 +1,28 @@
 //! Runs of requests. An output is created only when nothing is left that could be refused.
-ghost use Rattle.std.specs.Prelude.{◌≡◌, ◌<◌, ◌⊎◌, [], ℕ, List, IfErr, IfOk, IsTrue, MatchResult, OnOk, None, Some, Ok, Err, option_map, string_bytes, true};
+ghost use Rattle.std.specs.Prelude.{◌≡◌, ◌<◌, ◌⊎◌, [], IsTrue, MatchResult, None, Some, Ok, Err, option_map, string_bytes, true};
 ghost use Rattle.std.specs.IoError.{error_kind};
 ghost use Rattle.std.specs.declared.io.ErrorKind.TheVariants.{OutOfMemory};
 ghost use Rattle.impose_messages.specs.Faults.{without_memory};
-ghost use Rattle.rules.specs.Admissible.{Takes, most_slots};
-ghost use Rattle.rules.specs.Run.{document_of};
 ghost use Rattle.sheet_text.specs.Jobs.{is_border};
 ghost use Rattle.imposer.specs.Outcomes.{AfterError, IsNoRefusal};
-ghost use Rattle.imposer.specs.Runs.{AgreesWithChecks, IsUnwritten};
-ghost use Rattle.imposer.specs.Options.{AreOptions};
-ghost use Rattle.imposer.specs.Workers.{AreWorkers};
 ghost use Rattle.row_runs.specs.Sheets.{MayBeAsked};
 ghost use Rattle.dsc.specs.Serving.{Serve};
-ghost use Rattle.impose_cli.specs.Tasks.{IsSpecLayout, run_asked};
 ghost use Rattle.impose_cli.specs.RowRuns.{Imposes};
-ghost use Rattle.impose_cli.specs.RowTasks.{HasOptions, ImposesTask, LaysRows, MayBeLaidSo};
-ghost use Rattle.impose_cli.specs.Endings.{Comes, RefusesRowJob, RefusesRowTaskRun, RefusesTaskRun, RunsRequest, edge_of_world, reported_by, shown};
-ghost use Rattle.impose_cli.specs.Endings.{BreaksOff, Holds, IsNotCreated, IsSaidOf, WritesJob, WritesTask};
+ghost use Rattle.impose_cli.specs.RowTasks.{HasOptions, ImposesTask, MayBeLaidSo};
+ghost use Rattle.impose_cli.specs.Endings.{Comes, RefusesRowJob, RefusesRowTaskRun, RunsRequest, edge_of_world, reported_by, shown};
+ghost use Rattle.impose_cli.specs.Endings.{BreaksOff, Holds, IsNotCreated, IsSaidOf, WritesJob};
 ghost use Rattle.impose_messages.specs.declared.fault.ImposeFault.TheVariants as faults;
 ghost use Rattle.world.specs.declared.rest.Rest.TheVariants as rests;
 
 use crate::attempt::{Attempt, refused_before};
-use crate::laying::{is_drawn, row_asked};
+use crate::laying::row_asked;
 use crate::row_task::{RowTask, asked_fault_of, row_task};
-use crate::task::{Task, WORKERS, task_for};
 use command_words::name_of;
 use dsc::{Document, Parts};
 use guard::RoomyText;
 use impose_messages::{Done, Findings, Finished, ImposeFault, Scales};
-use impose_words::{ImposeRequest, Layout};
-use imposer::{Job, NoListener, Open, Report, RunError, Sink, run_plan};
-use pagespec::{Spec, read_spec};
+use impose_words::ImposeRequest;
+use imposer::{Job, NoListener, Open, Report, RunError, Sink, Workers, run_plan};
 use row_runs::{RowJob, SheetRequest, plan_error};
 use sheet_plan::Plan;
 use std::alloc::Global;
@@ -39,6 +31,12 @@ use std::marker::Brand;
 use std::sync::Wait;
 use std::thread::Threads;
 use world::{Asked, Before, Buffered, Fate, Late, Output, Refused, Rest, World};
+
+/// One preparer and one imposer. More threads save no time (bench/README.md).
+const WORKERS: Workers = Workers {
+    preparers: 1,
+    imposers: 1,
+};
 
 /// Imposes a document as a request asks. Faults are found in this order: a fault of the document, a fault of the layout, a fault of the run. The
 /// output is created after all checks, so a refused request creates none.
@@ -50,27 +48,6 @@ pub(crate) fn run_on_document<R: Threads + Wait + Sync, W: World>(
     world: W,
 ) -> Attempt<W, Done>
     requires countable { (W.seen world).failures < u64.MAX }
-    ensures { RunsRequest request.now input.items (edge_of_world (W.reports_outputs world) W.seen W.Output.seen) result.outcome
-        world result.rest (shown W.Output.seen result.rest) }
-{
-    match &request.layout {
-        Layout::Spec(_) => run_spec(rt, alloc, request, input, world),
-        _ => run_row(rt, alloc, request, input, world),
-    }
-}
-
-// ---- runs by a layout of a row
-
-/// Imposes a document by a layout that lays a row of pages on sheets.
-fn run_row<R: Threads + Wait + Sync, W: World>(
-    rt: &R,
-    alloc: Global,
-    request: &ImposeRequest,
-    input: RoomyText,
-    world: W,
-) -> Attempt<W, Done>
-    requires countable { (W.seen world).failures < u64.MAX }
-    requires rows { LaysRows request.now.layout }
     ensures { RunsRequest request.now input.items (edge_of_world (W.reports_outputs world) W.seen W.Output.seen) result.outcome
         world result.rest (shown W.Output.seen result.rest) }
 {
@@ -159,84 +136,6 @@ fn impose_job<R: Threads + Wait + Sync, W: World>(
     let made = Job::made(&plan, job.document, &sheets, job.border, job.inset, &dress);
     let attempt = write_job(rt, alloc, &made, name, world);
     (attempt, scales)
-}
-
-// ---- runs by a specification
-
-/// Imposes a document by the specification that the request names.
-fn run_spec<R: Threads + Wait + Sync, W: World>(
-    rt: &R,
-    alloc: Global,
-    request: &ImposeRequest,
-    input: RoomyText,
-    world: W,
-) -> Attempt<W, Done>
-    requires countable { (W.seen world).failures < u64.MAX }
-    requires spec { (text : List ℕ) × IsSpecLayout request.now.layout text }
-    ensures { RunsRequest request.now input.items (edge_of_world (W.reports_outputs world) W.seen W.Output.seen) result.outcome
-        world result.rest (shown W.Output.seen result.rest) }
-{
-    let (task, parts) = match task_for(alloc, request, input) {
-        Ok(found) => found,
-        Err(fault) => return refused_before(fault, world),
-    };
-    let attempt = impose_by_spec(rt, alloc, &task, parts, name_of(&request.outfile), world);
-    Attempt {
-        outcome: reported(attempt.outcome, None, task.findings),
-        rest: attempt.rest,
-    }
-}
-
-/// Imposes a task by its specification, as `run` of the crate `imposer` does. `parts` says where the pages and the trailer of the task's text begin.
-fn impose_by_spec<R: Threads + Wait + Sync, W: World>(
-    rt: &R,
-    alloc: Global,
-    task: &Task,
-    parts: Parts,
-    name: Option<&str>,
-    world: W,
-) -> Attempt<W, Report>
-    requires countable { (W.seen world).failures < u64.MAX }
-    requires sides { task.now.options.sides ≡ None }
-    requires workers { AreWorkers task.now.options.workers }
-    requires parts { Serve parts task.now.text.items }
-    ensures { Comes (RefusesTaskRun task.now) (WritesTask task.now) (option_map (λ n. n.now) name.entry) (edge_of_world (W.reports_outputs world) W.seen W.Output.seen) result.outcome
-        world result.rest (shown W.Output.seen result.rest) }
-{
-    let (spec, document) = match read_task(alloc, task, parts) {
-        Ok(read) => read,
-        Err(error) => return refused_before(ImposeFault::Run(error), world),
-    };
-    let plan = match Plan::new(alloc, &spec, document.pages()) {
-        Ok(plan) => plan,
-        Err(error) => return refused_before(ImposeFault::Run(RunError::from(error)), world),
-    };
-    let job = Job::new(&plan, &document, task.options.paper, task.options.border);
-    write_job(rt, alloc, &job, name, world)
-}
-
-/// Checks the border, reads the specification, and makes the document from the task's text and from `parts`. The error is that of the first of the
-/// three that is refused.
-fn read_task<'t>(
-    alloc: Global,
-    task: &'t Task,
-    parts: Parts,
-) -> Result<(Spec, Document<'t>), RunError>
-    requires sides { task.now.options.sides ≡ None }
-    requires workers { AreWorkers task.now.options.workers }
-    requires parts { Serve parts task.now.text.items }
-    ensures options { OnOk result (AreOptions task.now.options) }
-    ensures spec { IfOk result (λ read. Takes most_slots (string_bytes task.now.spec) read.0) }
-    ensures document { IfOk result (λ read. document_of task.now.text.items ≡ Ok read.1) }
-    ensures refused { IfErr result (AgreesWithChecks (run_asked task.now)) }
-    ensures unwritten { IfErr result IsUnwritten }
-{
-    if !is_drawn(task.options.border) {
-        return Err(RunError::Options);
-    }
-    let spec = read_spec(alloc, task.spec.as_str())?;
-    let document = Document::from_parts(task.text.as_slice(), parts)?;
-    Ok((spec, document))
 }
 
 /// The outcome of a run. If the run finished, the report gets the scales of the pages, and the facts that were found before. A fault stays as it is.

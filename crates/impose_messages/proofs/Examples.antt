@@ -28,7 +28,7 @@ commands = refl
 layouts : map (λ e. fault_status (fault.Layout e)) (layout.CellsOutOfRange ∷ layout.NoRoom (bare (points 1 1)) ∷ layout.FoldOnLongEdge ∷ layout.NoMemory ∷ []) ≡ 1 ∷ 1 ∷ 1 ∷ 3 ∷ []
 layouts = refl
 
-faults : map fault_status (fault.NoSuchPage 1 2 ∷ fault.NoSpecification ∷ fault.NoInput ∷ fault.Pdf ∷ fault.Compressed Gzip ∷ fault.JobLanguage ∷ fault.DosEps ∷ fault.Utf16 ∷ fault.TooLong ∷ fault.SeveralPapers ∷ fault.Idle CutMarks ∷ fault.Read None ∷ fault.Write 0 None ∷ []) ≡ 1 ∷ 1 ∷ 1 ∷ 1 ∷ 1 ∷ 1 ∷ 1 ∷ 1 ∷ 1 ∷ 1 ∷ 2 ∷ 3 ∷ 3 ∷ []
+faults : map fault_status (fault.NoSuchPage 1 2 ∷ fault.NoSpecification ∷ fault.NoInput ∷ fault.Pdf ∷ fault.Compressed Gzip ∷ fault.JobLanguage ∷ fault.DosEps ∷ fault.Utf16 ∷ fault.TooLong ∷ fault.Idle CutMarks ∷ fault.Read None ∷ fault.Write 0 None ∷ []) ≡ 1 ∷ 1 ∷ 1 ∷ 1 ∷ 1 ∷ 1 ∷ 1 ∷ 1 ∷ 1 ∷ 2 ∷ 3 ∷ 3 ∷ []
 faults = refl
 
 -- What is said of a finished run.

@@ -114,8 +114,7 @@ range_text least greatest =
 
 -- that of a layout, if a page is placed; a specification says its scales itself
 abbrev pub scales_line : Layout → Option Scales → List ℕ
-scales_line (layout.Spec specs) scales = []
-scales_line (layout.SpecRow specs signing) scales = []
+scales_line (layout.Spec specs signing) scales = []
 scales_line other None = []
 scales_line other (Some s) = range_text s.least s.greatest
 

@@ -49,7 +49,6 @@ fault_status fault.OnTerminal = 2
 fault_status (fault.NoSuchPage place pages) = 1
 fault_status fault.OutOfReach = 1
 fault_status fault.NoSpecification = 1
-fault_status fault.SeveralPapers = 1
 fault_status fault.NoInput = 1
 fault_status fault.Pdf = 1
 fault_status (fault.Compressed packing) = 1

@@ -51,7 +51,7 @@ impl<'r> Context<'r> {
             },
             ranges: name_of(&request.choice.ranges).unwrap_or(""),
             spec: match &request.layout {
-                Layout::Spec(specs) | Layout::SpecRow { specs, .. } => specs.as_str(),
+                Layout::Spec { specs, .. } => specs.as_str(),
                 Layout::NUp(_) | Layout::Booklet { .. } | Layout::Zine | Layout::Cards(_) => "",
                 Layout::Stack { .. } | Layout::Notes { .. } | Layout::Poster(_) => "",
                 Layout::Selection => "",

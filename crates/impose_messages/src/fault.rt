@@ -38,10 +38,8 @@ pub enum ImposeFault {
     OutOfReach,
     /// The sheets made from the row can't be planned.
     Sheets(MadeError),
-    /// No specification can express the request.
+    /// A specification is to be printed, but the layout is another than `spec`, or not all pages are laid in their order.
     NoSpecification,
-    /// The specification is to be printed, but not all pages have the same paper.
-    SeveralPapers,
     /// An option or file name has no effect, or not the effect that its name promises.
     Idle(IdleOption),
     /// The drawing of the sheets would overwrite the input.

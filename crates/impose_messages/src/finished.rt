@@ -68,7 +68,7 @@ pub struct Findings {
 pub struct Finished {
     /// The counts of its run.
     pub report: Report,
-    /// The scales of the pages. `None` if no page is placed, and for `Layout::Spec`.
+    /// The scales of the pages. `None` if no page is placed.
     pub scales: Option<Scales>,
     pub findings: Findings,
 }

@@ -19,12 +19,8 @@ const OUT_OF_REACH: &str =
     "a turned page would be placed 100,000 points or more away: take smaller papers or fewer sheets, or leave --turn out";
 
 const NO_SPECIFICATION: &str =
-    "--print-spec: no specification says a selection, a zine, cards, a stack, notes or a poster, nor --pages, --odd, --even, --reverse, \
-    --cover, --skip, --turn, --creep, --margin inner, --same-scale, --marks or --numbers; leave it out";
-
-const SEVERAL_PAPERS: &str =
-    "--print-spec: a specification has one paper, and not all pages have the document's: name one by --paper, or leave \
-    --print-spec out";
+    "--print-spec: only spec has a specification, and none says --pages, --odd, --even or --reverse: leave it out, or show the \
+    sheets by --plan or --preview";
 
 const ON_TERMINAL: &str =
     "a terminal shows no sheets: name an OUTFILE, or print them by: impose .. | lp";
@@ -46,7 +42,6 @@ pub fn fault_text(
         ImposeFault::OutOfReach => String::from_str(alloc, OUT_OF_REACH),
         ImposeFault::Sheets(error) => String::from_str(alloc, sheets_message(error)),
         ImposeFault::NoSpecification => String::from_str(alloc, NO_SPECIFICATION),
-        ImposeFault::SeveralPapers => String::from_str(alloc, SEVERAL_PAPERS),
         ImposeFault::Idle(option) => String::from_str(alloc, idle_message(*option)),
         ImposeFault::OverInput => over_input_text(context),
         ImposeFault::OverDocument => over_document_text(context),

@@ -45,7 +45,7 @@ fn push_scales(said: &mut ReportText, layout: &Layout, scales: &Option<Scales>)
     ensures text { said.new ≡ said.old ++ scales_line layout.now scales.now }
     ensures short { length said.new ≤ length said.old + 60 }
 {
-    if matches!(layout, Layout::Spec(_) | Layout::SpecRow { .. }) {
+    if matches!(layout, Layout::Spec { .. }) {
         return;
     }
     if let Some(scales) = scales {
@@ -145,7 +145,7 @@ fn places_on(layout: &Layout) -> u64
         Layout::Booklet { .. } => 2,
         Layout::Zine => 8,
         Layout::Cards(_) | Layout::Stack { .. } | Layout::Poster(_) | Layout::Selection => 0,
-        Layout::Spec(_) | Layout::SpecRow { .. } => 0,
+        Layout::Spec { .. } => 0,
     }
 }
 
@@ -201,7 +201,7 @@ fn prints_leaves(request: &ImposeRequest) -> bool
         Layout::Stack { duplex, .. } => *duplex,
         Layout::NUp(_) | Layout::Cards(_) | Layout::Notes { .. } => request.swaps_margins(),
         Layout::Poster(_) | Layout::Zine | Layout::Selection => request.swaps_margins(),
-        Layout::Spec(_) | Layout::SpecRow { .. } => request.swaps_margins(),
+        Layout::Spec { .. } => request.swaps_margins(),
     }
 }
 

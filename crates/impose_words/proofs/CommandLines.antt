@@ -20,7 +20,7 @@ use Rattle.impose_words.specs.declared.request.Turning.TheVariants as turning
 use Rattle.impose_words.specs.Command.{impose}
 use Rattle.impose_words.specs.Arranging.{lines_alone, no_marks}
 use Rattle.impose_words.specs.Spacings.{keeps_room, nothing_kept}
-use Rattle.impose_words.specs.Products.{is_picture_file, lays_rows}
+use Rattle.impose_words.specs.Products.{is_picture_file}
 use Rattle.impose_words.specs.Words.{AsksFor, ChoosesBy, Entered, Enters, MakesBy, ReadsRequest, ReadsSizes, SpacesBy, file_asked, given, has_flag, is_outfile, marks_found, ranges_id, skip_found}
 use Rattle.impose_words.specs.declared.fault.OptionId.TheVariants as opt
 use Rattle.impose_words.specs.declared.request.ImposeRequest.{ImposeRequest}
@@ -61,7 +61,7 @@ plain l = record {
 makes : (words : List Text) (name : Text) (found : List Row) (r : ImposeRequest) → Enters (codes "impose" ∷ words) name found
     → skip_found r.layout found ≡ Some r.spacing.skipped → AsksFor name found r.layout → SpacesBy (keeps_room r.layout) found r.spacing → ChoosesBy (ranges_id r.layout) found r.choice
     → has_flag (codes "cover") found ≡ r.last_at_back → ReadsSizes found r.page_paper r.sheet_paper r.border r.turn → marks_found r.layout found ≡ Some r.marks
-    → (r.is_guarded ≡ not (has_flag (codes "unguarded") found)) → MakesBy (lays_rows r.layout) found r.product → has_flag (codes "quiet") found ≡ r.is_quiet → has_flag (codes "replace") found ≡ r.replaces
+    → (r.is_guarded ≡ not (has_flag (codes "unguarded") found)) → MakesBy found r.product → has_flag (codes "quiet") found ≡ r.is_quiet → has_flag (codes "replace") found ≡ r.replaces
     → file_asked (first_of (codes "infile") found) ≡ option_map string_bytes r.infile → file_asked (given opt.Outfile found) ≡ option_map string_bytes r.outfile
     → is_outfile (option_map string_bytes r.outfile) ≡ true → Makes words r
 makes words name found r enters skipped layout spacing choice at_back sizes marks guarded product quiet replaces infile outfile no_option = (
@@ -194,15 +194,15 @@ select ranges document is_ranges is_document = makes _ _ _ _ (record { taken = r
 -- a specification, which is printed
 spec : (specs : String Global) → string_bytes specs ≡ codes "2:0,1"
     → Makes (codes "spec" ∷ codes "2:0,1" ∷ codes "--paper" ∷ codes "1x2in" ∷ codes "--border" ∷ codes "2pt" ∷ codes "--print-spec" ∷ [])
-    (record (plain (layout.Spec specs)) { page_paper = Some (points 72 144); border = Some (pos 254_000_000_000); product = product.Specification })
+    (record (plain (layout.Spec specs None)) { page_paper = Some (points 72 144); border = Some (pos 254_000_000_000); product = product.Specification })
 unfolding clap_on_literals impose number_at papers
-spec specs is_specs = makes _ _ _ _ (record { taken = refl; entered = refl }) refl (refl, ap Some (sym is_specs), refl) refl refl refl (record { page_paper_is = refl; sheet_paper_is = refl; border_is = refl; turn_is = refl }) refl refl (record { printed = refl; planned = refl; pictured = refl; is_picture = tt }) refl refl
+spec specs is_specs = makes _ _ _ _ (record { taken = refl; entered = refl }) refl (refl, ap Some (sym is_specs), refl) refl (refl, refl, refl) refl (record { page_paper_is = refl; sheet_paper_is = refl; border_is = refl; turn_is = refl }) refl refl (record { printed = refl; planned = refl; pictured = refl; is_picture = tt }) refl refl
     refl refl refl
 
 -- a specification on pages from the second one on, put into signatures
 spec_of_row : (specs ranges : String Global) → string_bytes specs ≡ codes "2:0,1" → string_bytes ranges ≡ codes "2-"
     → Makes (codes "spec" ∷ codes "2:0,1" ∷ codes "--signature" ∷ codes "auto" ∷ codes "--pages" ∷ codes "2-" ∷ codes "--reverse" ∷ [])
-    (record (plain (layout.SpecRow specs (Some signing.Auto))) { choice = record all_pages { ranges = Some ranges; backwards = true } })
+    (record (plain (layout.Spec specs (Some signing.Auto))) { choice = record all_pages { ranges = Some ranges; backwards = true } })
 unfolding clap_on_literals impose number_at papers
-spec_of_row specs ranges is_specs is_ranges = makes _ _ _ _ (record { taken = refl; entered = refl }) refl (refl, ap Some (sym is_specs), refl, refl) refl (ap Some (sym is_ranges), refl, refl) refl (record { page_paper_is = refl; sheet_paper_is = refl; border_is = refl; turn_is = refl }) refl refl (record { printed = refl; planned = refl; pictured = refl; is_picture = tt }) refl refl
+spec_of_row specs ranges is_specs is_ranges = makes _ _ _ _ (record { taken = refl; entered = refl }) refl (refl, ap Some (sym is_specs), refl) refl (ap Some (sym is_ranges), refl, refl) refl (record { page_paper_is = refl; sheet_paper_is = refl; border_is = refl; turn_is = refl }) refl refl (record { printed = refl; planned = refl; pictured = refl; is_picture = tt }) refl refl
     refl refl refl

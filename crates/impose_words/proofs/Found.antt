@@ -91,9 +91,8 @@ says_next found f a b is h = subst (λ o. SaysWrong found f (first o b)) (sym is
 
 -- ---- nothing is wrong with what was read
 
-pub choice_right : (id : Option Text) (found : List Row) (choice : PageChoice) → ChoosesBy id found choice → wrong_choice id found ≡ None
-choice_right None found choice k = refl
-choice_right (Some id) found choice k = past _ k.1 refl
+pub choice_right : (id : Text) (found : List Row) (choice : PageChoice) → ChoosesBy id found choice → wrong_choice found ≡ None
+choice_right id found choice k = past _ k.1 refl
 
 pub outfile_right : (found : List Row) (outfile : Option Text) → file_asked (given opt.Outfile found) ≡ outfile → is_outfile outfile ≡ true → wrong_among (opt.Outfile ∷ []) found ≡ None
 outfile_right found outfile e is = rw (e, is) refl

@@ -6,7 +6,7 @@ use Rattle.clap.specs.Words.{Row, Text, first_of}
 use Rattle.layouts.specs.declared.arrangement.Free.{Free}
 use Rattle.impose_words.specs.Edges.{free_with}
 use Rattle.impose_words.specs.Faults.{Missing, NoValue, Wrong, wrong_among, wrong_in, wrong_numbers, wrong_room, wrong_specs}
-use Rattle.impose_words.specs.Words.{SpacesBy, asked, row_asked}
+use Rattle.impose_words.specs.Words.{SpacesBy, asked}
 use Rattle.impose_words.specs.declared.edges.Margins.{Margins}
 use Rattle.impose_words.specs.declared.fault.OptionId.{OptionId}
 use Rattle.impose_words.specs.declared.fault.OptionId.TheVariants as opt
@@ -122,13 +122,9 @@ pub spaces : (keeps : Bool) (found : List Row) (s : Spacing) → true ≡ keeps 
 spaces false found s keeps h = absurd (true≢false keeps)
 spaces true found s keeps h = h
 
--- a row is asked for, and the rest of what may be wrong with a specification is
-row_wrong : {b : Bool} {wrong e : Option Wrong} (other : Option Wrong) → b ≡ true → wrong ≡ e → (if b then wrong else other) ≡ e
-row_wrong other is h = rw is h
-
-pub specs_wrong : (found : List Row) (text : Text) {e : Option Wrong} → first_of (codes "specs") found ≡ Some text → row_asked found ≡ true
+pub specs_wrong : (found : List Row) (text : Text) {e : Option Wrong} → first_of (codes "specs") found ≡ Some text
     → wrong_among (opt.Signature ∷ []) found ≡ e → wrong_specs found ≡ e
-specs_wrong found text there row h = past Missing there (row_wrong None row h)
+specs_wrong found text there h = past Missing there h
 
 -- margins, gaps and a trim, put together
 pub free_read : (ms : Option Margins) (gs : Option Free) (ts : Option ℤ) (m : Margins) (g : Free) (t : ℤ) → ms ≡ Some m → gs ≡ Some g → ts ≡ Some t

@@ -7,10 +7,10 @@ use Rattle.clap.specs.Words.{IsAmong, Row, Text, fault_of, first_of, kind_of, su
 use Rattle.layouts.specs.Grids.{cells_per_sheet}
 use Rattle.impose_words.specs.Arranging.{booklet_marks_named, cut_marks_named, no_marks}
 use Rattle.impose_words.specs.Command.{impose}
-use Rattle.impose_words.specs.Products.{is_picture_file, lays_rows}
+use Rattle.impose_words.specs.Products.{is_picture_file}
 use Rattle.impose_words.specs.Spacings.{keeps_room}
 use Rattle.impose_words.specs.Words.{AsksFor, Entered, asked, border_found, cells_found, file_asked, first_found, given, has_numbers}
-use Rattle.impose_words.specs.Words.{gaps_found, is_outfile, margins_found, length_found, number_size_found, part_found, picture_found, ranges_id, row_asked, run_found, scale_found, signing_found, size_found}
+use Rattle.impose_words.specs.Words.{gaps_found, is_outfile, margins_found, length_found, number_size_found, part_found, picture_found, run_found, scale_found, signing_found, size_found}
 use Rattle.impose_words.specs.Words.{skip_among, turn_found, turned_found, two_found}
 use Rattle.impose_words.specs.declared.fault.RequestFault.{RequestFault}
 use Rattle.impose_words.specs.declared.fault.RequestFault.TheVariants as fault
@@ -88,9 +88,9 @@ missing_or id found wrong = if is_some (first_of id found) then wrong else Some 
 abbrev pub wrong_cells : CellCommand → (found : List Row) → Option Wrong
 wrong_cells command found = missing_or (codes "count") found (wrong_among (opt.Count command ∷ []) found)
 
--- a specification is sewn only if it is laid on a row
+-- the specification, and how its row is sewn
 abbrev pub wrong_specs : (found : List Row) → Option Wrong
-wrong_specs found = missing_or (codes "specs") found (if row_asked found then wrong_among (opt.Signature ∷ []) found else None)
+wrong_specs found = missing_or (codes "specs") found (wrong_among (opt.Signature ∷ []) found)
 
 -- what comes after the command, or how a booklet is sewn
 abbrev pub wrong_layout : (name : Text) → (found : List Row) → Option Wrong
@@ -143,23 +143,21 @@ wrong_numbers true found = wrong_among (opt.Numbers ∷ opt.NumbersFrom ∷ []) 
 abbrev pub wrong_marks : Layout → (found : List Row) → Option Wrong
 wrong_marks layout found = first (wrong_lines layout found) (wrong_numbers (has_numbers layout) found)
 
--- the pages, if they are chosen
-abbrev pub wrong_choice : (ranges : Option Text) → (found : List Row) → Option Wrong
-wrong_choice None found = None
-wrong_choice (Some id) found = if is_some (part_found found) then None else Some OddEven
+-- the pages
+abbrev pub wrong_choice : (found : List Row) → Option Wrong
+wrong_choice found = if is_some (part_found found) then None else Some OddEven
 
--- what is made, of a layout that lays rows
-abbrev pub wrong_product : (rows : Bool) → (found : List Row) → Option Wrong
-wrong_product false found = None
-wrong_product true found = first (option_map (λ two. Two two.0 two.1) (two_found found)) (wrong_among (opt.Preview ∷ []) found)
+-- what is made
+abbrev pub wrong_product : (found : List Row) → Option Wrong
+wrong_product found = first (option_map (λ two. Two two.0 two.1) (two_found found)) (wrong_among (opt.Preview ∷ []) found)
 
 -- all that comes after the layout
 abbrev pub wrong_for : Layout → (found : List Row) → Option Wrong
 wrong_for layout found =
     first (wrong_spacing layout found)
     (first (wrong_marks layout found)
-    (first (wrong_choice (ranges_id layout) found)
-    (first (wrong_among (opt.Outfile ∷ []) found) (wrong_product (lays_rows layout) found))))
+    (first (wrong_choice found)
+    (first (wrong_among (opt.Outfile ∷ []) found) (wrong_product found))))
 
 -- ---- the refusals
 

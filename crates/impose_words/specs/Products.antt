@@ -1,8 +1,6 @@
 -- What is made for a request: the sheets, or in place of them a report on them.
 use Rattle.std.specs.Prelude.{ℕ, Bool, true, false, if◌then◌else◌, List, Option, Some, None, codes, nat_eq, option_map, string_bytes}
 use Rattle.std.specs.List.{ends_with}
-use Rattle.impose_words.specs.declared.request.Layout.{Layout}
-use Rattle.impose_words.specs.declared.request.Layout.TheVariants as layout
 use Rattle.impose_words.specs.declared.request.Product.{Product}
 use Rattle.impose_words.specs.declared.request.Product.TheVariants as product
 use Rattle.impose_words.specs.declared.request.ImposeRequest.{ImposeRequest}
@@ -24,11 +22,6 @@ picture_in other = None
 abbrev pub is_picture_file : Option (List ℕ) → Bool
 is_picture_file None = true
 is_picture_file (Some name) = ends_with nat_eq name (codes ".svg")
-
--- the layout lays rows of pages on sheets, of which a plan and a picture can be made
-abbrev pub lays_rows : Layout → Bool
-lays_rows (layout.Spec specs) = false
-lays_rows other = true
 
 -- the file of the sheets, unless --replace lets any content be replaced
 abbrev pub spared : Product → (replaces : Bool) → (outfile : Option (List ℕ)) → Option (List ℕ)

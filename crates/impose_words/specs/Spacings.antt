@@ -19,8 +19,7 @@ use Rattle.impose_words.specs.declared.request.Spacing.{Spacing}
 -- the layout keeps room free if it is asked to
 abbrev pub keeps_room : Layout → Bool
 keeps_room layout.Selection = false
-keeps_room (layout.Spec specs) = false
-keeps_room (layout.SpecRow specs signing) = false
+keeps_room (layout.Spec specs signing) = false
 keeps_room other = true
 
 -- nothing is asked for: nothing is kept free, one reads along rows from the left, and pages are as large as they can be

@@ -1,5 +1,5 @@
 -- What the words ask for, by the rows that the command finds among them.
-use Rattle.std.specs.Prelude.{◌≡◌, ◌||◌, ◌&&◌, [], ℕ, ℤ, pos, Bool, true, false, not, if◌then◌else◌, is_some, IfSome, nat_lt}
+use Rattle.std.specs.Prelude.{◌≡◌, ◌||◌, [], ℕ, ℤ, pos, Bool, true, false, not, if◌then◌else◌, is_some, IfSome, nat_lt}
 use Rattle.std.specs.Prelude.{option_and_then, option_map, unwrap_or, List, Option, Some, None, codes, nat_eq, string_bytes}
 use Rattle.std.specs.Str.{bytes_eq}
 use Rattle.std.specs.List.{starts_with}
@@ -23,7 +23,6 @@ use Rattle.dressing.specs.declared.numbers.Numbering.{Numbering}
 use Rattle.dressing.specs.declared.strokes.Marks.{Marks}
 use Rattle.impose_words.specs.Arranging.{booklet_marks_named, cells_named, cut_marks_named, lines_alone, no_marks, noted_alone, tiles_named}
 use Rattle.impose_words.specs.Arranging.{number_size_named, numbering, run_named, turn_named, turned_named, marks_and_numbers}
-use Rattle.impose_words.specs.Choices.{is_all_pages}
 use Rattle.layouts.specs.Grids.{cells_per_sheet, nothing_free}
 use Rattle.layouts.specs.declared.arrangement.Free.{Free}
 use Rattle.impose_words.specs.Edges.{gaps_named, margins_in, margins_named, free_with}
@@ -36,7 +35,7 @@ use Rattle.impose_words.specs.declared.request.Layout.{Layout}
 use Rattle.impose_words.specs.declared.request.Layout.TheVariants as layout
 use Rattle.impose_words.specs.declared.request.ImposeRequest.{ImposeRequest}
 use Rattle.impose_words.specs.declared.request.Product.{Product}
-use Rattle.impose_words.specs.Products.{is_picture_file, is_plan, is_specification, lays_rows, picture_in}
+use Rattle.impose_words.specs.Products.{is_picture_file, is_plan, is_specification, picture_in}
 use Rattle.impose_words.specs.Spacings.{keeps_room, nothing_kept}
 use Rattle.impose_words.specs.declared.request.Spacing.{Spacing}
 use Rattle.impose_words.specs.declared.request.Turning.{Turning}
@@ -117,15 +116,6 @@ free_found found = free_with (margins_found found) (gaps_found found) (length_fo
 abbrev pub signing_found : (found : List Row) → Option (Option Signing)
 signing_found found = asked None (λ text. option_map (λ signing. Some signing) (signing_named text)) (given opt.Signature found)
 
--- pages are chosen for a specification, or put into signatures
-abbrev pub row_named : (found : List Row) → Bool
-row_named found = is_some (first_of (codes "pages") found) || is_some (given opt.Signature found)
-    || has_flag (codes "odd") found || has_flag (codes "even") found || has_flag (codes "reverse") found
-
--- or its sheets are to be listed or drawn: then it is on a row
-abbrev pub row_asked : (found : List Row) → Bool
-row_asked found = row_named found || has_flag (codes "plan") found || is_some (given opt.Preview found)
-
 abbrev pub command_name : CellCommand → Text
 command_name grid.NUp = codes "nup"
 command_name grid.Cards = codes "cards"
@@ -183,8 +173,7 @@ lines_found (layout.Booklet signing long_edge) found = asked no_marks booklet_ma
 lines_found (layout.Notes pages) found = Some lines_alone
 lines_found layout.Zine found = Some no_marks
 lines_found layout.Selection found = Some no_marks
-lines_found (layout.Spec specs) found = Some no_marks
-lines_found (layout.SpecRow specs signing) found = Some no_marks
+lines_found (layout.Spec specs signing) found = Some no_marks
 lines_found other found = asked no_marks cut_marks_named (given opt.CutMarks found)
 
 -- how large numbers are, if pages have some
@@ -204,8 +193,7 @@ first_found found = first_number (is_some (given opt.Numbers found)) (given opt.
 abbrev pub has_numbers : Layout → Bool
 has_numbers layout.Zine = false
 has_numbers (layout.Poster cells) = false
-has_numbers (layout.Spec specs) = false
-has_numbers (layout.SpecRow specs signing) = false
+has_numbers (layout.Spec specs signing) = false
 has_numbers other = true
 
 abbrev pub numbers_found : Layout → (found : List Row) → Option (Option Numbering)
@@ -273,22 +261,17 @@ AsksFor name found (layout.Booklet signing long_edge) = (name ≡ codes "booklet
     × (has_flag (codes "long-edge") found ≡ long_edge)
 AsksFor name found layout.Zine = name ≡ codes "zine"
 AsksFor name found layout.Selection = (name ≡ codes "select") × (is_some (first_of (codes "ranges") found) ≡ true)
-AsksFor name found (layout.Spec specs) = (name ≡ codes "spec")
-    × (first_of (codes "specs") found ≡ Some (string_bytes specs)) × (row_asked found ≡ false)
-AsksFor name found (layout.SpecRow specs signing) = (name ≡ codes "spec")
-    × (first_of (codes "specs") found ≡ Some (string_bytes specs)) × (row_asked found ≡ true)
-    × (signing_found found ≡ Some signing)
+AsksFor name found (layout.Spec specs signing) = (name ≡ codes "spec")
+    × (first_of (codes "specs") found ≡ Some (string_bytes specs)) × (signing_found found ≡ Some signing)
 
--- the argument that names the pages of a layout, if it has one
-abbrev pub ranges_id : Layout → Option Text
-ranges_id layout.Selection = Some (codes "ranges")
-ranges_id (layout.Spec specs) = None
-ranges_id other = Some (codes "pages")
+-- the argument that names the pages of a layout
+abbrev pub ranges_id : Layout → Text
+ranges_id layout.Selection = codes "ranges"
+ranges_id other = codes "pages"
 
--- what was found asks for these pages: as that argument says, or for all
-abbrev pub ChoosesBy : Option Text → (found : List Row) → PageChoice → Type 0
-ChoosesBy None found choice = is_all_pages choice ≡ true
-ChoosesBy (Some id) found choice = (first_of id found ≡ option_map string_bytes choice.ranges)
+-- what was found asks for these pages: as that argument says
+abbrev pub ChoosesBy : (id : Text) → (found : List Row) → PageChoice → Type 0
+ChoosesBy id found choice = (first_of id found ≡ option_map string_bytes choice.ranges)
     × (part_found found ≡ Some choice.part) × (has_flag (codes "reverse") found ≡ choice.backwards)
 
 -- what was found asks for this to be kept free, for this creep and overlap, and for this order and scale, by a layout that
@@ -300,11 +283,11 @@ SpacesBy true found s = (free_found found ≡ Some s.free) × (length_found opt.
     × (has_flag (codes "same-scale") found ≡ s.same_scale)
     × (option_map (λ m. m.inner) (margins_found found) ≡ Some s.inner)
 
--- the product that is made by what was found; of a layout that doesn't lay rows no plan and no picture is made
-pub record MakesBy (rows : Bool) (found : List Row) (p : Product) : Type 0 where
+-- the product that is made by what was found
+pub record MakesBy (found : List Row) (p : Product) : Type 0 where
   pub printed : has_flag (codes "print-spec") found ≡ is_specification p
-  pub planned : (rows && has_flag (codes "plan") found) ≡ is_plan p
-  pub pictured : (if rows then picture_found found else None) ≡ picture_in p
+  pub planned : has_flag (codes "plan") found ≡ is_plan p
+  pub pictured : picture_found found ≡ picture_in p
   pub is_picture : IfSome (picture_in p) (λ file. is_picture_file file ≡ true)
 
 -- the product is the picture in the file of this name
@@ -332,7 +315,7 @@ pub record ReadsRequest (name : Text) (found : List Row) (r : ImposeRequest) : T
   pub turn : turn_found found ≡ Some r.turn
   pub marks : marks_found r.layout found ≡ Some r.marks
   pub guarded : r.is_guarded ≡ not (has_flag (codes "unguarded") found)
-  pub product : MakesBy (lays_rows r.layout) found r.product
+  pub product : MakesBy found r.product
   pub quiet : has_flag (codes "quiet") found ≡ r.is_quiet
   pub infile : file_asked (first_of (codes "infile") found) ≡ option_map string_bytes r.infile
   pub outfile : file_asked (given opt.Outfile found) ≡ option_map string_bytes r.outfile

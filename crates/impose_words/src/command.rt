@@ -7,8 +7,8 @@ ghost use Rattle.lengths.specs.Lengths.{a4};
 ghost use Rattle.impose_words.specs.Command.{impose};
 ghost use Rattle.impose_words.specs.Words.{AsksFor, ChoosesBy, Entered, MakesBy, NamesPicture, ReadsRequest, ReadsSizes, SpacesBy};
 ghost use Rattle.impose_words.specs.Words.{cells_of_command as cells_by, command_name, file_asked, first_found, given, has_numbers, is_outfile, length_found};
-ghost use Rattle.impose_words.specs.Words.{lines_found, marks_found, numbers_found, order_found, ranges_id, row_asked, row_named, rows_in, skip_found};
-ghost use Rattle.impose_words.specs.Products.{is_plan, is_specification, lays_rows, picture_in};
+ghost use Rattle.impose_words.specs.Words.{lines_found, marks_found, numbers_found, order_found, ranges_id, rows_in, skip_found};
+ghost use Rattle.impose_words.specs.Products.{is_plan, is_specification, picture_in};
 ghost use Rattle.impose_words.specs.Spacings.{keeps_room};
 ghost use Rattle.impose_words.specs.Faults.{NoValue, ParseRefuses, RefusesCommand, RefusesFound, SaysWrong, Wrong, wrong_among, wrong_cells};
 ghost use Rattle.impose_words.specs.Faults.{wrong_choice, wrong_for, wrong_in, wrong_layout, wrong_lines, wrong_marks, wrong_numbers, wrong_order};
@@ -135,7 +135,7 @@ fn request_for(
     let choice = choice_of(alloc, &layout, found)?;
     let infile = owned(alloc, file_named(text_of(found, "infile")))?;
     let outfile = outfile_of(alloc, found)?;
-    let product = product_of(alloc, &layout, found)?;
+    let product = product_of(alloc, found)?;
     Ok(ImposeRequest {
         layout,
         spacing,
@@ -301,32 +301,10 @@ fn spec_of(alloc: Global, found: &ArgMatches<'_>) -> Result<Layout, RequestFault
         Some(specs) => String::from_str(alloc, specs)?,
         None => return Err(RequestFault::Lacking),
     };
-    if !asks_for_row(found) {
-        return Ok(Layout::Spec(specs));
-    }
     match value(found, OptionId::Signature, signing_named) {
-        Ok(signing) => Ok(Layout::SpecRow { specs, signing }),
+        Ok(signing) => Ok(Layout::Spec { specs, signing }),
         Err(option) => Err(bad_value(alloc, found, option)),
     }
-}
-
-/// Whether `spec` places a row of pages and not simply all pages of the document. It does so if options choose the row, or if the sheets are to be
-/// listed or drawn.
-fn asks_for_row(found: &ArgMatches<'_>) -> bool
-    ensures { result ≡ row_asked (rows_in found.now) }
-{
-    names_row(found) || is_set(found, "plan") || text_of(found, "preview").is_some()
-}
-
-/// Whether an option chooses the pages of the row, chooses their order, or puts them into signatures.
-fn names_row(found: &ArgMatches<'_>) -> bool
-    ensures { result ≡ row_named (rows_in found.now) }
-{
-    text_of(found, "pages").is_some()
-        || text_of(found, "signature").is_some()
-        || is_set(found, "odd")
-        || is_set(found, "even")
-        || is_set(found, "reverse")
 }
 
 /// The number of cells of the first sheet that are used already; 0 without `--skip`, and for layouts that don't take it. The error is the option
@@ -476,10 +454,9 @@ fn choice_of(
 ) -> Result<PageChoice, RequestFault>
     ensures read { IfOk result (ChoosesBy (ranges_id layout.now) (rows_in found.now)) }
     ensures refused { IfErr result (λ f.
-        SaysWrong (rows_in found.now) f (wrong_choice (ranges_id layout.now) (rows_in found.now))) }
+        SaysWrong (rows_in found.now) f (wrong_choice (rows_in found.now))) }
 {
     match layout {
-        Layout::Spec(_) => Ok(PageChoice::whole()),
         Layout::Selection => choice_by(alloc, "ranges", found),
         _ => choice_by(alloc, "pages", found),
     }
@@ -488,9 +465,9 @@ fn choice_of(
 /// The pages that the argument `id` names by ranges, or all pages without it, with the effect of `--odd`, `--even` and `--reverse`. `--odd` and
 /// `--even` together are refused.
 fn choice_by(alloc: Global, id: &str, found: &ArgMatches<'_>) -> Result<PageChoice, RequestFault>
-    ensures read { IfOk result (ChoosesBy (Some id.now) (rows_in found.now)) }
+    ensures read { IfOk result (ChoosesBy id.now (rows_in found.now)) }
     ensures refused { IfErr result (λ f.
-        SaysWrong (rows_in found.now) f (wrong_choice (Some id.now) (rows_in found.now))) }
+        SaysWrong (rows_in found.now) f (wrong_choice (rows_in found.now))) }
 {
     let part = match (is_set(found, "odd"), is_set(found, "even")) {
         (false, false) => Part::All,
@@ -522,21 +499,12 @@ fn outfile_of(alloc: Global, found: &ArgMatches<'_>) -> Result<Option<String>, R
     }
 }
 
-/// The requested kind of output. A list or a drawing can be requested only for layouts that lay rows. Any two of `--print-spec`, `--plan` and
-/// `--preview` are refused.
-fn product_of(
-    alloc: Global,
-    layout: &Layout,
-    found: &ArgMatches<'_>,
-) -> Result<Product, RequestFault>
-    ensures read { IfOk result (MakesBy (lays_rows layout.now) (rows_in found.now)) }
-    ensures refused { IfErr result (λ f.
-        SaysWrong (rows_in found.now) f (wrong_product (lays_rows layout.now) (rows_in found.now))) }
+/// The requested kind of output. Any two of `--print-spec`, `--plan` and `--preview` are refused.
+fn product_of(alloc: Global, found: &ArgMatches<'_>) -> Result<Product, RequestFault>
+    ensures read { IfOk result (MakesBy (rows_in found.now)) }
+    ensures refused { IfErr result (λ f. SaysWrong (rows_in found.now) f (wrong_product (rows_in found.now))) }
 {
     let printed = is_set(found, "print-spec");
-    if !layout.lays_rows() {
-        return Ok(specification_if(printed));
-    }
     match (printed, is_set(found, "plan"), text_of(found, "preview")) {
         (_, false, None) => Ok(specification_if(printed)),
         (false, true, None) => Ok(Product::Plan),

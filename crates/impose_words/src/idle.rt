@@ -90,7 +90,7 @@ fn is_cut_outside(layout: &Layout) -> bool
         }
         Layout::Booklet { .. } | Layout::Poster(_) => true,
         Layout::Notes { .. } | Layout::Zine | Layout::Selection => false,
-        Layout::Spec(_) | Layout::SpecRow { .. } => false,
+        Layout::Spec { .. } => false,
     }
 }
 

@@ -1,9 +1,9 @@
 //! Requests, which are read from command lines.
-ghost use Rattle.std.specs.Prelude.{◌≡◌, option_map, true};
+ghost use Rattle.std.specs.Prelude.{◌≡◌, option_map};
 ghost use Rattle.rows.specs.Choices.{choice_of};
 ghost use Rattle.impose_words.specs.Arranging.{turn_for};
 ghost use Rattle.impose_words.specs.Choices.{choice_in, is_all_pages};
-ghost use Rattle.impose_words.specs.Products.{file_to_spare, lays_rows};
+ghost use Rattle.impose_words.specs.Products.{file_to_spare};
 ghost use Rattle.impose_words.specs.Spacings.{arrangement_in, binding_in, keeps_room, notes_in, nothing_kept, some_gap as some_gap_of, zine_in};
 ghost use Rattle.impose_words.specs.Spacings.{at_fold as free_at_fold, fold_gap as gap_at_fold, on_fronts as free_on_fronts, swaps_margins};
 ghost use Rattle.impose_words.specs.Words.{has_numbers};
@@ -45,11 +45,9 @@ pub enum Layout {
     Zine,
     /// Each page alone on a sheet of the page's own paper.
     Selection,
-    /// All pages in order, placed by a page specification of pstops.
-    Spec(String),
-    /// A row of pages, placed by a page specification as if the row were a document. If `signing` names signatures, the row is first put in their
-    /// order.
-    SpecRow {
+    /// A row of pages, placed by a page specification of pstops as if the row were a document. If `signing` names signatures, the row is first put in
+    /// their order.
+    Spec {
         specs: String,
         signing: Option<Signing>,
     },
@@ -60,28 +58,14 @@ impl Layout {
     pub fn keeps_room(&self) -> bool
         ensures { result ≡ keeps_room self.now }
     {
-        !matches!(
-            self,
-            Layout::Selection | Layout::Spec(_) | Layout::SpecRow { .. }
-        )
+        !matches!(self, Layout::Selection | Layout::Spec { .. })
     }
 
     /// Whether page numbers can be drawn on the sheets of this layout.
     pub fn has_numbers(&self) -> bool
         ensures { result ≡ has_numbers self.now }
     {
-        !matches!(
-            self,
-            Layout::Zine | Layout::Poster(_) | Layout::Spec(_) | Layout::SpecRow { .. }
-        )
-    }
-
-    /// Whether the layout lays a row of pages on sheets. Every layout but `Spec` does; `Spec` places the pages of the document. Only the sheets of a
-    /// row can be listed and drawn.
-    pub fn lays_rows(&self) -> bool
-        ensures { result ≡ lays_rows self.now }
-    {
-        !matches!(self, Layout::Spec(_))
+        !matches!(self, Layout::Zine | Layout::Poster(_) | Layout::Spec { .. })
     }
 }
 
@@ -254,17 +238,6 @@ pub struct PageChoice {
 }
 
 impl PageChoice {
-    /// All pages, in the document's order.
-    pub fn whole() -> PageChoice
-        ensures { is_all_pages result ≡ true }
-    {
-        PageChoice {
-            ranges: None,
-            part: Part::All,
-            backwards: false,
-        }
-    }
-
     /// Whether the choice has no page ranges, and takes all pages in the document's order.
     pub fn is_whole(&self) -> bool
         ensures { result ≡ is_all_pages self.now }
@@ -326,7 +299,7 @@ pub struct ImposeRequest {
     pub layout: Layout,
     /// The margins, gaps, order and scale. A selection or a specification has `Spacing::none()`.
     pub spacing: Spacing,
-    /// The pages to impose, and their order. `Layout::Spec` takes all pages.
+    /// The pages to impose, and their order.
     pub choice: PageChoice,
     /// Whether a booklet's last page is kept at the back, after the blanks that fill up the last signature.
     pub last_at_back: bool,

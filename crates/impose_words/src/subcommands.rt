@@ -17,7 +17,7 @@ pub(crate) const SUBCOMMANDS: [Subcommand; 9] = [
             Group::Pages,
             Group::Common,
         ],
-        hidden: &[],
+        hidden: &["print-spec"],
     },
     Subcommand {
         name: "booklet",
@@ -29,7 +29,7 @@ pub(crate) const SUBCOMMANDS: [Subcommand; 9] = [
             Group::Pages,
             Group::Common,
         ],
-        hidden: &[],
+        hidden: &["print-spec"],
     },
     Subcommand {
         name: "zine",

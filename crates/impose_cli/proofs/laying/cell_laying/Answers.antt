@@ -13,8 +13,8 @@ use Rattle.impose_cli.proofs.laying.cell_laying.Goals as goal
 pub returns-in-Ok-clause-laying : goal.returns-in-Ok-clause-laying
 returns-in-Ok-clause-laying c =
     let papers = c.args.papers.now in
-    ap₂ (λ t how. Some (laying.InCells t how)) c.in-Ok.ensures.made c.scheme_for.ensures
-    ∙ ap (λ a. Some (filled_in c.args.layout.now c.args.spacing.now a papers.page papers.sheet)) c.cells_for-arrangement.ensures
+    ap₂ (λ t how. laying.InCells t how) c.in-Ok.ensures.made c.scheme_for.ensures
+    ∙ ap (λ a. filled_in c.args.layout.now c.args.spacing.now a papers.page papers.sheet) c.cells_for-arrangement.ensures
 
 pub returns-in-Ok-clause-may_be : goal.returns-in-Ok-clause-may_be
 returns-in-Ok-clause-may_be c =

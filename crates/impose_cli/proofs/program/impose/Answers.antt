@@ -3,7 +3,7 @@ use Rattle.std.specs.Prelude.{string_bytes}
 use Rattle.impose_cli.specs.Endings.{edge_of_world, shown}
 use Rattle.impose_cli.specs.Programs.{FindsHome}
 use Rattle.impose_words.proofs.Found.{entered_at_home}
-use Rattle.impose_cli.proofs.Programs.{at_home, created_for, found_at_home, may_be_made_at_home}
+use Rattle.impose_cli.proofs.Programs.{at_home, created_for, found_at_home}
 use Rattle.impose_cli.proofs.program.impose.Goals as goal
 
 pub returns-in-Ok : goal.returns-in-Ok
@@ -30,7 +30,3 @@ returns-in-Ok g c =
       created = created_for g.W.World.seen c.at_home-request.result (g.W.World.gives c.args.world) (g.W.World.same c.args.world) (g.W.World.terminal c.args.world) foreign edge attempt.outcome found attempt.rest
           (shown g.W.Output.Output.seen attempt.rest) carried;
     }
-
-pub carry_out-attempt-requires-clause-product : goal.carry_out-attempt-requires-clause-product
-carry_out-attempt-requires-clause-product g c κs bounds =
-    may_be_made_at_home (map string_bytes c.args.words.now) c.in-Ok.read c.at_home-request.result c.home_of.result c.at_home-request.ensures c.in-Ok.ensures.read

@@ -1,10 +1,17 @@
-use Rattle.std.proofs.Common.{◌∙◌}
+use Rattle.std.proofs.Common.{inl, subst, sym}
 use Rattle.impose_cli.specs.Endings.{edge_of_world, shown}
+use Rattle.impose_cli.specs.Programs.{Prints}
 use Rattle.impose_cli.proofs.Programs.{printed}
 use Rattle.impose_cli.proofs.program.print_input.Goals as goal
 
-pub returns : goal.returns
-returns g c =
-    printed c.args.request.now c.args.input.items (edge_of_world (g.W.World.reports_outputs c.args.world) g.W.World.seen g.W.Output.Output.seen) c.in-Ok.found.0 c.as_slice.result.now c.create_with_text.result.outcome
+pub returns-in-Ok : goal.returns-in-Ok
+returns-in-Ok g c =
+    printed c.args.request.now c.args.input.items (edge_of_world (g.W.World.reports_outputs c.args.world) g.W.World.seen g.W.Output.Output.seen) c.in-Ok.text.items c.create_with_text.result.outcome
     c.args.world c.create_with_text.result.rest (shown g.W.Output.Output.seen c.create_with_text.result.rest)
-    (c.as_slice.ensures.value ∙ c.in-Ok-printed_task.ensures) c.in-Ok.ensures.is_task c.in-Ok.ensures.accepted c.create_with_text.ensures
+    c.in-Ok.ensures.text (rw c.as_slice.ensures.value at c.create_with_text.ensures)
+
+pub returns-in-Err : goal.returns-in-Err
+returns-in-Err g c =
+    subst (λ o. Prints c.args.request.now c.args.input.items (edge_of_world (g.W.World.reports_outputs c.args.world) g.W.World.seen g.W.Output.Output.seen) o
+    c.args.world c.refused_before.result.rest (shown g.W.Output.Output.seen c.refused_before.result.rest)) (sym c.refused_before.ensures.outcome)
+    (inl (c.in-Err.ensures.refused, c.refused_before.ensures.rest))

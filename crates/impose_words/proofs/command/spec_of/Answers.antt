@@ -1,4 +1,4 @@
-use Rattle.std.proofs.Common.{rules, None, sym}
+use Rattle.std.proofs.Common.{None, sym}
 use Rattle.impose_words.specs.Signatures.{signing_named}
 use Rattle.impose_words.specs.Words.{given, rows_in}
 use Rattle.impose_words.specs.declared.fault.OptionId.TheVariants as opt
@@ -9,5 +9,5 @@ pub returns-in-Err-clause-refused : goal.returns-in-Err-clause-refused
 returns-in-Err-clause-refused c =
     let found = rows_in c.args.found.now in
     c.bad_value.ensures _
-    (specs_wrong found c.in-Some.specs.now (sym c.in-Some.ensures.text) (search rules)
+    (specs_wrong found c.in-Some.specs.now (sym c.in-Some.ensures.text)
     (fails signing_named (given opt.Signature found) opt.Signature _ None (λ p v h. h) c.in-Err.ensures))

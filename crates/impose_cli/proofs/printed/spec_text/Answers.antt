@@ -1,0 +1,21 @@
+use Rattle.impose_cli.proofs.Rows.{papers_count, row_paper_of}
+use Rattle.impose_cli.proofs.printed.spec_text.Goals as goal
+
+pub printed_task-requires-clause-some : goal.printed_task-requires-clause-some
+printed_task-requires-clause-some c = (papers_count c.args.request.now c.args.input.items c.in_ok-task.task.papers.items c.in_ok-task.ensures.is_task.papers).0
+
+pub printed_task-requires-clause-few : goal.printed_task-requires-clause-few
+printed_task-requires-clause-few c = (papers_count c.args.request.now c.args.input.items c.in_ok-task.task.papers.items c.in_ok-task.ensures.is_task.papers).1
+
+pub returns-clause-text : goal.returns-clause-text
+returns-clause-text c =
+    let t = c.in_ok-task.task in
+    let is = c.in_ok-task.ensures.is_task in
+    record {
+      page_paper = (t.findings.page_paper, t.findings.origin);
+      found = row_paper_of c.args.request.now c.args.input.items t.findings is.findings;
+      papers = t.papers.items;
+      are_papers = is.papers;
+      possible = is.possible;
+      printed = c.in_ok-text.ensures.printed;
+    }
