@@ -28,8 +28,8 @@ const BYTES_BESIDE: usize = 32;
 /// The greatest number of sheets in a window.
 const MOST_SHEETS: usize = 4_096;
 
-/// The least number of sheets in a long window. While messages come, such a window moves by at least a quarter of its length at a time. A worker that
-/// finds no work in it sleeps at once.
+/// The least number of sheets in a long window. While messages come, such a window moves by at least a quarter of its length at a time. A thread that
+/// has slept for lack of work in it doesn't spin again, because it would find little work so soon.
 const MANY_SHEETS: u32 = 256;
 
 /// The divisor for batches. In one message an imposer sends at most an eighth of a window's sheets, at most an eighth of its share of all sheets, and
@@ -120,7 +120,7 @@ impl Window {
 
     /// Spins briefly, yields the processor once, or sleeps for at most 400 microseconds. Nothing wakes a sleeping thread earlier.
     pub(crate) fn rest<R: Wait>(&self, rt: &R, idling: &mut Idling) {
-        if self.step == 1 && idling.may_yield() {
+        if idling.may_yield() {
             idling.backoff.snooze();
         } else {
             self.next.park_timeout(rt, self.next(), idling.next_nap());
@@ -131,16 +131,16 @@ impl Window {
     pub(crate) fn idling(&self) -> Idling {
         Idling {
             backoff: Backoff::new(),
-            yields: FIRST_YIELDS,
+            yields: if self.step > 1 { 0 } else { FIRST_YIELDS },
             nap: SHORTEST_NAP,
-            grows: self.step > 1,
+            is_long: self.step > 1,
         }
     }
 }
 
-/// The way in which a thread waits for work. If sheets are large, it first spins and yields the processor a few times, at the start of the run more
-/// often, and then takes short naps, until it has found work. If sheets are small, it takes a nap at once, and each nap is twice as long as the one
-/// before, up to the longest.
+/// The way in which a thread waits for work. It first spins and yields the processor a few times, and then takes naps. In a short window it yields
+/// more often at the start of the run, begins anew once it has found work, and takes only short naps. In a long window each nap is twice as long as
+/// the one before, up to the longest.
 #[derive(Drop)]
 pub(crate) struct Idling {
     backoff: Backoff,
@@ -148,14 +148,16 @@ pub(crate) struct Idling {
     yields: u32,
     /// The length of the next nap, in microseconds. If this number is greater than the longest nap, the longest nap is taken.
     nap: u64,
-    /// Whether naps become longer.
-    grows: bool,
+    /// Whether the window is long.
+    is_long: bool,
 }
 
 impl Idling {
-    /// Notes that work was found. A thread that spins and yields before its naps does so again when it next waits.
+    /// Notes that work was found. In a short window the thread spins and yields again when it next waits.
     pub(crate) fn end(&self) {
-        self.backoff.reset();
+        if !self.is_long {
+            self.backoff.reset();
+        }
     }
 
     /// Whether the thread spins or yields once more. After the yields of its backoff, counts one of those in place of its first naps.
@@ -168,13 +170,13 @@ impl Idling {
         is_left
     }
 
-    /// The length of the nap to take now. If naps become longer, the next nap is twice as long, up to the longest.
+    /// The length of the nap to take now. In a long window the next nap is twice as long, up to the longest.
     fn next_nap(&mut self) -> Duration
         ensures least { 50_000 ≤ as_nanos result }
-        ensures most { as_nanos result ≤ (if self.old.grows then 400_000 else 50_000) }
-        ensures grows { self.new.grows ≡ self.old.grows }
+        ensures most { as_nanos result ≤ (if self.old.is_long then 400_000 else 50_000) }
+        ensures same { self.new.is_long ≡ self.old.is_long }
     {
-        let longest = if self.grows {
+        let longest = if self.is_long {
             LONGEST_NAP
         } else {
             SHORTEST_NAP
