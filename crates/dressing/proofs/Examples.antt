@@ -1,18 +1,17 @@
 -- Worked examples.
 use Rattle.std.proofs.Common.{◌≡◌, refl}
-use Rattle.std.specs.Prelude.{ℕ, Bool, codes, map, [], ◌∷◌, false, true, pos, None, Some}
+use Rattle.std.specs.Prelude.{ℕ, Bool, codes, map, [], ◌∷◌, false, true, pos, Some}
 use Rattle.std.specs.Fmt.{digits}
 use Rattle.rules.specs.Papers.{Paper, Pt, points}
-use Rattle.rules.specs.Specification.{Item, Turn, Upright, Left, Half}
+use Rattle.rules.specs.Specification.{Item, Turn, Left, Half}
 use Rattle.rules.specs.Dress.{undressed}
-use Rattle.rules.specs.Made.{Blank}
-use Rattle.sheet_text.specs.PageNumbers.{foot_text, number_line, slot_lines}
+use Rattle.sheet_text.specs.PageNumbers.{number_line}
 use Rattle.sheet_text.specs.declared.numbers.Numbers.{Numbers}
 use Rattle.layouts.specs.Placed.{Room}
 use Rattle.layouts.specs.Cells.{Grid}
-use Rattle.dressing.specs.Strokes.{cut_marks, fold_marks, outer_cut_marks, tile_marks}
+use Rattle.dressing.specs.Strokes.{cut_marks, fold_marks, outer_cut_marks}
 use Rattle.dressing.specs.Ruled.{note_lines}
-use Rattle.dressing.specs.Drawn.{mark_lines, strokes_added, stroke_line}
+use Rattle.dressing.specs.Drawn.{strokes_added, stroke_line}
 
 -- with the same margin along all edges, and the same gap across and up
 abbrev room_in : Paper → (edge gap : ℕ) → Room
@@ -31,77 +30,12 @@ folded : map stroke_line (fold_marks small columns) ≡ codes "newpath 50 0 move
 unfolding digits
 folded = refl
 
--- it is cut there, and 2 points outside of its cells
-cut : map stroke_line (cut_marks small columns)
-    ≡ codes "newpath 50 0 moveto 50 10 lineto stroke"
-    ∷ codes "newpath 50 200 moveto 50 190 lineto stroke"
-    ∷ codes "newpath 8 0 moveto 8 10 lineto stroke"
-    ∷ codes "newpath 8 200 moveto 8 190 lineto stroke"
-    ∷ codes "newpath 92 0 moveto 92 10 lineto stroke"
-    ∷ codes "newpath 92 200 moveto 92 190 lineto stroke"
-    ∷ codes "newpath 0 8 moveto 10 8 lineto stroke"
-    ∷ codes "newpath 100 8 moveto 90 8 lineto stroke"
-    ∷ codes "newpath 0 192 moveto 10 192 lineto stroke"
-    ∷ codes "newpath 100 192 moveto 90 192 lineto stroke"
-    ∷ []
-unfolding digits
-cut = refl
-
--- if it is folded there, it is cut outside of its cells alone
-cut_round : map stroke_line (outer_cut_marks small columns)
-    ≡ codes "newpath 8 0 moveto 8 10 lineto stroke"
-    ∷ codes "newpath 8 200 moveto 8 190 lineto stroke"
-    ∷ codes "newpath 92 0 moveto 92 10 lineto stroke"
-    ∷ codes "newpath 92 200 moveto 92 190 lineto stroke"
-    ∷ codes "newpath 0 8 moveto 10 8 lineto stroke"
-    ∷ codes "newpath 100 8 moveto 90 8 lineto stroke"
-    ∷ codes "newpath 0 192 moveto 10 192 lineto stroke"
-    ∷ codes "newpath 100 192 moveto 90 192 lineto stroke"
-    ∷ []
-unfolding digits
-cut_round = refl
-
--- a tile of a poster of two columns that overlap by 4 points is cut at its edges, and its neighbours end 4 points inside
-tile : map stroke_line (tile_marks (room_in (points 100 200) 1_000_000 0) columns 400_000)
-    ≡ codes "newpath 10 0 moveto 10 10 lineto stroke"
-    ∷ codes "newpath 10 200 moveto 10 190 lineto stroke"
-    ∷ codes "newpath 90 0 moveto 90 10 lineto stroke"
-    ∷ codes "newpath 90 200 moveto 90 190 lineto stroke"
-    ∷ codes "newpath 0 10 moveto 10 10 lineto stroke"
-    ∷ codes "newpath 100 10 moveto 90 10 lineto stroke"
-    ∷ codes "newpath 0 190 moveto 10 190 lineto stroke"
-    ∷ codes "newpath 100 190 moveto 90 190 lineto stroke"
-    ∷ codes "newpath 14 0 moveto 14 10 lineto stroke"
-    ∷ codes "newpath 14 200 moveto 14 190 lineto stroke"
-    ∷ codes "newpath 86 0 moveto 86 10 lineto stroke"
-    ∷ codes "newpath 86 200 moveto 86 190 lineto stroke"
-    ∷ []
-unfolding digits
-tile = refl
-
--- and not at all if the margin has no room for half a gap, or if there is none
+-- it isn't cut round its cells if the margin has no room for half a gap
 narrow_round : outer_cut_marks (room_in (points 100 200) 1_000_000 2_000_001) columns ≡ []
 narrow_round = refl
 
-bare_round : outer_cut_marks (room_in (points 100 200) 0 0) columns ≡ []
-bare_round = refl
-
--- without a margin strokes have 18 points, and in a wide one too: they end at the cells
 abbrev bare : Room
 bare = room_in (points 100 200) 0 0
-
-bare_cut : map stroke_line (cut_marks bare columns)
-    ≡ codes "newpath 50 0 moveto 50 18 lineto stroke" ∷ codes "newpath 50 200 moveto 50 182 lineto stroke" ∷ []
-unfolding digits
-bare_cut = refl
-
-abbrev wide : Room
-wide = room_in (points 100 200) 3_000_000 0
-
-wide_fold : map stroke_line (fold_marks wide columns)
-    ≡ codes "newpath 50 12 moveto 50 30 lineto stroke" ∷ codes "newpath 50 188 moveto 50 170 lineto stroke" ∷ []
-unfolding digits
-wide_fold = refl
 
 -- margins of 10, 12, 14 and 16 points at the left, the right, the foot and the head, and gaps of 4 points across and 6 up: each
 -- stroke ends where the margin of its edge does
@@ -133,12 +67,6 @@ edges_cut : map stroke_line (cut_marks each_edge (record { rows = 2; columns = 2
     ∷ []
 unfolding digits
 edges_cut = refl
-
--- two cells on their sides lie one above the other
-on_sides : map stroke_line (fold_marks bare (record { rows = 1; columns = 2; turned = true }))
-    ≡ codes "newpath 0 100 moveto 18 100 lineto stroke" ∷ codes "newpath 100 100 moveto 82 100 lineto stroke" ∷ []
-unfolding digits
-on_sides = refl
 
 -- two rows of cells, each 52 points wide and 48 high: one line for notes in each row, since the second would lie on the cell's
 -- lower side
@@ -180,9 +108,6 @@ added : (strokes_added (fold_marks bare columns) undressed).finish 0 (points 100
 unfolding digits
 added = refl
 
-no_marks : mark_lines [] ≡ []
-no_marks = refl
-
 -- numbers of 10 points, from 3 on, in cells of 100 points: the middle of their feet is 50 points below the middle of their pages
 abbrev tens : Numbers
 tens = record { size = pos 1_270_000_000_000; first = 3; places = []; below = Some (pos 6_350_000_000_000) }
@@ -204,15 +129,8 @@ number_on_its_side : number_line tens 4 (page_turned Left) (points 100 200)
 unfolding digits
 number_on_its_side = refl
 
--- on a page that is lower than its cell the number stands below it, and in a cell of its own 18 points above its edge
+-- on a page that is lower than its cell the number stands below it
 below_the_page : number_line tens 0 (page_turned Half) (points 100 100)
     ≡ codes "gsave 0 setgray /Times-Roman findfont 10 scalefont setfont 100 125 translate 180 rotate 25 -7 moveto (3) dup stringwidth pop -2 div 0 rmoveto show grestore"
 unfolding digits
 below_the_page = refl
-
-in_a_cell_of_its_own : foot_text None (points 100 200) (page_turned Upright) ≡ codes "25 18 moveto ("
-unfolding digits
-in_a_cell_of_its_own = refl
-
-no_number : slot_lines tens Blank ≡ []
-no_number = refl

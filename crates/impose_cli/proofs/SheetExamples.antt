@@ -13,15 +13,13 @@ use Rattle.rows.specs.Sewing.{signing_of}
 use Rattle.rows.specs.declared.sewing.Signing.TheVariants.{InOne}
 use Rattle.row_runs.specs.SwappedMargins.{swapped_room_in, swapped}
 use Rattle.row_runs.specs.Sheets.{leaves_in, sheets_laid}
-use Rattle.row_runs.specs.Turning.{turn_on, turned_sheet}
 use Rattle.row_runs.specs.declared.sheet_request.Laying.{Laying}
 use Rattle.impose_words.specs.Spacings.{swaps_margins, nothing_kept}
 use Rattle.impose_words.specs.declared.request.Layout.{Layout}
 use Rattle.impose_words.specs.declared.request.Layout.TheVariants as layout
 use Rattle.impose_words.specs.declared.request.Spacing.{Spacing}
-use Rattle.impose_words.specs.declared.request.Turning.TheVariants as turning
 use Rattle.impose_cli.specs.RowsAsked.{signing_in}
-use Rattle.impose_cli.specs.RowTasks.{laying_in, paper_turned, turns_of}
+use Rattle.impose_cli.specs.RowTasks.{laying_in}
 
 abbrev swapped_room_or_none : Bool → Option Laying → Option Room
 swapped_room_or_none exchanged None = None
@@ -80,11 +78,6 @@ leaves : sheets_of (layout.Stack (Exactly 2 1) true) nothing_kept square wide 8
     ∷ (at 3 Upright 0 0 ∷ at 7 Upright 100 0 ∷ []) ∷ (at 8 Upright 0 0 ∷ at 4 Upright 100 0 ∷ []) ∷ []
 leaves = refl
 
--- pages in the left column, and the right one free for notes
-notes : sheets_of (layout.Notes 2) nothing_kept square (points 200 200) 3
-    ≡ (at 1 Upright 0 100 ∷ at 2 Upright 0 0 ∷ []) ∷ (at 3 Upright 0 100 ∷ None ∷ []) ∷ []
-notes = refl
-
 -- The tiles of a poster, two side by side and three one above another: row by row from the upper left one.
 
 abbrev tile : (left below : ℤ) → List Lies
@@ -95,9 +88,6 @@ poster : sheets_of (layout.Poster (Exactly 2 3)) nothing_kept (points 200 300) s
     ∷ tile (pos 0) (negsuc 99_999_999_999) ∷ tile (negsuc 99_999_999_999) (negsuc 99_999_999_999)
     ∷ tile (pos 0) (pos 0) ∷ tile (negsuc 99_999_999_999) (pos 0) ∷ []
 poster = refl
-
-selection : sheets_of layout.Selection nothing_kept square wide 2 ≡ (at 1 Upright 0 0 ∷ []) ∷ (at 2 Upright 0 0 ∷ []) ∷ []
-selection = refl
 
 -- The leaf of a booklet of four pages. They are turned to the left, so as one holds the sheet for them to be upright, what lies
 -- higher on it is on the right: page 1 on the front, page 3 on the back.
@@ -116,27 +106,10 @@ bound_at_right : sheets_of (layout.Booklet InOne false) (record nothing_kept { o
     ≡ (at 4 Left 100 100 ∷ at 1 Left 100 0 ∷ []) ∷ (at 2 Left 100 100 ∷ at 3 Left 100 0 ∷ []) ∷ []
 bound_at_right = refl
 
--- Pages of three papers in cells of 100 by 200 points. The second one is wide: it is turned to the left, so its lower left corner is 100 points farther right.
-
-abbrev papers : List Paper
-papers = high ∷ wide ∷ square ∷ []
-
-abbrev placed_or_none : Option Laying → List MadeSheet
-placed_or_none None = []
-placed_or_none (Some how) = sheets_laid how 0 (map (paper_turned turning.Wide) papers) (all_pages 3)
-
-wide_turned : map (λ (made : MadeSheet). map lies (turned_sheet (turn_on (turns_of turning.Wide papers)) made).slots)
-    (placed_or_none (laying_in (layout.NUp (Exactly 3 1)) nothing_kept high (points 300 200)))
-    ≡ (at 1 Upright 0 0 ∷ at 2 Left 200 0 ∷ at 3 Upright 200 50 ∷ []) ∷ []
-wide_turned = refl
-
--- Inner edges: of 10 points at the left of a front and at the right of its back, and of 10 points on both sides of a fold.
+-- An inner edge of 10 points, on both sides of a fold.
 
 abbrev inner : Spacing
 inner = record nothing_kept { inner = Some (pos 1_270_000_000_000) }
-
-inner_on_both_sides : sheets_of (layout.NUp (Exactly 1 1)) inner (points 90 100) square 2 ≡ (at 1 Upright 10 0 ∷ []) ∷ (at 2 Upright 0 0 ∷ []) ∷ []
-inner_on_both_sides = refl
 
 inner_at_fold : sheets_of (layout.Booklet InOne false) inner (points 90 100) high 4
     ≡ (at 4 Left 100 0 ∷ at 1 Left 100 110 ∷ []) ∷ (at 2 Left 100 0 ∷ at 3 Left 100 110 ∷ []) ∷ []

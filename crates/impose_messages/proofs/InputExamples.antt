@@ -4,14 +4,7 @@ use Rattle.std.specs.Prelude.{codes}
 use Rattle.dsc.specs.declared.errors.DscError.TheVariants.{NoMemory, NoPages, NotPostScript, TooLong}
 use Rattle.imposer.specs.declared.outcome.RunError.TheVariants as run
 use Rattle.impose_messages.specs.declared.fault.ImposeFault.TheVariants as fault
-use Rattle.impose_messages.specs.declared.fault.Compression.TheVariants.{Gzip, Bzip2, Xz, Zip}
 use Rattle.impose_messages.specs.Inputs.{refused_document}
-
-empty_input : refused_document NotPostScript [] ≡ fault.NoInput
-empty_input = refl
-
-pdf : refused_document NotPostScript (codes "%PDF-1.4\n") ≡ fault.Pdf
-pdf = refl
 
 -- five bytes tell a PDF, and no other ones
 shortest_pdf : refused_document NotPostScript (codes "%PDF-") ≡ fault.Pdf
@@ -20,16 +13,6 @@ shortest_pdf = refl
 no_pdf : map (refused_document NotPostScript) (codes "%PDF" ∷ codes "%pdf-1.4" ∷ codes " %PDF-1.4" ∷ codes "\n" ∷ []) ≡ fault.Run (run.Document NotPostScript) ∷ fault.Run (run.Document NotPostScript) ∷ fault.Run (run.Document NotPostScript) ∷ fault.Run (run.Document NotPostScript) ∷ []
 no_pdf = refl
 
--- two bytes tell gzip, and neither of them alone
-compressed : refused_document NotPostScript (31 ∷ 139 ∷ 8 ∷ []) ≡ fault.Compressed Gzip
-compressed = refl
-
-other_packings : map (refused_document NotPostScript) (codes "BZh91AY" ∷ (253 ∷ 55 ∷ 122 ∷ 88 ∷ 90 ∷ 0 ∷ 0 ∷ []) ∷ (80 ∷ 75 ∷ 3 ∷ 4 ∷ []) ∷ []) ≡ fault.Compressed Bzip2 ∷ fault.Compressed Xz ∷ fault.Compressed Zip ∷ []
-other_packings = refl
-
-dos_eps : refused_document NotPostScript (197 ∷ 208 ∷ 211 ∷ 198 ∷ 30 ∷ []) ≡ fault.DosEps
-dos_eps = refl
-
 -- in one order of bytes and in the other
 utf_16 : map (refused_document NotPostScript) ((255 ∷ 254 ∷ 37 ∷ 0 ∷ []) ∷ (254 ∷ 255 ∷ 0 ∷ 37 ∷ []) ∷ (255 ∷ 37 ∷ []) ∷ []) ≡ fault.Utf16 ∷ fault.Utf16 ∷ fault.Run (run.Document NotPostScript) ∷ []
 utf_16 = refl
@@ -37,23 +20,12 @@ utf_16 = refl
 no_gzip : map (refused_document NotPostScript) ((31 ∷ []) ∷ (139 ∷ 31 ∷ []) ∷ (31 ∷ 8 ∷ 139 ∷ []) ∷ []) ≡ fault.Run (run.Document NotPostScript) ∷ fault.Run (run.Document NotPostScript) ∷ fault.Run (run.Document NotPostScript) ∷ []
 no_gzip = refl
 
-job : refused_document NotPostScript (27 ∷ codes "%-12345X@PJL\n%!PS\n") ≡ fault.JobLanguage
-job = refl
-
 -- a document that is too long by itself is told apart from one that its guard makes so
 too_long : refused_document TooLong (codes "%!") ≡ fault.TooLong
 too_long = refl
 
--- a drawing is told by its header alone
-eps : refused_document NoPages (codes "%!PS-Adobe-3.0 EPSF-3.0\n") ≡ fault.Eps
-eps = refl
-
 no_eps : map (refused_document NoPages) (codes "%!PS-Adobe-3.0\n%%Title: EPSF-3.0\n" ∷ codes "%!PS-Adobe-3.0 EPSF" ∷ codes "%!EPSF-3.0" ∷ []) ≡ fault.Run (run.Document NoPages) ∷ fault.Run (run.Document NoPages) ∷ fault.Run (run.Document NoPages) ∷ []
 no_eps = refl
-
--- another reason is said as it is
-no_pages : refused_document NoPages (codes "%!") ≡ fault.Run (run.Document NoPages)
-no_pages = refl
 
 no_memory : refused_document NoMemory (codes "%!") ≡ fault.Run (run.NoMemory 0)
 no_memory = refl

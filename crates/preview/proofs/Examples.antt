@@ -10,7 +10,7 @@ use Rattle.layouts.specs.Grids.{beside, plain_order}
 use Rattle.layouts.specs.declared.arrangement.FillOrder.TheVariants.{Rows, Columns}
 use Rattle.layouts.specs.declared.arrangement.Turned.TheVariants as sideways
 use Rattle.preview.specs.declared.naming.Edge.TheVariants.{Short}
-use Rattle.preview.specs.declared.naming.Sides.TheVariants.{One, Both}
+use Rattle.preview.specs.declared.naming.Sides.TheVariants.{Both}
 use Rattle.preview.specs.declared.reading.Places.TheVariants.{Cells}
 use Rattle.preview.specs.declared.reading.Reading.{Reading}
 use Rattle.preview.specs.Listing.{cells_text, plan_text, tile_name}
@@ -37,12 +37,9 @@ side = record { paper = a4; slots = Placed 7 lower a4 ∷ Blank ∷ [] }
 abbrev small : MadeSheet
 small = record { paper = points 10 20; slots = Placed 0 lower a4 ∷ [] }
 
--- two pages side by side, on leaves and on sheets that are printed on one side
+-- two pages side by side, on leaves
 abbrev leaves : Reading
 leaves = record { sides = Both Short; places = Cells (beside true) plain_order }
-
-abbrev sheets : Reading
-sheets = record { sides = One; places = Cells (beside true) plain_order }
 
 -- the first sheet is the front of a leaf, and the second its back
 front_and_back : map (side_name (Both Short)) (0 ∷ 1 ∷ []) ≡ codes "leaf 1 front" ∷ codes "leaf 1 back" ∷ []
@@ -54,11 +51,6 @@ listed : plan_text leaves 40 (side ∷ small ∷ side ∷ []) ≡ codes "leaf 1 
 unfolding digits
 listed = refl
 
--- of three at most, two at the start and one at the end
-shortened : plan_text sheets 3 (side ∷ small ∷ small ∷ small ∷ side ∷ []) ≡ codes "sheet 1  8 | blank\nsheet 2  1 | -\n.. 2 more ..\nsheet 5  8 | blank\nsheets 5, blanks 2\npages of 595 x 842 pt on sheets of 595 x 842 pt, scale 0.706650831\npages of 595 x 842 pt on sheets of 10 x 20 pt, scale 0.706650831\n"
-unfolding digits
-shortened = refl
-
 -- ---- five places in the six cells of three columns and two rows
 
 abbrev six : Grid
@@ -66,10 +58,6 @@ six = record { rows = 2; columns = 3; turned = false }
 
 abbrev five : List MadeSlot
 five = Placed 0 lower a4 ∷ Placed 1 lower a4 ∷ Placed 2 lower a4 ∷ Placed 3 lower a4 ∷ Placed 4 lower a4 ∷ []
-
-in_rows : cells_text five plain_order six ≡ codes "1 | 2 | 3 / 4 | 5 | -"
-unfolding digits
-in_rows = refl
 
 from_the_right : cells_text five (record { run = Rows; right_to_left = true; turned = sideways.Upright }) six ≡ codes "3 | 2 | 1 / - | 5 | 4"
 unfolding digits

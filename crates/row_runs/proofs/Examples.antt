@@ -1,15 +1,13 @@
 -- Worked examples: the marks and the lines of layings, how many leaves a signature has, and how many pages a document.
 use Rattle.std.proofs.Common.{◌≡◌, [], ◌∷◌, false, true, map, refl}
-use Rattle.std.specs.Prelude.{codes, pos, ◌*◌, ℕ, ℤ, List, None, Option, Some}
+use Rattle.std.specs.Prelude.{codes, pos, ◌*◌, ℕ, ℤ, List, None, Some}
 use Rattle.std.specs.Fmt.{digits}
 use Rattle.rules.specs.Papers.{Paper, points}
 use Rattle.rules.specs.Specification.{Turn, Upright, Left, Half}
 use Rattle.rules.specs.Rows.{Row, all_pages}
 use Rattle.rules.specs.Made.{MadeSlot, Blank, Placed, MadeSheet}
-use Rattle.rules.specs.Choice.{InOne, OfSides}
+use Rattle.rules.specs.Choice.{OfSides}
 use Rattle.pagespec.specs.declared.item.Turn.TheVariants as by
-use Rattle.rows.specs.declared.choices.Part.TheVariants as part
-use Rattle.rows.specs.declared.printed.Begun.TheVariants as begun
 use Rattle.layouts.specs.Cells.{in_points}
 use Rattle.layouts.specs.Grids.{plain_order}
 use Rattle.layouts.specs.Placed.{Room}
@@ -17,23 +15,20 @@ use Rattle.layouts.specs.declared.setting.Setting.{Setting}
 use Rattle.row_sheets.specs.SameScale.{at_one_scale}
 use Rattle.row_sheets.specs.Shapes.{filling}
 use Rattle.row_sheets.specs.declared.poster.Poster.{Poster}
-use Rattle.sheet_text.specs.PageNumbers.{number_lines}
-use Rattle.sheet_text.specs.declared.numbers.Numbers.{Numbers}
 use Rattle.dressing.specs.Drawn.{stroke_line}
 use Rattle.dressing.specs.declared.strokes.Marks.{Marks}
 use Rattle.preview.specs.declared.guides.Guide.{Guide}
 use Rattle.preview.specs.declared.guides.GuideKind.{GuideKind}
 use Rattle.preview.specs.declared.guides.GuideKind.TheVariants.{Margin, Fold, Cut}
 use Rattle.row_runs.specs.declared.sheet_request.Laying.TheVariants as laying
-use Rattle.row_runs.specs.declared.sheet_request.SheetRequest.{SheetRequest}
 use Rattle.row_runs.specs.declared.sheet_request.Scheme.TheVariants as scheme
 use Rattle.row_runs.specs.Evened.{at_common_scale}
 use Rattle.row_runs.specs.Guides.{guides_in, margin_lines}
 use Rattle.row_runs.specs.Marked.{strokes_in, tile_room}
 use Rattle.row_runs.specs.SwappedMargins.{swapped}
 use Rattle.row_runs.specs.Turning.{turn_on, turned_slot}
-use Rattle.row_runs.specs.Numbers.{below_middle, numbers_asked}
-use Rattle.row_runs.specs.Sheets.{leaves_in, sheets_laid}
+use Rattle.row_runs.specs.Numbers.{below_middle}
+use Rattle.row_runs.specs.Sheets.{leaves_in}
 use Rattle.row_runs.specs.DeclaredPages.{declared_page_count}
 
 -- a sheet of 100 by 200 points with a margin of 10 points and a gap of 4, in two columns
@@ -152,60 +147,13 @@ each_has_its_turn = refl
 foot_of_cell : below_middle (laying.InCells halves (scheme.Grid 2)) ≡ Some (pos 11_430_000_000_000)
 foot_of_cell = refl
 
--- pages of 38 by 90 points in the middle of such cells begin 55 points above the foot of the sheet. Their numbers are 27 points
--- below them: 18 above the foot of the cell, and 28 above that of the sheet
-abbrev below_pages : Numbers
-below_pages = record {
-  size = pos 1_143_000_000_000;
-  first = 1;
-  places = sheets_laid (laying.InCells halves (scheme.Grid 2)) 0 (points 38 90 ∷ points 38 90 ∷ []) (all_pages 2);
-  below = below_middle (laying.InCells halves (scheme.Grid 2));
-}
-
-numbered_below : number_lines below_pages 0
-    ≡ codes "gsave 0 setgray /Times-Roman findfont 9 scalefont setfont 10 55 translate 0 rotate 19 -27 moveto (1) dup stringwidth pop -2 div 0 rmoveto show grestore"
-    ∷ codes "gsave 0 setgray /Times-Roman findfont 9 scalefont setfont 52 55 translate 0 rotate 19 -27 moveto (2) dup stringwidth pop -2 div 0 rmoveto show grestore"
-    ∷ []
-unfolding digits
-numbered_below = refl
-
--- the numbers of backs are moved as their pages are: with 20 points at the inner edge, those of the second sheet are 10 points nearer to the left edge
-abbrev two_sides : SheetRequest
-two_sides = record {
-  row = record { choice = record { ranges = None; part = part.All; backwards = false }; signing = None; last_at_back = false; begun = begun.Pages 0 };
-  laying = laying.InCells (record halves { room = bound; grid = record { rows = 1; columns = 1; turned = false } }) (scheme.Grid 1);
-  same_scale = false;
-}
-
-abbrev places_of : Option Numbers → List (List ℤ)
-places_of None = []
-places_of (Some numbers) = map (λ (sheet : MadeSheet). map across sheet.slots) numbers.places
-
-numbers_are_moved : places_of (numbers_asked 2 (points 70 180 ∷ points 70 180 ∷ []) two_sides (Some bound) (Some (record { size = pos 1_143_000_000_000; first = 1 })))
-    ≡ (pos 20_000_000_000 ∷ []) ∷ (pos 10_000_000_000 ∷ []) ∷ []
-numbers_are_moved = refl
-
--- signatures of eight sides have two leaves each; one of twenty pages has five
+-- signatures of eight sides have two leaves each
 eight_sides : leaves_in (Some (OfSides 8)) (all_pages 20) ≡ 2
 eight_sides = refl
-
-twenty_pages : leaves_in (Some InOne) (all_pages 20) ≡ 5
-twenty_pages = refl
 
 -- the number of pages that a document says
 told : declared_page_count (codes "%!\n%%Pages: 4 1\n%%EndComments\n%%Pages: 5\n") ≡ Some 4
 told = refl
-
-told_at_the_end : declared_page_count (codes "%!\n%%Pages: (atend)\n%%Page: 1 1\n%%Pages: 9\n%%Trailer\n%%Pages: 4\n%%EOF\n") ≡ Some 4
-told_at_the_end = refl
-
--- what is embedded in the trailer says nothing of the document
-told_outside : declared_page_count (codes "%!\n%%Pages: (atend)\n%%Page: 1 1\n%%Trailer\n%%BeginDocument: q\n%%Pages: 8\n%%EndDocument\n%%Pages: 1\n") ≡ Some 1
-told_outside = refl
-
--- without a trailer nothing is told at the end
-told_at_no_end : declared_page_count (codes "%!\n%%Pages: (atend)\n%%Page: 1 1\n%%Pages: 9\n") ≡ None
-told_at_no_end = refl
 
 told_by_no_number : map declared_page_count (codes "%!\n" ∷ codes "%!\n%%Pages:\n" ∷ codes "%!\n%%Pages: -1\n" ∷ codes "%!\n%%Pages: 4x\n" ∷ codes "%!\n\n%%Pages: 4\n" ∷ []) ≡ None ∷ None ∷ None ∷ None ∷ None ∷ []
 told_by_no_number = refl

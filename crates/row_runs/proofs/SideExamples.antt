@@ -1,10 +1,7 @@
--- Worked examples: on which edge sheets are flipped, how they are cut, and numbers of turned pages.
+-- Worked examples: on which edge sheets are flipped, and how they are cut.
 use Rattle.std.proofs.Common.{◌≡◌, [], ◌∷◌, Bool, false, true, map, refl}
-use Rattle.std.specs.Prelude.{codes, pos, None, Some, length}
-use Rattle.std.specs.Fmt.{digits}
+use Rattle.std.specs.Prelude.{None, Some, length}
 use Rattle.rules.specs.Papers.{Paper, points}
-use Rattle.rules.specs.Specification.{Item, Turn, Left, Half, Right}
-use Rattle.layouts.specs.Cells.{in_points}
 use Rattle.layouts.specs.Grids.{plain_order}
 use Rattle.layouts.specs.Placed.{bare}
 use Rattle.layouts.specs.declared.arrangement.Turned.{Turned}
@@ -14,8 +11,6 @@ use Rattle.dressing.specs.declared.strokes.Marks.{Marks}
 use Rattle.preview.specs.declared.naming.Edge.TheVariants.{Short, Long}
 use Rattle.preview.specs.declared.naming.Sides.{Sides}
 use Rattle.preview.specs.declared.naming.Sides.TheVariants as sides
-use Rattle.sheet_text.specs.PageNumbers.{number_line}
-use Rattle.sheet_text.specs.declared.numbers.Numbers.{Numbers}
 use Rattle.row_runs.specs.Marked.{strokes_in}
 use Rattle.row_runs.specs.Readings.{sides_by}
 use Rattle.row_runs.specs.declared.sheet_request.Laying.TheVariants as laying
@@ -59,11 +54,6 @@ inner_edges_are_flipped : map (λ paper. sides_by (Some (bare paper)) (laying.In
     ≡ sides.Both Long ∷ sides.Both Short ∷ sides.Both Long ∷ []
 inner_edges_are_flipped = refl
 
--- others are printed on one side
-on_one_side : map (λ how. sides_by None (laying.InCells (columns (points 100 200) false sideways.Upright) how)) (scheme.Grid 2 ∷ scheme.Cards 2 ∷ scheme.Stack 2 ∷ scheme.Zine ∷ [])
-    ≡ sides.One ∷ sides.One ∷ sides.One ∷ sides.One ∷ []
-on_one_side = refl
-
 -- Cuts.
 
 abbrev all_marks : Marks
@@ -73,21 +63,3 @@ all_marks = record { fold = true; cut = true; ruled = false; numbers = None }
 cut_or_folded : map (λ how. length (strokes_in all_marks (laying.InCells (columns (points 200 100) false sideways.Upright) how))) (scheme.Grid 2 ∷ scheme.Cards 2 ∷ scheme.Stack 2 ∷ scheme.Leaves ∷ scheme.Booklet false 0 ∷ scheme.Zine ∷ [])
     ≡ 2 ∷ 2 ∷ 2 ∷ 2 ∷ 2 ∷ 0 ∷ []
 cut_or_folded = refl
-
--- Numbers of turned pages.
-
-abbrev second_page : Numbers
-second_page = record { size = pos 1_143_000_000_000; first = 7; places = []; below = None }
-
-abbrev turned_so : Turn → Item
-turned_so turn = record { page = 0; from_end = false; turn = turn; scale = pos 1_000_000_000; x = in_points (pos 10_000_000); y = in_points (pos 5_000_000) }
-
--- a page of 40 by 90 points that is turned about a point 100 points from the left of the sheet and 50 above its foot: its number is at the
--- page's foot, which lies as the page does
-numbers_turn : map (λ turn. number_line second_page 1 (turned_so turn) (points 40 90)) (Left ∷ Half ∷ Right ∷ [])
-    ≡ codes "gsave 0 setgray /Times-Roman findfont 9 scalefont setfont 100 50 translate 90 rotate 20 18 moveto (8) dup stringwidth pop -2 div 0 rmoveto show grestore"
-    ∷ codes "gsave 0 setgray /Times-Roman findfont 9 scalefont setfont 100 50 translate 180 rotate 20 18 moveto (8) dup stringwidth pop -2 div 0 rmoveto show grestore"
-    ∷ codes "gsave 0 setgray /Times-Roman findfont 9 scalefont setfont 100 50 translate 270 rotate 20 18 moveto (8) dup stringwidth pop -2 div 0 rmoveto show grestore"
-    ∷ []
-unfolding digits
-numbers_turn = refl

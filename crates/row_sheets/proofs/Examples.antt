@@ -8,31 +8,17 @@ use Rattle.layouts.specs.Grids.{leaf_order}
 use Rattle.layouts.specs.Placed.{bare}
 use Rattle.layouts.specs.declared.setting.Setting.{Setting}
 use Rattle.rules.specs.Made.{MadeSlot, Blank, Placed}
-use Rattle.row_sheets.specs.Filled.{Filling, stack_entry, duplex_entry, cell_behind, card_entry, zine_place, zine_slot}
+use Rattle.row_sheets.specs.Filled.{Filling, cell_behind, card_entry, zine_place, zine_slot}
 use Rattle.row_sheets.specs.Zine.{in_hand, zine_grid}
 use Rattle.row_sheets.specs.Creep.{creep_of}
-use Rattle.row_sheets.specs.Posters.{fewest_tiles, scaled_length, tiles_length}
+use Rattle.row_sheets.specs.Posters.{tiles_length}
 use Rattle.rules.specs.Papers.{points}
 use Rattle.rules.specs.Specification.{Turn, Half, Upright}
 use Rattle.std.specs.Prelude.{nat_abs}
 
--- seven pages in a stack of two cells: four sheets, and the last part ends with a blank
-first_sheet : map (stack_entry 4 (all_pages 7) 0) (range_with_len 0 2) ≡ Some 0 ∷ Some 4 ∷ []
-first_sheet = refl
-
-last_sheet : map (stack_entry 4 (all_pages 7) 3) (range_with_len 0 2) ≡ Some 3 ∷ None ∷ []
-last_sheet = refl
-
 -- which cell is behind one, if cells are filled row by row
 abbrev behind_cell : (rows columns cell : ℕ) → ℕ
 behind_cell rows columns cell = cell_behind Rows rows columns cell
-
--- eight pages on two leaves with two cells beside one another on each side
-front : map (duplex_entry 2 (behind_cell 1 2) (all_pages 8) 0) (range_with_len 0 2) ≡ Some 0 ∷ Some 4 ∷ []
-front = refl
-
-back : map (duplex_entry 2 (behind_cell 1 2) (all_pages 8) 1) (range_with_len 0 2) ≡ Some 5 ∷ Some 1 ∷ []
-back = refl
 
 -- behind the first cell of two rows and three columns is the last one of its row
 behind_rows : map (behind_cell 2 3) (range_with_len 0 6) ≡ 2 ∷ 1 ∷ 0 ∷ 5 ∷ 4 ∷ 3 ∷ []
@@ -54,20 +40,6 @@ one_leaf = refl
 -- three tiles of 595 pt with margins of 10 pt that overlap by 20 pt
 three_tiles : tiles_length (nat_abs (points 595 842).width) 1_000_000 2_000_000 3 ≡ 168_500_000
 three_tiles = refl
-
--- a page of 1191 x 842 pt at full size on sheets of 595 x 842 pt, with margins of 10 pt and an overlap of 20 pt: two tiles are 1130 pt wide, and three
--- 1685; one is 822 pt high. On sheets of its own paper without margins it needs one
-fewest_across : fewest_tiles (nat_abs (points 595 842).width) 1_000_000 2_000_000 (scaled_length (nat_abs (points 1191 842).width) (pos 1_000_000_000)) ≡ 3
-fewest_across = refl
-
-fewest_up : fewest_tiles (nat_abs (points 595 842).height) 1_000_000 2_000_000 (scaled_length (nat_abs (points 1191 842).height) (pos 1_000_000_000)) ≡ 2
-fewest_up = refl
-
-one_alone : fewest_tiles (nat_abs (points 595 842).width) 0 0 (scaled_length (nat_abs (points 595 842).width) (pos 1_000_000_000)) ≡ 1
-one_alone = refl
-
-too_many : fewest_tiles (nat_abs (points 595 842).width) 0 0 (scaled_length (nat_abs (points 595 842).width) (pos 2_000_000_000_000)) ≡ 1_025
-too_many = refl
 
 -- from the left, the upper row of a zine has the pages 5, 4, 3 and 2, the lower one 6, 7, 8 and 1
 zine : map (λ c. zine_place c + 1) (range_with_len 0 8) ≡ 5 ∷ 4 ∷ 3 ∷ 2 ∷ 6 ∷ 7 ∷ 8 ∷ 1 ∷ []

@@ -10,21 +10,11 @@ use Rattle.rows.specs.Choices.{part_named}
 use Rattle.rows.specs.Sewing.{signing_of}
 use Rattle.rows.specs.Refusals.{RefusesRow}
 
--- of five pages the first, the third and the fifth; and the two between them
+-- of five pages the first, the third and the fifth
 odd_entries : part_of (part_named part.Odd) (all_pages 5) ≡ Some 0 ∷ Some 2 ∷ Some 4 ∷ []
 odd_entries = refl
 
-even_entries : part_of (part_named part.Even) (all_pages 5) ≡ Some 1 ∷ Some 3 ∷ []
-even_entries = refl
-
--- 68 pages: in one signature, in signatures of 16 sides, and, with automatic signatures, in three of six leaves
--- each
-in_one : sides_for (signing_of sewn.InOne) 68 ≡ 68
-in_one = refl
-
-of_sixteen : sides_for (signing_of (sewn.OfSides 16)) 68 ≡ 16
-of_sixteen = refl
-
+-- 68 pages in automatic signatures, three of six leaves each
 by_themselves : sides_for (signing_of sewn.Auto) 68 ≡ 24
 by_themselves = refl
 

@@ -6,11 +6,6 @@ use Rattle.std.specs.Str.{chars}
 use Rattle.suggestions.specs.Shown.{shown_text}
 use Rattle.suggestions.specs.Words.{is_range, looks_like_file}
 
--- a control character, and one that turns the direction of text
-hidden_characters : shown_text (27 ∷ codes "[2J" ++ 226 ∷ 128 ∷ 174 ∷ []) ≡ codes "\\u{1b}[2J\\u{202e}"
-unfolding chars encode_utf8
-hidden_characters = refl
-
 letter_of_two_bytes : shown_text (195 ∷ 188 ∷ []) ≡ 195 ∷ 188 ∷ []
 unfolding chars encode_utf8
 letter_of_two_bytes = refl
@@ -34,9 +29,6 @@ minus_alone = refl
 
 grid : is_range (codes "2x3") ≡ false
 grid = refl
-
-document : looks_like_file (codes "in.ps") ≡ true
-document = refl
 
 file_in_a_folder : looks_like_file (codes "letters/one") ≡ true
 file_in_a_folder = refl
