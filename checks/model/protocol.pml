@@ -168,7 +168,7 @@ byte memory_of[CAP];                     /* that of the group that lies there */
 #endif
 
 #ifdef TURNS
-/* Baton::pass_if_due with stints of one page or batch, and Baton::wait: who has slept for long goes on without a turn. */
+/* Baton::pass_if_due with shifts of one page or batch, and Baton::wait: who has slept for long goes on without a turn. */
 inline go_on(turn, has)
 {
 	if :: has -> atomic { turn = false; has = false } :: else fi;

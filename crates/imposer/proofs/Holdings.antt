@@ -64,7 +64,7 @@ with_prepared run first count k all theirs new both is had did =
       work = λ none w.
           let missing = none_of_two all.unshelved theirs.unshelved new.unshelved is none in
           let one = had.work missing.0 w in let two = did.work missing.1 w in let sum = both.calls (worth w) in
-          subst (λ n. calls_done w new.tokens ≡ shares w run.floor.table.now.layout count run.floor.table.now.layout.pages n) grown (omega arith);
+          subst (λ n. calls_done w new.tokens ≡ shares w run.objects.table.now.layout count run.objects.table.now.layout.pages n) grown (omega arith);
       order = record {
         puts = λ s.
             let one = had.order.puts s in let two = did.order.puts s in let puts = both.puts s in
@@ -98,9 +98,9 @@ with_imposed run first count k all theirs new both is had did = record {
 
 -- with all shares again, and all preparers joined
 pub record AllAreBack {G : Type 0} (run : Shared G) (first : Tokens) (h : WorkerTokens) : Type 0 where
-  pub tokens : AreTokens run.floor.table.now run.floor.ready.now whole_share h.tokens
-  pub unshelved : IfSome h.unshelved (IsOn run.floor.shelf.now)
-  pub work : IsNone h.unshelved → (w : Duty → ℕ) → calls_done w h.tokens ≡ owed w run.floor.table.now.layout run.floor.table.now.layout.pages
+  pub tokens : AreTokens run.objects.table.now run.objects.ready.now whole_share h.tokens
+  pub unshelved : IfSome h.unshelved (IsOn run.objects.shelf.now)
+  pub work : IsNone h.unshelved → (w : Duty → ℕ) → calls_done w h.tokens ≡ owed w run.objects.table.now.layout run.objects.table.now.layout.pages
   pub order : AreInOrderSince first h.tokens
   pub puts : IsTrue run.by_right → (s : ℕ) → put_by s h.tokens ≡ put_by s first + held.completed_by s h.tokens
 
@@ -108,9 +108,9 @@ pub whole : {G : Type 0} (run : Shared G) (first : Tokens) (count : ℕ) (h : Wo
     → IsHeld run h.tokens.seat.share h → h.tokens.seat.share ≡ whole_share → HasGathered run first count count h
     → AllAreBack run first h
 whole run first count h some held all did = record {
-  tokens = subst (λ n. AreTokens run.floor.table.now run.floor.ready.now n h.tokens) all held.tokens;
+  tokens = subst (λ n. AreTokens run.objects.table.now run.objects.ready.now n h.tokens) all held.tokens;
   unshelved = held.unshelved;
-  work = λ none w. did.work none w ∙ together w run.floor.table.now.layout count some run.floor.table.now.layout.pages;
+  work = λ none w. did.work none w ∙ together w run.objects.table.now.layout count some run.objects.table.now.layout.pages;
   order = did.order;
   puts = did.puts;
 }

@@ -77,12 +77,12 @@ Leaves table queue HasRoom gathered = IfSome gathered.tokens (λ t. AreWhole tab
     × IsHandedOn t.1.front × (IsNone gathered.unshelved → IsGathered table.layout t.0.front)
     × (HasRoom → AreAllPut table.layout t.0.front t.1.front))
 
--- how a gathering on this floor ends: what it answers of the sink, and what it leaves
-pub record EndsOn {G : Type 0} (floor : RunObjects G) (HasRoom : Type 0) (old new : SinkView) (gathered : Gathered) : Type 0 where
-  pub outcome : Answers floor.job.now old new gathered.outcome
+-- how a gathering on these objects ends: what it answers of the sink, and what it leaves
+pub record EndsOn {G : Type 0} (objects : RunObjects G) (HasRoom : Type 0) (old new : SinkView) (gathered : Gathered) : Type 0 where
+  pub outcome : Answers objects.job.now old new gathered.outcome
   pub tokens : TokensComeBack gathered
-  pub whole : Leaves floor.table.now floor.ready.now HasRoom gathered
-  pub unshelved : IfSome gathered.unshelved (IsOn floor.shelf.now)
+  pub whole : Leaves objects.table.now objects.ready.now HasRoom gathered
+  pub unshelved : IfSome gathered.unshelved (IsOn objects.shelf.now)
 
 -- how a run answers whose workers have ended, wherever its collector began
 abbrev pub Concludes : JobView → (old new : SinkView) → Progress → Result Report RunError → Type 0

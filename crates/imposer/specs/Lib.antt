@@ -14,7 +14,7 @@ pub mod Tokens
 pub mod Rooms
 pub mod Windows
 pub mod Joining
-pub mod Desks
+pub mod CollectorStart
 pub mod Promises
 pub mod Growth
 pub mod HandlePromises

@@ -17,44 +17,44 @@ use Rattle.imposer.specs.declared.tokens.WorkerTokens.{WorkerTokens}
 -- the tokens are of the run's table and queue, with this share, and the token of a page without a receipt is of its
 -- shelf
 pub record IsHeld {G : Type 0} (run : Shared G) (share : ℕ) (h : WorkerTokens) : Type 0 where
-  pub tokens : AreTokens run.floor.table.now run.floor.ready.now share h.tokens
-  pub unshelved : IfSome h.unshelved (IsOn run.floor.shelf.now)
+  pub tokens : AreTokens run.objects.table.now run.objects.ready.now share h.tokens
+  pub unshelved : IfSome h.unshelved (IsOn run.objects.shelf.now)
 
 -- what the workers of a run begin with: nothing was called on the table, and no sheets were put but those without pages; if
 -- puts are made by right, all of these were
 pub record HavePutBlankSheets {G : Type 0} (run : Shared G) (first : Tokens) : Type 0 where
   pub no_calls : first.seat.own ≡ []
-  pub no_others : (s : ℕ) → put_by s first ≤ occurrences s (born_complete run.floor.table.now.layout)
-  pub all : IsTrue run.by_right → (s : ℕ) → put_by s first ≡ occurrences s (born_complete run.floor.table.now.layout)
+  pub no_others : (s : ℕ) → put_by s first ≤ occurrences s (born_complete run.objects.table.now.layout)
+  pub all : IsTrue run.by_right → (s : ℕ) → put_by s first ≡ occurrences s (born_complete run.objects.table.now.layout)
 
 -- one share, with which nothing was done yet
 pub record IsNew {G : Type 0} (run : Shared G) (h : WorkerTokens) : Type 0 where
-  pub tokens : AreTokens run.floor.table.now run.floor.ready.now 1 h.tokens
+  pub tokens : AreTokens run.objects.table.now run.objects.ready.now 1 h.tokens
   pub unused : AreUnused h.tokens
   pub unshelved : IsNone h.unshelved
 
 -- the same of preparer `number` of `count`: if puts are made by right, there is room for all of its puts
 pub record IsNewPreparer {G : Type 0} (run : Shared G) (count number : ℕ) (h : WorkerTokens) : Type 0 where
   pub new : IsNew run h
-  pub room : IsTrue run.by_right → most_puts run.floor.table.now.layout count number ≤ puts_in h.tokens.pass.room
+  pub room : IsTrue run.by_right → most_puts run.objects.table.now.layout count number ≤ puts_in h.tokens.pass.room
 
 -- if puts are made by right, there is room for all puts of the preparers from this number on
 abbrev pub IsEnough : {G : Type 0} → Shared G → (count number : ℕ) → WorkerTokens → Type 0
 IsEnough run count number h =
-    IsTrue run.by_right → most_puts_of run.floor.table.now.layout count count
-    ≤ most_puts_of run.floor.table.now.layout count number + puts_in h.tokens.pass.room
+    IsTrue run.by_right → most_puts_of run.objects.table.now.layout count count
+    ≤ most_puts_of run.objects.table.now.layout count number + puts_in h.tokens.pass.room
 
 -- what preparer `number` of `count` promises: if each of its pages got a receipt, exactly their work was done; all was
 -- called and put in order; and if puts are made by right, every sheet that its calls completed was put
 pub record HasPrepared {G : Type 0} (run : Shared G) (count number : ℕ) (h : WorkerTokens) : Type 0 where
   pub work : IsNone h.unshelved → (w : Duty → ℕ)
-      → calls_done w h.tokens ≡ share_below w run.floor.table.now.layout count number run.floor.table.now.layout.pages
+      → calls_done w h.tokens ≡ share_below w run.objects.table.now.layout count number run.objects.table.now.layout.pages
   pub order : TokensAreInOrder h.tokens
   pub puts : IsTrue run.by_right → PutsAll h.tokens
 
 -- an imposer's tokens
 abbrev pub AreOfImposer : {G : Type 0} → Shared G → Tokens → Type 0
-AreOfImposer run tokens = AreTokens run.floor.table.now run.floor.ready.now 1 tokens
+AreOfImposer run tokens = AreTokens run.objects.table.now run.objects.ready.now 1 tokens
 
 -- what an imposer does in between: it keeps its tokens, nothing was published, marked or put, and no group is left open that
 -- was closed
@@ -74,6 +74,6 @@ pub record HasImposed (h : WorkerTokens) : Type 0 where
 -- by right, every sheet that calls completed since was put
 pub record HasGathered {G : Type 0} (run : Shared G) (first : Tokens) (count joined : ℕ) (h : WorkerTokens) : Type 0 where
   pub work : IsNone h.unshelved → (w : Duty → ℕ)
-      → calls_done w h.tokens ≡ shares w run.floor.table.now.layout count run.floor.table.now.layout.pages joined
+      → calls_done w h.tokens ≡ shares w run.objects.table.now.layout count run.objects.table.now.layout.pages joined
   pub order : AreInOrderSince first h.tokens
   pub puts : IsTrue run.by_right → (s : ℕ) → put_by s h.tokens ≡ put_by s first + completed_by s h.tokens

@@ -4,7 +4,7 @@ ghost use Rattle.sheet_writer.specs.Sinks.{IsCountable};
 ghost use Rattle.crossbeam_channel.specs.Claims.{IsSeatAt};
 ghost use Rattle.crossbeam_channel.specs.Ends.{receives_on};
 ghost use Rattle.sheet_writer.specs.Writing.{IsProgress, GoesOn};
-ghost use Rattle.imposer.specs.Desks.{IsDeskOf};
+ghost use Rattle.imposer.specs.CollectorStart.{ArePartsOf};
 
 use crate::channel::{SheetRule, SheetTexts};
 use crate::gate::{Gate, Look};
@@ -17,12 +17,12 @@ use sheet_writer::{Progress, Sink, write_early, write_text};
 use std::sync::Wait;
 use std::sync::atomic::Ordering::SeqCst;
 
-/// The state of the collector: its sink, its desk and its progress. It only borrows the sink and the desk, so that the owner of these can prove how
+/// The state of the collector: its sink, its parts and its progress. It only borrows the sink and the parts, so that the owner of these can prove how
 /// they have changed.
 #[derive(Drop)]
 pub(crate) struct CollectorState<'a, 'r, S> {
     pub(crate) sink: &'a mut S,
-    pub(crate) desk: &'a mut CollectorParts<'r>,
+    pub(crate) parts: &'a mut CollectorParts<'r>,
     pub(crate) progress: Progress,
 }
 
@@ -38,19 +38,19 @@ impl<'s, 'r, 't, 'd, 'a, T: SheetTexts, G: Gate, S: Sink> Collector<CollectorSta
     for RunInput<'s, 'r, 't, 'd, T, G> {
     ghost reference = { λ input state. state.sink.ghost_name };
 
-    ghost is_ready_to_collect = { λ input state. IsSeatAt (receives_on input.channel.now.receiver) state.desk.now.receiving
-        × IsDeskOf input.shared.now.floor.job.now state.desk.now
+    ghost is_ready_to_collect = { λ input state. IsSeatAt (receives_on input.channel.now.receiver) state.parts.now.receiving
+        × ArePartsOf input.shared.now.objects.job.now state.parts.now
         × (state.progress ≡ record { next = 0; written = 0; swept = 0; halted = None })
         × IsCountable (S.seen state.sink.now) };
 
     ghost collected = { λ input old new.
-        IsProgress input.shared.now.floor.job.now (S.seen old.sink.now) (S.seen new.sink.now) new.progress
-        × IsDeskOf input.shared.now.floor.job.now new.desk.now };
+        IsProgress input.shared.now.objects.job.now (S.seen old.sink.now) (S.seen new.sink.now) new.progress
+        × ArePartsOf input.shared.now.objects.job.now new.parts.now };
 
     /// Writes the header. Then takes finished sheets from the channel and writes them, until all are written, all imposers have ended, or nothing more
     /// may be written.
     fn collect<R: Wait>(&self, rt: &R, state: &mut CollectorState<'a, 'r, S>) {
-        state.progress = write_text(state.sink, state.progress, state.desk.header.as_slice());
+        state.progress = write_text(state.sink, state.progress, state.parts.header.as_slice());
         if state.progress.halted.is_some() {
             return;
         }
@@ -72,14 +72,14 @@ fn take_turn<'r, R: Wait, T: SheetTexts, G: Gate, S: Sink>(
     state: &mut CollectorState<'_, 'r, S>,
 ) -> bool
     requires countable { IsCountable (S.seen state.old.sink.now) }
-    requires ticket { IsSeatAt (receives_on input.now.channel.now.receiver) state.old.desk.now.receiving }
+    requires ticket { IsSeatAt (receives_on input.now.channel.now.receiver) state.old.parts.now.receiving }
     requires going { state.old.progress.halted ≡ None }
-    requires desk { IsDeskOf input.now.shared.now.floor.job.now state.old.desk.now }
-    ensures ticket { IsSeatAt (receives_on input.now.channel.now.receiver) state.new.desk.now.receiving }
+    requires parts { ArePartsOf input.now.shared.now.objects.job.now state.old.parts.now }
+    ensures ticket { IsSeatAt (receives_on input.now.channel.now.receiver) state.new.parts.now.receiving }
     ensures going { IsTrue result → state.new.progress.halted ≡ None }
-    ensures desk { IsDeskOf input.now.shared.now.floor.job.now state.new.desk.now }
+    ensures parts { ArePartsOf input.now.shared.now.objects.job.now state.new.parts.now }
     ensures same { state.new.sink.ghost_name ≡ state.old.sink.ghost_name }
-    ensures goes_on { GoesOn input.now.shared.now.floor.job.now (S.seen state.old.sink.now) (S.seen state.new.sink.now)
+    ensures goes_on { GoesOn input.now.shared.now.objects.job.now (S.seen state.old.sink.now) (S.seen state.new.sink.now)
         state.old.progress state.new.progress }
     ensures steady { IsTrue result → (S.seen state.new.sink.now).failures ≡ (S.seen state.old.sink.now).failures }
 {
@@ -87,11 +87,11 @@ fn take_turn<'r, R: Wait, T: SheetTexts, G: Gate, S: Sink>(
     let channel = input.channel;
     // The count is read before the channel. If it is 0, the last message of the last imposer is already in the channel.
     let none_left = shared.imposers_left.load(SeqCst) == 0;
-    shared.floor.gate.before_look(Look::Channel);
+    shared.objects.gate.before_look(Look::Channel);
     let received = channel
         .receiver
-        .try_recv_as::<SheetRule<T>, R>(rt, &mut state.desk.receiving);
-    shared.floor.gate.after_look(Look::Channel);
+        .try_recv_as::<SheetRule<T>, R>(rt, &mut state.parts.receiving);
+    shared.objects.gate.after_look(Look::Channel);
     let Ok(batch) = received else {
         if none_left {
             return false;
@@ -100,20 +100,20 @@ fn take_turn<'r, R: Wait, T: SheetTexts, G: Gate, S: Sink>(
         shared.window.rest(rt, idling);
         return true;
     };
-    state.desk.early.put(batch);
+    state.parts.early.put(batch);
     let mut written = Written {
         rt,
         queue: &channel.spent,
     };
     state.progress = write_early(
-        shared.floor.job,
+        shared.objects.job,
         state.sink,
         state.progress,
-        &mut state.desk.early,
+        &mut state.parts.early,
         &mut written,
     );
     shared.window.come_to(state.progress.next);
     idling.end();
     // After the last sheet the caller waits for the threads themselves, which wake it when they end.
-    state.progress.halted.is_none() && state.progress.next < shared.floor.job.sheets()
+    state.progress.halted.is_none() && state.progress.next < shared.objects.job.sheets()
 }

@@ -14,7 +14,7 @@ ghost use Rattle.sheet_writer.specs.Places.{not_come};
 ghost use Rattle.sheet_writer.specs.Sinks.{IsCountable};
 ghost use Rattle.imposer.specs.Tokens.{AreTokens, AreUnused};
 ghost use Rattle.run_steps.specs.Gathered.{HasPages, IsGathered, IsHandedOn, AreAllPut};
-ghost use Rattle.imposer.specs.Desks.{IsDeskOf};
+ghost use Rattle.imposer.specs.CollectorStart.{ArePartsOf};
 ghost use Rattle.imposer.specs.Promises.{HavePutBlankSheets, IsEnough, IsHeld};
 ghost use Rattle.imposer.specs.Rooms.{HasRoomForAll};
 ghost use Rattle.imposer.specs.Gathering.{IsFreshSeat, IsFreshPass, ReportsOf, WrotePartOf, AreWhole, TokensComeBack};
@@ -108,7 +108,7 @@ pub fn gather<'j, 'd, R: Threads + Wait + Sync, G: Gate + Sync, S: Sink>(
     ensures handed_on { IfSome result.tokens (λ t. IsHandedOn t.1.front
         × (HasRoomForAll table.now.layout workers.preparers pass → AreAllPut table.now.layout t.0.front t.1.front)) }
 {
-    let floor = RunObjects {
+    let objects = RunObjects {
         alloc,
         gate: &*gate,
         job: &*job,
@@ -117,35 +117,35 @@ pub fn gather<'j, 'd, R: Threads + Wait + Sync, G: Gate + Sync, S: Sink>(
         is_of_document: false,
         ready: &*ready,
     };
-    gather_objects(rt, floor, Tokens { seat, pass }, workers, sink)
+    gather_objects(rt, objects, Tokens { seat, pass }, workers, sink)
 }
 
 /// Gathers on these objects as `gather` does. If the shelf belongs to the job's document, pages are put there as this document's own, and imposers
 /// don't compare the bytes of these pages with the document's.
 pub(crate) fn gather_objects<'d, R: Threads + Wait + Sync, G: Gate + Sync, S: Sink>(
     rt: &R,
-    floor: RunObjects<'_, '_, '_, 'd, G>,
+    objects: RunObjects<'_, '_, '_, 'd, G>,
     tokens: Tokens,
     workers: Workers,
     sink: &mut S,
 ) -> Gathered<'d>
-    requires seat { IsFreshSeat floor.table.now tokens.seat }
-    requires pass { IsFreshPass floor.ready.now tokens.pass }
+    requires seat { IsFreshSeat objects.table.now tokens.seat }
+    requires pass { IsFreshPass objects.ready.now tokens.pass }
     requires workers { AreWorkers workers }
     requires countable { IsCountable (S.seen sink.old) }
-    ensures { EndsOn floor.entry (HasRoomForAll floor.entry.table.now.layout workers.preparers tokens.pass)
+    ensures { EndsOn objects.entry (HasRoomForAll objects.entry.table.now.layout workers.preparers tokens.pass)
         (S.seen sink.old) (S.seen sink.new) result }
 {
     // These calls prove about the seat and the pass what holds for every seat and every pass.
     tokens.seat.share();
     tokens.pass.share();
-    let job = floor.job;
+    let job = objects.job;
     let room = tokens.pass.room();
     let by_right = most_puts_in_all(job.plan(), workers.preparers) <= u64::from(room);
     let (of_pages, of_slots) = bytes_of_pages(job);
     let page_len = of_pages / (job.plan().pages() as usize).max(1);
     let shared = Shared {
-        floor,
+        objects,
         by_right,
         preparers_left: AtomicU32::new(workers.preparers),
         imposers_left: AtomicU32::new(workers.imposers),
@@ -166,25 +166,25 @@ impl<'s, 'r, 't, 'd, G: Gate + Sync> Shared<'s, 'r, 't, 'd, G> {
         workers: Workers,
         sink: &mut S,
     ) -> Gathered<'d>
-        requires texts { (s : ℕ) → T.text s ≡ text_of self.now.floor.job.now s }
-        requires tokens { AreTokens self.now.floor.table.now self.now.floor.ready.now whole_share tokens × AreUnused tokens }
+        requires texts { (s : ℕ) → T.text s ≡ text_of self.now.objects.job.now s }
+        requires tokens { AreTokens self.now.objects.table.now self.now.objects.ready.now whole_share tokens × AreUnused tokens }
         requires workers { AreWorkers workers }
         requires room { IsTrue self.now.by_right
-            → HasRoomForAll self.now.floor.table.now.layout workers.preparers tokens.pass }
+            → HasRoomForAll self.now.objects.table.now.layout workers.preparers tokens.pass }
         requires countable { IsCountable (S.seen sink.old) }
-        ensures { EndsOn self.now.floor (IsTrue self.now.by_right) (S.seen sink.old) (S.seen sink.new) result }
+        ensures { EndsOn self.now.objects (IsTrue self.now.by_right) (S.seen sink.old) (S.seen sink.new) result }
     {
-        let alloc = self.floor.alloc;
-        let job = self.floor.job;
+        let alloc = self.objects.alloc;
+        let job = self.objects.job;
         let Ok(setup) = Setup::<'r, T>::new(alloc, job, self.window.len) else {
             return out_of_memory(0);
         };
         let Setup {
-            mut desk,
+            mut parts,
             channel,
             sending,
         } = setup;
-        let supplies = self.begin(rt, tokens, workers, sending);
+        let inputs = self.begin(rt, tokens, workers, sending);
         let ruled = RuledJob {
             job: &*job,
             of: PhantomData,
@@ -196,20 +196,20 @@ impl<'s, 'r, 't, 'd, G: Gate + Sync> Shared<'s, 'r, 't, 'd, G> {
         };
         let state = CollectorState {
             sink,
-            desk: &mut desk,
+            parts: &mut parts,
             progress: NOTHING_WRITTEN,
         };
         let mut ended = None;
-        let mut state = run_threads(rt, &input, &input, supplies, state, &mut ended);
+        let mut state = run_threads(rt, &input, &input, inputs, state, &mut ended);
         let gathered = conclude(alloc, job, &mut state, ended);
         // The state is taken apart, so that the proof sees how the sink has changed.
         let CollectorState {
             sink: _,
-            desk: _,
+            parts: _,
             progress: _,
         } = state;
         // These are dropped by calls, so that the effect of dropping them is proved once, in the callee.
-        drop(desk);
+        drop(parts);
         drop(channel);
         gathered
     }
@@ -222,23 +222,23 @@ impl<'s, 'r, 't, 'd, G: Gate + Sync> Shared<'s, 'r, 't, 'd, G> {
         workers: Workers,
         sending: Ticket<'r>,
     ) -> ThreadInputs<WorkerTokens<'d>, Ticket<'r>>
-        requires tokens { AreTokens self.now.floor.table.now self.now.floor.ready.now whole_share tokens × AreUnused tokens }
+        requires tokens { AreTokens self.now.objects.table.now self.now.objects.ready.now whole_share tokens × AreUnused tokens }
         requires workers { AreWorkers workers }
         requires room { IsTrue self.now.by_right
-            → HasRoomForAll self.now.floor.table.now.layout workers.preparers tokens.pass }
-        ensures pages { HasPages self.now.floor.table.now.layout }
-        ensures crew { (0 < result.crew.preparers) × (result.crew.preparers + result.crew.imposers < whole_share) }
+            → HasRoomForAll self.now.objects.table.now.layout workers.preparers tokens.pass }
+        ensures pages { HasPages self.now.objects.table.now.layout }
+        ensures counts { (0 < result.counts.preparers) × (result.counts.preparers + result.counts.imposers < whole_share) }
         ensures held { IsHeld self.now whole_share result.held }
         ensures blank_sheets { HavePutBlankSheets self.now result.held.tokens }
-        ensures enough { IsEnough self.now result.crew.preparers 0 result.held }
+        ensures enough { IsEnough self.now result.counts.preparers 0 result.held }
         ensures ticket { result.ticket ≡ sending.entry }
     {
         let mut tokens = tokens;
-        let sheets = self.floor.job.plan().born_complete();
+        let sheets = self.objects.job.plan().born_complete();
         self.put_blank_sheets(rt, sheets, &mut tokens.pass);
         ThreadInputs {
-            crew: ThreadCounts {
-                alloc: self.floor.alloc,
+            counts: ThreadCounts {
+                alloc: self.objects.alloc,
                 preparers: workers.preparers,
                 imposers: workers.imposers,
             },
@@ -252,13 +252,13 @@ impl<'s, 'r, 't, 'd, G: Gate + Sync> Shared<'s, 'r, 't, 'd, G> {
 
     /// Puts the sheets without pages on the queue, since no preparer completes them. If the queue refuses one, the window loses its end.
     fn put_blank_sheets<R: Wait>(&self, rt: &R, sheets: &[u32], pass: &mut Pass)
-        requires pass { IsPassOf self.now.floor.ready.now pass.old }
-        ensures pass { IsPassOf self.now.floor.ready.now pass.new }
-        ensures put { (back : List ℕ) × HandedOn self.now.floor.ready.now sheets.now back pass.old pass.new }
+        requires pass { IsPassOf self.now.objects.ready.now pass.old }
+        ensures pass { IsPassOf self.now.objects.ready.now pass.new }
+        ensures put { (back : List ℕ) × HandedOn self.now.objects.ready.now sheets.now back pass.old pass.new }
     {
         for sheet in sheets {
             // If the queue refuses a sheet, the collector makes the sheet at the end. So imposers must not wait until it is written.
-            if self.floor.ready.put(rt, pass, *sheet).is_err() {
+            if self.objects.ready.put(rt, pass, *sheet).is_err() {
                 self.window.lift();
             }
         }
@@ -287,7 +287,7 @@ fn conclude<'d, S: Sink>(
     requires countable { IsSome ended → state.old.progress.halted ≡ None → IsCountable (S.seen state.old.sink.now) }
     requires next { IsSome ended → state.old.progress.halted ≡ None
         → state.old.progress.next ≤ length job.now.plan.sheets }
-    requires desk { IsSome ended → IsDeskOf job.now state.old.desk.now }
+    requires parts { IsSome ended → ArePartsOf job.now state.old.parts.now }
     ensures same_sink { state.new.sink.ghost_name ≡ state.old.sink.ghost_name }
     ensures ended { IsSome ended.entry → Concludes job.now (S.seen state.old.sink.now) (S.seen state.new.sink.now)
         state.old.progress result.outcome }
@@ -296,16 +296,16 @@ fn conclude<'d, S: Sink>(
         × (S.seen state.new.sink.now ≡ S.seen state.old.sink.now) }
 
     // The report counts as `swept` the sheets that hadn't come.
-    ensures swept { IfOk result.outcome (λ report. report.swept ≡ not_come state.old.desk.now.early
+    ensures swept { IfOk result.outcome (λ report. report.swept ≡ not_come state.old.parts.now.early
         state.old.progress.next (length job.now.plan.sheets - state.old.progress.next)) }
 {
     let Some(WorkerTokens { tokens, unshelved }) = ended else {
         return out_of_memory(state.progress.written);
     };
     let progress = state.progress;
-    let desk = &*state.desk;
-    let trailer = desk.trailer.as_slice();
-    let rest = write_rest(alloc, job, state.sink, progress, &desk.early, trailer);
+    let parts = &*state.parts;
+    let trailer = parts.trailer.as_slice();
+    let rest = write_rest(alloc, job, state.sink, progress, &parts.early, trailer);
     let Tokens { seat, pass } = tokens;
     let written = rest.written;
     match rest.halted {

@@ -90,7 +90,7 @@ fn gather_plan<'j, 'd, R: Threads + Wait + Sync, G: Gate + Sync, S: Sink>(
 {
     let shelf = Shelf::of_document(alloc, job.document())?;
     let (table, queue, tokens) = table_and_queue(alloc, job.plan(), workers.preparers)?;
-    let floor = RunObjects {
+    let objects = RunObjects {
         alloc,
         gate: &*gate,
         job: &*job,
@@ -100,7 +100,7 @@ fn gather_plan<'j, 'd, R: Threads + Wait + Sync, G: Gate + Sync, S: Sink>(
         ready: &queue,
     };
     keep_blocks(alloc);
-    let gathered = gather_objects(rt, floor, tokens, workers, sink);
+    let gathered = gather_objects(rt, objects, tokens, workers, sink);
     // The shelf is dropped by a call, so that the effect of dropping it is proved once, in the callee.
     drop(shelf);
     Ok(GatheredPlan {

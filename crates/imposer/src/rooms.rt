@@ -18,9 +18,9 @@ impl<'s, 'r, 't, 'd, G: Gate> Shared<'s, 'r, 't, 'd, G> {
     /// is less.
     pub(crate) fn room_for(&self, pass: &Pass, number: u32, count: u32) -> u32
         requires number { number < count }
-        ensures { result ≡ min (most_puts self.now.floor.table.now.layout count number) (puts_in pass.now.room) }
+        ensures { result ≡ min (most_puts self.now.objects.table.now.layout count number) (puts_in pass.now.room) }
     {
-        let job = self.floor.job;
+        let job = self.objects.job;
         most_puts(job.plan(), number, count).min(pass.room())
     }
 }

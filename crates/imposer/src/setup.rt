@@ -2,7 +2,7 @@
 ghost use Rattle.std.specs.Prelude.{IfOk, ◌<◌};
 ghost use Rattle.crossbeam_channel.specs.Claims.{IsSeatAt};
 ghost use Rattle.crossbeam_channel.specs.Ends.{sends_on, receives_on};
-ghost use Rattle.imposer.specs.Desks.{IsDeskOf};
+ghost use Rattle.imposer.specs.CollectorStart.{ArePartsOf};
 
 use crate::channel::{Channel, SheetRule, SheetTexts, Ticket};
 use crossbeam_channel::bounded_with;
@@ -11,7 +11,7 @@ use sheet_text::Job;
 use sheet_writer::ReorderBuffer;
 use std::alloc::{AllocError, Global};
 
-/// The objects at the collector's desk: the header and the trailer of the output, a reorder buffer, and a ticket for receiving.
+/// What the collector begins with: the header and the trailer of the output, a reorder buffer, and a ticket for receiving.
 #[derive(Drop)]
 pub(crate) struct CollectorParts<'r> {
     pub(crate) header: Vec<u8>,
@@ -20,21 +20,21 @@ pub(crate) struct CollectorParts<'r> {
     pub(crate) receiving: Ticket<'r>,
 }
 
-/// The collector's desk, the channel of finished sheets, and a ticket for sending on it.
+/// What the collector begins with, the channel of finished sheets, and a ticket for sending on it.
 #[derive(Drop)]
 pub(crate) struct Setup<'r, T: SheetTexts> {
-    pub(crate) desk: CollectorParts<'r>,
+    pub(crate) parts: CollectorParts<'r>,
     pub(crate) channel: Channel<'r, T>,
     pub(crate) sending: Ticket<'r>,
 }
 
 impl<'r, T: SheetTexts> Setup<'r, T> {
-    /// Makes the desk and the channel of a job. `window` is the number of sheets in a window. The reorder buffer, the channel and the queue of
-    /// written texts each have room for this number of sheets, or for all sheets of a shorter job. So imposers needn't wait for room. The only error
-    /// is refused memory.
+    /// Makes what the collector begins with, and the channel of a job. `window` is the number of sheets in a window. The reorder buffer, the channel
+    /// and the queue of written texts each have room for this number of sheets, or for all sheets of a shorter job. So imposers needn't wait for
+    /// room. The only error is refused memory.
     pub(crate) fn new(alloc: Global, job: &Job<'_, '_>, window: u32) -> Result<Self, AllocError>
-        ensures desk { IfOk result (λ s. IsDeskOf job.now s.desk) }
-        ensures receiving { IfOk result (λ s. IsSeatAt (receives_on s.channel.receiver) s.desk.receiving) }
+        ensures parts { IfOk result (λ s. ArePartsOf job.now s.parts) }
+        ensures receiving { IfOk result (λ s. IsSeatAt (receives_on s.channel.receiver) s.parts.receiving) }
         ensures sending { IfOk result (λ s. IsSeatAt (sends_on s.channel.sender) s.sending) }
     {
         let header = job.document().dressed_preamble(job.sheets(), job.header())?;
@@ -42,14 +42,14 @@ impl<'r, T: SheetTexts> Setup<'r, T> {
         let room = job.sheets().min(window).max(1);
         let early = ReorderBuffer::new(alloc, room)?;
         let (channel, sending, receiving) = channel_of(alloc, room as usize)?;
-        let desk = CollectorParts {
+        let parts = CollectorParts {
             header,
             trailer,
             early,
             receiving,
         };
         Ok(Setup {
-            desk,
+            parts,
             channel,
             sending,
         })

@@ -31,7 +31,7 @@ pub(crate) struct RunObjects<'s, 'r, 't, 'd, G> {
 /// The objects that all workers of a run share.
 #[derive(Drop)]
 pub(crate) struct Shared<'s, 'r, 't, 'd, G> {
-    pub(crate) floor: RunObjects<'s, 'r, 't, 'd, G>,
+    pub(crate) objects: RunObjects<'s, 'r, 't, 'd, G>,
     /// Whether the pass of the run has room for all puts, so that the queue refuses none of them.
     pub(crate) by_right: bool,
     /// The number of preparers that haven't ended.
@@ -53,5 +53,5 @@ pub(crate) struct RunInput<'s, 'r, 't, 'd, T: SheetTexts, G> {
     pub(crate) channel: &'s Channel<'r, T>,
     /// The job of `shared`, with the text that the channel's rule gives for each sheet.
     pub(crate) ruled: &'s RuledJob<'s, 'r, 'd, T>,
-    ghost same_job: { ruled.now.job.now ≡ shared.now.floor.job.now },
+    ghost same_job: { ruled.now.job.now ≡ shared.now.objects.job.now },
 }

@@ -6,7 +6,6 @@ ghost use Rattle.sheet_writer.specs.Sinks.{IsCountable};
 
 mod callers;
 mod checks;
-mod crews;
 mod doubled;
 mod examples;
 mod gates;
@@ -17,6 +16,7 @@ mod jobs;
 mod own_pages;
 mod queues;
 mod refused_puts;
+mod refused_workers;
 mod sets;
 mod sheets_of_sheets;
 mod sinks;

@@ -7,13 +7,13 @@ try_recv_as-received-requires-clause-rule g c = ((λ x items views h at. (tt, (�
 
 pub write_early-state-requires : goal.write_early-state-requires
 write_early-state-requires g c κs =
-    let job = c.args.input.now.shared.now.floor.job.now in
+    let job = c.args.input.now.shared.now.objects.job.now in
     let ruled = c.args.input.now.ruled.now in
-    let early = c.put.ensures.early job (have_of_job g.T.SheetTexts.text job ruled.job.now c.in-Ok.batch c.args.input.now.same_job ruled.texts c.in-Ok.ensures.rule) c.requires.desk.early in
+    let early = c.put.ensures.early job (have_of_job g.T.SheetTexts.text job ruled.job.now c.in-Ok.batch c.args.input.now.same_job ruled.texts c.in-Ok.ensures.rule) c.requires.parts.early in
     ((refl, tt), (c.requires.countable, (c.requires.going, early)))
 
-pub returns-then-is_none-clause-desk : goal.returns-then-is_none-clause-desk
-returns-then-is_none-clause-desk g c = record { header = c.requires.desk.header; trailer = c.requires.desk.trailer; early = c.write_early-state.ensures.early }
+pub returns-then-is_none-clause-parts : goal.returns-then-is_none-clause-parts
+returns-then-is_none-clause-parts g c = record { header = c.requires.parts.header; trailer = c.requires.parts.trailer; early = c.write_early-state.ensures.early }
 
-pub returns-else-is_none-clause-desk : goal.returns-else-is_none-clause-desk
-returns-else-is_none-clause-desk g c = record { header = c.requires.desk.header; trailer = c.requires.desk.trailer; early = c.write_early-state.ensures.early }
+pub returns-else-is_none-clause-parts : goal.returns-else-is_none-clause-parts
+returns-else-is_none-clause-parts g c = record { header = c.requires.parts.header; trailer = c.requires.parts.trailer; early = c.write_early-state.ensures.early }

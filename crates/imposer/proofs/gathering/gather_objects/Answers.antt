@@ -10,11 +10,11 @@ gather-requires-clause-tokens g c κs within = fresh_tokens _ _ _ c.requires.sea
 
 pub returns : goal.returns
 returns g c =
-    let floor = c.args.floor in
+    let objects = c.args.objects in
     let count = c.args.workers.preparers in
     let gathered = c.gather.ensures in
-    let same : most_puts_in_all (layout c.plan.result.now) count ≡ most_puts_in_all floor.table.now.layout count
-    = ap (λ (plan : Plan). most_puts_in_all (layout plan) count) c.plan.ensures.value ∙ ap (λ (l : Layout). most_puts_in_all l count) (sym floor.same_plan) in
+    let same : most_puts_in_all (layout c.plan.result.now) count ≡ most_puts_in_all objects.table.now.layout count
+    = ap (λ (plan : Plan). most_puts_in_all (layout plan) count) c.plan.ensures.value ∙ ap (λ (l : Layout). most_puts_in_all l count) (sym objects.same_plan) in
     record {
       outcome = gathered.outcome;
       tokens = gathered.tokens;

@@ -4,7 +4,7 @@ use Rattle.imposer.proofs.start.start_imposers.Given as goal
 abbrev pub invariant-loop : goal.invariant-loop
 invariant-loop g l = record {
   len : vec_len l.handles ≡ l.counter;
-  room : l.fn.crew.imposers ≤ vec_capacity l.handles;
+  room : l.fn.counts.imposers ≤ vec_capacity l.handles;
   ticket : g.W.Imposing.sends l.shared l.ticket;
   each : (k : ℕ) (d : _) → k < l.counter → (get_or (vec_items l.handles) k d).promise.shared.now ≡ l.shared;
   held : g.W.Work.is_held l.shared l.held;

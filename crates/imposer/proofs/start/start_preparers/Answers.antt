@@ -9,7 +9,7 @@ loop-number-preserved g c =
       len = search rules;
       room = search rules;
       each = pushed
-          (λ k h. IsPreparer c.args.shared.now c.args.crew.preparers k h.promise)
+          (λ k h. IsPreparer c.args.shared.now c.args.counts.preparers k h.promise)
           (vec_items c.loop-number.handles) c.in_ok-handle.handle (vec_items c.push_reserved.new.self) c.loop-number.number
           c.push_reserved.ensures.items (search rules) was.each (search rules);
       held = c.split_preparer-theirs.ensures.held;

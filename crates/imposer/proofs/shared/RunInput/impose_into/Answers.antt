@@ -8,7 +8,7 @@ returns-in_ok-push-clause-imposes g c = imposes_read _ _ _ c.requires.tokens c.i
 pub returns-in_ok-push-clause-texts : goal.returns-in_ok-push-clause-texts
 returns-in_ok-push-clause-texts g c =
     let input = c.args.self.now in
-    have_pushed g.T.SheetTexts.text input.shared.now.floor.job.now input.ruled.now.job.now c.args.batch.now c.push.new.self c.args.sheet c.impose_taken.new.text
+    have_pushed g.T.SheetTexts.text input.shared.now.objects.job.now input.ruled.now.job.now c.args.batch.now c.push.new.self c.args.sheet c.impose_taken.new.text
     input.same_job input.ruled.now.texts c.in_ok-push.ensures.pushed
     (c.in_ok-imposed.ensures.text c.if-imposed.true) c.requires.texts
 

@@ -13,16 +13,16 @@ use Rattle.imposer.proofs.shared.Shared.begin.Goals as goal
 pub returns : goal.returns
 returns g c =
     let run = c.args.self.now in
-    let table = run.floor.table.now in
-    let queue = run.floor.ready.now in
+    let table = run.objects.table.now in
+    let queue = run.objects.ready.now in
     let put = c.put_blank_sheets.ensures.put in
     let sheets = c.born_complete-sheets.result.now in
-    let born : sheets ≡ born_complete table.layout = c.born_complete-sheets.ensures.value ∙ ap (λ p. born_complete (layout p)) c.plan.ensures.value ∙ ap born_complete (sym run.floor.same_plan) in
+    let born : sheets ≡ born_complete table.layout = c.born_complete-sheets.ensures.value ∙ ap (λ p. born_complete (layout p)) c.plan.ensures.value ∙ ap born_complete (sym run.objects.same_plan) in
     let same = ap (λ (xs : List ℕ). length xs) born in
     let first : Tokens = record { seat = c.args.tokens.seat; pass = c.put_blank_sheets.new.pass } in
     record {
-      pages = table_has_pages run.floor.job.now.plan table c.plan.ensures.sound run.floor.same_plan;
-      crew = (let w = c.requires.workers in let one = w.a_preparer in let few = w.few_preparers in let few' = w.few_imposers in (omega arith, omega arith));
+      pages = table_has_pages run.objects.job.now.plan table c.plan.ensures.sound run.objects.same_plan;
+      counts = (let w = c.requires.workers in let one = w.a_preparer in let few = w.few_preparers in let few' = w.few_imposers in (omega arith, omega arith));
       held = record {
         tokens = are_tokens table queue whole_share first (seat_with table queue whole_share c.args.tokens c.requires.tokens.0)
             (pass_handed_on queue queue whole_share sheets put.0 c.args.tokens.pass c.put_blank_sheets.new.pass (pass_with table queue whole_share c.args.tokens c.requires.tokens.0) put.1);

@@ -9,7 +9,7 @@ use Rattle.imposer.proofs.shared.Shared.prepare_all.Goals.{else-loop-page-test, 
 
 pub loop-page-init : goal.loop-page-init
 loop-page-init g c =
-    let layout = c.args.self.now.floor.table.now.layout in
+    let layout = c.args.self.now.objects.table.now.layout in
     let below = c.requires.number in
     record {
       own = own_first c.args.count c.args.number below;
@@ -26,10 +26,10 @@ loop-page-init g c =
 
 pub loop-page-preserved : goal.loop-page-preserved
 loop-page-preserved g c =
-    let layout = c.args.self.now.floor.table.now.layout in
+    let layout = c.args.self.now.objects.table.now.layout in
     let some : 0 < c.args.count = omega (arith, c.requires.number) in
     let own = c.loop-page.invariant.own in
-    let within : c.loop-page.page < layout.pages = subst (λ (l : Layout). c.loop-page.page < l.pages) (sym c.args.self.now.floor.same_plan) (omega (arith, c.pages-pages.ensures.value, ap (λ (plan : Plan). plan.pages) c.plan.ensures.value)) in
+    let within : c.loop-page.page < layout.pages = subst (λ (l : Layout). c.loop-page.page < l.pages) (sym c.args.self.now.objects.same_plan) (omega (arith, c.pages-pages.ensures.value, ap (λ (plan : Plan). plan.pages) c.plan.ensures.value)) in
     record {
       own = own_next c.args.count c.args.number c.loop-page.page some own;
       held = c.in_ok-prepare_page.ensures.held;
@@ -46,7 +46,7 @@ loop-page-preserved g c =
 
 pub returns-clause-prepared : goal.returns-clause-prepared
 returns-clause-prepared g c =
-    let layout = c.args.self.now.floor.table.now.layout in
+    let layout = c.args.self.now.objects.table.now.layout in
     let some : 0 < c.args.count = omega (arith, c.requires.number) in
     let own = c.loop-page.invariant.own in
     let pages = c.pages-pages.ensures.value in
@@ -54,7 +54,7 @@ returns-clause-prepared g c =
     elim c.loop-page-test.branch [
       | else-loop-page-test w ↦
           let last : layout.pages ≤ c.loop-page.page =
-          subst (λ (l : Layout). l.pages ≤ c.loop-page.page) (sym c.args.self.now.floor.same_plan) (omega (arith, pages, planned)) in
+          subst (λ (l : Layout). l.pages ≤ c.loop-page.page) (sym c.args.self.now.objects.same_plan) (omega (arith, pages, planned)) in
           subst (HasPrepared c.args.self.now c.args.count c.args.number) (sym w.held-is) (record {
             work = λ none h. done_all h layout c.args.count c.args.number c.loop-page.page layout.pages _ last (c.loop-page.invariant.done none h);
             order = c.loop-page.invariant.put;
@@ -62,9 +62,9 @@ returns-clause-prepared g c =
           })
       | then-loop-page-test+in_ok-prepare_page+else-page-step-pages w ↦
           let within : c.loop-page.page < layout.pages =
-          subst (λ (l : Layout). c.loop-page.page < l.pages) (sym c.args.self.now.floor.same_plan) (omega (arith, pages, planned)) in
+          subst (λ (l : Layout). c.loop-page.page < l.pages) (sym c.args.self.now.objects.same_plan) (omega (arith, pages, planned)) in
           let last : layout.pages ≤ c.loop-page.page + c.args.count =
-          subst (λ (l : Layout). l.pages ≤ c.loop-page.page + c.args.count) (sym c.args.self.now.floor.same_plan) (omega (arith, pages, planned)) in
+          subst (λ (l : Layout). l.pages ≤ c.loop-page.page + c.args.count) (sym c.args.self.now.objects.same_plan) (omega (arith, pages, planned)) in
           subst (HasPrepared c.args.self.now c.args.count c.args.number) (sym w.held-is) (record {
             work = λ none h.
                 let step = w.in_ok-prepare_page.ensures.done none in

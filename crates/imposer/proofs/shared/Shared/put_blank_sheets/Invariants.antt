@@ -5,6 +5,6 @@ use Rattle.imposer.proofs.shared.Shared.put_blank_sheets.Given as goal
 
 abbrev pub invariant-loop-sheet : goal.invariant-loop-sheet
 invariant-loop-sheet g l = record {
-  pass : IsPassOf l.self.floor.ready.now l.pass;
-  put : (back : List ℕ) × HandedOn l.self.floor.ready.now (take l.sheet-index l.sheets) back l.initial.pass l.pass;
+  pass : IsPassOf l.self.objects.ready.now l.pass;
+  put : (back : List ℕ) × HandedOn l.self.objects.ready.now (take l.sheet-index l.sheets) back l.initial.pass l.pass;
 }

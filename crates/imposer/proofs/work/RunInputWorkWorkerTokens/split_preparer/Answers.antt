@@ -10,7 +10,7 @@ returns-clause-gathered g c = λ first count had.
 
 pub returns-clause-enough : goal.returns-clause-enough
 returns-clause-enough g c = λ yes.
-    let layout = c.args.self.now.shared.now.floor.table.now.layout in
+    let layout = c.args.self.now.shared.now.objects.table.now.layout in
     let room = c.args.held.now.tokens.pass.room in
     let kept = ap (λ p. puts_in p.room) c.split_with_room-pass.ensures.kept in
     let left = room_kept_is c.room_for-room.result room in
@@ -22,7 +22,7 @@ pub returns-clause-given : goal.returns-clause-given
 returns-clause-given g c = record {
   new = search rules;
   room = λ yes.
-      let layout = c.args.self.now.shared.now.floor.table.now.layout in
+      let layout = c.args.self.now.shared.now.objects.table.now.layout in
       let room = c.args.held.now.tokens.pass.room in
       let gets = (gets_room layout c.args.count c.args.number (puts_in room) c.room_for-room.result c.requires.number c.room_for-room.ensures (c.requires.enough yes)).0 in
       let given = ap (λ p. puts_in p.room) c.split_with_room-pass.ensures.given in

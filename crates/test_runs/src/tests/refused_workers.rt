@@ -169,8 +169,8 @@ fn gather<R: Threads + Wait + Abort + Sync>(
     imposers: usize,
 ) -> Option<u64> {
     let fates = Fates::new(rt, preparers, imposers);
-    let supplies = ThreadInputs {
-        crew: ThreadCounts {
+    let inputs = ThreadInputs {
+        counts: ThreadCounts {
             alloc,
             preparers: WORKERS,
             imposers: WORKERS,
@@ -180,7 +180,7 @@ fn gather<R: Threads + Wait + Abort + Sync>(
     };
     let mut ended = None;
     let state = Collected { times: 0 };
-    let state = run_threads(rt, &fates, &fates, supplies, state, &mut ended);
+    let state = run_threads(rt, &fates, &fates, inputs, state, &mut ended);
     let begun = [
         fates.begun_preparers.load(SeqCst),
         fates.begun_imposers.load(SeqCst),

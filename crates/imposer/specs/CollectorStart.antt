@@ -7,7 +7,7 @@ use Rattle.sheet_writer.specs.Writing.{AreEarly}
 use Rattle.imposer.specs.declared.setup.CollectorParts.{CollectorParts}
 
 -- it has the texts around the job's sheets, and each sheet on it has its own text
-pub record IsDeskOf (job : JobView) (desk : CollectorParts) : Type 0 where
-  pub header : desk.header.items ≡ dressed_preamble (length job.plan.sheets) job.header job.units
-  pub trailer : desk.trailer.items ≡ trailer_text job.units
-  pub early : AreEarly job desk.early.groups.items
+pub record ArePartsOf (job : JobView) (parts : CollectorParts) : Type 0 where
+  pub header : parts.header.items ≡ dressed_preamble (length job.plan.sheets) job.header job.units
+  pub trailer : parts.trailer.items ≡ trailer_text job.units
+  pub early : AreEarly job parts.early.groups.items
