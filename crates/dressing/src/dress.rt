@@ -8,7 +8,7 @@ use crate::paper_lines::header_lines;
 use crate::reported::reported_papers;
 use crate::{Stroke, mark_lines};
 use sheet_plan::MadeSheets;
-use sheet_text::{Numbers, SheetExtras};
+use sheet_text::{Numbers, SheetDress};
 use std::alloc::{AllocError, Global};
 
 /// The dress of an output with these sheets: the lines that the output has besides its pages. They report the papers of the sheets, and draw the
@@ -18,13 +18,13 @@ pub fn dress_of(
     sheets: &MadeSheets,
     strokes: &[Stroke],
     numbers: Option<Numbers>,
-) -> Result<SheetExtras, AllocError>
+) -> Result<SheetDress, AllocError>
     ensures { IfOk result (λ dress. dress_in dress
         ≡ drawn_on (record { strokes = strokes.now; numbers = numbers }) (reporting sheets.now)) }
 {
     let reported = reported_papers(alloc, sheets)?;
     let papers = reported.as_slice();
-    Ok(SheetExtras {
+    Ok(SheetDress {
         header: header_lines(alloc, papers)?,
         reports_papers: papers.len() > 1,
         finish: mark_lines(alloc, strokes)?,

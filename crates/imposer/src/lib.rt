@@ -40,7 +40,7 @@ pub use planned::run_plan;
 pub use run_steps::{DeliverError, Delivered, ImposeError, Imposed, deliver, impose};
 pub use runs::run;
 pub use sheet_set::SheetSet;
-pub use sheet_text::{Job, Lines, Numbers, SheetExtras, sheet_text};
+pub use sheet_text::{Job, Lines, Numbers, SheetDress, sheet_text};
 pub use sheet_writer::{MemorySink, Sink, SinkFault, WriteSink};
 pub use statuses::run_status;
 pub use std::alloc::AllocError as NoMemory;

@@ -7,7 +7,7 @@ use Rattle.rules.specs.MadeOutput.{made_output}
 use Rattle.papers.specs.Reported.{reporting}
 use Rattle.dressing.specs.Numbered.{Drawn, drawn_on}
 use Rattle.sheet_text.specs.Dressings.{dress_in}
-use Rattle.sheet_text.specs.declared.dress.SheetExtras.{SheetExtras}
+use Rattle.sheet_text.specs.declared.dress.SheetDress.{SheetDress}
 
 -- the output of sheets that report their papers, with what is drawn at the end of each; if nothing is, it is that of sheets
 -- that report their papers and no more
@@ -15,5 +15,5 @@ abbrev pub reporting_output : (border : Option Border) → Drawn → List MadeSh
 reporting_output border drawn all us = made_output border (drawn_on drawn (reporting all)) all us
 
 -- by this dress the sheets report their papers, and this is drawn at the end of each
-abbrev pub IsDressOf : Drawn → List MadeSheet → SheetExtras → Type 0
+abbrev pub IsDressOf : Drawn → List MadeSheet → SheetDress → Type 0
 IsDressOf drawn all dress = dress_in dress ≡ drawn_on drawn (reporting all)

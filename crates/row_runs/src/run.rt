@@ -16,7 +16,7 @@ use dsc::Document;
 use lengths::{Grains, Paper};
 use pagespec::Turn;
 use sheet_plan::MadeSheets;
-use sheet_text::SheetExtras;
+use sheet_text::SheetDress;
 use std::alloc::Global;
 
 /// A job: a document, a request for its sheets, and options that apply to all of these sheets.
@@ -45,7 +45,7 @@ impl<'j, 'd> RowJob<'j, 'd> {
     /// The sheets of the request, with pages shifted on backs and turned as the job requests, and the lines that report papers and draw marks and
     /// numbers. The first fault is reported, in the order of the variants of `SheetError`. A plan has limits that this call doesn't check, so call
     /// `Plan::of_sheets` before an output is created.
-    pub fn lay(&self, alloc: Global) -> Result<(MadeSheets, SheetExtras), SheetError>
+    pub fn lay(&self, alloc: Global) -> Result<(MadeSheets, SheetDress), SheetError>
         requires { MayBeAsked self.now.asked }
         ensures turned { IfOk result (λ laid. AreTurned self.now laid.0) }
         ensures dressed { IfOk result (λ laid. IsDressOf (drawn_of self.now) laid.0 laid.1) }

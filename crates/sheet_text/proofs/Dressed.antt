@@ -14,7 +14,7 @@ use Rattle.rules.specs.MadePlans.{page_of}
 use Rattle.sheet_plan.specs.OfSheets.{slot_in, slots_at, made_plan}
 use Rattle.sheet_text.specs.Dressings.{dress_in, report_lines_if, with_numbers}
 use Rattle.sheet_text.specs.Jobs.{AreOfPlan, no_sheet}
-use Rattle.sheet_text.specs.declared.dress.SheetExtras as code
+use Rattle.sheet_text.specs.declared.dress.SheetDress as code
 use Rattle.sheet_text.proofs.Outputs.{as_many}
 
 -- sheets that are numbered from n on
@@ -44,25 +44,25 @@ counted plan sheets dress all s is of lt =
     let m : length (dressed_sheets dress all) ≡ length plan.sheets = ap (λ xs. length xs) is ∙ as_many plan sheets of in
     omega (arith, n, m, lt)
 
-start_in : (d : code.SheetExtras) (n : ℕ) (all : List MadeSheet) (s : ℕ) (p : Paper) → slice_get (map (λ sheet. sheet.paper) all) s ≡ Some p
+start_in : (d : code.SheetDress) (n : ℕ) (all : List MadeSheet) (s : ℕ) (p : Paper) → slice_get (map (λ sheet. sheet.paper) all) s ≡ Some p
     → report_lines_if d.reports_papers p ≡ (slice_index_or (from (dress_in d) n all) s no_sheet).start
 start_in d n [] s p at = absurd (none-some p at)
 start_in d n (x ∷ all) zero p at = ap (report_lines_if d.reports_papers) (sym (same_Some x.paper p at))
 start_in d n (x ∷ all) (suc s) p at = start_in d (n + 1) all s p at
 
 -- the lines at its start
-pub start_at : (d : code.SheetExtras) (all : List MadeSheet) (s : ℕ) (p : Paper) → slice_get (map (λ sheet. sheet.paper) all) s ≡ Some p
+pub start_at : (d : code.SheetDress) (all : List MadeSheet) (s : ℕ) (p : Paper) → slice_get (map (λ sheet. sheet.paper) all) s ≡ Some p
     → report_lines_if d.reports_papers p ≡ (slice_index_or (dressed_sheets (dress_in d) all) s no_sheet).start
 start_at d all s p at = start_in d 0 all s p at
 
-finish_in : (d : code.SheetExtras) (n : ℕ) (all : List MadeSheet) (i s : ℕ) → i < length all → s ≡ n + i
+finish_in : (d : code.SheetDress) (n : ℕ) (all : List MadeSheet) (i s : ℕ) → i < length all → s ≡ n + i
     → with_numbers d.numbers d.finish s ≡ (slice_index_or (from (dress_in d) n all) i no_sheet).finish
 finish_in d n [] i s lt is = absurd (omega (arith, lt))
 finish_in d n (x ∷ all) zero s lt is = let same : s ≡ n = omega (arith, is) in ap (with_numbers d.numbers d.finish) same
 finish_in d n (x ∷ all) (suc i) s lt is = finish_in d (n + 1) all i s (omega (arith, lt)) (omega (arith, is))
 
 -- those at its end
-pub finish_at : (d : code.SheetExtras) (all : List MadeSheet) (s : ℕ) → s < length all
+pub finish_at : (d : code.SheetDress) (all : List MadeSheet) (s : ℕ) → s < length all
     → with_numbers d.numbers d.finish s ≡ (slice_index_or (dressed_sheets (dress_in d) all) s no_sheet).finish
 finish_at d all s lt = finish_in d 0 all s s lt (omega arith)
 

@@ -4,7 +4,7 @@ use Rattle.rules.specs.Papers.{Paper}
 use Rattle.rules.specs.Dress.{Dress}
 use Rattle.papers.specs.Reported.{sheet_lines}
 use Rattle.sheet_text.specs.PageNumbers.{number_lines}
-use Rattle.sheet_text.specs.declared.dress.SheetExtras as code
+use Rattle.sheet_text.specs.declared.dress.SheetDress as code
 use Rattle.sheet_text.specs.declared.numbers.Numbers.{Numbers}
 
 -- at the start of a sheet of this paper: the lines that report it, if sheets are to
@@ -18,7 +18,7 @@ with_numbers None lines s = lines
 with_numbers (Some n) lines s = lines ++ number_lines n s
 
 -- the dress that is kept so
-abbrev pub dress_in : code.SheetExtras → Dress
+abbrev pub dress_in : code.SheetDress → Dress
 dress_in d = record {
   header = d.header;
   start = λ s paper. report_lines_if d.reports_papers paper;

@@ -13,7 +13,7 @@ use std::alloc::AllocError;
 /// The lines that an output has besides its pages: header lines, which come after the `%%Pages:` line, and lines at the start and the end of each
 /// sheet. Only lines that are the same on all sheets are stored. The lines that differ from sheet to sheet are made when a sheet is written.
 #[derive(Drop)]
-pub struct SheetExtras {
+pub struct SheetDress {
     /// The lines to add to the header.
     pub header: Lines,
     /// Whether each sheet has, after its `%%Page:` line, lines that report its paper and set the device's page size.
@@ -24,7 +24,7 @@ pub struct SheetExtras {
     pub numbers: Option<Numbers>,
 }
 
-impl SheetExtras {
+impl SheetDress {
     /// Appends the lines that report this paper at the start of a sheet. Appends nothing unless `reports_papers` is set. The only error is refused
     /// memory.
     pub(crate) fn append_start(&self, paper: &Paper, text: &mut Rope<'_>) -> Result<(), AllocError>

@@ -12,7 +12,7 @@ ghost use Rattle.sheet_plan.specs.Plans.{pages_on, planned_in, IsSound};
 ghost use Rattle.sheet_text.specs.Dressings.{dress_in};
 ghost use Rattle.sheet_text.specs.Jobs.{JobView, AreOfPlan, of_frame, is_border, output_of, text_of, sheet_of, slots_of};
 
-use crate::dress::SheetExtras;
+use crate::dress::SheetDress;
 use crate::rope::Rope;
 use crate::sheet_papers::SheetPapers;
 use dsc::Document;
@@ -97,7 +97,7 @@ impl<'j, 'd> Job<'j, 'd> {
         sheets: &'j MadeSheets,
         border: Option<Grains>,
         inset: Grains,
-        dress: &'j SheetExtras,
+        dress: &'j SheetDress,
     ) -> Self
         requires same_pages { plan.now.pages ≡ length (pages document.now) }
         requires same_sheets { plan.now ≡ made_plan plan.now.pages sheets.now }

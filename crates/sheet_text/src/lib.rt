@@ -13,7 +13,7 @@ mod sheet;
 mod sheet_papers;
 mod texts;
 
-pub use dress::SheetExtras;
+pub use dress::SheetDress;
 pub use job::Job;
 pub use lines::Lines;
 pub use numbers::Numbers;

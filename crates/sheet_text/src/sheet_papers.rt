@@ -1,5 +1,5 @@
 //! The papers of the pages of a job.
-use crate::dress::SheetExtras;
+use crate::dress::SheetDress;
 use lengths::Paper;
 use sheet_plan::MadeSheets;
 
@@ -8,5 +8,5 @@ use sheet_plan::MadeSheets;
 #[derive(Drop)]
 pub(crate) enum SheetPapers<'j> {
     One(Paper),
-    Made(&'j MadeSheets, &'j SheetExtras),
+    Made(&'j MadeSheets, &'j SheetDress),
 }

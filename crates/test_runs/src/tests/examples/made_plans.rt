@@ -1,7 +1,7 @@
 //! A run with made sheets: pages and sheets with papers of their own, and added lines in the header and on each sheet.
 use crate::tests::checks::{assert_bytes, assert_that, done};
 use dsc::Document;
-use imposer::{Job, Lines, MemorySink, NoListener, Open, SheetExtras, Workers, run_plan};
+use imposer::{Job, Lines, MemorySink, NoListener, Open, SheetDress, Workers, run_plan};
 use lengths::{Grains, Number, Paper, a4, paper_by_name};
 use pagespec::{Item, Measure, Turn};
 use sheet_plan::{MadeSheets, MadeSlot, Plan};
@@ -88,12 +88,12 @@ fn two_sheets<R: Abort>(rt: &R, alloc: Global) -> MadeSheets {
 }
 
 /// The additions to an output whose sheets report their papers: a line in the header, and another line at the end of each sheet.
-fn lines<R: Abort>(rt: &R, alloc: Global) -> SheetExtras {
+fn lines<R: Abort>(rt: &R, alloc: Global) -> SheetDress {
     let mut header = Lines::new(alloc);
     done(rt, header.push(b"%%DocumentMedia: x"));
     let mut finish = Lines::new(alloc);
     done(rt, finish.push(b"% end"));
-    SheetExtras {
+    SheetDress {
         header,
         reports_papers: true,
         finish,
@@ -119,7 +119,7 @@ fn run_dressed<R: Threads + Wait + Sync + Abort>(
     rt: &R,
     alloc: Global,
     sheets: &MadeSheets,
-    dress: &SheetExtras,
+    dress: &SheetDress,
 ) {
     let document = done(rt, Document::read(alloc, TWO_PAGES.as_bytes()));
     let plan = done(rt, Plan::of_sheets(alloc, document.pages(), sheets));
