@@ -12,7 +12,7 @@ use Rattle.layouts.specs.declared.error.ArrangementError.TheVariants.{CellsOutOf
 use Rattle.layouts.specs.declared.setting.Setting.{Setting}
 use Rattle.row_runs.specs.Sheets.{MayBeLaid}
 use Rattle.row_runs.specs.declared.sheet_request.Laying.TheVariants as laying
-use Rattle.row_runs.specs.declared.sheet_request.Scheme.TheVariants as scheme
+use Rattle.row_sheets.specs.declared.fill.Scheme.TheVariants as scheme
 use Rattle.impose_words.specs.Spacings.{arrangement_in}
 use Rattle.impose_words.specs.declared.request.Layout.{Layout}
 use Rattle.impose_words.specs.declared.request.Layout.TheVariants as layout

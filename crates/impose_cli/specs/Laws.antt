@@ -24,7 +24,7 @@ use Rattle.row_runs.specs.Sheets.{laying_for, leaves_in, row_printed, sewn}
 use Rattle.row_runs.specs.Turning.{turn_on}
 use Rattle.row_runs.specs.Written.{AreInTheirCells, AreReadInOrder, KeepTheirRoom, NoneIsTurned, StandAsWritten}
 use Rattle.row_runs.specs.declared.run.RowJob.{RowJob}
-use Rattle.row_runs.specs.declared.sheet_request.Scheme.TheVariants as scheme
+use Rattle.row_sheets.specs.declared.fill.Scheme.TheVariants as scheme
 use Rattle.row_runs.specs.declared.sheet_request.Laying.{Laying}
 use Rattle.row_runs.specs.declared.sheet_request.Laying.TheVariants as laying
 use Rattle.impose_cli.specs.RowTasks.{FinishesRow, LaysBy, guarded_paper}

@@ -30,7 +30,7 @@ use Rattle.sheet_text.specs.Jobs.{is_border}
 use Rattle.imposer.specs.declared.outcome.Report.{Report}
 use Rattle.row_runs.specs.declared.sheet_request.Laying.{Laying}
 use Rattle.row_runs.specs.declared.sheet_request.Laying.TheVariants as laying
-use Rattle.row_runs.specs.declared.sheet_request.Scheme.TheVariants as scheme
+use Rattle.row_sheets.specs.declared.fill.Scheme.TheVariants as scheme
 use Rattle.row_runs.specs.declared.run.RowJob.{RowJob}
 use Rattle.impose_words.specs.Choices.{choice_in}
 use Rattle.row_sheets.specs.Posters.{on_fewest, why_no_poster}

@@ -6,8 +6,8 @@ use Rattle.rows.specs.Sewing.{signing_of}
 use Rattle.rows.specs.declared.printed.Begun.{Begun}
 use Rattle.rows.specs.declared.printed.Begun.TheVariants as begun
 use Rattle.rows.specs.declared.sewing.Signing.{Signing}
-use Rattle.row_runs.specs.declared.sheet_request.Scheme.{Scheme}
-use Rattle.row_runs.specs.declared.sheet_request.Scheme.TheVariants as scheme
+use Rattle.row_sheets.specs.declared.fill.Scheme.{Scheme}
+use Rattle.row_sheets.specs.declared.fill.Scheme.TheVariants as scheme
 use Rattle.impose_words.specs.Choices.{choice_in}
 use Rattle.impose_words.specs.declared.request.Spacing.{Spacing}
 use Rattle.impose_words.specs.declared.request.Layout.{Layout}

@@ -27,8 +27,8 @@ use layouts::{
 };
 use lengths::{Grains, Paper};
 use pagespec::{Spec, read_spec};
-use row_runs::{Laying, Scheme, turned_paper};
-use row_sheets::{Poster, check_poster};
+use row_runs::{Laying, turned_paper};
+use row_sheets::{Poster, Scheme, check_poster};
 use rows::{Begun, RowRequest, Signing};
 use sheet_plan::are_sides;
 use std::alloc::Global;

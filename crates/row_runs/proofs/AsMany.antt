@@ -12,7 +12,7 @@ use Rattle.layouts.specs.Cells.{size}
 use Rattle.row_sheets.proofs.BlockByBlock.{sheets_counted}
 use Rattle.row_runs.specs.declared.sheet_request.Laying.{Laying}
 use Rattle.row_runs.specs.declared.sheet_request.Laying.TheVariants as laying
-use Rattle.row_runs.specs.declared.sheet_request.Scheme.TheVariants as scheme
+use Rattle.row_sheets.specs.declared.fill.Scheme.TheVariants as scheme
 use Rattle.row_runs.specs.declared.sheet_request.SheetRequest.{SheetRequest}
 use Rattle.rows.specs.Printed.{asked_by}
 use Rattle.rows.proofs.AsMany.{printed_as_many}

@@ -25,7 +25,7 @@ use Rattle.row_sheets.specs.declared.poster.Poster.{Poster}
 use Rattle.row_sheets.proofs.NoPlan.{even_count, none_from}
 use Rattle.row_runs.specs.declared.sheet_request.Laying.{Laying}
 use Rattle.row_runs.specs.declared.sheet_request.Laying.TheVariants as laying
-use Rattle.row_runs.specs.declared.sheet_request.Scheme.TheVariants as scheme
+use Rattle.row_sheets.specs.declared.fill.Scheme.TheVariants as scheme
 use Rattle.row_runs.specs.Evened.{at_common_scale}
 use Rattle.row_runs.specs.Limits.{IsLimit, SheetsAreFew, AreFewAsLaid, limit_in, limit_passed}
 use Rattle.row_runs.specs.Sheets.{MayBeLaid, WhyNoPlan, sheets_laid}

@@ -29,7 +29,7 @@ use Rattle.dressing.proofs.OnFold.{mark_is}
 use Rattle.row_runs.specs.declared.sheet_request.SheetRequest.{SheetRequest}
 use Rattle.row_runs.specs.declared.sheet_request.Laying.{Laying}
 use Rattle.row_runs.specs.declared.sheet_request.Laying.TheVariants as laying
-use Rattle.row_runs.specs.declared.sheet_request.Scheme.TheVariants as scheme
+use Rattle.row_sheets.specs.declared.fill.Scheme.TheVariants as scheme
 use Rattle.row_runs.specs.Evened.{at_common_scale, why_not_even_if}
 use Rattle.row_runs.specs.InPlaces.{AskedStandInPlaces, IsMarkedAtFold, IsShownOn, StandInPlaces}
 use Rattle.row_runs.specs.Sheets.{AreAsked, FitAsLaid, MayBeLaid, laying_for, leaves_in, row_chosen, row_printed, sewn, sheets_laid}

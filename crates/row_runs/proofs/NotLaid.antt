@@ -16,7 +16,7 @@ use Rattle.row_sheets.proofs.Refused.{fit_none, on_leaves_none, posters_none}
 use Rattle.row_runs.specs.declared.sheet_request.SheetRequest.{SheetRequest}
 use Rattle.row_runs.specs.declared.sheet_request.Laying.{Laying}
 use Rattle.row_runs.specs.declared.sheet_request.Laying.TheVariants as laying
-use Rattle.row_runs.specs.declared.sheet_request.Scheme.TheVariants as scheme
+use Rattle.row_sheets.specs.declared.fill.Scheme.TheVariants as scheme
 use Rattle.row_runs.specs.declared.error.SheetError.{SheetError}
 use Rattle.row_runs.specs.declared.error.SheetError.TheVariants as error
 use Rattle.row_runs.specs.Errors.{of_arrangement, of_poster}

@@ -5,11 +5,11 @@ use Rattle.rules.specs.Made.{MadeSheet}
 use Rattle.rules.specs.Rows.{Row}
 use Rattle.row_runs.specs.declared.sheet_request.Laying.{Laying}
 use Rattle.row_runs.specs.declared.sheet_request.Laying.TheVariants as laying
-use Rattle.row_runs.specs.declared.sheet_request.Scheme.TheVariants as scheme
+use Rattle.row_sheets.specs.declared.fill.Scheme.TheVariants as scheme
 use Rattle.layouts.specs.declared.setting.Setting.{Setting}
 use Rattle.row_sheets.specs.Shapes.{filling}
 use Rattle.row_sheets.specs.SameScale.{at_one_scale, first_unscaled}
-use Rattle.row_runs.specs.declared.sheet_request.Scheme.{Scheme}
+use Rattle.row_sheets.specs.declared.fill.Scheme.{Scheme}
 use Rattle.row_runs.specs.Evened.{at_common_scale, why_not_even_if}
 use Rattle.row_runs.specs.Sheets.{MayBeLaid}
 use Rattle.row_runs.specs.Standing.{StandAsLaid}

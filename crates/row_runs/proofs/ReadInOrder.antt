@@ -22,7 +22,7 @@ use Rattle.row_runs.specs.Evened.{at_common_scale}
 use Rattle.row_runs.specs.ReadAsBound.{AskedIsRead}
 use Rattle.row_runs.specs.Sheets.{leaves_in, row_printed, sewn, sheets_laid}
 use Rattle.row_runs.specs.declared.sheet_request.Laying.TheVariants as laying
-use Rattle.row_runs.specs.declared.sheet_request.Scheme.TheVariants as scheme
+use Rattle.row_sheets.specs.declared.fill.Scheme.TheVariants as scheme
 
 -- a signature has whole leaves
 four_each : (n : ℕ) → n * 4 / 4 * 4 ≡ n * 4

@@ -14,7 +14,7 @@ use Rattle.preview.specs.declared.naming.Sides.TheVariants as sides
 use Rattle.row_runs.specs.Marked.{strokes_in}
 use Rattle.row_runs.specs.Readings.{sides_by}
 use Rattle.row_runs.specs.declared.sheet_request.Laying.TheVariants as laying
-use Rattle.row_runs.specs.declared.sheet_request.Scheme.TheVariants as scheme
+use Rattle.row_sheets.specs.declared.fill.Scheme.TheVariants as scheme
 
 -- Edges.
 

@@ -14,7 +14,7 @@ use Rattle.row_sheets.specs.Shapes.{filling}
 use Rattle.row_sheets.specs.Standing.{AllStand}
 use Rattle.row_runs.specs.declared.sheet_request.Laying.{Laying}
 use Rattle.row_runs.specs.declared.sheet_request.Laying.TheVariants as laying
-use Rattle.row_runs.specs.declared.sheet_request.Scheme.TheVariants as scheme
+use Rattle.row_sheets.specs.declared.fill.Scheme.TheVariants as scheme
 use Rattle.row_runs.specs.Evened.{at_common_scale}
 use Rattle.row_runs.specs.SwappedMargins.{IsInPoints, swapped_room_in, swapped, swapped_from, moved_sheet, moved_slot, swap_shift}
 use Rattle.row_runs.specs.Runs.{swapped_room_for, page_count}

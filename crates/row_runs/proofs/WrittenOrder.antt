@@ -21,7 +21,7 @@ use Rattle.row_sheets.specs.Zine.{in_hand, read_folded}
 use Rattle.rules.specs.Papers.{Paper}
 use Rattle.row_runs.specs.declared.sheet_request.Laying.{Laying}
 use Rattle.row_runs.specs.declared.sheet_request.Laying.TheVariants as laying
-use Rattle.row_runs.specs.declared.sheet_request.Scheme.TheVariants as scheme
+use Rattle.row_sheets.specs.declared.fill.Scheme.TheVariants as scheme
 use Rattle.row_runs.specs.SwappedMargins.{swapped_room_on, swapped_from, moved_sheet, moved_slot}
 use Rattle.row_runs.specs.ReadAsBound.{AreReadAs}
 use Rattle.row_runs.specs.Runs.{swapped_room_for, page_count}

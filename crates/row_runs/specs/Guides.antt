@@ -14,7 +14,7 @@ use Rattle.dressing.specs.declared.strokes.Stroke.{Stroke}
 use Rattle.row_runs.specs.Marked.{ruled_if, tile_room}
 use Rattle.row_runs.specs.declared.sheet_request.Laying.{Laying}
 use Rattle.row_runs.specs.declared.sheet_request.Laying.TheVariants as laying
-use Rattle.row_runs.specs.declared.sheet_request.Scheme.TheVariants as scheme
+use Rattle.row_sheets.specs.declared.fill.Scheme.TheVariants as scheme
 
 -- a line that is so far from the left edge of a paper, and one that lies so far from the lower one
 abbrev pub upright : GuideKind → Paper → (x : ℤ) → Guide

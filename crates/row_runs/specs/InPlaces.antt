@@ -21,7 +21,7 @@ use Rattle.row_runs.specs.Sheets.{AreAsked, MayBeAsked, laying_for, row_printed}
 use Rattle.row_runs.specs.declared.sheet_request.SheetRequest.{SheetRequest}
 use Rattle.row_runs.specs.declared.sheet_request.Laying.{Laying}
 use Rattle.row_runs.specs.declared.sheet_request.Laying.TheVariants as laying
-use Rattle.row_runs.specs.declared.sheet_request.Scheme.TheVariants as scheme
+use Rattle.row_sheets.specs.declared.fill.Scheme.TheVariants as scheme
 
 -- these sheets show all of the page of entry i: the poster has tiles, which are longer than they overlap, and each
 -- point of the page is shown on one of the entry's sheets

@@ -11,7 +11,7 @@ use Rattle.row_sheets.specs.Standing.{EntryCreeps, EntryFits}
 use Rattle.dressing.specs.AtFoot.{IsAtFoot, number_point}
 use Rattle.row_runs.specs.Numbers.{below_middle}
 use Rattle.row_runs.specs.declared.sheet_request.Laying.TheVariants as laying
-use Rattle.row_runs.specs.declared.sheet_request.Scheme.TheVariants as scheme
+use Rattle.row_sheets.specs.declared.fill.Scheme.TheVariants as scheme
 
 -- the number of the page in a slot is at the foot of this cell, in its middle, as pages of this turn are held
 abbrev pub SlotIsNumbered : Turn → Cell → (below : Option ℤ) → MadeSlot → Type 0

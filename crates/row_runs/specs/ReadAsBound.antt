@@ -14,7 +14,7 @@ use Rattle.row_sheets.specs.Bound.{faces_on, read_bound}
 use Rattle.row_runs.specs.Sheets.{AreAsked, MayBeAsked}
 use Rattle.row_runs.specs.declared.sheet_request.SheetRequest.{SheetRequest}
 use Rattle.row_runs.specs.declared.sheet_request.Laying.TheVariants as laying
-use Rattle.row_runs.specs.declared.sheet_request.Scheme.TheVariants as scheme
+use Rattle.row_sheets.specs.declared.fill.Scheme.TheVariants as scheme
 
 -- the sides of a booklet's leaves, folded and bound in signatures of so many, read leaf by leaf and signature by signature,
 -- are the row; after its end are the blanks that fill up the last signature

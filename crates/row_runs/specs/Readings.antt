@@ -18,7 +18,7 @@ use Rattle.preview.specs.declared.reading.Places.TheVariants.{Cells, Tiles}
 use Rattle.preview.specs.declared.reading.Reading.{Reading}
 use Rattle.row_runs.specs.declared.sheet_request.Laying.{Laying}
 use Rattle.row_runs.specs.declared.sheet_request.Laying.TheVariants as laying
-use Rattle.row_runs.specs.declared.sheet_request.Scheme.TheVariants as scheme
+use Rattle.row_sheets.specs.declared.fill.Scheme.TheVariants as scheme
 
 -- ---- edges
 

@@ -1,24 +1,19 @@
 -- The sheets that are asked for.
-use Rattle.std.specs.Prelude.{◌≡◌, ⊤, ℕ, ◌*◌, ◌/◌, ◌<◌, ◌≤◌, List, length, IsOk, IfSome, Option, Some, None, Ok, Result, option_map}
+use Rattle.std.specs.Prelude.{◌≡◌, ⊤, ℕ, ◌*◌, ◌/◌, ◌≤◌, List, length, IsOk, IfSome, Option, Some, None, Ok, Result, option_map}
 use Rattle.std.specs.Option.{option_or}
 use Rattle.rules.specs.Papers.{Paper}
 use Rattle.rules.specs.Run.{most_pages}
 use Rattle.rules.specs.Made.{MadeSheet}
 use Rattle.rules.specs.Rows.{Row}
 use Rattle.rules.specs.Choice.{RowFault, Signing, sides_for}
-use Rattle.layouts.specs.Cells.{size}
-use Rattle.layouts.specs.declared.error.ArrangementError.{ArrangementError}
 use Rattle.rows.specs.Printed.{asked_by, printed_row, row_read}
 use Rattle.rows.specs.Sewing.{MayBeSewn}
 use Rattle.rows.specs.Refusals.{RefusesRow}
 use Rattle.row_sheets.specs.BySpec.{by_spec}
 use Rattle.row_sheets.specs.RowSheets.{selected}
-use Rattle.row_sheets.specs.Filled.{Filling, card_sheets, duplex_sheets, grid_sheets, stack_sheets, zine_sheets}
-use Rattle.row_sheets.specs.Creep.{AreHalves, creeping_sheets, first_over_fold}
-use Rattle.row_sheets.specs.Shapes.{filling, first_refused}
+use Rattle.row_sheets.specs.Schemes.{FitBy, MayBeFilled, sheets_by_scheme, why_not_in}
+use Rattle.row_sheets.specs.Shapes.{filling}
 use Rattle.row_sheets.specs.Posters.{AllMayBePosters, first_no_poster, most_tiles, row_tiles}
-use Rattle.row_sheets.specs.Standing.{AllEntriesFit, AllFitOnLeaves}
-use Rattle.row_sheets.specs.Zine.{AreZineCells}
 use Rattle.sheet_plan.specs.MadeRefusals.{RefusesMade}
 use Rattle.sheet_plan.specs.declared.error.MadeError.{MadeError}
 use Rattle.row_runs.specs.Evened.{at_common_scale, why_not_even_if}
@@ -26,21 +21,13 @@ use Rattle.row_runs.specs.Limits.{IsLimit}
 use Rattle.row_runs.specs.declared.sheet_request.SheetRequest.{SheetRequest}
 use Rattle.row_runs.specs.declared.sheet_request.Laying.{Laying}
 use Rattle.row_runs.specs.declared.sheet_request.Laying.TheVariants as laying
-use Rattle.row_runs.specs.declared.sheet_request.Scheme.{Scheme}
-use Rattle.row_runs.specs.declared.sheet_request.Scheme.TheVariants as scheme
 use Rattle.row_runs.specs.declared.error.SheetError.{SheetError}
 use Rattle.row_runs.specs.declared.error.SheetError.TheVariants as error
 
--- a way of laying has at least one cell, and the sheet has all of them; those of a booklet are its halves, those of a
--- zine two rows of four; a poster has no more sheets than it may have, and no wider margins; a specification may be any
+-- the cells of a way of laying may be filled; a poster has no more sheets than it may have, and no wider margins; a specification may be any
 abbrev pub MayBeLaid : Laying → Type 0
 MayBeLaid (laying.AsTheyAre blank) = ⊤
-MayBeLaid (laying.InCells t (scheme.Grid cells)) = (0 < cells) × (cells ≤ size t.grid)
-MayBeLaid (laying.InCells t (scheme.Cards cells)) = (0 < cells) × (cells ≤ size t.grid)
-MayBeLaid (laying.InCells t (scheme.Stack cells)) = (0 < cells) × (cells ≤ size t.grid)
-MayBeLaid (laying.InCells t scheme.Leaves) = ⊤
-MayBeLaid (laying.InCells t (scheme.Booklet turned_backs creep)) = AreHalves t
-MayBeLaid (laying.InCells t scheme.Zine) = AreZineCells t
+MayBeLaid (laying.InCells t how) = MayBeFilled how t
 MayBeLaid (laying.Poster poster) = (poster.rows * poster.columns ≤ most_tiles) × (poster.edge ≤ 10_000_000_000)
 MayBeLaid (laying.BySpec spec sheet page) = ⊤
 
@@ -56,26 +43,12 @@ abbrev pub leaves_in : Option Signing → Row → ℕ
 leaves_in None row = 0
 leaves_in (Some how) row = sides_for how (length row) / 4
 
--- a row in the cells of sheets; if it is in signatures, each has so many leaves (RULES, 14)
-abbrev pub sheets_by_scheme : Scheme → Filling → (leaves : ℕ) → Row → List MadeSheet
-sheets_by_scheme (scheme.Grid cells) f leaves row = grid_sheets f cells row
-sheets_by_scheme (scheme.Cards cells) f leaves row = card_sheets f cells row
-sheets_by_scheme (scheme.Stack cells) f leaves row = stack_sheets f cells row
-sheets_by_scheme scheme.Leaves f leaves row = duplex_sheets f row
-sheets_by_scheme (scheme.Booklet turned_backs creep) f leaves row = creeping_sheets f turned_backs creep leaves row
-sheets_by_scheme scheme.Zine f leaves row = zine_sheets f row
-
 -- a row of pages with these papers, laid on sheets; by a specification all pages have one paper
 abbrev pub sheets_laid : Laying → (leaves : ℕ) → List Paper → Row → List MadeSheet
 sheets_laid (laying.AsTheyAre blank) leaves papers row = selected papers blank row
 sheets_laid (laying.InCells t how) leaves papers row = sheets_by_scheme how (filling t papers) leaves row
 sheets_laid (laying.Poster poster) leaves papers row = row_tiles poster papers row
 sheets_laid (laying.BySpec spec sheet page) leaves papers row = by_spec spec.now sheet page row
-
--- why it can't be in the cells: the first page of the row that doesn't fit its own
-abbrev pub why_not_in : Scheme → Filling → (leaves : ℕ) → Row → Option ArrangementError
-why_not_in (scheme.Booklet turned_backs creep) f leaves row = first_over_fold f creep leaves row
-why_not_in other f leaves row = first_refused f row
 
 -- why it can't be laid so: a page that doesn't fit its cell, or the first one that can't be a poster
 abbrev pub why_not_laid : Laying → (leaves : ℕ) → List Paper → Row → Option SheetError
@@ -87,8 +60,7 @@ why_not_laid (laying.BySpec spec sheet page) leaves papers row = None
 -- each page of the row has its place, laid so: for none of them there is such a reason
 abbrev pub FitAsLaid : Laying → (leaves : ℕ) → List Paper → Row → Type 0
 FitAsLaid (laying.AsTheyAre blank) leaves papers row = ⊤
-FitAsLaid (laying.InCells t (scheme.Booklet turned_backs creep)) leaves papers row = AllFitOnLeaves (filling t papers) creep leaves row
-FitAsLaid (laying.InCells t other) leaves papers row = AllEntriesFit (filling t papers) row
+FitAsLaid (laying.InCells t how) leaves papers row = FitBy how (filling t papers) leaves row
 FitAsLaid (laying.Poster poster) leaves papers row = AllMayBePosters poster papers row
 FitAsLaid (laying.BySpec spec sheet page) leaves papers row = ⊤
 

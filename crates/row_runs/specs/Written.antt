@@ -28,7 +28,7 @@ use Rattle.row_sheets.specs.Zine.{AreReadFolded, past_row, zine_turn}
 use Rattle.row_runs.specs.Turning.{turn_sum, turn_on, turned_item, turned_paper, turned_slot, all_by}
 use Rattle.row_runs.specs.declared.sheet_request.Laying.{Laying}
 use Rattle.row_runs.specs.declared.sheet_request.Laying.TheVariants as laying
-use Rattle.row_runs.specs.declared.sheet_request.Scheme.TheVariants as scheme
+use Rattle.row_sheets.specs.declared.fill.Scheme.TheVariants as scheme
 use Rattle.row_runs.specs.declared.run.RowJob.{RowJob}
 
 -- ---- neither moved nor turned

@@ -7,11 +7,12 @@ ghost use Rattle.row_runs.specs.Guides.{guides_with, note_guide as note_guide_of
 ghost use Rattle.row_runs.specs.Sheets.{MayBeLaid};
 
 use crate::marked::{ruled_if, tile_room};
-use crate::sheet_request::{Laying, Scheme};
+use crate::sheet_request::Laying;
 use dressing::{Marks, Stroke};
 use layouts::{Room, Setting, from_far, gap_at, in_grains};
 use lengths::{Grains, Paper};
 use preview::{Guide, GuideKind};
+use row_sheets::Scheme;
 use std::alloc::{AllocError, Global};
 
 /// The guides of a laying: its margins, the cuts of cards, stacks and leaves, the folds of booklets and zines, and the requested lines for notes of a

@@ -21,5 +21,5 @@ pub use declared_pages::declared_page_count;
 pub use error::{SheetError, plan_error};
 pub use look::{row_plan, row_preview};
 pub use run::RowJob;
-pub use sheet_request::{Laying, Scheme, SheetRequest, make_sheets};
+pub use sheet_request::{Laying, SheetRequest, make_sheets};
 pub use turning::turned_paper;

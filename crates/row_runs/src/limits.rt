@@ -2,7 +2,8 @@
 ghost use Rattle.std.specs.Prelude.{◌≡◌, ◌<◌, ◌^◌};
 ghost use Rattle.row_runs.specs.Limits.{limit_in as limit_of_laying, limit_passed as first_passed};
 
-use crate::sheet_request::{Laying, Scheme};
+use crate::sheet_request::Laying;
+use row_sheets::Scheme;
 use sheet_plan::MadeError;
 
 /// The greatest number of sheets in a plan.

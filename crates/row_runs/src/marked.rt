@@ -5,10 +5,10 @@ ghost use Rattle.row_runs.specs.Marked.{tile_room as tile_room_of};
 ghost use Rattle.row_runs.specs.Sheets.{MayBeLaid};
 
 use crate::reading::tiles_of;
-use crate::sheet_request::{Laying, Scheme};
+use crate::sheet_request::Laying;
 use dressing::{Marks, Stroke, cut_marks, fold_marks, note_lines, outer_cut_marks, tile_marks};
 use layouts::{Room, Setting};
-use row_sheets::Poster;
+use row_sheets::{Poster, Scheme};
 use std::alloc::{AllocError, Global};
 
 /// The strokes that are drawn on each sheet of a laying, for the requested marks. Grids, cards, stacks, leaves and posters have cut marks, and

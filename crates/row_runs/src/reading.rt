@@ -8,12 +8,12 @@ ghost use Rattle.preview.specs.declared.reading.Places.TheVariants.{Cells};
 ghost use Rattle.row_runs.specs.Readings.{edge_at_side as edge_of, height_read, listed as listed_grid, most_items as most_items_in, places_read, reading_in, sides_by as sides_of_swapped_room, sides_in, single as single_grid};
 ghost use Rattle.row_runs.specs.Readings.{edge_as_printed as edge_printed, tiles_in, width_read};
 
-use crate::sheet_request::{Laying, Scheme};
+use crate::sheet_request::Laying;
 use layouts::{FillOrder, Grid, Order, Room, Setting, Turned, extent};
 use lengths::Paper;
 use pagespec::{Item, Spec};
 use preview::{Edge, Places, Reading, Sides};
-use row_sheets::Poster;
+use row_sheets::{Poster, Scheme};
 
 /// The sides on which the sheets of a laying are printed, and the places of pages on each sheet. If `swap` is given, its left and right margins are
 /// exchanged on backs.

@@ -2,12 +2,10 @@
 ghost use Rattle.std.specs.Prelude.{◌≡◌, ◌<◌, ◌≤◌, IfErr, IfOk, IfSome, OnOk, Ok, None, Some, length, option_map, ℕ};
 ghost use Rattle.rules.specs.Choice.{most_entries};
 ghost use Rattle.rows.specs.Sewing.{MayBeSewn, signing_of};
-ghost use Rattle.layouts.specs.Refusals.{IsArrangementFault};
-ghost use Rattle.row_sheets.specs.Shapes.{filling};
 ghost use Rattle.row_runs.specs.Errors.{of_arrangement, of_poster, of_row};
 ghost use Rattle.row_runs.specs.Limits.{AreFewAsLaid, limit_in as limit_of_laying};
 ghost use Rattle.row_runs.specs.Sheets.{AreAsked, FitAsLaid, MayBeAsked, MayBeLaid, RefusesAsked, RefusesLaying};
-ghost use Rattle.row_runs.specs.Sheets.{leaves_in as leaves_of_signature, sheets_by_scheme, sheets_laid, why_not_in};
+ghost use Rattle.row_runs.specs.Sheets.{leaves_in as leaves_of_signature, sheets_laid};
 ghost use Rattle.row_runs.specs.Standing.{StandAsLaid};
 
 use crate::error::{SheetError, plan_error};
@@ -17,9 +15,8 @@ use layouts::{ArrangementError, Setting};
 use lengths::Paper;
 use pagespec::Spec;
 use row_sheets::{
-    Creep, Poster, PosterError, SpecOnRow, card_sheets, check_cells, check_posters,
-    creeping_booklet_sheets, grid_sheets, leaf_sheets, poster_row_sheets, select, spec_sheets,
-    stack_sheets, zine_sheets,
+    Poster, PosterError, Scheme, SpecOnRow, check_cells, check_posters, fill_row,
+    poster_row_sheets, select, spec_sheets,
 };
 use rows::{RowError, RowRequest, Signing};
 use sheet_plan::{MadeError, MadeSheets};
@@ -69,28 +66,6 @@ impl<'l> Laying<'l> {
             },
         }
     }
-}
-
-/// The ways in which the entries of a row are put into the cells of sheets.
-#[derive(Clone, Copy)]
-pub enum Scheme {
-    /// Each sheet takes the next `cells` entries of the row.
-    Grid { cells: u32 },
-    /// Each sheet has one entry, in all its `cells` cells.
-    Cards { cells: u32 },
-    /// The row runs through one cell of all sheets before it runs through the next cell. Each sheet has `cells` cells.
-    Stack { cells: u32 },
-    /// As in a stack, the row runs through one cell of all leaves before it runs through the next cell. It takes both sides of each leaf, and all
-    /// cells of the grid.
-    Leaves,
-    /// Each side of a leaf has two entries of a row in signatures. Backs are rotated by 180 degrees for printers that flip a sheet on its long edge
-    /// (`turned_backs`). In each signature, pages are moved towards the fold: on the innermost leaf by `creep`, in 10^-5 of a point, and on the
-    /// outermost leaf not at all. The only leaf of a signature counts as outermost. From leaf to leaf the distance grows in equal steps, rounded
-    /// down.
-    Booklet { turned_backs: bool, creep: u64 },
-    /// A sheet is folded and cut into a booklet. It has eight entries on one side, in two rows of four cells. Pages of the upper row are rotated by
-    /// 180 degrees.
-    Zine,
 }
 
 /// A request for sheets of a document.
@@ -200,7 +175,7 @@ pub(crate) fn lay_row(
     match laying {
         Laying::AsTheyAre { blank } => Ok(select(alloc, row, papers, blank)?),
         Laying::InCells { setting, scheme } => {
-            match lay_in_cells(alloc, setting, scheme, leaves, papers, row) {
+            match fill_row(alloc, setting, papers, scheme, leaves, row) {
                 Ok(sheets) => Ok(sheets),
                 Err(error) => Err(arrangement_error(error)),
             }
@@ -248,39 +223,5 @@ fn over_limit(
             Err(error) => poster_error(error),
         },
         Laying::AsTheyAre { .. } | Laying::BySpec { .. } => unreachable!(),
-    }
-}
-
-/// Lays a row in the cells of sheets.
-fn lay_in_cells(
-    alloc: Global,
-    setting: &Setting,
-    scheme: &Scheme,
-    leaves: u32,
-    papers: &[Paper],
-    row: &[Option<u32>],
-) -> Result<MadeSheets, ArrangementError>
-    requires { MayBeLaid (Laying.InCells setting.now scheme.now) }
-    ensures made { IfOk result (λ made. made ≡ sheets_by_scheme scheme.now (filling setting.now papers.now) leaves row.now) }
-    ensures stands { IfOk result (StandAsLaid (Laying.InCells setting.now scheme.now)) }
-    ensures fits { OnOk result (FitAsLaid (Laying.InCells setting.now scheme.now) leaves papers.now row.now) }
-    ensures refused { IfErr result (IsArrangementFault (why_not_in scheme.now (filling setting.now papers.now) leaves row.now)) }
-{
-    match scheme {
-        Scheme::Grid { cells } => grid_sheets(alloc, setting, papers, *cells, row),
-        Scheme::Cards { cells } => card_sheets(alloc, setting, papers, *cells, row),
-        Scheme::Stack { cells } => stack_sheets(alloc, setting, papers, *cells, row),
-        Scheme::Leaves => leaf_sheets(alloc, setting, papers, row),
-        Scheme::Booklet {
-            turned_backs,
-            creep,
-        } => {
-            let creep = Creep {
-                innermost: *creep,
-                leaves,
-            };
-            creeping_booklet_sheets(alloc, setting, papers, *turned_backs, creep, row)
-        }
-        Scheme::Zine => zine_sheets(alloc, setting, papers, row),
     }
 }

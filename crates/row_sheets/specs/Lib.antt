@@ -17,3 +17,4 @@ pub mod Posters
 pub mod Specified
 pub mod AsPrinted
 pub mod AsDocument
+pub mod Schemes

@@ -25,12 +25,12 @@ use std::alloc::Global;
 
 /// The creep of the leaves in each signature.
 #[derive(Clone, Copy, Debug, PartialEq, Eq)]
-pub struct Creep {
+pub(crate) struct Creep {
     /// The distance by which pages on the innermost leaf are moved towards the fold, in 10^-5 of a point. Pages on the outermost leaf aren't moved,
     /// nor are pages in a signature of one leaf.
-    pub innermost: u64,
+    pub(crate) innermost: u64,
     /// The number of leaves in a signature.
-    pub leaves: u32,
+    pub(crate) leaves: u32,
 }
 
 /// A side of a leaf: whether it is rotated by 180 degrees, and the distance by which its pages are moved, in 10^-5 of a point.
@@ -45,7 +45,7 @@ struct LeafSide {
 /// 180 degrees, for printers that flip a sheet on its long edge. Each page is moved towards the fold by the creep of its leaf. A page whose paper
 /// isn't in `papers` has the paper of the sheet. Fails with the error of the first page that can't be placed in its half or would cross the fold.
 /// Without enough memory the error is `NoMemory`.
-pub fn creeping_booklet_sheets(
+pub(crate) fn booklet_sheets(
     alloc: Global,
     setting: &Setting,
     papers: &[Paper],

@@ -8,14 +8,16 @@ ghost use Rattle.rules.specs.Made.{Placed};
 ghost use Rattle.pagespec.specs.Items.{item_of};
 ghost use Rattle.sheet_plan.specs.OfSheets.{placed_of, slot_of, slots_at};
 ghost use Rattle.row_sheets.specs.Filled.{behind_in, slot_in_cell as slot_of_cell, back_slot_in as back_slot_of_cell};
-ghost use Rattle.row_sheets.specs.Filled.{grid_sheets as grid_of, card_sheets as cards_of, stack_sheets as stack_of};
-ghost use Rattle.row_sheets.specs.Filled.{duplex_sheets as leaves_of, zine_place as place_in_zine, zine_sheets as zine_of};
+ghost use Rattle.row_sheets.specs.Filled.{zine_place as place_in_zine};
+ghost use Rattle.row_sheets.specs.Schemes.{FitBy, MayBeFilled, StandBy, sheets_by_scheme, why_not_in};
+ghost use Rattle.layouts.specs.Refusals.{IsArrangementFault};
 ghost use Rattle.row_sheets.specs.Shapes.{filling, is_folded, is_two_sided, sheets_by, sheet_count, shape_place as place_of, cell_on};
 ghost use Rattle.row_sheets.specs.Shapes.{entry_in_cell, filled_by, cell_slot as slot_made_by, IsRefusedFor};
 ghost use Rattle.row_sheets.specs.Standing.{AllEntriesFit, AllStand, EntryFits, IsOfCell};
 ghost use Rattle.row_sheets.specs.Zine.{AreZineCells, closer, kept_by};
 
 use super::checked::check_cells;
+use super::creep::{Creep, booklet_sheets};
 use super::selecting::paper_or;
 use layouts::{ArrangementError, FillOrder, Setting, read_sides};
 use lengths::Paper;
@@ -23,6 +25,28 @@ use pagespec::Item;
 use rows::entry_at;
 use sheet_plan::{MadeSheets, MadeSlot, PlacedSlot};
 use std::alloc::Global;
+
+/// The ways in which the entries of a row are put into the cells of sheets.
+#[derive(Clone, Copy)]
+pub enum Scheme {
+    /// Each sheet takes the next `cells` entries of the row.
+    Grid { cells: u32 },
+    /// Each sheet has one entry, in all its `cells` cells.
+    Cards { cells: u32 },
+    /// The row runs through one cell of all sheets before it runs through the next cell. Each sheet has `cells` cells.
+    Stack { cells: u32 },
+    /// As in a stack, the row runs through one cell of all leaves before it runs through the next cell. It takes both sides of each leaf, and all
+    /// cells of the grid.
+    Leaves,
+    /// Each side of a leaf has two entries of a row in signatures. Backs are rotated by 180 degrees for printers that flip a sheet on its long edge
+    /// (`turned_backs`). In each signature, pages are moved towards the fold: on the innermost leaf by `creep`, in 10^-5 of a point, and on the
+    /// outermost leaf not at all. The only leaf of a signature counts as outermost. From leaf to leaf the distance grows in equal steps, rounded
+    /// down.
+    Booklet { turned_backs: bool, creep: u64 },
+    /// A sheet is folded and cut into a booklet. It has eight entries on one side, in two rows of four cells. Pages of the upper row are rotated by
+    /// 180 degrees.
+    Zine,
+}
 
 /// The ways in which a row fills the cells of sheets.
 #[derive(Clone, Copy, Debug, PartialEq, Eq)]
@@ -50,125 +74,47 @@ struct RowFilling<'r> {
     row: &'r [Option<u32>],
 }
 
-/// The sheets of a grid with this number of cells. The row fills them cell by cell and sheet by sheet. A page whose paper isn't in `papers` has the
+/// The sheets of a row in cells. If the row is in signatures, `leaves` is the number of leaves in each. A page whose paper isn't in `papers` has the
 /// paper of the sheet. Fails with the error of the first page that can't be placed, or else with `NoMemory`.
-pub fn grid_sheets(
+pub fn fill_row(
     alloc: Global,
     setting: &Setting,
     papers: &[Paper],
-    cells: u32,
+    scheme: &Scheme,
+    leaves: u32,
     row: &[Option<u32>],
 ) -> Result<MadeSheets, ArrangementError>
-    requires some { 0 < cells }
-    requires cells { cells ≤ size setting.now.grid }
-    ensures made { IfOk result (λ made. made ≡ grid_of (filling setting.now papers.now) cells row.now) }
-    ensures stands { IfOk result (AllStand setting.now.room) }
-    ensures fits { OnOk result (AllEntriesFit (filling setting.now papers.now) row.now) }
-    ensures refused { IfErr result (IsRefusedFor (filling setting.now papers.now) row.now) }
+    requires { MayBeFilled scheme.now setting.now }
+    ensures made { IfOk result (λ made. made ≡ sheets_by_scheme scheme.now (filling setting.now papers.now) leaves row.now) }
+    ensures stands { IfOk result (StandBy scheme.now setting.now) }
+    ensures fits { OnOk result (FitBy scheme.now (filling setting.now papers.now) leaves row.now) }
+    ensures refused { IfErr result (IsArrangementFault (why_not_in scheme.now (filling setting.now papers.now) leaves row.now)) }
 {
     let filling = RowFilling {
         setting,
         papers,
         row,
     };
-    filling.fill(alloc, CellKind::Grid, cells)
-}
-
-/// The sheets of cards: each entry of the row is in all cells of one sheet. A page whose paper isn't in `papers` has the paper of the sheet. Fails
-/// with the error of the first page that can't be placed, or else with `NoMemory`.
-pub fn card_sheets(
-    alloc: Global,
-    setting: &Setting,
-    papers: &[Paper],
-    cells: u32,
-    row: &[Option<u32>],
-) -> Result<MadeSheets, ArrangementError>
-    requires some { 0 < cells }
-    requires cells { cells ≤ size setting.now.grid }
-    ensures made { IfOk result (λ made. made ≡ cards_of (filling setting.now papers.now) cells row.now) }
-    ensures stands { IfOk result (AllStand setting.now.room) }
-    ensures fits { OnOk result (AllEntriesFit (filling setting.now papers.now) row.now) }
-    ensures refused { IfErr result (IsRefusedFor (filling setting.now papers.now) row.now) }
-{
-    let filling = RowFilling {
-        setting,
-        papers,
-        row,
-    };
-    filling.fill(alloc, CellKind::Cards, cells)
-}
-
-/// The sheets of a stack. If the sheets are cut between the cells and the piles are laid on one another, the pages are in the order of the row. A
-/// page whose paper isn't in `papers` has the paper of the sheet. Fails with the error of the first page that can't be placed, or else with
-/// `NoMemory`.
-pub fn stack_sheets(
-    alloc: Global,
-    setting: &Setting,
-    papers: &[Paper],
-    cells: u32,
-    row: &[Option<u32>],
-) -> Result<MadeSheets, ArrangementError>
-    requires some { 0 < cells }
-    requires cells { cells ≤ size setting.now.grid }
-    ensures made { IfOk result (λ made. made ≡ stack_of (filling setting.now papers.now) cells row.now) }
-    ensures stands { IfOk result (AllStand setting.now.room) }
-    ensures fits { OnOk result (AllEntriesFit (filling setting.now papers.now) row.now) }
-    ensures refused { IfErr result (IsRefusedFor (filling setting.now papers.now) row.now) }
-{
-    let filling = RowFilling {
-        setting,
-        papers,
-        row,
-    };
-    filling.fill(alloc, CellKind::Stack, cells)
-}
-
-/// The sheets of a stack of leaves that are printed on both sides, with each front followed by its back. If the leaves are cut between the cells and
-/// the piles are laid on one another, the pages on fronts and backs are in the order of the row. A page whose paper isn't in `papers` has the paper
-/// of the sheet. Fails with the error of the first page that can't be placed, or else with `NoMemory`.
-pub fn leaf_sheets(
-    alloc: Global,
-    setting: &Setting,
-    papers: &[Paper],
-    row: &[Option<u32>],
-) -> Result<MadeSheets, ArrangementError>
-    ensures made { IfOk result (λ made. made ≡ leaves_of (filling setting.now papers.now) row.now) }
-    ensures stands { IfOk result (AllStand setting.now.room) }
-    ensures fits { OnOk result (AllEntriesFit (filling setting.now papers.now) row.now) }
-    ensures refused { IfErr result (IsRefusedFor (filling setting.now papers.now) row.now) }
-{
-    let filling = RowFilling {
-        setting,
-        papers,
-        row,
-    };
-    match u32::try_from(setting.grid.size()) {
-        Ok(cells) => filling.fill(alloc, CellKind::Leaves, cells),
-        Err(_) => Err(filling.first_refusal()),
+    match scheme {
+        Scheme::Grid { cells } => filling.fill(alloc, CellKind::Grid, *cells),
+        Scheme::Cards { cells } => filling.fill(alloc, CellKind::Cards, *cells),
+        Scheme::Stack { cells } => filling.fill(alloc, CellKind::Stack, *cells),
+        Scheme::Leaves => match u32::try_from(setting.grid.size()) {
+            Ok(cells) => filling.fill(alloc, CellKind::Leaves, cells),
+            Err(_) => Err(filling.first_refusal()),
+        },
+        Scheme::Booklet {
+            turned_backs,
+            creep,
+        } => {
+            let creep = Creep {
+                innermost: *creep,
+                leaves,
+            };
+            booklet_sheets(alloc, setting, papers, *turned_backs, creep, row)
+        }
+        Scheme::Zine => filling.fill(alloc, CellKind::Zine, 8),
     }
-}
-
-/// The sheets of zines. Each sheet has eight entries on one side, is folded three times and is cut once. The setting must have two rows of four
-/// cells, with gaps, equal opposite margins and no trim. Pages in the first row of cells are rotated by 180 degrees. A page whose paper isn't in
-/// `papers` has the paper of the sheet. Fails with the error of the first page that can't be placed, or else with `NoMemory`.
-pub fn zine_sheets(
-    alloc: Global,
-    setting: &Setting,
-    papers: &[Paper],
-    row: &[Option<u32>],
-) -> Result<MadeSheets, ArrangementError>
-    requires { AreZineCells setting.now }
-    ensures made { IfOk result (λ made. made ≡ zine_of (filling setting.now papers.now) row.now) }
-    ensures stands { IfOk result (AllStand (closer setting.now.room)) }
-    ensures fits { OnOk result (AllEntriesFit (filling setting.now papers.now) row.now) }
-    ensures refused { IfErr result (IsRefusedFor (filling setting.now papers.now) row.now) }
-{
-    let filling = RowFilling {
-        setting,
-        papers,
-        row,
-    };
-    filling.fill(alloc, CellKind::Zine, 8)
 }
 
 impl RowFilling<'_> {

@@ -14,8 +14,7 @@ mod selecting;
 
 pub use by_spec::{SpecOnRow, spec_sheets};
 pub use checked::{check_cells, check_posters};
-pub use creep::{Creep, creeping_booklet_sheets};
-pub use fill::{card_sheets, grid_sheets, leaf_sheets, stack_sheets, zine_sheets};
+pub use fill::{Scheme, fill_row};
 pub use poster::{Poster, PosterError, check_poster, poster_sheets};
 pub use poster_rows::poster_row_sheets;
 pub use same_scale::at_one_scale;

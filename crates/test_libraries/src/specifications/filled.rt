@@ -7,10 +7,7 @@ use crate::specifications::planned::page_lists;
 use crate::words::{count, number, paper, row, word};
 use layouts::{Arrangement, ArrangementError, Cells, Papers, Setting};
 use lengths::{Paper, a4};
-use row_sheets::{
-    Poster, card_sheets, check_poster, grid_sheets, leaf_sheets, poster_row_sheets, poster_sheets,
-    stack_sheets,
-};
+use row_sheets::{Poster, Scheme, check_poster, fill_row, poster_row_sheets, poster_sheets};
 use sheet_plan::{MadeSheets, Plan};
 
 pub fn run(out: &mut Answer, words: &[String]) -> Option<()> {
@@ -50,13 +47,14 @@ fn filled(out: &mut Answer, words: &[String], papers: &[Paper]) -> Option<()> {
     let (alloc, way) = (out.alloc, word(words, 1)?);
     let row = row(alloc, words.get(2..)?)?;
     let row = row.as_slice();
-    let made = match way {
-        "grid" => grid_sheets(alloc, &setting, papers, 2, row),
-        "cards" => card_sheets(alloc, &setting, papers, 2, row),
-        "stack" => stack_sheets(alloc, &setting, papers, 2, row),
-        "leaves" => leaf_sheets(alloc, &setting, papers, row),
+    let scheme = match way {
+        "grid" => Scheme::Grid { cells: 2 },
+        "cards" => Scheme::Cards { cells: 2 },
+        "stack" => Scheme::Stack { cells: 2 },
+        "leaves" => Scheme::Leaves,
         _ => return None,
     };
+    let made = fill_row(alloc, &setting, papers, &scheme, 0, row);
     show(out, made);
     Some(())
 }

@@ -6,7 +6,7 @@ use layouts::{ArrangementError, Setting};
 use lengths::{Grains, Number, Paper, a4};
 use pagespec::{Item, Measure, Turn};
 use preview::{Edge, Guide, GuideKind, Places, Reading, Sides, plan_text, preview_text};
-use row_sheets::grid_sheets;
+use row_sheets::{Scheme, fill_row};
 use sheet_plan::{MadeSheets, MadeSlot};
 use std::alloc::{AllocError, Global};
 
@@ -24,7 +24,14 @@ pub fn run(out: &mut Answer, words: &[String]) -> Option<()> {
 fn booklet_plan(out: &mut Answer, words: &[String]) -> Option<()> {
     let (setting, most) = (two_columns()?, count(words, 1)?);
     let row = row(out.alloc, words.get(2..)?)?;
-    let made = grid_sheets(out.alloc, &setting, &[], 2, row.as_slice());
+    let made = fill_row(
+        out.alloc,
+        &setting,
+        &[],
+        &Scheme::Grid { cells: 2 },
+        0,
+        row.as_slice(),
+    );
     let sides = Sides::Both { flip: Edge::Short };
     show(out, made, &reading(sides, &setting), most);
     Some(())
@@ -36,7 +43,14 @@ fn grid_plan(out: &mut Answer, words: &[String]) -> Option<()> {
     let (setting, most) = (two_columns()?, count(words, 1)?);
     let papers = [a4(), paper(words, 2)?, a4()];
     let row = row(out.alloc, words.get(3..)?)?;
-    let made = grid_sheets(out.alloc, &setting, &papers, 2, row.as_slice());
+    let made = fill_row(
+        out.alloc,
+        &setting,
+        &papers,
+        &Scheme::Grid { cells: 2 },
+        0,
+        row.as_slice(),
+    );
     show(out, made, &reading(Sides::One, &setting), most);
     Some(())
 }

@@ -5,7 +5,7 @@ use Rattle.layouts.specs.Grids.{leaf_order}
 use Rattle.layouts.specs.Refusals.{error_unless, is_length, why_not_bound}
 use Rattle.layouts.specs.declared.error.ArrangementError.TheVariants as why
 use Rattle.row_runs.specs.declared.sheet_request.Laying.TheVariants as laying
-use Rattle.row_runs.specs.declared.sheet_request.Scheme.TheVariants as scheme
+use Rattle.row_sheets.specs.declared.fill.Scheme.TheVariants as scheme
 use Rattle.impose_words.specs.Spacings.{binding_in}
 use Rattle.impose_messages.specs.declared.fault.ImposeFault.TheVariants as fault
 use Rattle.impose_cli.proofs.laying.booklet_laying.Goals as goal

@@ -2,7 +2,8 @@ use Rattle.std.proofs.Common.{ap, subst, sym}
 use Rattle.std.specs.Prelude.{All}
 use Rattle.row_sheets.specs.Posters.{first_no_poster}
 use Rattle.row_sheets.specs.Shapes.{filling}
-use Rattle.row_runs.specs.Sheets.{why_not_in, why_not_laid}
+use Rattle.row_runs.specs.Sheets.{why_not_laid}
+use Rattle.row_sheets.specs.Schemes.{why_not_in}
 use Rattle.row_runs.specs.Standing.{StandAsLaid, HoldsOnePage}
 use Rattle.row_runs.proofs.Alone.{selected_alone}
 use Rattle.row_runs.proofs.NotLaid.{cells_told, posters_told}
