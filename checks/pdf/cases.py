@@ -175,7 +175,8 @@ def prepared(case: Case, folder: Path) -> None:
         elif kind == "text":
             (folder / rest[0]).write_bytes(rest[1].encode().decode("unicode_escape").encode("latin-1"))
         elif kind == "link":
-            (folder / rest[0]).symlink_to(rest[1])
+            linked = os.link if "hard" in rest else os.symlink
+            linked(folder / rest[1] if "hard" in rest else rest[1], folder / rest[0])
     for kind, *rest in case.settings:
         if kind == "rights":
             (folder / rest[0]).chmod(int(rest[1], 8))
@@ -243,7 +244,7 @@ def ran(case: Case, programs: Programs, folder: Path) -> Run:
         if may_open:
             resource.setrlimit(resource.RLIMIT_NOFILE, (int(may_open[0]), int(may_open[-1])))
 
-    impose, papersize, stdin = programs.impose, case.setting("papersize") or ["a4"], case.setting("stdin")
+    impose, papersize = programs.impose, case.setting("papersize") or ["a4"]
     if named := case.setting("impose"):
         impose = Path(named[0])
     if case.setting("signal"):
@@ -260,9 +261,7 @@ def ran(case: Case, programs: Programs, folder: Path) -> Run:
     }
     words = [*runner(case, inside), str(programs.impose_pdf), *case.words]
     began = time.monotonic()
-    with tempfile.TemporaryFile() as source, open("/dev/full", "wb") as full:
-        source.write(case.documents[stdin[0]].data if stdin else b"")
-        source.seek(0)
+    with source_of(case, inside) as source, open("/dev/full", "wb") as full:
         to: IO[bytes] | int = subprocess.PIPE
         match case.setting("stdout"):
             case ["full"]:
@@ -287,6 +286,17 @@ def ran(case: Case, programs: Programs, folder: Path) -> Run:
         time.monotonic() - began,
         before,
     )
+
+
+def source_of(case: Case, folder: Path) -> IO[bytes]:
+    """Standard input: a document, as a file without a name, or the one in the folder if the setting says here."""
+    stdin = case.setting("stdin") or [""]
+    if "here" in stdin:
+        return open(folder / stdin[0], "r+b")
+    source = tempfile.TemporaryFile()
+    source.write(case.documents[stdin[0]].data if stdin[0] else b"")
+    source.seek(0)
+    return source
 
 
 def closed() -> int:

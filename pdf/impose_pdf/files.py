@@ -25,6 +25,34 @@ def take_last(request: Request) -> None:
         request.infiles.append((name, ""))
 
 
+def check_preview(request: Request) -> None:
+    """Refuses to draw over an INFILE, or over a document that this program didn't write."""
+    name = request.options.get("--preview", "-")
+    try:
+        there = os.stat(name)
+    except OSError:
+        return  # it is -, or impose says what is wrong
+    for infile, _ in request.infiles:
+        if is_at(infile, there):
+            cure = "name another file, as sheets.svg, or - for standard output"
+            raise refusal(2, f"--preview would write over {shown(infile)}, which is read: {cure}")
+    if stat.S_ISREG(there.st_mode) and not request.replaces and os.access(name, os.R_OK) and is_foreign(name):
+        raise not_ours(shown(name), "file")
+
+
+def is_at(infile: str, there: os.stat_result) -> bool:
+    """Whether an INFILE is this file, under whatever name."""
+    try:
+        return os.path.samestat(there, os.fstat(0) if infile == "-" else os.stat(infile))
+    except OSError:
+        return False  # it can't be read
+
+
+def not_ours(name: str, other: str) -> Refusal:
+    """The refusal to replace a document of another program."""
+    return refusal(2, f"{name} wasn't written by impose-pdf; --replace replaces it, or name another {other}")
+
+
 class Outfile:
     """A place for a PDF."""
 
@@ -49,9 +77,7 @@ class Outfile:
             return
         names = [name for name, _ in request.infiles if name != "-"]
         if not any(os.path.samefile(name, self.given) for name in names) and is_foreign(self.given):
-            raise refusal(
-                2, f"{self.name} wasn't written by impose-pdf; --replace replaces it, or name another OUTFILE"
-            )
+            raise not_ours(self.name, "OUTFILE")
 
     def warning(self) -> str:
         """The line about a file that is named as another kind of file."""

@@ -111,11 +111,12 @@ def look_at_words(request: Request, program: str) -> None:
 def impose(request: Request, program: str) -> None:
     """Puts the pages of INFILEs on sheets."""
     from impose_pdf.document import Source, warnings_of
-    from impose_pdf.files import Outfile, take_last
+    from impose_pdf.files import Outfile, check_preview, take_last
     from impose_pdf.making import Making
     from impose_pdf.sheets import turn_to_read
 
     take_last(request)
+    check_preview(request)
     outfile = None if request.looks else Outfile(request.outfile)
     try:
         opened = {name: Source(name) for name in dict.fromkeys(name for name, _ in request.infiles)}
