@@ -14,7 +14,7 @@ from impose_pdf.links import Link, Ways
 from impose_pdf.pages import Box, bounds, box_of, common, leaves, number_of, shape_of, then
 from impose_pdf.plan import POSTSCRIPT, Placed, Size
 from impose_pdf.trees import named
-from impose_pdf.words import RANGES, pages_of, refusal, shown
+from impose_pdf.words import RANGES, cause_of, pages_of, refusal, shown
 
 LEAST, MOST = 1, 100_000  # points: the sides of pages that impose knows
 
@@ -102,7 +102,7 @@ class Source:
         except PdfError as error:
             raise refusal(1, f"{shown(name)} can't be read: {cause(error, name)}") from None
         except OSError as error:
-            raise refusal(3, f"cannot read {shown(name)}: {(error.strerror or '').lower()}") from None
+            raise refusal(3, f"cannot read {shown(name)}: {cause_of(error)}") from None
         if not self.pages:
             raise refusal(1, f"{shown(name)} has no pages")
         self.keep_warnings()

@@ -6,10 +6,11 @@ import stat
 from pikepdf import DataDecodingError, Pdf
 
 from impose_pdf.foreign import is_foreign
-from impose_pdf.words import Refusal, Request, refusal, shown
+from impose_pdf.words import Refusal, Request, cause_of, refusal, shown
 from impose_pdf.writing import Place, hand_over, saved
 
 OTHER_ENDINGS = (".ps", ".eps", ".svg", ".gz", ".txt", ".png", ".jpg", ".jpeg")
+MOST_LINKS = 40  # one after another, as Linux follows them
 
 
 def take_last(request: Request) -> None:
@@ -58,18 +59,44 @@ class Outfile:
 
     def __init__(self, name: str):
         self.name, self.given = "standard output" if name == "-" else shown(name), name
+        if name != "-" and os.path.basename(name) in ("", ".", ".."):
+            raise self.refused("it is a folder")
         try:
             self.mode = os.stat(name).st_mode if name != "-" else stat.S_IFIFO
-        except OSError:
-            self.mode = 0  # it isn't there
+        except FileNotFoundError:
+            self.mode = 0
+        except OSError as error:
+            raise self.refused(cause_of(error)) from None
         if stat.S_ISDIR(self.mode):
-            raise refusal(3, f"cannot write {self.name}: it is a folder")
+            raise self.refused("it is a folder")
         if name == "-" and os.isatty(1):
             raise refusal(2, "a terminal shows no PDF: name an OUTFILE, or print it by: impose-pdf .. - | lp")
         self.is_file = not self.mode or stat.S_ISREG(self.mode)
         if self.is_file:
-            self.place = Place(*os.path.split(os.path.realpath(name)), self.mode)
+            self.place = Place(*self.resolved(), self.mode)
             self.look()
+
+    def refused(self, why: str) -> Refusal:
+        """The refusal of a place that can't be written."""
+        return refusal(3, f"cannot write {self.name}: {why}")
+
+    def resolved(self) -> tuple[str, str]:
+        """The folder and the name of the file that symbolic links lead to. That may not be there as yet."""
+        path = self.given
+        for _ in range(MOST_LINKS):
+            folder, last = os.path.split(path)
+            if last in ("", ".", ".."):
+                break
+            try:
+                folder = os.path.realpath(folder or ".", strict=True)
+            except OSError as error:
+                missing = isinstance(error, (FileNotFoundError, NotADirectoryError))
+                raise self.refused("no such folder" if missing else cause_of(error)) from None
+            path = os.path.join(folder, last)
+            if not os.path.islink(path):
+                return folder, last
+            path = os.path.join(folder, os.readlink(path))
+        raise self.refused("it is a link to no file")
 
     def check_owner(self, request: Request) -> None:
         """Refuses to replace a document that this program didn't write: perhaps OUTFILE was forgotten."""
@@ -86,12 +113,10 @@ class Outfile:
 
     def look(self) -> None:
         """Refuses a file that can't be replaced."""
-        if not os.path.isdir(self.place.folder):
-            raise refusal(3, f"cannot write {self.name}: no such folder")
         if self.mode and not os.access(self.given, os.W_OK):
-            raise refusal(3, f"cannot write {self.name}: permission denied")
+            raise self.refused("permission denied")
         if not os.access(self.place.folder, os.W_OK | os.X_OK):
-            raise refusal(3, f"cannot write {self.name}: permission denied in its folder")
+            raise self.refused("permission denied in its folder")
 
     def write(self, pdf: Pdf) -> None:
         """Writes the PDF, or leaves the place as it was."""
@@ -103,7 +128,7 @@ class Outfile:
         except BrokenPipeError:
             raise Refusal(3, "") from None  # a reader that leaves knows why
         except OSError as error:
-            raise refusal(3, f"cannot write {self.name}: {(error.strerror or str(error)).lower()}") from None
+            raise self.refused(cause_of(error)) from None
 
     def put(self, pdf: Pdf, is_packed: bool) -> None:
         """Writes the PDF, with streams packed anew or not."""

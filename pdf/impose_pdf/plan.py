@@ -11,7 +11,7 @@ from collections.abc import Sequence
 from dataclasses import dataclass, field
 
 from impose_pdf.lines import Lines
-from impose_pdf.words import Refusal, Request, refusal, shown
+from impose_pdf.words import Refusal, Request, cause_of, refusal, shown
 
 Matrix = tuple[float, float, float, float, float, float]
 Size = tuple[float, float]
@@ -130,7 +130,7 @@ def stub(sizes: Sequence[Size], paper: Size) -> bytes:
 
 def cannot_run(program: str, error: OSError) -> Refusal:
     """The refusal where impose can't be run."""
-    return refusal(3, f"cannot run {shown(program)}: {(error.strerror or '').lower()}")
+    return refusal(3, f"cannot run {shown(program)}: {cause_of(error)}")
 
 
 class Imposer:

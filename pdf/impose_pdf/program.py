@@ -9,7 +9,7 @@ import warnings
 
 from impose_pdf import words as said
 from impose_pdf.plan import Imposer, cannot_run, usual
-from impose_pdf.words import Refusal, Request, refusal, shown
+from impose_pdf.words import Refusal, Request, cause_of, refusal, shown
 
 A4 = 595.0, 842.0
 MOST_OPEN = 65_536  # files: INFILEs stay open
@@ -33,7 +33,7 @@ def put(text: bytes) -> None:
     except BrokenPipeError:
         raise Refusal(3, "") from None  # a reader that leaves knows why
     except OSError as error:
-        raise refusal(3, f"cannot write to standard output: {(error.strerror or '').lower()}") from None
+        raise refusal(3, f"cannot write to standard output: {cause_of(error)}") from None
 
 
 def say(text: str) -> None:
@@ -60,7 +60,7 @@ def main(words: list[str], here: str) -> int:
         return 3
     except OSError as error:
         name = f"{shown(error.filename)}: " if isinstance(error.filename, str) else ""
-        say(f"impose-pdf: {name}{(error.strerror or '').lower()}\n")
+        say(f"impose-pdf: {name}{cause_of(error)}\n")
         return 3
     return 0
 

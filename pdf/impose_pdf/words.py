@@ -61,6 +61,11 @@ def refusal(status: int, line: str) -> Refusal:
     return Refusal(status, f"impose-pdf: {line}\n")
 
 
+def cause_of(error: OSError) -> str:
+    """What the system says of a failure."""
+    return (error.strerror or str(error)).lower()
+
+
 @dataclass
 class Request:
     """A command line, read: impose's words without files, its options with their values, and the files."""
