@@ -14,9 +14,10 @@ from impose_pdf.links import Link, Ways
 from impose_pdf.pages import Box, bounds, box_of, common, leaves, number_of, shape_of, then
 from impose_pdf.plan import POSTSCRIPT, Placed, Size
 from impose_pdf.trees import named
-from impose_pdf.words import RANGES, cause_of, pages_of, refusal, shown
+from impose_pdf.words import RANGES, cause_of, pages_of, refusal, shown, told
 
 LEAST, MOST = 1, 100_000  # points: the sides of pages that impose knows
+MOST_TOLD = 300  # signs of what qpdf says
 
 
 def content(name: str) -> bytes | None:
@@ -67,7 +68,7 @@ def image(name: str, held: bytes | None) -> Pdf:
                 held = stream.read()
         return images.pdf_of(held)
     except (ValueError, LookupError, OSError, SyntaxError) as error:
-        raise refusal(1, f"the image {shown(name)} can't be read: {error}") from None
+        raise refusal(1, f"the image {shown(name)} can't be read: {cause(error, name)}") from None
 
 
 def unlocked(name: str, held: bytes | None) -> Pdf:
@@ -83,8 +84,23 @@ def unlocked(name: str, held: bytes | None) -> Pdf:
 
 
 def cause(error: object, name: str) -> str:
-    """What qpdf says, without the file's name."""
-    return re.sub(rf"^(<_io\.BytesIO [^>]*>|{re.escape(name)})(: )?", "", str(error)).strip()
+    """What qpdf says, without the file's name, and not all of it if it is long."""
+    said = text_of(error) if isinstance(error, UnicodeDecodeError) else str(error)
+    said = re.sub(rf"^(<_io\.BytesIO [^>]*>|{re.escape(name)})(: )?", "", said).strip()
+    return said if len(said) <= MOST_TOLD else f"{said[:MOST_TOLD]}.."
+
+
+def text_of(error: UnicodeDecodeError) -> str:
+    """What qpdf says where a name of the PDF that is in it isn't UTF-8."""
+    return error.object.decode(errors="surrogateescape")
+
+
+def warnings_in(pdf: Pdf) -> list[Any]:
+    """What qpdf has mended since it was asked last."""
+    try:
+        return list(pdf.get_warnings())
+    except UnicodeDecodeError as error:
+        return [text_of(error)]
 
 
 class Source:
@@ -175,21 +191,20 @@ class Source:
 
     def keep_warnings(self) -> None:
         """Keeps what qpdf has found by now, all of which is about this PDF."""
-        self.found += self.pdf.get_warnings()
+        self.found += warnings_in(self.pdf)
 
     def warning(self) -> str:
         """A line on what was mended, and one on pages that are lost, or nothing."""
         lines = damage(shown(self.name), self.found, self.name)
         if self.counted > len(self.pages):
-            told = f"counts {self.counted:.0f} pages, and {len(self.pages)} can be found"
-            lines += f"impose-pdf: {shown(self.name)} {told}\n"
+            lines += told(f"{shown(self.name)} counts {self.counted:.0f} pages, and {len(self.pages)} can be found")
         return lines
 
 
 def damage(which: str, found: list[Any], name: str = "") -> str:
     """The line on what was mended in a PDF, or nothing."""
     more = f", and {len(found) - 1} more" if len(found) > 1 else ""
-    return f"impose-pdf: {which} is damaged, and was mended: {cause(found[0], name)}{more}\n" if found else ""
+    return told(f"{which} is damaged, and was mended: {cause(found[0], name)}{more}") if found else ""
 
 
 def warnings_of(sources: list[Source]) -> str:
@@ -197,7 +212,7 @@ def warnings_of(sources: list[Source]) -> str:
     lines, placeless = "", list[Any]()
     for source in sources:
         name = source.pdf.filename
-        for one in source.pdf.get_warnings():
+        for one in warnings_in(source.pdf):
             is_own = len(sources) == 1 or str(one).startswith((f"{name} (", f"{name}, "))
             (source.found if is_own else placeless).append(one)
         lines += source.warning()

@@ -6,7 +6,7 @@ import stat
 from pikepdf import DataDecodingError, Pdf
 
 from impose_pdf.foreign import is_foreign
-from impose_pdf.words import Refusal, Request, cause_of, refusal, shown
+from impose_pdf.words import Refusal, Request, cause_of, refusal, shown, told
 from impose_pdf.writing import Place, hand_over, saved
 
 OTHER_ENDINGS = (".ps", ".eps", ".svg", ".gz", ".txt", ".png", ".jpg", ".jpeg")
@@ -109,7 +109,7 @@ class Outfile:
     def warning(self) -> str:
         """The line about a file that is named as another kind of file."""
         ending = os.path.splitext(self.given)[1].lower()
-        return f"impose-pdf: {self.name} holds a PDF, whatever its name says\n" if ending in OTHER_ENDINGS else ""
+        return told(f"{self.name} holds a PDF, whatever its name says") if ending in OTHER_ENDINGS else ""
 
     def look(self) -> None:
         """Refuses a file that can't be replaced."""

@@ -56,11 +56,11 @@ def main(words: list[str], here: str) -> int:
         say(str(refused))
         return refused.status
     except MemoryError:
-        say("impose-pdf: out of memory\n")
+        say(said.told("out of memory"))
         return 3
     except OSError as error:
         name = f"{shown(error.filename)}: " if isinstance(error.filename, str) else ""
-        say(f"impose-pdf: {name}{cause_of(error)}\n")
+        say(said.told(f"{name}{cause_of(error)}"))
         return 3
     return 0
 

@@ -44,6 +44,8 @@ WITH_VALUE = {
 LOOKS = ("--plan", "--preview", "--print-spec")
 LETTERS = {"p": "--paper", "q": "--quiet", "h": "--help", "V": "--version"}
 
+MOST_SHOWN = 100  # signs of a name, as in impose's messages
+QUOTED = "\\'"  # with a meaning of their own between the quotes of $'..'
 PAGE = "_?[0-9]{1,9}"
 RANGES = re.compile(f"{PAGE}(-({PAGE})?)?(,{PAGE}(-({PAGE})?)?)*")
 
@@ -58,7 +60,12 @@ class Refusal(Exception):
 
 def refusal(status: int, line: str) -> Refusal:
     """A refusal in a line of our own."""
-    return Refusal(status, f"impose-pdf: {line}\n")
+    return Refusal(status, told(line))
+
+
+def told(line: str) -> str:
+    """A line of our own, from whatever text: it is one line, without control characters."""
+    return f"impose-pdf: {plain(line)}\n"
 
 
 def cause_of(error: OSError) -> str:
@@ -87,16 +94,21 @@ def shown(name: str) -> str:
     """A name as a shell takes it, without control characters."""
     if name == "-":
         return "standard input"
-    if name.isprintable():
-        return shlex.quote(name)
-    return f"$'{''.join(map(letter, name))}'"
+    short, rest = (name, "") if len(name) <= MOST_SHOWN else (name[:MOST_SHOWN], "..")
+    if short.isprintable():
+        return shlex.quote(short) + rest
+    return f"$'{''.join(by_bytes(sign) if sign in QUOTED else plain(sign) for sign in short)}'{rest}"
 
 
-def letter(sign: str) -> str:
-    """A sign of a name in a string of the shell's, by its bytes if it isn't printable."""
-    if sign.isprintable() and sign not in "\\'":
-        return sign
-    return "".join(f"\\x{byte:02x}" for byte in sign.encode(errors="surrogateescape"))
+def plain(text: str) -> str:
+    """A text without control characters, which are shown by their bytes."""
+    return "".join(sign if sign.isprintable() else by_bytes(sign) for sign in text)
+
+
+def by_bytes(sign: str) -> str:
+    """A sign by its bytes, as a string of the shell's has them. Surrogates are bytes of names, or are a PDF's."""
+    errors = "surrogateescape" if "\udc80" <= sign <= "\udcff" else "surrogatepass"
+    return "".join(f"\\x{byte:02x}" for byte in sign.encode(errors=errors))
 
 
 def read(words: list[str]) -> Request:
