@@ -26,7 +26,7 @@ ROOT = Path(__file__).resolve().parent.parent.parent
 PDFS = ROOT / "cases/pdfs"
 SETTINGS = (
     *("stdin", "limit", "stdout", "signal", "user", "rights", "umask", "link", "file", "pipe", "text", "papersize"),
-    *("room", "open", "impose", "copies"),
+    *("room", "open", "impose", "copies", "stack", "python"),
 )
 
 
@@ -233,16 +233,16 @@ def ran(case: Case, programs: Programs, folder: Path) -> Run:
         programs = copied(programs, folder / "programs")
     prepared(case, inside)
     before = contents(inside)
-    limit, umask, may_open = case.setting("limit"), case.setting("umask"), case.setting("open")
+    limits = [("limit", resource.RLIMIT_FSIZE), ("open", resource.RLIMIT_NOFILE), ("stack", resource.RLIMIT_STACK)]
+    umask = case.setting("umask")
 
     def limited() -> None:
         signal.signal(signal.SIGXFSZ, signal.SIG_IGN)
         if umask:
             os.umask(int(umask[0], 8))
-        if limit:
-            resource.setrlimit(resource.RLIMIT_FSIZE, (int(limit[0]), int(limit[0])))
-        if may_open:
-            resource.setrlimit(resource.RLIMIT_NOFILE, (int(may_open[0]), int(may_open[-1])))
+        for name, kind in limits:
+            if values := case.setting(name):
+                resource.setrlimit(kind, (int(values[0]), int(values[-1])))
 
     impose, papersize = programs.impose, case.setting("papersize") or ["a4"]
     if named := case.setting("impose"):
@@ -259,6 +259,9 @@ def ran(case: Case, programs: Programs, folder: Path) -> Run:
         "TMPDIR": str(spare),
         "HOME": str(folder),
     }
+    if first := case.setting("python"):
+        (folder / "sitecustomize.py").write_text(unescaped(first[0]))
+        env["PYTHONPATH"] = str(folder)
     words = [*runner(case, inside), str(programs.impose_pdf), *case.words]
     began = time.monotonic()
     with source_of(case, inside) as source, open("/dev/full", "wb") as full:

@@ -426,6 +426,13 @@ class Maker:
         self.pdf.Root.OCProperties = known
         return group
 
+    def do_chain(self, count: str) -> None:
+        """So many objects, each in the one before, from the group of the first page on."""
+        last: Any = None
+        for _ in range(int(count)):
+            last = self.pdf.make_indirect(Dictionary(N=last))
+        self.pdf.pages[0].obj.Group = Dictionary(S=Name.Transparency, X=last)
+
     def do_attachment(self, name: str, text: str) -> None:
         self.pdf.attachments[name] = pikepdf.AttachedFileSpec(self.pdf, text.encode(), filename=name)
 

@@ -6,8 +6,10 @@ import resource
 import shutil
 import signal
 import warnings
+from contextlib import suppress
 
 from impose_pdf import words as said
+from impose_pdf.deep import deeply
 from impose_pdf.plan import Imposer, cannot_run, usual
 from impose_pdf.words import Refusal, Request, cause_of, refusal, shown
 
@@ -48,8 +50,7 @@ def main(words: list[str], here: str) -> int:
     """Runs the program, and gives its exit status."""
     signal.signal(signal.SIGINT, signal.SIG_DFL)
     warnings.simplefilter("ignore")  # of libraries, for programmers
-    now, most = resource.getrlimit(resource.RLIMIT_NOFILE)
-    resource.setrlimit(resource.RLIMIT_NOFILE, (max(now, min(most, MOST_OPEN)), most))
+    open_more()
     try:
         run(words, here)
     except Refusal as refused:
@@ -63,6 +64,13 @@ def main(words: list[str], here: str) -> int:
         say(said.told(f"{name}{cause_of(error)}"))
         return 3
     return 0
+
+
+def open_more() -> None:
+    """Lets more files be open, if that is allowed."""
+    with suppress(OSError, ValueError):
+        now, most = resource.getrlimit(resource.RLIMIT_NOFILE)
+        resource.setrlimit(resource.RLIMIT_NOFILE, (max(now, min(most, MOST_OPEN)), most))
 
 
 def run(words: list[str], here: str) -> None:
@@ -134,8 +142,9 @@ def impose(request: Request, program: str) -> None:
     else:
         sheets, report = imposer.sheets()
         outfile.check_owner(request)
+        turned, flip = turn_to_read(request, sheets), imposer.flip()
         making = Making(row)
-        making.make(sheets, turn_to_read(request, sheets), imposer.flip())
+        deeply(lambda: making.make(sheets, turned, flip))
         outfile.write(making.pdf)
         if "--quiet" not in request.options:
             say(outfile.warning())
