@@ -111,6 +111,7 @@ class Run:
     output: bytes
     error: str
     seconds: float
+    cost: tuple[float, float]  # seconds of the processor, and megabytes
     before: dict[str, bytes]
 
     @property
@@ -235,6 +236,7 @@ def ran(case: Case, programs: Programs, folder: Path) -> Run:
     before = contents(inside)
     limits = [("limit", resource.RLIMIT_FSIZE), ("open", resource.RLIMIT_NOFILE), ("stack", resource.RLIMIT_STACK)]
     umask = case.setting("umask")
+    most = next((int(rest.split()[0]) for word, rest, _ in case.wanted if word == "costs"), None)
 
     def limited() -> None:
         signal.signal(signal.SIGXFSZ, signal.SIG_IGN)
@@ -243,6 +245,8 @@ def ran(case: Case, programs: Programs, folder: Path) -> Run:
         for name, kind in limits:
             if values := case.setting(name):
                 resource.setrlimit(kind, (int(values[0]), int(values[-1])))
+        if most:
+            resource.setrlimit(resource.RLIMIT_CPU, (most + 1, most + 1))
 
     impose, papersize = programs.impose, case.setting("papersize") or ["a4"]
     if named := case.setting("impose"):
@@ -264,7 +268,7 @@ def ran(case: Case, programs: Programs, folder: Path) -> Run:
         env["PYTHONPATH"] = str(folder)
     words = [*runner(case, inside), str(programs.impose_pdf), *case.words]
     began = time.monotonic()
-    with source_of(case, inside) as source, open("/dev/full", "wb") as full:
+    with source_of(case, inside) as source, tempfile.TemporaryFile() as error, open("/dev/full", "wb") as full:
         to: IO[bytes] | int = subprocess.PIPE
         match case.setting("stdout"):
             case ["full"]:
@@ -274,21 +278,21 @@ def ran(case: Case, programs: Programs, folder: Path) -> Run:
             case ["terminal"]:
                 _, to = os.openpty()
         process = subprocess.Popen(
-            words, stdin=source, stdout=to, stderr=subprocess.PIPE, cwd=inside, env=env, preexec_fn=limited
+            words, stdin=source, stdout=to, stderr=error, cwd=inside, env=env, preexec_fn=limited
         )
+        ender = threading.Timer(120, os.kill, (process.pid, signal.SIGKILL))
+        ender.start()
         if sent := case.setting("signal"):
-            told(process, getattr(signal, "SIG" + sent[0]), folder / "asleep")
-        output, error = process.communicate(timeout=120)
-    return Run(
-        case,
-        programs,
-        inside,
-        process.returncode,
-        output or b"",
-        error.decode(errors="replace"),
-        time.monotonic() - began,
-        before,
-    )
+            told(process.pid, getattr(signal, "SIG" + sent[0]), folder / "asleep")
+        output = process.stdout.read() if process.stdout else b""
+        _, ended, used = os.wait4(process.pid, 0)
+        ender.cancel()
+        process.returncode = os.waitstatus_to_exitcode(ended)
+        error.seek(0)
+        said = error.read().decode(errors="replace")
+        seconds = time.monotonic() - began
+    cost = used.ru_utime + used.ru_stime, used.ru_maxrss / 1024
+    return Run(case, programs, inside, process.returncode, output, said, seconds, cost, before)
 
 
 def source_of(case: Case, folder: Path) -> IO[bytes]:
@@ -309,13 +313,13 @@ def closed() -> int:
     return writer
 
 
-def told(process: subprocess.Popen[bytes], sent: signal.Signals, asleep: Path) -> None:
+def told(process: int, sent: signal.Signals, asleep: Path) -> None:
     """Sends a signal when impose, for which a sleeper stands, is waited for."""
     for _ in range(600):
-        if asleep.exists() or process.poll() is not None:
+        if asleep.exists() or os.waitid(os.P_PID, process, os.WEXITED | os.WNOHANG | os.WNOWAIT):
             break
         time.sleep(0.05)
-    process.send_signal(sent)
+    os.kill(process, sent)
 
 
 def tidied(folder: Path) -> None:

@@ -180,6 +180,14 @@ def _within(output: Output, rest: str, _: list[str]) -> Iterator[str]:
         yield f"{output.run.seconds:.1f} s"
 
 
+@check("costs")
+def _costs(output: Output, rest: str, _: list[str]) -> Iterator[str]:
+    """At most so many seconds of processor time, with impose's, and perhaps so many megabytes."""
+    for found, most, unit in zip(output.run.cost, rest.split(), ("s", "MB")):
+        if found > float(most):
+            yield f"{found:.1f} {unit}"
+
+
 @check("absent")
 def _absent(output: Output, rest: str, _: list[str]) -> Iterator[str]:
     if (output.run.folder / rest).exists():

@@ -16,6 +16,8 @@ from typing import Any
 import pikepdf
 from pikepdf import Array, Dictionary, Name, Pdf, String
 
+from . import hostile
+
 Box = tuple[float, float, float, float]
 Colour = tuple[int, int, int]
 PAGES_OF_A_ROUND = 60
@@ -456,6 +458,10 @@ class Maker:
             start, style, *before = span.split(":")
             found += [int(start), Dictionary(S=Name("/" + style), **({"P": String(before[0])} if before else {}))]
         self.pdf.Root.PageLabels = Dictionary(Nums=Array(found))
+
+    def do_shared(self, kind: str, count: str) -> None:
+        """So many objects share what is of this kind in checks/pdf/hostile.py."""
+        hostile.KINDS[kind](self.pdf, int(count))
 
     def do_catalog(self, key: str, value: str = "<< >>") -> None:
         """An entry of the catalog, as PDF has it; an @ is the first page."""

@@ -114,9 +114,17 @@ def drop(holder: Any, keys: Iterable[str]) -> None:
             del holder[key]
 
 
+def are_new(seen: set[tuple[int, int]], *things: Any) -> bool:
+    """Whether none of these things was met before; they are then. Direct ones are their holder's own."""
+    met = {thing.objgen for thing in things if thing.is_indirect}
+    is_new = not met & seen
+    seen |= met
+    return is_new
+
+
 def leaves(pdf: Pdf) -> Iterator[tuple[Any, dict[str, Any]]]:
-    """The pages of a PDF, in order, each with what it has or inherits. Loops of the page tree are passed over."""
-    seen, left = set(), [(pdf.Root.get("/Pages"), dict[str, Any]())]
+    """The pages of a PDF, in order, each with what it has or inherits. Nodes and arrays of the tree count once."""
+    seen, left = set[tuple[int, int]](), [(pdf.Root.get("/Pages"), dict[str, Any]())]
     while left:
         node, above = left.pop()
         if not isinstance(node, Dictionary):
@@ -124,8 +132,7 @@ def leaves(pdf: Pdf) -> Iterator[tuple[Any, dict[str, Any]]]:
         entries = {**above, **{key: node[key] for key in INHERITED if key in node}}
         kids, is_page = node.get("/Kids"), node.get("/Type") == Name.Page
         if isinstance(kids, Array) and not is_page:
-            if node.objgen == (0, 0) or node.objgen not in seen:
-                seen.add(node.objgen)
+            if are_new(seen, node, kids):
                 if isinstance(held := entries.get("/Resources"), Dictionary) and not held.is_indirect:
                     entries["/Resources"] = pdf.make_indirect(held)  # one for all pages below
                 left += [(kid, entries) for kid in reversed(list(kids))]

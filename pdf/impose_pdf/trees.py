@@ -5,22 +5,24 @@ from typing import Any
 
 from pikepdf import Array, Dictionary, Name, String
 
+from impose_pdf.pages import are_new
+
 OF_LAYERS = ("/ON", "/OFF", "/Order", "/RBGroups", "/Locked", "/AS")
 
 
 def named(node: Any) -> Iterator[tuple[Any, Any]]:
-    """The names and values of a name tree. Loops are passed over."""
-    seen, left = set(), [node]
+    """The names and values of a name tree. Nodes and arrays of the tree, and names that are objects, count once."""
+    seen, left = set[tuple[int, int]](), [node]
     while left:
         node = left.pop()
-        if not isinstance(node, Dictionary) or node.objgen in seen:
+        if not isinstance(node, Dictionary) or not are_new(seen, node):
             continue
-        if node.is_indirect:
-            seen.add(node.objgen)
-        if isinstance(pairs := node.get("/Names"), Array):
+        if isinstance(pairs := node.get("/Names"), Array) and are_new(seen, pairs):
             values = list(pairs)
-            yield from ((name, value) for name, value in zip(values[::2], values[1::2]) if isinstance(name, String))
-        if isinstance(kids := node.get("/Kids"), Array):
+            for name, value in zip(values[::2], values[1::2]):
+                if isinstance(name, String) and are_new(seen, name):
+                    yield name, value
+        if isinstance(kids := node.get("/Kids"), Array) and are_new(seen, kids):
             left += reversed(list(kids))
 
 
