@@ -463,6 +463,14 @@ class Maker:
         """So many objects share what is of this kind in checks/pdf/hostile.py."""
         hostile.KINDS[kind](self.pdf, int(count))
 
+    def do_long_labels(self) -> None:
+        """Labels of many signs, numbers that would have many, text that isn't UTF-8, one in order, and a loop."""
+        spans = ("/P (%s)" % ("x" * 10**6), "/S /a /St 900000000", "/S /r /St 900000000", "/P <EFBBBFFF>")
+        texts = [f"{k} << {span} >>" for k, span in enumerate((*spans, "/S /r /St 2001"))]
+        tree = self.pdf.make_indirect(pikepdf.Object.parse(f"<< /Nums [{' '.join(texts)} 5 17] >>".encode()))
+        tree.Kids = Array([tree])
+        self.pdf.Root.PageLabels = tree
+
     def do_catalog(self, key: str, value: str = "<< >>") -> None:
         """An entry of the catalog, as PDF has it; an @ is the first page."""
         if "@" in value:

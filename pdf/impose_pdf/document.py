@@ -10,6 +10,7 @@ from pikepdf import Array, Dictionary, Name, PasswordError, Pdf, PdfError
 
 from impose_pdf import images, notes
 from impose_pdf.forms import Forms, pictures_of
+from impose_pdf.labels import Labels
 from impose_pdf.links import Link, Ways
 from impose_pdf.pages import Box, bounds, box_of, common, leaves, number_of, shape_of, then
 from impose_pdf.plan import POSTSCRIPT, Placed, Size
@@ -138,6 +139,7 @@ class Source:
 
     def prepare(self, made: Pdf) -> None:
         """Gets ready for sheets of a PDF."""
+        self.labels = Labels(self.pdf, len(self.pages))
         self.forms = Forms(self.pdf, shown(self.name))
         self.ways = Ways(self.pdf, made, [page for page, _ in self.pages], self.shapes)
         # A tree without loops, which qpdf goes through for copies and fields.

@@ -7,9 +7,10 @@ from pikepdf import Array, Dictionary, Name, String
 
 from impose_pdf import outlines
 from impose_pdf.document import Source
+from impose_pdf.labels import label
 from impose_pdf.pages import array, drop, keys_of
 from impose_pdf.plan import Placed, Sheet
-from impose_pdf.sheets import drawing, label, preferences
+from impose_pdf.sheets import drawing, preferences
 from impose_pdf.trees import add_layers, free, tree_of
 
 # What the catalog keeps. Tags, threads, scripts, fields and signatures go, and all by which an old page could stay.
@@ -48,7 +49,8 @@ class Making:
         tree = self.pdf.make_indirect(Dictionary(Type=Name.Pages, Kids=Array(pages), Count=len(pages)))
         for page in pages:
             page.Parent = tree
-        labels = [part for k, sheet in enumerate(sheets) for part in (k, Dictionary(P=String(label(sheet))))]
+        names = (label((source.labels, k) for source, k, _ in self.placed(sheet)) for sheet in sheets)
+        labels = [part for k, name in enumerate(names) for part in (k, Dictionary(P=String(name)))]
         self.enter(
             {
                 "/Pages": tree,

@@ -1,4 +1,4 @@
-"""What is on a sheet, what it is called, how it is shown, and what print dialogues are told."""
+"""What is on a sheet, how it is shown, and what print dialogues are told."""
 
 from typing import Any
 
@@ -39,18 +39,6 @@ def written(number: Number) -> str:
     left = number.foot[0] - len(number.digits) * number.size / 4
     at = then((1, 0, 0, 1, left, number.foot[1]), (cos, sin, -sin, cos, *number.origin))
     return f"BT 0 g /Numbers {numerals(number.size)} Tf {numerals(*at)} Tm ({number.digits}) Tj ET"
-
-
-def label(sheet: Sheet) -> str:
-    """What a sheet is called: its pages, as 8|1; longer runs as 1-16."""
-    runs: list[list[int]] = []
-    for page in (placed.page + 1 for placed in sheet.placed):
-        if runs and page == runs[-1][1] + 1:
-            runs[-1][1] = page
-        elif not runs or page != runs[-1][1]:
-            runs.append([page, page])
-    parts = [f"{a}-{b}" if b - a > 3 else "|".join(map(str, range(a, b + 1))) for a, b in runs]
-    return "|".join(parts) or "blank"
 
 
 def turn_to_read(request: Request, sheets: list[Sheet]) -> int:
