@@ -471,6 +471,21 @@ class Maker:
         tree.Kids = Array([tree])
         self.pdf.Root.PageLabels = tree
 
+    def do_entry(self, number: str, key: str, value: str) -> None:
+        """An entry of a page, as PDF has it."""
+        self.page(number)[key] = pikepdf.Object.parse(value.encode())
+
+    def do_annotation(self, number: str, value: str, how: str = "") -> None:
+        """An annotation, as PDF has it; `field` puts it among the fields, and `looped` below itself there."""
+        made = self.annotate(number, pikepdf.Object.parse(value.encode()))
+        if how:
+            form = self.pdf.Root.get("/AcroForm", Dictionary(Fields=Array()))
+            form.Fields.append(made)
+            self.pdf.Root.AcroForm = form
+        if how == "looped":
+            made.Kids, made.Parent, made.A = Array([made]), made, self.pdf.make_indirect(made.A)
+            made.A.Next = made.A
+
     def do_catalog(self, key: str, value: str = "<< >>") -> None:
         """An entry of the catalog, as PDF has it; an @ is the first page."""
         if "@" in value:

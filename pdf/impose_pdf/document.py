@@ -12,6 +12,7 @@ from impose_pdf import images, notes
 from impose_pdf.forms import Forms, pictures_of
 from impose_pdf.labels import Labels
 from impose_pdf.links import Link, Ways
+from impose_pdf.losses import Losses
 from impose_pdf.pages import Box, bounds, box_of, common, leaves, number_of, shape_of, then
 from impose_pdf.plan import POSTSCRIPT, Placed, Size
 from impose_pdf.trees import named
@@ -140,6 +141,7 @@ class Source:
     def prepare(self, made: Pdf) -> None:
         """Gets ready for sheets of a PDF."""
         self.labels = Labels(self.pdf, len(self.pages))
+        self.losses = Losses(self.root, self.pdf.is_encrypted)
         self.forms = Forms(self.pdf, shown(self.name))
         self.ways = Ways(self.pdf, made, [page for page, _ in self.pages], self.shapes)
         # A tree without loops, which qpdf goes through for copies and fields.
@@ -162,6 +164,7 @@ class Source:
             page, entries = self.pages[k]
             self.annotations[k], others = notes.split(page)
             over = notes.drawn(others, self.shapes[k].matrix)
+            self.losses.look_at(page, self.annotations[k], others)
             form = self.forms.of(k, page, entries.get("/Resources"), self.shapes[k], over)
             self.put[k] = self.ways.brought(form)
         return self.put[k]

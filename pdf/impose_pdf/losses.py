@@ -1,0 +1,137 @@
+"""What of a PDF isn't kept on sheets, by kind and count."""
+
+from collections import Counter
+from typing import Any
+
+from pikepdf import Array, Dictionary, Name, String
+
+from impose_pdf import notes
+from impose_pdf.pages import name_of
+
+SIGNATURE, FIELD, BARE, UNPRINTED, TEXT, FILE, PLAYED = (
+    *("a signature", "a form field (drawn as it is)", "a note without a look", "a note that doesn't print"),
+    *("the text of a note", "an attachment of a note", "a film, sound or 3D view"),
+)
+TAGS, XFA, SCRIPTS, THREADS, TRANSITIONS, THUMBNAILS, DIRECTION, ENCRYPTION = (
+    *("tags", "the XFA form", "scripts", "article threads", "page transitions", "thumbnails", "the reading direction"),
+    "the encryption",
+)
+# The kinds in the order in which they are said, and several of each.
+SEVERAL = {
+    SIGNATURE: "{} signatures",
+    FIELD: "{} form fields (drawn as they are)",
+    BARE: "{} notes without a look",
+    UNPRINTED: "{} notes that don't print",
+    TEXT: "the texts of {} notes",
+    FILE: "{} attachments of notes",
+    PLAYED: "{} films, sounds or 3D views",
+    **{kind: kind for kind in (TAGS, XFA, SCRIPTS, THREADS, TRANSITIONS, THUMBNAILS, DIRECTION, ENCRYPTION)},
+}
+ARE_PLAYED = {"/Movie", "/Screen", "/Sound", "/RichMedia", "/3D"}
+EVENTS = (
+    *("/E", "/X", "/D", "/U", "/Fo", "/Bl", "/PO", "/PC", "/PV", "/PI"),  # of annotations
+    *("/K", "/F", "/V", "/C", "/O", "/WC", "/WS", "/DS", "/WP", "/DP"),  # of fields, pages and documents
+)
+LONGEST = 100  # actions after one another that are looked at
+
+
+def runs_script(action: Any) -> bool:
+    """Whether an action, or one that follows it, is a script."""
+    for _ in range(LONGEST):
+        if not isinstance(action, Dictionary):
+            break
+        if action.get("/S") == Name.JavaScript:
+            return True
+        action = action.get("/Next")
+    return False
+
+
+def has_script(holder: Any) -> bool:
+    """Whether a page, an annotation or a catalog has a script."""
+    events = holder.get("/AA")
+    actions = [events.get(key) for key in EVENTS] if isinstance(events, Dictionary) else []
+    return any(map(runs_script, [holder.get("/A"), holder.get("/OpenAction"), *actions]))
+
+
+def signatures(form: Any) -> int:
+    """The number of signatures among the fields of a form."""
+    seen, left, found = set(), [form.get("/Fields")], 0
+    while left:
+        one = left.pop()
+        if not isinstance(one, (Array, Dictionary)) or one.objgen in seen:
+            continue
+        if one.is_indirect:
+            seen.add(one.objgen)
+        if isinstance(one, Array):
+            left += list(one)
+        else:
+            value = one.get("/V")
+            found += isinstance(value, Dictionary) and "/ByteRange" in value
+            left.append(one.get("/Kids"))
+    return found
+
+
+def is_shown_anew(page: Any) -> bool:
+    """Whether a page comes with a transition, or goes by itself."""
+    transition = page.get("/Trans")
+    return "/Dur" in page or isinstance(transition, Dictionary) and transition.get("/S", Name.R) != Name.R
+
+
+class Losses:
+    """What isn't kept of a PDF."""
+
+    def __init__(self, root: Any, is_encrypted: bool):
+        self.found, self.fields = Counter[str](), set[tuple[int, int]]()
+        form, names, threads = (root.get(key) for key in ("/AcroForm", "/Names", "/Threads"))
+        wishes = root.get("/ViewerPreferences")
+        if isinstance(form, Dictionary):
+            self.found[SIGNATURE] = signatures(form)
+            self.found[XFA] = "/XFA" in form
+        self.found[TAGS] = isinstance(root.get("/StructTreeRoot"), Dictionary)
+        self.found[SCRIPTS] = has_script(root) or isinstance(names, Dictionary) and "/JavaScript" in names
+        self.found[THREADS] = isinstance(threads, Array) and len(threads)
+        self.found[DIRECTION] = isinstance(wishes, Dictionary) and wishes.get("/Direction") == Name.R2L
+        self.found[ENCRYPTION] = is_encrypted
+
+    def look_at(self, page: Any, links: list[Any], others: list[Any]) -> None:
+        """Counts what isn't kept of a page that is drawn on a sheet, with these links and other annotations."""
+        self.found[SCRIPTS] += sum(map(has_script, [page, *links, *others]))
+        self.found[TRANSITIONS] += is_shown_anew(page)
+        self.found[THUMBNAILS] += "/Thumb" in page
+        for note in others:
+            kind = name_of(note.get("/Subtype"))
+            if kind == "/Widget":
+                self.count_field(note)
+            elif kind != "/Link":
+                self.found.update(kinds_of(note, kind))
+
+    def count_field(self, note: Any) -> None:
+        """Counts the field of a place where it is shown, once."""
+        above = note.get("/Parent")
+        field = above if "/T" not in note and isinstance(above, Dictionary) else note
+        value = notes.entry_of(note, "/V")
+        is_signed = isinstance(value, Dictionary) and "/ByteRange" in value
+        self.found[FIELD] += field.objgen not in self.fields and not is_signed
+        if field.is_indirect:
+            self.fields.add(field.objgen)
+
+    def line(self, which: str) -> str:
+        """The line on what isn't kept, or nothing."""
+        said = [kind if self.found[kind] == 1 else many.format(self.found[kind]) for kind, many in self.all_kinds()]
+        return f"impose-pdf: {which}: not kept: {', '.join(said)}\n" if said else ""
+
+    def all_kinds(self) -> list[tuple[str, str]]:
+        """The kinds that there are."""
+        return [(kind, many) for kind, many in SEVERAL.items() if self.found[kind]]
+
+
+def kinds_of(note: Any, kind: str) -> list[str]:
+    """What isn't kept of a note, of a kind of its own or any other."""
+    if kind in ARE_PLAYED:
+        return [PLAYED]
+    text = note.get("/Contents")
+    of_file = [FILE] * (kind == "/FileAttachment")
+    if notes.appearance(note) is None:
+        return [BARE if notes.is_printed(note) else UNPRINTED, *of_file]
+    has_text = isinstance(text, String) and (text.is_indirect or len(bytes(text)) > 0)
+    return [TEXT, *of_file] if has_text and kind != "/FreeText" else of_file
