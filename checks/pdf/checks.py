@@ -324,6 +324,17 @@ def _words(output: Output, rest: str, below: list[str]) -> Iterator[str]:
         yield from wanted.word_faults(found, output.sources, output.sheets, float(rest or 100) / 100)
 
 
+@check("word")
+def _word(output: Output, rest: str, below: list[str]) -> Iterator[str]:
+    """`word SHEET WORD LEFT BOTTOM RIGHT TOP`: the word is all within this box, give or take a point."""
+    for line in [rest] * bool(rest) + below:
+        sheet, word, *box = line.split()
+        left, bottom, right, top = (float(side) for side in box)
+        places = reading.places(output.path, int(sheet), word)
+        if not any(left - 1 <= a and bottom - 1 <= b and c <= right + 1 and d <= top + 1 for a, b, c, d in places):
+            yield f"sheet {sheet}: {word} isn't within {' '.join(box)}: {places}"
+
+
 @check("fonts")
 def _fonts(output: Output, _rest: str, _below: list[str]) -> Iterator[str]:
     wants: set[tuple[str, str]] = set().union(*(reading.fonts(source.path) for source in output.sources))

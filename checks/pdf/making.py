@@ -10,6 +10,7 @@ import io
 import shlex
 import zlib
 from collections.abc import Callable
+from copy import copy
 from dataclasses import dataclass, field
 from typing import Any
 
@@ -342,11 +343,18 @@ class Maker:
 
     def do_field(self, number: str, box: str, name: str, value: str, how: str = "") -> None:
         """A field with its value as its look; `without-look`, which readers make for all fields; `bare`, which has none
-        either, and `bare-box`, a box without one; `stale`, with another value; or in a font of the page's own."""
+        either, and `bare-box`, a box without one; `empty-look`, as LibreOffice writes it; `stale`, with another value;
+        in a font of the page's own; or `packed`, 2 MB of blanks, or `packed-twice`, 500 kB."""
         left, bottom, right, top = numbers(box)
         look = self.look(f"/Tx BMC q BT /F 12 Tf 2 4 Td ({value}) Tj ET Q EMC", right - left, top - bottom)
         look.Resources = Dictionary(Font=Dictionary(F=self.font))
-        if how == "page-font":
+        if how == "empty-look":
+            look.write(b"/Tx BMC\nEMC\n")
+        if how in ("packed", "packed-twice"):
+            look.write(zlib.compress(b" " * (2_000_000 if how == "packed" else 500_000)), filter=Name.FlateDecode)
+        if how == "packed-twice":
+            look.write(zlib.compress(look.read_raw_bytes()), filter=Array([Name.FlateDecode] * 2))
+        if how in ("page-font", "empty-look"):
             del look.Resources
         made = self.annotate(
             number,
@@ -376,6 +384,44 @@ class Maker:
         if how == "stale":
             made.V = String("stale")
         self.pdf.Root.AcroForm = form
+
+    def do_annotation(self, number: str, *entries: str) -> None:
+        """An annotation as PDF has it, or one that prints, by its entries: `annotation PAGE KEY VALUE ..`.
+
+        After the first kind `field` puts it among the fields, and `looped` below itself there.
+        """
+        if entries[0].startswith("<<"):
+            made = self.annotate(number, pikepdf.Object.parse(entries[0].encode()))
+            self.place_annotation(made, "".join(entries[1:]))
+        else:
+            self.annotate(number, Dictionary(Type=Name.Annot, F=4))
+            self.do_entries(number, *entries)
+
+    def place_annotation(self, made: Any, how: str) -> None:
+        """Puts an annotation among the fields, and if it is `looped` below itself there."""
+        if how:
+            form = self.pdf.Root.get("/AcroForm", Dictionary(Fields=Array()))
+            form.Fields.append(made)
+            self.pdf.Root.AcroForm = form
+        if how == "looped":
+            made.Kids, made.Parent, made.A = Array([made]), made, self.pdf.make_indirect(made.A)
+            made.A.Next = made.A
+
+    def do_entries(self, number: str, *entries: str) -> None:
+        """More entries of the last annotation of a page."""
+        for key, value in zip(entries[::2], entries[1::2]):
+            self.page(number).Annots[-1]["/" + key] = pikepdf.Object.parse(value.encode())
+
+    def do_many_places(self, number: str, count: str, letters: str) -> None:
+        """A field of so many letters at so many places of a page."""
+        text = String("Ada " * (int(letters) // 4))
+        above = self.pdf.make_indirect(Dictionary(T=String("many"), FT=Name.Tx, Ff=4096, V=text))
+        one = Dictionary(Subtype=Name.Widget, F=4, Parent=above, Rect=Array([300, 300, 400, 400]))
+        self.page(number).Annots = Array([self.pdf.make_indirect(copy(one)) for _ in range(int(count))])
+
+    def do_form_entry(self, key: str, value: str) -> None:
+        """An entry of the form that holds all fields."""
+        self.pdf.Root.AcroForm["/" + key] = pikepdf.Object.parse(value.encode())
 
     def look(self, content: str, width: float, height: float) -> Any:
         look = self.pdf.make_stream(content.encode())
@@ -475,17 +521,6 @@ class Maker:
         """An entry of a page, as PDF has it."""
         self.page(number)[key] = pikepdf.Object.parse(value.encode())
 
-    def do_annotation(self, number: str, value: str, how: str = "") -> None:
-        """An annotation, as PDF has it; `field` puts it among the fields, and `looped` below itself there."""
-        made = self.annotate(number, pikepdf.Object.parse(value.encode()))
-        if how:
-            form = self.pdf.Root.get("/AcroForm", Dictionary(Fields=Array()))
-            form.Fields.append(made)
-            self.pdf.Root.AcroForm = form
-        if how == "looped":
-            made.Kids, made.Parent, made.A = Array([made]), made, self.pdf.make_indirect(made.A)
-            made.A.Next = made.A
-
     def do_catalog(self, key: str, value: str = "<< >>") -> None:
         """An entry of the catalog, as PDF has it; an @ is the first page."""
         if "@" in value:
@@ -494,7 +529,7 @@ class Maker:
             self.pdf.Root[key] = pikepdf.Object.parse(value.encode())
 
     def do_saved(self, *words: str) -> None:
-        """How it is saved: linearized, objects, plain, owner, user, no-print, low-print, broken-xref, before TEXT, cut
+        """How it is saved: linearized, objects, as-is, owner, user, no-print, low-print, broken-xref, before TEXT, cut
         BYTES."""
         self.saving.append(list(words))
 
@@ -555,10 +590,12 @@ class Maker:
             how |= {"encryption": pikepdf.Encryption(owner="owner", user=user, allow=allowed), "static_id": False}
         if "objects" in words:
             how["object_stream_mode"] = pikepdf.ObjectStreamMode.generate
+        if "as-is" in words:
+            how |= {"compress_streams": False, "stream_decode_level": pikepdf.StreamDecodeLevel.none}
         if "linearized" in words:
             how["linearize"] = True
         out = io.BytesIO()
-        self.pdf.save(out, **{key: value for key, value in how.items() if value})
+        self.pdf.save(out, **{key: value for key, value in how.items() if value or key == "compress_streams"})
         data = out.getvalue()
         if "broken-xref" in words:
             data = data.replace(b"startxref\n", b"startxref\n9", 1)

@@ -2,6 +2,7 @@
 
 from __future__ import annotations
 
+import html
 import re
 import subprocess
 from collections import Counter
@@ -224,6 +225,17 @@ def words(path: Path) -> list[Counter[str]]:
     """The words of each page, as pdftotext finds them."""
     ran = subprocess.run(["pdftotext", "-cropbox", path, "-"], capture_output=True, timeout=300)
     return [Counter(page.split()) for page in ran.stdout.decode(errors="replace").split("\f")[:-1]]
+
+
+def places(path: Path, page: int, word: str) -> list[tuple[float, ...]]:
+    """Where a page that isn't turned has a word: left, bottom, right and top of each."""
+    words = ["pdftotext", "-bbox", "-f", str(page), "-l", str(page), path, "-"]
+    text = subprocess.run(words, capture_output=True, text=True, timeout=60).stdout
+    size = re.search(r'<page width="[\d.]+" height="([\d.]+)"', text)
+    height = float(size[1]) if size else 0
+    found = re.findall(r'<word xMin="([\d.-]+)" yMin="([\d.-]+)" xMax="([\d.-]+)" yMax="([\d.-]+)">(.*)</word>', text)
+    sides = ([float(side) for side in sides] for *sides, one in found if html.unescape(one) == word)
+    return [(round(a), round(height - d), round(c), round(height - b)) for a, b, c, d in sides]
 
 
 def all_words(path: Path) -> Counter[str]:

@@ -12,6 +12,7 @@ from impose_pdf import images, notes
 from impose_pdf.forms import Forms, pictures_of
 from impose_pdf.labels import Labels
 from impose_pdf.links import Link, Ways
+from impose_pdf.looks import Looks
 from impose_pdf.losses import Losses
 from impose_pdf.pages import Box, bounds, box_of, common, leaves, number_of, shape_of, then
 from impose_pdf.plan import POSTSCRIPT, Placed, Size
@@ -117,6 +118,7 @@ class Source:
             self.pages = list(leaves(self.pdf))
             self.counted = number_of(tree.get("/Count"), 0) if isinstance(tree, Dictionary) else 0
             self.shapes = [shape_of(page, entries) for page, entries in self.pages]
+            self.looks = Looks(self.pdf)
         except PdfError as error:
             raise refusal(1, f"{shown(name)} can't be read: {cause(error, name)}") from None
         except OSError as error:
@@ -144,14 +146,12 @@ class Source:
         self.losses = Losses(self.root, self.pdf.is_encrypted)
         self.forms = Forms(self.pdf, shown(self.name))
         self.ways = Ways(self.pdf, made, [page for page, _ in self.pages], self.shapes)
-        # A tree without loops, which qpdf goes through for copies and fields.
+        # A tree without loops, which qpdf goes through for copies.
         pages = list({page.objgen: page for page, _ in self.pages if page.is_indirect}.values())
         self.root.Pages = self.pdf.make_indirect(Dictionary(Type=Name.Pages, Kids=Array(pages), Count=len(pages)))
         self.put: dict[int, Any] = {}
         self.links: dict[int, list[Link]] = {}
         self.annotations: dict[int, list[Any]] = {}
-        if isinstance(form := self.root.get("/AcroForm"), Dictionary):
-            notes.draw_fields(self.pdf, form, pages)
 
     def find_unshown(self, shown: set[tuple["Source", int]]) -> None:
         """Finds the forms and images of pages that aren't shown."""
@@ -162,6 +162,7 @@ class Source:
         """The form of a page, in the PDF that is made."""
         if k not in self.put:
             page, entries = self.pages[k]
+            self.looks.give(page)
             self.annotations[k], others = notes.split(page)
             over = notes.drawn(others, self.shapes[k].matrix)
             self.losses.look_at(page, self.annotations[k], others)
@@ -203,7 +204,7 @@ class Source:
         lines = damage(shown(self.name), self.found, self.name)
         if self.counted > len(self.pages):
             lines += told(f"{shown(self.name)} counts {self.counted:.0f} pages, and {len(self.pages)} can be found")
-        return lines
+        return lines + self.looks.warning(shown(self.name))
 
 
 def damage(which: str, found: list[Any], name: str = "") -> str:

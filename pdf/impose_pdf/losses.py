@@ -6,6 +6,7 @@ from typing import Any
 from pikepdf import Array, Dictionary, Name, String
 
 from impose_pdf import notes
+from impose_pdf.fields import entry_of
 from impose_pdf.pages import name_of
 
 SIGNATURE, FIELD, BARE, UNPRINTED, TEXT, FILE, PLAYED = (
@@ -109,7 +110,7 @@ class Losses:
         """Counts the field of a place where it is shown, once."""
         above = note.get("/Parent")
         field = above if "/T" not in note and isinstance(above, Dictionary) else note
-        value = notes.entry_of(note, "/V")
+        value = entry_of(note, "/V")
         is_signed = isinstance(value, Dictionary) and "/ByteRange" in value
         self.found[FIELD] += field.objgen not in self.fields and not is_signed
         if field.is_indirect:

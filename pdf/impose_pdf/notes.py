@@ -1,17 +1,15 @@
 """Annotations of a page: its links, and notes and form fields as they print."""
 
-from contextlib import suppress
 from math import hypot
 from typing import Any
 
-from pikepdf import Array, Dictionary, Name, Pdf, PdfError, Stream
+from pikepdf import Array, Dictionary, Name, Stream
 
 from impose_pdf.forms import Note
 from impose_pdf.pages import UPRIGHT, bounds, box_of, name_of, number_of, numbers, then
 from impose_pdf.plan import Matrix
 
 HIDDEN, PRINTED, NOT_TURNED = 2, 4, 16  # flags
-DEEPEST = 100  # of fields below fields
 
 
 def split(page: Any) -> tuple[list[Any], list[Any]]:
@@ -58,51 +56,6 @@ def turned_back(x: float, y: float, page: Matrix) -> Matrix:
 def flags_of(note: Any) -> int:
     """The flags of an annotation."""
     return int(number_of(note.get("/F"), 0))
-
-
-def settle(page: Any) -> None:
-    """Gives the fields of a page what qpdf shows of them. It fills in values where it writes, but not in copies."""
-    for field in split(page)[1]:
-        if field.get("/Subtype") == Name.Widget and (form := appearance(field)) is not None:
-            with suppress(PdfError):
-                form.write(form.read_bytes())
-
-
-def draw_fields(pdf: Pdf, form: Any, pages: list[Any]) -> None:
-    """Has qpdf draw the fields that viewers draw: those without a look, or all of them if their PDF asks for that."""
-    aside: list[tuple[Any, Any, list[Any]]] = []
-    if form.get("/NeedAppearances") is not True:
-        found = [(page, [note for note in split(page)[1] if is_bare(note)]) for page in pages]
-        if not any(bare for _, bare in found):
-            return
-        # qpdf would draw all of them anew.
-        aside = [(page, page.Annots, bare) for page, bare in found if "/Annots" in page]
-        form.NeedAppearances = True
-    for page, _, bare in aside:
-        page.Annots = Array(bare)
-    pdf.generate_appearance_streams()
-    for page in pages:
-        settle(page)
-    for page, annotations, _ in aside:
-        page.Annots = annotations
-
-
-def is_bare(note: Any) -> bool:
-    """Whether an annotation is a field that is printed, and has a text but no look. qpdf draws no others."""
-    looks = note.get("/AP", Dictionary())
-    has_look = not isinstance(looks, Dictionary) or "/N" in looks
-    if has_look or note.get("/Subtype") != Name.Widget or not note.is_indirect or not is_printed(note):
-        return False
-    return entry_of(note, "/FT") in (Name.Tx, Name.Ch) and entry_of(note, "/V") is not None
-
-
-def entry_of(field: Any, key: str) -> Any:
-    """An entry of a field, or of the nearest one above it that has one."""
-    for _ in range(DEEPEST):
-        if key in field or not isinstance(above := field.get("/Parent"), Dictionary):
-            break
-        field = above
-    return field.get(key)
 
 
 def is_printed(note: Any) -> bool:

@@ -95,6 +95,11 @@ def number_of(value: Any, default: float) -> float:
     return found if isfinite(found) else default
 
 
+def items_of(value: Any) -> list[Any]:
+    """The items of an array, or a thing as the only one."""
+    return list(value) if isinstance(value, Array) else [value]
+
+
 def keys_of(values: Any) -> Iterator[str]:
     """The keys of a dictionary, without those that aren't in UTF-8, which pikepdf can't tell."""
     keys = iter(values.as_dict())
