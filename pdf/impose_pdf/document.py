@@ -89,7 +89,7 @@ def unlocked(name: str, held: bytes | None) -> Pdf:
 def cause(error: object, name: str) -> str:
     """What qpdf says, without the file's name, and not all of it if it is long."""
     said = text_of(error) if isinstance(error, UnicodeDecodeError) else str(error)
-    said = re.sub(rf"^(<_io\.BytesIO [^>]*>|{re.escape(name)})(: )?", "", said).strip()
+    said = re.sub(rf"^(<_io\.BytesIO [^>]*>|{re.escape(name)})(: |, )?", "", said).strip()
     return said if len(said) <= MOST_TOLD else f"{said[:MOST_TOLD]}.."
 
 
