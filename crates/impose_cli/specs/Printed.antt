@@ -2,6 +2,7 @@
 use Rattle.std.specs.Prelude.{◌≡◌, ◌⊎◌, ◌++◌, ◌&&◌, ℕ, Bool, true, false, if◌then◌else◌, List, length, Option, None, Some, codes, option_map, string_bytes}
 use Rattle.rules.specs.Choice.{sides_for}
 use Rattle.rules.specs.Papers.{Paper}
+use Rattle.rules.specs.Specification.{Spec, canonical}
 use Rattle.command_words.specs.Shell.{begins_with_minus, border_option, files_text, length_text, sides_option, text_if}
 use Rattle.rows.specs.Printed.{is_plain}
 use Rattle.rows.specs.Sewing.{signing_of}
@@ -16,7 +17,9 @@ use Rattle.impose_messages.specs.declared.fault.ImposeFault.{ImposeFault}
 use Rattle.impose_messages.specs.declared.fault.ImposeFault.TheVariants as fault
 use Rattle.impose_messages.specs.declared.finished.PaperOrigin.{PaperOrigin}
 use Rattle.impose_cli.specs.Refusals.{RefusesRowTask}
-use Rattle.impose_cli.specs.RowTasks.{ArePapersOf, IsRowPaper, why_no_row}
+use Rattle.impose_cli.specs.declared.laying.RowLaying.{RowLaying}
+use Rattle.impose_cli.specs.declared.laying.RowLaying.TheVariants as row
+use Rattle.impose_cli.specs.RowTasks.{ArePapersOf, IsRowPaper, TakesNamed, why_no_row}
 use Rattle.impose_cli.specs.RowsAsked.{row_asked, signing_in}
 
 -- ---- words
@@ -50,19 +53,26 @@ abbrev pub is_unturned : Turning → Bool
 is_unturned (turning.All turned.None) = true
 is_unturned other = false
 
-abbrev pub named_in : Layout → Option (List ℕ)
-named_in (layout.Spec specs signing) = Some (string_bytes specs)
-named_in other = None
+abbrev pub is_named : Layout → Bool
+is_named (layout.Spec specs signing) = true
+is_named other = false
 
--- the specification that a request names, if it says all that is asked for: all pages, in their order, blanks after them, and unturned
--- (RULES, 16, step 10)
-abbrev pub said_in : ImposeRequest → Option (List ℕ)
-said_in r = if is_plain (row_asked r) && is_unturned r.turn then named_in r.layout else None
+-- a specification says all that is asked for: all pages, in their order, blanks after them, and unturned (RULES, 16, step 10)
+abbrev pub says_all : ImposeRequest → Bool
+says_all r = is_plain (row_asked r) && is_unturned r.turn && is_named r.layout
 
--- this is printed for so many pages of this paper
+abbrev pub spec_in : RowLaying → Option Spec
+spec_in (row.Named spec sheet page) = Some spec
+spec_in other = None
+
+-- the one by which a task is laid, if it says that
+abbrev pub said_by : ImposeRequest → RowLaying → Option Spec
+said_by r laying = if is_plain (row_asked r) && is_unturned r.turn then spec_in laying else None
+
+-- this is printed for so many pages of this paper: the canonical text of the specification that is named
 abbrev pub IsPrintedFor : ImposeRequest → Paper → (pages : ℕ) → (text : List ℕ) → Type 0
-IsPrintedFor r paper pages text = (spec : List ℕ) × (said_in r ≡ Some spec)
-    × (text ≡ printed_text r spec paper (option_map (λ how. sides_for (signing_of how) pages) (signing_in r.layout)))
+IsPrintedFor r paper pages text = (spec : Spec) × (says_all r ≡ true) × TakesNamed r.layout spec
+    × (text ≡ printed_text r (canonical spec) paper (option_map (λ how. sides_for (signing_of how) pages) (signing_in r.layout)))
 
 -- for this document, whose pages can be laid so
 pub record IsSpecText (r : ImposeRequest) (input : List ℕ) (text : List ℕ) : Type 0 where
@@ -76,4 +86,4 @@ pub record IsSpecText (r : ImposeRequest) (input : List ℕ) (text : List ℕ) :
 -- why nothing is: there is no task; or memory ran out, or no specification says what is asked for
 abbrev pub RefusesPrinting : ImposeRequest → (input : List ℕ) → ImposeFault → Type 0
 RefusesPrinting r input f = RefusesRowTask r input f
-    ⊎ ((f ≡ without_memory) ⊎ ((f ≡ fault.NoSpecification) × (said_in r ≡ None)))
+    ⊎ ((f ≡ without_memory) ⊎ ((f ≡ fault.NoSpecification) × (says_all r ≡ false)))

@@ -1,14 +1,14 @@
 //! Prints the specification of a request, and a command line of pstops that places pages by this specification.
-ghost use Rattle.std.specs.Prelude.{◌≡◌, ◌++◌, ◌<◌, ◌≤◌, ◌⊎◌, IfErr, IfOk, IfSome, OnOk, None, length, option_map};
+ghost use Rattle.std.specs.Prelude.{◌≡◌, ◌++◌, ◌<◌, ◌≤◌, ◌⊎◌, IfErr, IfOk, IfSome, OnOk, false, length, option_map};
 ghost use Rattle.rules.specs.Choice.{sides_for};
 ghost use Rattle.rules.specs.Run.{most_pages};
 ghost use Rattle.rows.specs.Sewing.{MayBeSewn, signing_of};
 ghost use Rattle.impose_messages.specs.Faults.{without_memory};
-ghost use Rattle.impose_cli.specs.RowTasks.{HasOptions};
-ghost use Rattle.impose_cli.specs.Printed.{IsPrintedFor, IsSpecText, RefusesPrinting, call_text, comment_text, printed_command, printed_text, quoted_spec, said_in};
+ghost use Rattle.impose_cli.specs.RowTasks.{HasOptions, IsLaidBy};
+ghost use Rattle.impose_cli.specs.Printed.{IsPrintedFor, IsSpecText, RefusesPrinting, call_text, comment_text, printed_command, printed_text, quoted_spec, said_by, says_all};
 ghost use Rattle.impose_messages.specs.declared.fault.ImposeFault.TheVariants as faults;
 
-use crate::laying::{named_signing, row_asked};
+use crate::laying::{RowLaying, named_signing, row_asked};
 use crate::row_task::{RowTask, row_task};
 use command_words::{
     append_border_option, append_files, append_if, append_length, append_sides, begins_with_minus,
@@ -16,14 +16,14 @@ use command_words::{
 };
 use guard::RoomyText;
 use impose_messages::ImposeFault;
-use impose_words::{ImposeRequest, Layout, Turning};
+use impose_words::{ImposeRequest, Turning};
 use lengths::Paper;
-use pagespec::Turn;
+use pagespec::{Spec, Turn, write_spec};
 use rows::Signing;
 use std::alloc::{AllocError, Global};
 
-/// The specification that the request names, on one line, and a pstops command with it on the next line. The first fault of a run of the request is
-/// reported, and then `NoSpecification` for a layout other than `spec`, chosen or turned pages, or another order.
+/// The canonical text of the request's specification on one line, and a pstops command with it on the next line. The first fault of a run of the
+/// request is reported, and then `NoSpecification` for a layout other than `spec`, chosen or turned pages, or another order.
 pub fn spec_text(
     alloc: Global,
     request: &ImposeRequest,
@@ -47,15 +47,18 @@ fn printed_task(
     requires some { 0 < length task.now.papers.items }
     requires few { length task.now.papers.items ≤ most_pages }
     requires options { HasOptions request.now }
+    requires laying { IsLaidBy request.now task.now.findings.page_paper task.now.laying }
     ensures printed { IfOk result (λ lines.
         IsPrintedFor request.now task.now.findings.page_paper (length task.now.papers.items) lines.items) }
     ensures refused { IfErr result (λ f.
-        (f ≡ without_memory) ⊎ ((f ≡ faults.NoSpecification) × (said_in request.now ≡ None))) }
+        (f ≡ without_memory) ⊎ ((f ≡ faults.NoSpecification) × (says_all request.now ≡ false))) }
 {
-    match specs_said(request) {
-        Some(specs) => {
+    match spec_said(request, &task.laying) {
+        Some(spec) => {
+            let specs = write_spec(alloc, spec)?;
             let sides = signature_sides(named_signing(&request.layout), task.papers.len());
-            let lines = printed_lines(alloc, request, specs, &task.findings.page_paper, sides)?;
+            let paper = &task.findings.page_paper;
+            let lines = printed_lines(alloc, request, specs.as_str(), paper, sides)?;
             Ok(lines)
         }
         None => Err(ImposeFault::NoSpecification),
@@ -93,14 +96,13 @@ fn signature_sides(signing: Option<Signing>, entries: usize) -> Option<u32>
     }
 }
 
-/// The text of the request's specification, if it says all that the request asks for: all pages, in their order and unturned.
-fn specs_said(request: &ImposeRequest) -> Option<&str>
-    ensures { option_map (λ s. s.now) result ≡ said_in request.now }
+/// The specification of a task, if it says all that the request asks for: all pages, in their order and unturned.
+fn spec_said<'t>(request: &ImposeRequest, laying: &'t RowLaying) -> Option<&'t Spec>
+    ensures { option_map (λ s. s.now) result ≡ said_by request.now laying.now }
 {
-    match (&request.layout, request.turn) {
-        (Layout::Spec { specs, .. }, Turning::All(Turn::None)) if row_asked(request).is_plain() => {
-            Some(specs.as_str())
-        }
+    let is_said = row_asked(request).is_plain() && matches!(request.turn, Turning::All(Turn::None));
+    match laying {
+        RowLaying::Named { spec, .. } if is_said => Some(spec),
         _ => None,
     }
 }
