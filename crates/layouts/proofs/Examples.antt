@@ -1,21 +1,43 @@
 -- Worked examples.
 use Rattle.std.proofs.Common.{◌≡◌, [], ◌∷◌, refl, map}
-use Rattle.std.specs.Prelude.{codes, ℕ, pos, negsuc, true, false, None, Some}
+use Rattle.std.specs.Prelude.{codes, ◌+◌, ℕ, pos, negsuc, Bool, true, false, None, Some}
+use Rattle.std.specs.List.{range_with_len}
 use Rattle.std.specs.Fmt.{digits}
 use Rattle.rules.specs.Papers.{Paper, points}
-use Rattle.rules.specs.Specification.{canonical}
+use Rattle.rules.specs.Specification.{Spec, canonical}
 use Rattle.layouts.specs.declared.arrangement.Arrangement.{Arrangement}
+use Rattle.layouts.specs.declared.arrangement.Binding.{Binding}
 use Rattle.layouts.specs.declared.arrangement.Cells.{Cells}
 use Rattle.layouts.specs.declared.arrangement.Cells.TheVariants.{AtLeast, Exactly}
 use Rattle.layouts.specs.declared.arrangement.FillOrder.TheVariants.{Rows, Columns}
 use Rattle.layouts.specs.declared.arrangement.Turned.TheVariants as sideways
 use Rattle.layouts.specs.declared.arrangement.Order.{Order}
 use Rattle.layouts.specs.declared.error.ArrangementError.TheVariants as why
+use Rattle.layouts.specs.declared.setting.Setting.{Setting}
 use Rattle.layouts.specs.Placed.{Room, bare}
 use Rattle.layouts.specs.Cells.{along_width, cells_across, gap_at}
 use Rattle.layouts.specs.Laws.{cell_at}
-use Rattle.layouts.specs.Grids.{arranged, bound, nothing_free, plain, plain_binding, plain_order}
+use Rattle.layouts.specs.Fitted.{binding_setting_of, fitted, fitted_back, setting_of}
+use Rattle.layouts.specs.Grids.{cells_per_sheet, nothing_free, plain, plain_binding, plain_order}
 use Rattle.layouts.specs.Refusals.{is_count, is_scale_in_range, is_length, leaves_room, why_no_scale, why_not_bound}
+
+-- the specification of pages of one paper in the cells of an arrangement, and in the halves of leaves
+abbrev arranged : (page sheet : Paper) → Arrangement → Spec
+arranged page sheet a = record {
+  modulo = cells_per_sheet a.cells;
+  groups = map (fitted (setting_of page sheet a) page) (range_with_len 0 (cells_per_sheet a.cells)) ∷ [];
+}
+
+abbrev halves : Setting → (page : Paper) → (long_edge : Bool) → Spec
+halves t page false = record { modulo = 2; groups = map (fitted t page) (range_with_len 0 2) ∷ [] }
+halves t page true = record {
+  modulo = 4;
+  groups = map (fitted t page) (range_with_len 0 2)
+      ∷ map (λ k. record (fitted_back t page k) { page = 2 + k }) (range_with_len 0 2) ∷ [];
+}
+
+abbrev bound : (page sheet : Paper) → Binding → Spec
+bound page sheet b = halves (binding_setting_of sheet b) page b.long_edge
 
 more_than_twice_as_high : why_not_bound (points 100 201) (points 100 201) (plain_binding false) ≡ Some why.FoldOnLongEdge
 more_than_twice_as_high = refl

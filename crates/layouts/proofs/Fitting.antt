@@ -1,13 +1,10 @@
 -- Pages of several papers, each fitted into its cell.
-use Rattle.std.proofs.Common.{arith, rules, ◌≡◌, ◌≢◌, ℕ, suc, zero, ◌*◌, ◌/◌, ◌%◌, ◌<◌, ◌≤◌, Bool, true, false, List, Ok, Err, Option, None, refl, sym, ap, subst, ◌∙◌, [], ◌∷◌}
-use Rattle.std.specs.Prelude.{◌&&◌, ◌==◌, not, nat_le, nat_lt, nat_abs, if◌then◌else◌, is_none, map, IfErr, IsErrAnd, Result}
-use Rattle.std.specs.List.{range_with_len}
+use Rattle.std.proofs.Common.{arith, rules, ◌≡◌, ◌≢◌, ℕ, suc, zero, ◌+◌, ◌*◌, ◌/◌, ◌%◌, ◌<◌, ◌≤◌, Bool, true, false, Ok, Err, Option, None, refl, sym, ap, subst, ◌∙◌}
+use Rattle.std.specs.Prelude.{◌&&◌, ◌==◌, not, nat_le, nat_lt, nat_abs, if◌then◌else◌, is_none, IfErr, IsErrAnd, Result}
 use Rattle.std.proofs.lemmas.Bool.{cond-false, cond-true, false_from_ne_true, leb-true}
 use Rattle.lengths.proofs.Numbers.{same_byte}
-use Rattle.rules.specs.Admissible.{most_slots}
 use Rattle.rules.specs.Papers.{Paper}
-use Rattle.rules.specs.Specification.{Item, Spec}
-use Rattle.pagespec.specs.Made.{IsWritable}
+use Rattle.rules.specs.Specification.{Item}
 use Rattle.layouts.specs.declared.arrangement.Arrangement.{Arrangement}
 use Rattle.layouts.specs.declared.arrangement.Binding.{Binding}
 use Rattle.layouts.specs.declared.arrangement.Cells.{Cells}
@@ -20,10 +17,10 @@ use Rattle.layouts.specs.declared.error.ArrangementError.TheVariants as why
 use Rattle.layouts.specs.declared.setting.Setting.{Setting}
 use Rattle.layouts.specs.Placed.{IsEven, Room, IsInside, AreApart, stands}
 use Rattle.layouts.specs.Cells.{Grid, along_height, size, kept_length, scale_in, item_in_cell, run_in, read_rows, row_of, column_of}
-use Rattle.layouts.specs.Grids.{beside, has_bare_edges, leaf_order, page_alone, is_same, is_itself, room_of, grid, grid_of, better, best_grid, best_of, best_formed, scale_for, cells_per_sheet, rounded_up, rounded_down, arranged, bound, leaf_sides}
+use Rattle.layouts.specs.Grids.{beside, has_bare_edges, leaf_order, page_alone, is_same, is_itself, room_of, grid, grid_of, better, best_grid, best_of, best_formed, scale_for, cells_per_sheet, rounded_up, rounded_down}
 use Rattle.layouts.specs.Refusals.{error_unless, is_count, is_even, are_lengths, is_paper_reached, is_shown, why_no_scale, why_not_arranged, why_not_bound, folds_short}
-use Rattle.layouts.specs.Laws.{IsArranged, IsBound, IsPaper, HasPlace, IsExact, IsHalfTurnOf, IsInCell, IsInMiddle, cell_at, ComesInRun, ComesInRunBefore, IsNotTiny, Allows, IsChosen}
-use Rattle.layouts.specs.Fitted.{is_whole, past_cell, scale_on, fitted, fitted_back, setting_of, binding_setting_of, why_no_scale_on, why_not_fitted, IsFitted, FittedStands, FittedIsApart, FittedIsInOrder, ArrangedIsFitted, HaveOneFold, halves, BoundIsFitted}
+use Rattle.layouts.specs.Laws.{IsPaper, HasPlace, IsExact, IsHalfTurnOf, IsInCell, IsInMiddle, cell_at, ComesInRun, ComesInRunBefore, IsNotTiny, Allows, IsChosen}
+use Rattle.layouts.specs.Fitted.{is_whole, past_cell, scale_on, fitted, fitted_back, setting_of, binding_setting_of, why_no_scale_on, why_not_fitted, IsFitted, FittedStands, FittedIsApart, FittedIsInOrder, ArrangedIsFitted, HaveOneFold, BoundIsFitted}
 use Rattle.layouts.proofs.Folds.{fold, in_middle as fold_in_middle, fold_on_sheet, lies_before, lies_behind, turned_behind, turned_before}
 use Rattle.layouts.proofs.InGrid.{fits, cells, room_in, both_true, some_each}
 use Rattle.layouts.proofs.InOrder.{grid_inside, grid_in_order}
@@ -33,9 +30,8 @@ use Rattle.layouts.proofs.InCell.{farther, grid_in_cell, past_is}
 use Rattle.layouts.proofs.Backs.{back_inside, back_is_half_turn, half_turned_apart}
 use Rattle.layouts.proofs.BestGrid.{allowed, best_has_cells, best_of_one, one_upright}
 use Rattle.layouts.proofs.Printing.{printed_as_it_is}
-use Rattle.layouts.proofs.LaidOut.{SameSides, same_sides, one_each, itself_in, itself_exact, itself_large_at, read_best, read_square, is_chosen, enough}
-use Rattle.layouts.proofs.Possible.{bare_edges, even_room, passed, no_scale, good_scale, made, cells_made, cells_laid_out, itself_made, itself_laid_out, is_alone, leaves_laid_out}
-use Rattle.layouts.proofs.Writable.{IsMade, grid_writable, itself_writable, leaves_writable}
+use Rattle.layouts.proofs.LaidOut.{SameSides, same_sides, one_each, itself_in, itself_exact, itself_large_at, read_best, read_square, is_chosen, enough, beside_large}
+use Rattle.layouts.proofs.Possible.{IsMade, bare_edges, even_room, passed, no_scale, good_scale, made, is_alone}
 
 -- ---- a page on a sheet of its own paper
 
@@ -246,12 +242,6 @@ same_test page room t (Exactly columns rows) some =
     let g = best_formed page room t columns rows in
     ap (λ n. n == 1) (sym (read_square t g) ∙ (ap (λ m. m * read_rows t g) read.0 ∙ ap (λ m. columns * m) read.1))
 
-abbrev one_group : (n : ℕ) → (ℕ → Item) → Spec
-one_group n f = record { modulo = n; groups = map f (range_with_len 0 n) ∷ [] }
-
-abbrev single : Item → Spec
-single i = record { modulo = 1; groups = (i ∷ []) ∷ [] }
-
 counts : (n : ℕ) → is_count n ≡ true → (1 ≤ n) × (n ≤ 1_024)
 counts n h = let both = both_true (nat_le 1 n) (nat_le n 1_024) h in (leb-true 1 n both.0, leb-true n 1_024 both.1)
 
@@ -279,27 +269,6 @@ nothing_refuses page sheet a h =
     let four = passed (is_shown page room) why.NothingLeftOfPage last three.1 in
     let n = counts (cells_per_sheet a.cells) one.0 in
     record { some = n.0; few = n.1; reached = two.0; shown = four.0; behind = four.1 }
-
-abbrev ArrangedSo : (page sheet : Paper) → Arrangement → Type 0
-ArrangedSo page sheet a = (why_not_fitted (setting_of page sheet a) page ≡ None) × (arranged page sheet a ≡ one_group (cells_per_sheet a.cells) (fitted (setting_of page sheet a) page))
-
-whole_so : (page sheet : Paper) (a : Arrangement) → is_itself page sheet a ≡ true → is_whole (setting_of page sheet a) page ≡ true → ArrangedSo page sheet a
-whole_so page sheet a e whole =
-    let t = setting_of page sheet a in
-    let alone_is : fitted t page 0 ≡ page_alone 0 = cond-true (is_whole t page) (page_alone 0) _ whole in (
-      cond-true (is_whole t page) None _ whole,
-      itself_made page sheet a e ∙ (ap single (sym alone_is) ∙ ap (λ n. one_group n (fitted t page)) (sym (is_alone page sheet a e).one)),
-    )
-
-cells_so : (page sheet : Paper) (a : Arrangement) → NothingRefuses page sheet a → is_itself page sheet a ≡ false → is_whole (setting_of page sheet a) page ≡ false → ArrangedSo page sheet a
-cells_so page sheet a holds e not =
-    let t = setting_of page sheet a in
-    let scaled : why_no_scale t.room (scale_on t page) (scale_in page t.room t.grid) ≡ None = sym (cond-false (is_itself page sheet a) None _ e) ∙ holds.behind in
-    let reasons : why_no_scale_on t page ≡ None = cond-true (is_paper_reached page && is_paper_reached sheet) _ _ holds.reached ∙ (cond-true (is_shown page t.room) _ _ holds.shown ∙ scaled) in (
-      cond-false (is_whole t page) None _ not ∙ reasons,
-      cells_made page sheet a e
-          ∙ ap (λ b. one_group (cells_per_sheet a.cells) (λ k. if b then page_alone k else item_in_cell page t.room t.grid t.order (scale_on t page) k)) (sym not),
-    )
 
 -- one page on a sheet of its own paper is upright
 alone_formed : (page sheet : Paper) (d d' : ℕ) (t : Turned) → SameSides page sheet → 0 < nat_abs page.width → 0 < nat_abs page.height → best_formed page (room_in sheet d d') t 1 1 ≡ cells 1 1 false
@@ -335,48 +304,24 @@ alone_upright page sheet a shown e =
     (alone_grid page sheet (rounded_up a.free.across) (rounded_up a.free.up) a.order.turned a.cells page_alone.one page_alone.same
     (some_sides_of trim (nat_abs page.width) sides.0) (some_sides_of trim (nat_abs page.height) sides.1)))
 
+cells_so : (page sheet : Paper) (a : Arrangement) → NothingRefuses page sheet a → is_itself page sheet a ≡ false → is_whole (setting_of page sheet a) page ≡ false → why_not_fitted (setting_of page sheet a) page ≡ None
+cells_so page sheet a holds e not =
+    let t = setting_of page sheet a in
+    let scaled : why_no_scale t.room (scale_on t page) (scale_in page t.room t.grid) ≡ None = sym (cond-false (is_itself page sheet a) None _ e) ∙ holds.behind in
+    let reasons : why_no_scale_on t page ≡ None = cond-true (is_paper_reached page && is_paper_reached sheet) _ _ holds.reached ∙ (cond-true (is_shown page t.room) _ _ holds.shown ∙ scaled) in
+    cond-false (is_whole t page) None _ not ∙ reasons
+
 pub arranged_is_fitted : ArrangedIsFitted
 arranged_is_fitted page sheet a h =
     let holds = nothing_refuses page sheet a h in
     let room = room_of sheet a.free in
     let g = grid_of page room a.order.turned a.cells in
+    let t = setting_of page sheet a in
     let same : ((size g == 1) && is_same page sheet && has_bare_edges room && is_none a.scale) ≡ is_itself page sheet a =
     ap (λ b. b && is_same page sheet && has_bare_edges room && is_none a.scale) (same_test page room a.order.turned a.cells holds.some) in
     by_test (is_itself page sheet a)
-    (λ e. whole_so page sheet a e (ap (λ b. b && not g.turned) (same ∙ e) ∙ ap not (alone_upright page sheet a holds.shown e)))
+    (λ e. cond-true (is_whole t page) None _ (ap (λ b. b && not g.turned) (same ∙ e) ∙ ap not (alone_upright page sheet a holds.shown e)))
     (λ e. cells_so page sheet a holds e (ap (λ b. b && not g.turned) (same ∙ e)))
-
--- what is arranged can be written, and is laid out as it is asked for
-abbrev Stands : (page sheet : Paper) → Arrangement → Type 0
-Stands page sheet a = IsWritable most_slots (arranged page sheet a) × IsArranged page sheet a (arranged page sheet a)
-
-pub arranged_stands : (page sheet : Paper) (a : Arrangement) → IsPaper page → IsPaper sheet → why_not_arranged page sheet a ≡ None → Stands page sheet a
-arranged_stands page sheet a is on h =
-    let holds = nothing_refuses page sheet a h in
-    let room = room_of sheet a.free in
-    let g = grid_of page room a.order.turned a.cells in
-    let largest = scale_in page room g in
-    let s = scale_for a.scale largest in
-    by_test (is_itself page sheet a)
-    (λ e. (subst (IsWritable most_slots) (sym (itself_made page sheet a e)) (itself_writable most_slots (omega arith)), itself_laid_out page sheet a is on e))
-    (λ e.
-    let scaled : why_no_scale room s largest ≡ None = sym (cond-false (is_itself page sheet a) None _ e) ∙ holds.behind in
-    let fit = made page room g s holds.shown (good_scale room s largest scaled) in
-    let few = holds.few in (
-      subst (IsWritable most_slots) (sym (cells_made page sheet a e))
-          (grid_writable most_slots page room g a.order s (cells_per_sheet a.cells) holds.some (omega (arith, few)) few (enough page room a.order.turned a.cells holds.some) fit),
-      cells_laid_out page sheet a is on holds.some e fit.place,
-    ))
-
--- it is each page in its cell
-pub arranged_made : (page sheet : Paper) (a : Arrangement) (t : Setting) (n : ℕ) (groups : List (List Item)) → why_not_arranged page sheet a ≡ None → t ≡ setting_of page sheet a → n ≡ cells_per_sheet a.cells
-    → groups ≡ map (fitted t page) (range_with_len 0 n) ∷ [] → record { modulo = n; groups = groups } ≡ arranged page sheet a
-arranged_made page sheet a t n groups h e f g =
-    ap (λ gs. record { modulo = n; groups = gs }) g
-    ∙ (ap (λ m. one_group m (fitted t page)) f ∙ (ap (λ u. one_group (cells_per_sheet a.cells) (fitted u page)) e ∙ sym (arranged_is_fitted page sheet a h).1))
-
-pub one_paper_fits : (page sheet : Paper) (a : Arrangement) (t : Setting) → why_not_arranged page sheet a ≡ None → t ≡ setting_of page sheet a → why_not_fitted t page ≡ None
-one_paper_fits page sheet a t h e = subst (λ u. why_not_fitted u page ≡ None) (sym e) (arranged_is_fitted page sheet a h).0
 
 -- what holds of the error that is handed on
 pub handed_on : {T E : Type 0} (r : Result T E) (e : E) (P : E → Type 0) → IsErrAnd r (λ g. g ≡ e) → P e → IfErr r P
@@ -436,33 +381,16 @@ leaves_even page sheet b h = even_room (room_of sheet b.free) (leaves_fit page s
 pub halves_fit : (page sheet : Paper) (b : Binding) → why_not_bound page sheet b ≡ None → why_no_scale_on (binding_setting_of sheet b) page ≡ None
 halves_fit page sheet b h = (leaves_fit page sheet b h).scaled
 
-sides_fitted : (page : Paper) (sheet : Paper) (b : Binding) (e : Bool) → leaf_sides page (room_of sheet b.free) (leaf_order b.right_to_left) (scale_on (binding_setting_of sheet b) page) e ≡ halves (binding_setting_of sheet b) page e
-sides_fitted page sheet b false = refl
-sides_fitted page sheet b true = refl
-
 pub bound_is_fitted : BoundIsFitted
-bound_is_fitted page sheet b h = (halves_fit page sheet b h, sides_fitted page sheet b b.long_edge)
-
--- what is bound can be written, and is laid out as it is asked for
-pub bound_stands : (page sheet : Paper) (b : Binding) → IsPaper page → IsPaper sheet → why_not_bound page sheet b ≡ None → IsWritable most_slots (bound page sheet b) × IsBound page sheet b (bound page sheet b)
-bound_stands page sheet b is on h =
+bound_is_fitted page sheet b h =
     let fit = leaves_fit page sheet b h in
-    let fits = has_scale (binding_setting_of sheet b) page fit.scaled in (
-      leaves_writable most_slots page (room_of sheet b.free) (leaf_order b.right_to_left) (scale_on (binding_setting_of sheet b) page) b.long_edge (omega arith) fits,
-      leaves_laid_out page sheet b is on (leaves_even page sheet b h) fit.folds fits.place,
+    let room = room_of sheet b.free in
+    let largest = scale_in page room (beside true) in
+    let (high, most) = both_true (nat_le (nat_abs sheet.width) (nat_abs sheet.height)) (nat_le (scale_in page room (beside false)) largest) fit.folds in (
+      fit.scaled,
+      leb-true (nat_abs sheet.width) (nat_abs sheet.height) high,
+      λ g s free sides rows columns allows. subst (λ a. s < scale_for a largest + 1_000) (sym free) (beside_large page room g s most sides rows columns allows),
     )
-
--- it is each page in its half
-pub bound_made : (page sheet : Paper) (b : Binding) (t : Setting) (long_edge : Bool) (spec : Spec) → why_not_bound page sheet b ≡ None → t ≡ binding_setting_of sheet b → b.long_edge ≡ long_edge
-    → spec ≡ halves t page long_edge → spec ≡ bound page sheet b
-bound_made page sheet b t long_edge spec h e f g =
-    g ∙ (ap (λ u. halves u page long_edge) e ∙ (ap (halves (binding_setting_of sheet b) page) (sym f) ∙ sym (bound_is_fitted page sheet b h).1))
-
-pub halves_have_scale : (page sheet : Paper) (b : Binding) (t : Setting) → why_not_bound page sheet b ≡ None → t ≡ binding_setting_of sheet b → why_no_scale_on t page ≡ None
-halves_have_scale page sheet b t h e = subst (λ u. why_no_scale_on u page ≡ None) (sym e) (halves_fit page sheet b h)
-
-pub halves_have_place : (page sheet : Paper) (b : Binding) (t : Setting) → why_not_bound page sheet b ≡ None → t ≡ binding_setting_of sheet b → why_not_fitted t page ≡ None
-halves_have_place page sheet b t h e = subst (λ u. why_not_fitted u page ≡ None) (sym e) (bound_is_fitted page sheet b h).0
 
 pub one_fold : (page sheet : Paper) (b : Binding) → why_not_bound page sheet b ≡ None → HaveOneFold (binding_setting_of sheet b) b.right_to_left
 one_fold page sheet b h =

@@ -1,68 +1,26 @@
--- What holds of pages that are arranged, and of the sheets of a booklet.
-use Rattle.std.proofs.Common.{arith, rules, ◌≡◌, ◌⊎◌, inl, inr, ℕ, suc, zero, ◌+◌, ◌-◌, ◌*◌, ◌/◌, ◌<◌, ◌≤◌, List, [], ◌∷◌, Bool, true, false, refl, sym, ap, subst, None, Option}
-use Rattle.std.specs.Prelude.{map, ℤ, pos, ◌≤ℤ◌, ◌+ℤ◌, ◌*ℤ◌, nat_abs, nat_le, ◌==◌, IsTrue, if◌then◌else◌}
-use Rattle.std.specs.List.{range_with_len, AllByRecursion}
+-- A page on a sheet of its own paper, which grid is chosen, and two pages side by side.
+use Rattle.std.proofs.Common.{arith, rules, ◌≡◌, ◌⊎◌, inl, inr, ℕ, suc, zero, ◌+◌, ◌-◌, ◌*◌, ◌/◌, ◌<◌, ◌≤◌, Bool, true, false, refl, sym, ap, subst}
+use Rattle.std.specs.Prelude.{ℤ, pos, ◌≤ℤ◌, ◌+ℤ◌, ◌*ℤ◌, nat_abs, nat_le, ◌==◌, IsTrue, if◌then◌else◌}
 use Rattle.std.proofs.Math.Nat.{le_of_mul-le-mul_left, mul_comm, mul-le-mul_left, lt-div-mul-add, div-mul-le_self, suc-mul}
 use Rattle.std.proofs.lemmas.Bool.{cases_lt}
 use Rattle.std.proofs.lemmas.Int.{ints}
 use Rattle.lengths.proofs.Numbers.{same_byte}
 use Rattle.rules.specs.Papers.{Paper}
-use Rattle.rules.specs.Specification.{Item, Spec, Upright, Left, Right}
+use Rattle.rules.specs.Specification.{Upright}
 use Rattle.layouts.specs.declared.arrangement.Cells.{Cells}
 use Rattle.layouts.specs.declared.arrangement.Cells.TheVariants.{AtLeast, Exactly}
 use Rattle.layouts.specs.declared.arrangement.Turned.{Turned}
 use Rattle.layouts.specs.declared.arrangement.Turned.TheVariants as sideways
 use Rattle.layouts.specs.declared.arrangement.Order.{Order}
-use Rattle.layouts.specs.Placed.{IsEven, Room, IsInside, AreApart, fine, stands}
-use Rattle.layouts.specs.Cells.{Grid, size, item_in_cell, back_in, in_grid, scale_in, turn_in, run_in, read_columns, read_rows, row_of, column_of}
-use Rattle.layouts.specs.Grids.{formed, best_formed, grid_of, cells_per_sheet, scale_for, beside, leaf_order, page_alone, is_same, leaf_sides}
-use Rattle.layouts.specs.Laws.{IsPaper, HasPlace, IsNotTiny, Allows, EachTwo, IsInOrder, IsLike, IsExact, IsLaidOut, ArePages, IsChosen, IsArrangedIn, AreInMiddle, IsInCell, IsInMiddle, cell_at, AreSidesIn, AreFolded}
+use Rattle.layouts.specs.Placed.{Room, IsInside, fine, stands}
+use Rattle.layouts.specs.Cells.{Grid, size, scale_in, read_columns, read_rows, row_of, column_of}
+use Rattle.layouts.specs.Grids.{formed, best_formed, grid_of, cells_per_sheet, beside, page_alone, is_same}
+use Rattle.layouts.specs.Laws.{IsPaper, IsNotTiny, Allows, IsExact, IsChosen, IsInCell, IsInMiddle, cell_at}
 use Rattle.layouts.proofs.Sides.{of_sides}
 use Rattle.layouts.proofs.InGrid.{cells, room_in, both_true, some_each, with_sides}
-use Rattle.layouts.proofs.InOrder.{grid_inside, grid_in_order, place_fits}
-use Rattle.layouts.proofs.Apart.{grid_apart, in_run_apart}
-use Rattle.layouts.proofs.Middle.{grid_in_middle}
+use Rattle.layouts.proofs.InOrder.{place_fits}
 use Rattle.layouts.proofs.BestGrid.{best_has_cells, best_is_best, best_is_large, allowed, formed_is_large}
-use Rattle.layouts.proofs.Backs.{back_inside, back_left, back_is_half_turn}
-use Rattle.layouts.proofs.Folds.{leaf_keeps_fold}
-use Rattle.layouts.proofs.Printing.{placed_exact, printed_as_it_is}
-use Rattle.layouts.proofs.Writable.{all_made}
-
-each_made : (R : Item → Item → Type 0) (f : ℕ → Item) (i : Item) (a n : ℕ) → ((l : ℕ) → a ≤ l → l < a + n → R i (f l)) → AllByRecursion (R i) (map f (range_with_len a n))
-each_made R f i a zero h = tt
-each_made R f i a (suc n) h = (h a (omega arith) (omega arith), each_made R f i (a + 1) n (λ l from to. h l (omega (arith, from)) (omega (arith, to))))
-
-two_made : (R : Item → Item → Type 0) (f : ℕ → Item) (a n : ℕ) → ((k l : ℕ) → k < l → l < a + n → R (f k) (f l)) → EachTwo R (map f (range_with_len a n))
-two_made R f a zero h = tt
-two_made R f a (suc n) h =
-    (each_made R f (f a) (a + 1) n (λ l from to. h a l (omega (arith, from)) (omega (arith, to))), two_made R f (a + 1) n (λ k l less to. h k l less (omega (arith, to))))
-
-pages_made : (page : Paper) (room : Room) (g : Grid) (o : Order) (s a n : ℕ) → ArePages a n (map (item_in_cell page room g o s) (range_with_len a n))
-pages_made page room g o s a zero = refl
-pages_made page room g o s a (suc n) = ap (λ ks. a ∷ ks) (pages_made page room g o s (a + 1) n)
-
-grid_laid_out : (page : Paper) (room : Room) (g : Grid) (o : Order) (s n : ℕ) → IsPaper page → IsPaper room.paper → HasPlace page room g s → n ≤ size g
-    → IsLaidOut page room o (turn_in g) s (run_in o.run o.turned g) (map (item_in_cell page room g o s) (range_with_len 0 n))
-grid_laid_out page room g o s n is on place fit =
-    let f = item_in_cell page room g o s in
-    record {
-      like = all_made (IsLike (turn_in g) s) f 0 n (λ k less. record { turn_is = refl; scale_is = refl; from_start = refl });
-      inside = all_made (IsInside room page) f 0 n (λ k less. grid_inside page room g o s k is on place (omega (arith, less, fit)));
-      apart = two_made (λ one other. AreApart room page one page other) f 0 n (λ k l less to. grid_apart page page room g o s s k l is is on place place (omega (arith, less, to, fit)) (omega (arith, to, fit)) (λ e. omega (arith, less, e)));
-      in_order = two_made (IsInOrder page room o (run_in o.run o.turned g)) f 0 n (λ k l less to.
-          let forth = grid_in_order page page room g o s s k l is is on place place (omega (arith, less, to, fit)) (omega (arith, to, fit)) in
-          let again = grid_in_order page page room g o s s l k is is on place place (omega (arith, to, fit)) (omega (arith, less, to, fit)) in
-          record { forth = forth.0; back = again.0; next = forth.1 });
-      exact = all_made (IsExact page) f 0 n (λ k less. (printed_as_it_is page room g o s 0 k).0);
-    }
-
-middle_made : (page : Paper) (room : Room) (g : Grid) (o : Order) (s n : ℕ) → IsPaper page → HasPlace page room g s → AreInMiddle page room g o (map (item_in_cell page room g o s) (range_with_len 0 n))
-middle_made page room g o s n is place =
-    all_made (λ i. IsInMiddle page (cell_at room g (row_of o g i.page) (column_of o g i.page)) i) (item_in_cell page room g o s) 0 n (λ k less. grid_in_middle page room g o s k is place)
-
-turn_is : (b : Bool) → ((if b then Left else Upright) ≡ Upright) ⊎ ((if b then Left else Upright) ≡ Left)
-turn_is true = inr refl
-turn_is false = inl refl
+use Rattle.layouts.proofs.Printing.{placed_exact}
 
 -- ---- which grid
 
@@ -111,29 +69,6 @@ enough page room t (Exactly columns rows) some =
     let one : columns * rows ≡ read_columns t g * rows = ap (λ m. m * rows) (sym read.0) in
     let two : read_columns t g * rows ≡ read_columns t g * read_rows t g = ap (λ m. read_columns t g * m) (sym read.1) in
     omega (arith, one, two, read_square t g)
-
-pub cells_arranged : (page : Paper) (room : Room) (c : Cells) (o : Order) (asked : Option ℤ) → IsPaper page → IsPaper room.paper → 0 < cells_per_sheet c
-    → HasPlace page room (grid_of page room o.turned c) (scale_for asked (scale_in page room (grid_of page room o.turned c)))
-    → IsArrangedIn page room c o asked (in_grid page room (grid_of page room o.turned c) o (scale_for asked (scale_in page room (grid_of page room o.turned c))) (cells_per_sheet c))
-cells_arranged page room c o asked is on some place =
-    let g = grid_of page room o.turned c in
-    let s = scale_for asked (scale_in page room g) in
-    let n = cells_per_sheet c in
-    record {
-      modulo = refl;
-      items = map (item_in_cell page room g o s) (range_with_len 0 n);
-      one_group = refl;
-      pages = pages_made page room g o s 0 n;
-      turn = turn_in g;
-      upright_or_left = turn_is g.turned;
-      grid = g;
-      largest = scale_in page room g;
-      chosen = is_chosen page room o.turned c some;
-      scale = s;
-      scale_is = refl;
-      laid_out = grid_laid_out page room g o s n is on place (enough page room o.turned c some);
-      middle = middle_made page room g o s n is place;
-    }
 
 -- ---- a page alone on a sheet of its paper
 
@@ -259,9 +194,6 @@ itself_in page sheet d d' b o is on same =
 pub itself_exact : (page : Paper) → IsExact page (page_alone 0)
 itself_exact page = placed_exact page Upright 0 1_000_000_000 (pos 0) (pos 0)
 
-abbrev pub itself : Spec
-itself = record { modulo = 1; groups = (page_alone 0 ∷ []) ∷ [] }
-
 pub one_each : (c r : ℕ) → c * r ≡ 1 → (c ≡ 1) × (r ≡ 1)
 one_each zero r e = absurd (omega (arith, e))
 one_each (suc zero) r e = (refl, omega (arith, e))
@@ -269,110 +201,7 @@ one_each (suc (suc c)) zero e = absurd (omega (arith, e))
 one_each (suc (suc c)) (suc zero) e = absurd (omega (arith, e))
 one_each (suc (suc c)) (suc (suc r)) e = absurd (omega (arith, e))
 
-itself_chosen : (page sheet : Paper) (d d' : ℕ) (t : Turned) (c : Cells) → cells_per_sheet c ≡ 1 → SameSides page sheet → IsChosen page (room_in sheet d d') t c 1_000_000_000 (cells 1 1 false)
-itself_chosen page sheet d d' t (AtLeast n) one same = (
-  omega (arith, one),
-  λ h s sides many allows. let some = some_each h.rows h.columns (omega (arith, many, one)) in itself_large_at page sheet d d' h.rows h.columns h.turned s same sides some.0 some.1 allows,
-  λ h many large. omega (arith, many, one),
-)
-itself_chosen page sheet d d' t (Exactly columns rows) one same =
-    let (e, f) = one_each columns rows one in
-    subst (λ m. IsChosen page (room_in sheet d d') t (Exactly m rows) 1_000_000_000 (cells 1 1 false)) (sym e)
-    (subst (λ m. IsChosen page (room_in sheet d d') t (Exactly 1 m) 1_000_000_000 (cells 1 1 false)) (sym f) (here t))
-  where
-    here : (t : Turned) → IsChosen page (room_in sheet d d') t (Exactly 1 1) 1_000_000_000 (cells 1 1 false)
-    here sideways.Upright = (refl, refl, λ b s sides allows. itself_large_at page sheet d d' 1 1 b s same sides (omega arith) (omega arith) allows)
-    here sideways.Left = (refl, refl, λ b s sides allows. itself_large_at page sheet d d' 1 1 b s same sides (omega arith) (omega arith) allows)
-    here sideways.Right = (refl, refl, λ b s sides allows. itself_large_at page sheet d d' 1 1 b s same sides (omega arith) (omega arith) allows)
-
-pub itself_arranged : (page sheet : Paper) (d d' : ℕ) (c : Cells) (o : Order) → IsPaper page → IsPaper sheet → cells_per_sheet c ≡ 1 → SameSides page sheet → IsArrangedIn page (room_in sheet d d') c o None itself
-itself_arranged page sheet d d' c o is on one same =
-    let g = cells 1 1 false in
-    let at = itself_in page sheet d d' false o is on same in
-    record {
-      modulo = sym one;
-      items = page_alone 0 ∷ [];
-      one_group = refl;
-      pages = subst (λ n. ArePages 0 n (page_alone 0 ∷ [])) (sym one) refl;
-      turn = Upright;
-      upright_or_left = inl refl;
-      grid = g;
-      largest = 1_000_000_000;
-      chosen = itself_chosen page sheet d d' o.turned c one same;
-      scale = 1_000_000_000;
-      scale_is = refl;
-      laid_out = record {
-        like = (record { turn_is = refl; scale_is = refl; from_start = refl }, tt);
-        inside = (at.0, tt);
-        apart = (tt, tt);
-        in_order = (tt, tt);
-        exact = (itself_exact page, tt);
-      };
-      middle = (at.1, tt);
-    }
-
--- ---- the sheets of a booklet
-
-back_in_order : (page : Paper) (room : Room) (b : Bool) (s : ℕ) → IsPaper page → IsPaper room.paper → HasPlace page room (beside true) s
-    → IsInOrder page room (leaf_order b) 2 (back_in page room (beside true) (leaf_order b) s 2 0) (back_in page room (beside true) (leaf_order b) s 2 1)
-back_in_order page room false s is on place = record {
-  forth = λ h. back_left page room (leaf_order false) s 2 0 1 ((grid_in_order page page room (beside true) (leaf_order false) s s 0 1 is is on place place (omega arith) (omega arith)).0 (omega arith));
-  back = λ h. absurd (omega (arith, h));
-  next = λ h. absurd (omega (arith, h));
-}
-back_in_order page room true s is on place = record {
-  forth = λ h. back_left page room (leaf_order true) s 2 1 0 ((grid_in_order page page room (beside true) (leaf_order true) s s 0 1 is is on place place (omega arith) (omega arith)).0 (omega arith));
-  back = λ h. absurd (omega (arith, h));
-  next = λ h. absurd (omega (arith, h));
-}
-
-backs_laid_out : (page : Paper) (room : Room) (b : Bool) (s : ℕ) → IsPaper page → IsPaper room.paper → IsEven room → HasPlace page room (beside true) s
-    → IsLaidOut page room (leaf_order b) Right s 2 (map (back_in page room (beside true) (leaf_order b) s 2) (range_with_len 0 2))
-backs_laid_out page room b s is on even place =
-    let f = back_in page room (beside true) (leaf_order b) s 2 in
-    let order = back_in_order page room b s is on place in
-    let o = leaf_order b in
-    record {
-      like = all_made (IsLike Right s) f 0 2 (λ k less. record { turn_is = refl; scale_is = refl; from_start = refl });
-      inside = all_made (IsInside room page) f 0 2 (λ k less. back_inside page room (beside true) o s 2 k is on even place (omega (arith, less)));
-      apart = ((in_run_apart o.run o.turned o.right_to_left room page page (f 0) (f 1) (order.forth (omega arith)), tt), (tt, tt));
-      in_order = ((order, tt), (tt, tt));
-      exact = all_made (IsExact page) f 0 2 (λ k less. (printed_as_it_is page room (beside true) o s 2 k).1);
-    }
-
-pub sides_laid_out : (page : Paper) (room : Room) (s : ℕ) (b long_edge : Bool) → IsPaper page → IsPaper room.paper → IsEven room → HasPlace page room (beside true) s
-    → AreSidesIn page room (leaf_order b) long_edge s (leaf_sides page room (leaf_order b) s long_edge)
-sides_laid_out page room s b false is on even place =
-    (map (item_in_cell page room (beside true) (leaf_order b) s) (range_with_len 0 2), refl, refl, refl, grid_laid_out page room (beside true) (leaf_order b) s 2 is on place (omega arith))
-sides_laid_out page room s b true is on even place =
-    let o = leaf_order b in (
-      map (item_in_cell page room (beside true) o s) (range_with_len 0 2),
-      map (back_in page room (beside true) o s 2) (range_with_len 0 2),
-      refl,
-      refl,
-      refl,
-      refl,
-      (back_is_half_turn page room (beside true) o s 2 0, (back_is_half_turn page room (beside true) o s 2 1, tt)),
-      grid_laid_out page room (beside true) o s 2 is on place (omega arith),
-      backs_laid_out page room b s is on even place,
-    )
-
-folded : (page : Paper) (room : Room) (b : Bool) (s : ℕ) → IsPaper page → IsPaper room.paper → IsEven room → HasPlace page room (beside true) s
-    → AreFolded page room b (map (item_in_cell page room (beside true) (leaf_order b) s) (range_with_len 0 2))
-folded page room false s is on even place =
-    (item_in_cell page room (beside true) (leaf_order false) s 0, item_in_cell page room (beside true) (leaf_order false) s 1, refl, leaf_keeps_fold page room false s is on even place)
-folded page room true s is on even place =
-    (item_in_cell page room (beside true) (leaf_order true) s 0, item_in_cell page room (beside true) (leaf_order true) s 1, refl, leaf_keeps_fold page room true s is on even place)
-
-same_head : (front front' : List Item) (more more' : List (List Item)) → front ∷ more ≡ front' ∷ more' → front ≡ front'
-same_head front front' more more' e = cc
-
-pub sides_folded : (page : Paper) (room : Room) (s : ℕ) (b long_edge : Bool) → IsPaper page → IsPaper room.paper → IsEven room → HasPlace page room (beside true) s
-    → (front : List Item) (more : List (List Item)) → (leaf_sides page room (leaf_order b) s long_edge).groups ≡ front ∷ more → AreFolded page room b front
-sides_folded page room s b false is on even place front more e =
-    subst (AreFolded page room b) (same_head _ front _ more e) (folded page room b s is on even place)
-sides_folded page room s b true is on even place front more e =
-    subst (AreFolded page room b) (same_head _ front _ more e) (folded page room b s is on even place)
+-- ---- two pages side by side
 
 beside_most : (page : Paper) (room : Room) (b : Bool) → IsTrue (nat_le (scale_in page room (beside false)) (scale_in page room (beside true)))
     → scale_in page room (beside b) ≤ scale_in page room (beside true)

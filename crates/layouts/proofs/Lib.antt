@@ -12,7 +12,6 @@ pub mod InCell
 mod Printing
 mod Backs
 pub mod Folds
-pub mod Writable
 mod LaidOut
 pub mod Possible
 pub mod Fitting

@@ -1,5 +1,5 @@
 -- Where nothing refuses, and what follows from that.
-use Rattle.std.proofs.Common.{arith, rules, ◌≡◌, ℕ, suc, zero, ◌+◌, ◌*◌, ◌<◌, ◌≤◌, Bool, true, false, Option, Some, None, refl, sym, ap, subst, ◌∙◌}
+use Rattle.std.proofs.Common.{arith, rules, ◌≡◌, ℕ, suc, zero, ◌+◌, ◌*◌, ◌<◌, ◌≤◌, Bool, true, false, Option, Some, None, refl, sym, ap, ◌∙◌}
 use Rattle.std.specs.Prelude.{ℤ, nat_abs, IsTrue, ◌&&◌, ◌==◌, nat_le, nat_lt, if◌then◌else◌, is_none}
 use Rattle.std.proofs.lemmas.Bool.{cond-false, cond-true, le-leb, leb-true, ltb-true}
 use Rattle.lengths.proofs.Numbers.{same_byte}
@@ -11,12 +11,11 @@ use Rattle.layouts.specs.declared.error.ArrangementError.{ArrangementError}
 use Rattle.layouts.specs.declared.error.ArrangementError.TheVariants as why
 use Rattle.layouts.specs.Placed.{IsEven, Room}
 use Rattle.layouts.specs.Cells.{Grid, scale_in}
-use Rattle.layouts.specs.Grids.{beside, has_bare_edges, is_same, is_itself, room_of, grid_of, scale_for, cells_per_sheet, rounded_up, arranged, in_cells, bound}
+use Rattle.layouts.specs.Grids.{beside, has_bare_edges, is_same, is_itself, room_of, grid_of, scale_for, cells_per_sheet}
 use Rattle.layouts.specs.Refusals.{error_unless, is_count, is_even, are_lengths, is_paper_reached, is_shown, within_reach, is_scale_in_range, why_no_scale, why_no_sheet, why_not_arranged, why_not_bound, folds_short}
-use Rattle.layouts.specs.Laws.{IsPaper, HasPlace, IsArranged, IsArrangedIn, IsBound}
+use Rattle.layouts.specs.Laws.{HasPlace}
 use Rattle.layouts.proofs.InGrid.{both_true, room_in}
-use Rattle.layouts.proofs.Writable.{IsMade, scale_range}
-use Rattle.layouts.proofs.LaidOut.{SameSides, same_sides, itself, itself_arranged, cells_arranged, sides_laid_out, sides_folded, beside_large}
+use Rattle.layouts.proofs.LaidOut.{SameSides, same_sides}
 
 -- ---- chains of reasons
 
@@ -62,6 +61,17 @@ good_scale room s largest h =
     let three = passed (nat_le s largest) why.ScaleTooLarge (error_unless (within_reach room s) why.ScaleOutOfRange None) two.1 in
     let four = passed (within_reach room s) why.ScaleOutOfRange None three.1 in
     record { scale = two.0; fits = leb-true s largest three.0; near = four.0 }
+
+scale_range : (s : ℕ) → IsTrue (is_scale_in_range s) → (0 < s) × (s ≤ 99_999_000_000_000)
+scale_range s h =
+    let (some, most) = both_true (nat_le 1 s) (nat_le s 99_999_000_000_000) h in
+    (leb-true 1 s some, leb-true s 99_999_000_000_000 most)
+
+-- the places of pages, and what is near enough
+pub record IsMade (page : Paper) (room : Room) (g : Grid) (s : ℕ) : Type 0 where
+  pub place : HasPlace page room g s
+  pub near : IsTrue (within_reach room s)
+  pub most : s ≤ 99_999_000_000_000
 
 -- so each page has its place
 pub place : (page : Paper) (room : Room) (g : Grid) (s : ℕ) → IsTrue (is_shown page room) → IsGoodScale room s (scale_in page room g) → HasPlace page room g s
@@ -157,30 +167,6 @@ is_alone page sheet a h =
       scale = no_scale a.scale three.1;
     }
 
-pub itself_made : (page sheet : Paper) (a : Arrangement) → is_itself page sheet a ≡ true → arranged page sheet a ≡ itself
-itself_made page sheet a is = cond-true (is_itself page sheet a) itself _ is
-
-pub itself_laid_out : (page sheet : Paper) (a : Arrangement) → IsPaper page → IsPaper sheet → is_itself page sheet a ≡ true → IsArranged page sheet a (arranged page sheet a)
-itself_laid_out page sheet a is on h =
-    let alone = is_alone page sheet a h in
-    subst (IsArranged page sheet a) (sym (itself_made page sheet a h))
-    (subst (λ asked. IsArrangedIn page (room_of sheet a.free) a.cells a.order asked itself) (sym alone.scale)
-    (bare_edges (λ room. IsArrangedIn page room a.cells a.order None itself) (room_of sheet a.free) alone.bare
-    (itself_arranged page sheet (rounded_up a.free.across) (rounded_up a.free.up) a.cells a.order is on alone.one alone.same)))
-
-pub cells_made : (page sheet : Paper) (a : Arrangement) → is_itself page sheet a ≡ false
-    → (let room = room_of sheet a.free in arranged page sheet a ≡ in_cells page room (grid_of page room a.order.turned a.cells) a)
-cells_made page sheet a is = cond-false (is_itself page sheet a) itself _ is
-
-pub cells_laid_out : (page sheet : Paper) (a : Arrangement) → IsPaper page → IsPaper sheet → 1 ≤ cells_per_sheet a.cells → is_itself page sheet a ≡ false
-    → (let room = room_of sheet a.free in
-    let g = grid_of page room a.order.turned a.cells in
-    HasPlace page room g (scale_for a.scale (scale_in page room g)))
-    → IsArranged page sheet a (arranged page sheet a)
-cells_laid_out page sheet a is on some not has =
-    subst (IsArranged page sheet a) (sym (cells_made page sheet a not))
-    (cells_arranged page (room_of sheet a.free) a.cells a.order a.scale is on some has)
-
 -- ---- leaves
 
 pub leaves_refused : (page sheet : Paper) (b : Binding) (e : ArrangementError) → why_no_sheet page sheet b.free None ≡ Some e → why_not_bound page sheet b ≡ Some e
@@ -224,23 +210,6 @@ pub even_room : (room : Room) → is_even room ≡ true → IsEven room
 even_room room h =
     let both = both_true (room.left == room.right) (room.bottom == room.top) h in
     record { across = same_byte room.left room.right both.0; up = same_byte room.bottom room.top both.1 }
-
-pub leaves_laid_out : (page sheet : Paper) (b : Binding) → IsPaper page → IsPaper sheet → IsEven (room_of sheet b.free) → IsTrue (folds_short page (room_of sheet b.free))
-    → (let room = room_of sheet b.free in HasPlace page room (beside true) (scale_for b.scale (scale_in page room (beside true))))
-    → IsBound page sheet b (bound page sheet b)
-leaves_laid_out page sheet b is on even folds has =
-    let room = room_of sheet b.free in
-    let largest = scale_in page room (beside true) in
-    let s = scale_for b.scale largest in
-    let (high, most) = both_true (nat_le (nat_abs sheet.width) (nat_abs sheet.height)) (nat_le (scale_in page room (beside false)) (scale_in page room (beside true))) folds in
-    record {
-      fold = leb-true (nat_abs sheet.width) (nat_abs sheet.height) high;
-      scale = s;
-      scale_is = λ asked e. ap (λ a. scale_for a largest) e;
-      sides = sides_laid_out page room s b.right_to_left b.long_edge is on even has;
-      folded = λ front more e. sides_folded page room s b.right_to_left b.long_edge is on even has front more e;
-      large = λ g t free sides rows columns allows. subst (λ a. t < scale_for a largest + 1_000) (sym free) (beside_large page room g t most sides rows columns allows);
-    }
 
 -- ---- the fold
 

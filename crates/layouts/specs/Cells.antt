@@ -5,10 +5,9 @@
 -- The gap is no part of the pages, so it isn't scaled: it is added to the side once, as if one more gap came after the
 -- last cell, the side is cut into equal parts, and each part gives up one gap.
 use Rattle.std.specs.Prelude.{ℕ, ◌+◌, ◌-◌, ◌*◌, ◌/◌, ◌%◌, min, ℤ, pos, ◌+ℤ◌, ◌-ℤ◌, ◌*ℤ◌, nat_abs, Bool, true}
-use Rattle.std.specs.Prelude.{false, ◌==◌, if◌then◌else◌, [], ◌∷◌, map}
-use Rattle.std.specs.List.{range_with_len}
+use Rattle.std.specs.Prelude.{false, ◌==◌, if◌then◌else◌}
 use Rattle.rules.specs.Papers.{Paper, Pt}
-use Rattle.rules.specs.Specification.{Item, Spec, Measure, Turn, Upright, Left, Half, Right}
+use Rattle.rules.specs.Specification.{Item, Measure, Turn, Upright, Left, Half, Right}
 use Rattle.layouts.specs.Placed.{Room}
 use Rattle.layouts.specs.declared.arrangement.FillOrder.{FillOrder}
 use Rattle.layouts.specs.declared.arrangement.FillOrder.TheVariants.{Rows, Columns}
@@ -248,10 +247,6 @@ column_of o g k = held_column o.turned g (read_row o.run o.turned g k) (read_col
 -- page k in its cell
 abbrev pub item_in_cell : (page : Paper) → Room → Grid → Order → (scale : ℕ) → ℕ → Item
 item_in_cell page room g o s k = cell_item page room g s k (row_of o g k) (column_of o g k)
-
--- n pages on each sheet, in this grid: the cells that stay empty come last
-abbrev pub in_grid : (page : Paper) → Room → Grid → Order → (scale n : ℕ) → Spec
-in_grid page room g o s n = record { modulo = n; groups = map (item_in_cell page room g o s) (range_with_len 0 n) ∷ [] }
 
 -- ---- sheets that are turned by half
 

@@ -1,18 +1,17 @@
 -- Pages of several papers in the cells of one grid: each is fitted into its cell by its own sides. All here is this
 -- project's own rules.
-use Rattle.std.specs.Prelude.{◌≡◌, ◌≢◌, ℕ, ◌+◌, ◌-◌, ◌*◌, ◌/◌, ◌%◌, ◌<◌, ◌≤◌, nat_abs, Bool, ◌&&◌, ◌==◌, if◌then◌else◌, [], ◌∷◌, map}
-use Rattle.std.specs.Prelude.{pos, true, false, not, Option, None, is_none}
-use Rattle.std.specs.List.{range_with_len}
+use Rattle.std.specs.Prelude.{◌≡◌, ◌≢◌, ℕ, ◌+◌, ◌-◌, ◌*◌, ◌/◌, ◌%◌, ◌<◌, ◌≤◌, nat_abs, Bool, ◌&&◌, ◌==◌, if◌then◌else◌}
+use Rattle.std.specs.Prelude.{pos, true, not, Option, None, is_none}
 use Rattle.rules.specs.Papers.{Paper}
-use Rattle.rules.specs.Specification.{Item, Spec}
+use Rattle.rules.specs.Specification.{Item}
 use Rattle.layouts.specs.declared.arrangement.Arrangement.{Arrangement}
 use Rattle.layouts.specs.declared.arrangement.Binding.{Binding}
 use Rattle.layouts.specs.declared.error.ArrangementError.{ArrangementError}
 use Rattle.layouts.specs.declared.error.ArrangementError.TheVariants as why
 use Rattle.layouts.specs.declared.setting.Setting.{Setting}
 use Rattle.layouts.specs.Placed.{IsInside, AreApart}
-use Rattle.layouts.specs.Cells.{size, kept_length, scale_in, item_in_cell, back_in, run_in, row_of, column_of, whole_parts}
-use Rattle.layouts.specs.Grids.{page_alone, has_bare_edges, is_same, room_of, grid_of, scale_for, cells_per_sheet, arranged, bound, beside, leaf_order}
+use Rattle.layouts.specs.Cells.{Grid, size, kept_length, scale_in, item_in_cell, back_in, run_in, row_of, column_of, whole_parts}
+use Rattle.layouts.specs.Grids.{page_alone, has_bare_edges, is_same, room_of, grid_of, scale_for, beside, leaf_order}
 use Rattle.layouts.specs.Refusals.{error_unless, is_paper_reached, is_shown, why_no_scale, why_not_arranged, why_not_bound}
 use Rattle.layouts.specs.Laws.{IsPaper, IsExact, IsInCell, IsInMiddle, cell_at, ComesInRun, ComesInRunBefore, IsNotTiny, Allows, LiesBefore, LiesBehind}
 
@@ -104,14 +103,10 @@ FittedIsInOrder =
     × (k / run < l / run
     → ComesInRunBefore t.order.run t.room t.order.turned t.order.right_to_left page (fitted t page k) page' (fitted t page' l)))
 
--- what is arranged for pages of one paper is each of them in its cell: a law
+-- pages of the paper for which a grid is chosen fit into its cells: a law
 abbrev pub ArrangedIsFitted : Type 0
 ArrangedIsFitted = (page sheet : Paper) (a : Arrangement) → why_not_arranged page sheet a ≡ None
-    → (why_not_fitted (setting_of page sheet a) page ≡ None)
-    × (arranged page sheet a ≡ record {
-      modulo = cells_per_sheet a.cells;
-      groups = map (fitted (setting_of page sheet a) page) (range_with_len 0 (cells_per_sheet a.cells)) ∷ [];
-    })
+    → why_not_fitted (setting_of page sheet a) page ≡ None
 
 -- ---- leaves
 
@@ -133,21 +128,10 @@ pub record HaveOneFold (t : Setting) (right_to_left : Bool) : Type 0 where
       → LiesBefore t.room (2 * whole_parts (nat_abs t.room.paper.height) - twice) page
       (fitted_back t page (if right_to_left then 0 else 1))
 
--- page 2 + k, where page k stands if the sheet is turned by half
-abbrev pub back_of : Setting → (page : Paper) → (k : ℕ) → Item
-back_of t page k = record (fitted_back t page k) { page = 2 + k }
-
--- pages of one paper in the two halves, on fronts alone or on both sides of leaves
-abbrev pub halves : Setting → (page : Paper) → (long_edge : Bool) → Spec
-halves t page false = record { modulo = 2; groups = map (fitted t page) (range_with_len 0 2) ∷ [] }
-halves t page true = record {
-  modulo = 4;
-  groups = map (fitted t page) (range_with_len 0 2)
-      ∷ map (back_of t page) (range_with_len 0 2) ∷ [];
-}
-
--- what is bound for pages of one paper is each of them in its half: a law
+-- pages of the paper for which leaves are bound fit into their halves, and the fold is parallel to the shorter edge. If no scale
+-- is asked for, no two of them side by side allow a scale that is larger by 10^-6: a law
 abbrev pub BoundIsFitted : Type 0
 BoundIsFitted = (page sheet : Paper) (b : Binding) → why_not_bound page sheet b ≡ None
-    → (why_not_fitted (binding_setting_of sheet b) page ≡ None)
-    × (bound page sheet b ≡ halves (binding_setting_of sheet b) page b.long_edge)
+    → (let t = binding_setting_of sheet b in
+    (why_no_scale_on t page ≡ None) × (nat_abs sheet.width ≤ nat_abs sheet.height)
+    × ((g : Grid) (s : ℕ) → b.scale ≡ None → IsNotTiny page t.room → g.rows ≡ 1 → g.columns ≡ 2 → Allows page t.room g s → s < scale_on t page + 1_000))

@@ -1,11 +1,10 @@
 -- What is made: n pages on a sheet, booklets.
 use Rattle.std.specs.Prelude.{ℕ, ◌+◌, ◌-◌, ◌*◌, ◌/◌, suc, zero, ℤ, pos, negsuc, nat_abs, Bool, true, false, ◌&&◌, ◌||◌, ◌==◌, nat_lt}
-use Rattle.std.specs.Prelude.{if◌then◌else◌, [], ◌∷◌, map, Option, Some, None, is_none}
-use Rattle.std.specs.List.{range_with_len}
+use Rattle.std.specs.Prelude.{if◌then◌else◌, Option, Some, None, is_none}
 use Rattle.rules.specs.Papers.{Paper}
-use Rattle.rules.specs.Specification.{Item, Spec, Upright, zero_points}
+use Rattle.rules.specs.Specification.{Item, Upright, zero_points}
 use Rattle.layouts.specs.Placed.{Room}
-use Rattle.layouts.specs.Cells.{Grid, size, exact_scale, scale_in, item_in_cell, back_in, in_grid}
+use Rattle.layouts.specs.Cells.{Grid, size, exact_scale}
 use Rattle.layouts.specs.declared.arrangement.Arrangement.{Arrangement}
 use Rattle.layouts.specs.declared.arrangement.Binding.{Binding}
 use Rattle.layouts.specs.declared.arrangement.Cells.{Cells}
@@ -116,16 +115,6 @@ abbrev pub is_itself : (page sheet : Paper) → Arrangement → Bool
 is_itself page sheet a =
     (cells_per_sheet a.cells == 1) && is_same page sheet && has_bare_edges (room_of sheet a.free) && is_none a.scale
 
-abbrev pub in_cells : (page : Paper) → Room → Grid → Arrangement → Spec
-in_cells page room g a = in_grid page room g a.order (scale_for a.scale (scale_in page room g)) (cells_per_sheet a.cells)
-
--- the specification of an arrangement; on a sheet of its own paper one page is left as it is
-abbrev pub arranged : (page sheet : Paper) → Arrangement → Spec
-arranged page sheet a =
-    let room = room_of sheet a.free in
-    if is_itself page sheet a then record { modulo = 1; groups = (page_alone 0 ∷ []) ∷ [] }
-    else in_cells page room (grid_of page room a.order.turned a.cells) a
-
 -- along rows, from the left, and nothing lies on its side
 abbrev pub plain_order : Order
 plain_order = record { run = Rows; right_to_left = false; turned = sideways.Upright }
@@ -155,21 +144,6 @@ beside turned = record { rows = 1; columns = 2; turned = turned }
 -- from the left, or from the right if the booklet is bound there
 abbrev pub leaf_order : (right_to_left : Bool) → Order
 leaf_order right_to_left = record { run = Rows; right_to_left = right_to_left; turned = sideways.Upright }
-
--- the sides of leaves in this room, with pages of this scale; for printers that flip a sheet about its longer edge each second side is turned by
--- half
-abbrev pub leaf_sides : (page : Paper) → Room → Order → (scale : ℕ) → (long_edge : Bool) → Spec
-leaf_sides page room o s false = in_grid page room (beside true) o s 2
-leaf_sides page room o s true = record {
-  modulo = 4;
-  groups = map (item_in_cell page room (beside true) o s) (range_with_len 0 2)
-      ∷ map (back_in page room (beside true) o s 2) (range_with_len 0 2) ∷ [];
-}
-
--- the sides of a booklet's leaves, which fold parallel to the shorter edge
-abbrev pub bound : (page sheet : Paper) → Binding → Spec
-bound page sheet b = let room = room_of sheet b.free in
-    leaf_sides page room (leaf_order b.right_to_left) (scale_for b.scale (scale_in page room (beside true))) b.long_edge
 
 -- nothing is asked for but how the printer flips a sheet
 abbrev pub plain_binding : (long_edge : Bool) → Binding

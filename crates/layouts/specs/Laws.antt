@@ -1,13 +1,10 @@
 -- What holds of the pages in a grid.
-use Rattle.std.specs.Prelude.{◌≡◌, ◌≢◌, ℕ, ◌+◌, ◌-◌, ◌*◌, ◌/◌, ◌%◌, ◌<◌, ◌≤◌, ◌⊎◌, nat_abs, ℤ, pos, ◌+ℤ◌, ◌*ℤ◌, ◌-ℤ◌, ◌≤ℤ◌}
-use Rattle.std.specs.Prelude.{Bool, true, false, if◌then◌else◌, List, [], ◌∷◌, map, ⊤, IsTrue, Option, None, Some}
-use Rattle.std.specs.List.{AllByRecursion, AllZip, range_with_len}
+use Rattle.std.specs.Prelude.{◌≡◌, ◌≢◌, ℕ, ◌+◌, ◌-◌, ◌*◌, ◌/◌, ◌%◌, ◌<◌, ◌≤◌, nat_abs, ℤ, pos, ◌+ℤ◌, ◌*ℤ◌, ◌-ℤ◌, ◌≤ℤ◌}
+use Rattle.std.specs.Prelude.{Bool, true, false, if◌then◌else◌, IsTrue}
 use Rattle.rules.specs.Papers.{Paper, is_paper}
-use Rattle.rules.specs.Specification.{Item, Spec, Turn, Upright, Left, Right}
+use Rattle.rules.specs.Specification.{Item}
 use Rattle.rules.specs.Placement.{Point, matrix_of}
 use Rattle.placement.specs.Printed.{printed_matrix}
-use Rattle.layouts.specs.declared.arrangement.Arrangement.{Arrangement}
-use Rattle.layouts.specs.declared.arrangement.Binding.{Binding}
 use Rattle.layouts.specs.declared.arrangement.Cells.{Cells}
 use Rattle.layouts.specs.declared.arrangement.Cells.TheVariants.{AtLeast, Exactly}
 use Rattle.layouts.specs.declared.arrangement.FillOrder.{FillOrder}
@@ -18,7 +15,7 @@ use Rattle.layouts.specs.Placed.{IsEven, Room, stands, fine, IsOfPage, IsInside,
 use Rattle.layouts.specs.Cells.{Along, Grid, size, held_width, held_height, held_across, held_down, left_free, step_across, step_down, wide, high, kept_length, trimmed_side}
 use Rattle.layouts.specs.Cells.{exact_scale, scale_in, item_in_cell, back_in, run_in, read_columns, read_rows, row_of, column_of}
 use Rattle.layouts.specs.Cells.{whole_parts}
-use Rattle.layouts.specs.Grids.{above_zero, best_grid, formed, cells_per_sheet, room_of, scale_for}
+use Rattle.layouts.specs.Grids.{best_grid, formed}
 use Rattle.layouts.specs.Grids.{leaf_order, beside}
 
 abbrev pub IsPaper : Paper → Type 0
@@ -194,41 +191,6 @@ GridIsInCell = (page : Paper) (room : Room) (g : Grid) (o : Order) (s k : ℕ) �
     → HasPlace page room g s
     → IsInCell room page (cell_at room g (row_of o g k) (column_of o g k)) (kept_length room.trim 0) (item_in_cell page room g o s k)
 
--- ---- what holds of a specification
-
--- each two of them, the earlier one first
-abbrev pub EachTwo : (Item → Item → Type 0) → List Item → Type 0
-EachTwo R [] = ⊤
-EachTwo R (i ∷ items) = AllByRecursion (R i) items × EachTwo R items
-
--- as one reads the sheet, pages run along rows or columns of so many, from the left or from the right, from the top down
-pub record IsInOrder (page : Paper) (room : Room) (o : Order) (run : ℕ) (one other : Item) : Type 0 where
-  pub forth : one.page % run < other.page % run
-      → ComesInRun o.run room o.turned o.right_to_left page one page other
-  pub back : other.page % run < one.page % run
-      → ComesInRun o.run room o.turned o.right_to_left page other page one
-  pub next : one.page / run < other.page / run
-      → ComesInRunBefore o.run room o.turned o.right_to_left page one page other
-
--- an item has this turn and this scale, in 10^-9, and counts pages from the start
-pub record IsLike (turn : Turn) (scale : ℕ) (i : Item) : Type 0 where
-  pub turn_is : i.turn ≡ turn
-  pub scale_is : i.scale ≡ pos scale
-  pub from_start : i.from_end ≡ false
-
--- pages of one turn and one scale, in runs of so many: on what the margins leave of the sheet, apart by the gap, in
--- order, and printed exactly
-pub record IsLaidOut (page : Paper) (room : Room) (o : Order) (turn : Turn) (scale run : ℕ) (items : List Item) : Type 0 where
-  pub like : AllByRecursion (IsLike turn scale) items
-  pub inside : AllByRecursion (IsInside room page) items
-  pub apart : EachTwo (λ one other. AreApart room page one page other) items
-  pub in_order : EachTwo (IsInOrder page room o run) items
-  pub exact : AllByRecursion (IsExact page) items
-
--- the items of a block are these pages, in order
-abbrev pub ArePages : (first n : ℕ) → List Item → Type 0
-ArePages first n items = map (λ i. i.page) items ≡ range_with_len first n
-
 -- the grid is the one that is asked for, and takes pages as large as any, of this scale: with so many cells or more no
 -- grid allows a scale that is larger by 10^-6 or more, and none with as large a scale, in exact parts of the sheet, has
 -- fewer cells
@@ -241,42 +203,7 @@ IsChosen page room t (Exactly columns rows) largest g =
     (read_columns t g ≡ columns) × (read_rows t g ≡ rows)
     × ((b : Bool) (s : ℕ) → IsNotTiny page room → Allows page room (formed t b columns rows) s → s < largest + 1_000)
 
--- each page stands in the middle of its cell
-abbrev pub AreInMiddle : (page : Paper) → Room → Grid → Order → List Item → Type 0
-AreInMiddle page room g o items =
-    AllByRecursion (λ i. IsInMiddle page (cell_at room g (row_of o g i.page) (column_of o g i.page)) i) items
-
--- pages in these cells of a room, in this order, and with this scale if one is asked for
-pub record IsArrangedIn (page : Paper) (room : Room) (cells : Cells) (o : Order) (asked : Option ℤ) (spec : Spec) : Type 0 where
-  pub modulo : spec.modulo ≡ cells_per_sheet cells
-  pub items : List Item
-  pub one_group : spec.groups ≡ items ∷ []
-  pub pages : ArePages 0 (cells_per_sheet cells) items
-  pub turn : Turn
-  pub upright_or_left : (turn ≡ Upright) ⊎ (turn ≡ Left)
-  pub grid : Grid
-  pub largest : ℕ
-  pub chosen : IsChosen page room o.turned cells largest grid
-  pub scale : ℕ
-  pub scale_is : scale ≡ scale_for asked largest
-  pub laid_out : IsLaidOut page room o turn scale (run_in o.run o.turned grid) items
-  pub middle : AreInMiddle page room grid o items
-
--- pages on each sheet as they are asked for
-abbrev pub IsArranged : (page sheet : Paper) → Arrangement → Spec → Type 0
-IsArranged page sheet a spec = IsArrangedIn page (room_of sheet a.free) a.cells a.order a.scale spec
-
 -- ---- leaves
-
--- the sides of a leaf: one side, or for printers that flip on the long edge a front, and a back that is turned by half
-abbrev pub AreSidesIn : (page : Paper) → Room → Order → (long_edge : Bool) → (scale : ℕ) → Spec → Type 0
-AreSidesIn page room o false scale spec =
-    (front : List Item) × (spec.modulo ≡ 2) × (spec.groups ≡ front ∷ []) × ArePages 0 2 front
-    × IsLaidOut page room o Left scale 2 front
-AreSidesIn page room o true scale spec =
-    (front back : List Item) × (spec.modulo ≡ 4) × (spec.groups ≡ front ∷ back ∷ []) × ArePages 0 2 front
-    × ArePages 2 2 back × AllZip (IsHalfTurnOf page room.paper) front back
-    × IsLaidOut page room o Left scale 2 front × IsLaidOut page room o Right scale 2 back
 
 -- the page lies before a line across the sheet, or beyond it, by half of the gap; the line is twice as far up as said
 abbrev pub LiesBefore : Room → (twice : ℕ) → (page : Paper) → Item → Type 0
@@ -296,11 +223,6 @@ pub record KeepsFold (page : Paper) (room : Room) (one other : Item) : Type 0 wh
   pub before : LiesBefore room twice page one
   pub behind : LiesBehind room twice page other
 
--- the two pages of a side, of which the second comes first if they are placed from the right
-abbrev pub AreFolded : (page : Paper) → Room → (right_to_left : Bool) → List Item → Type 0
-AreFolded page room false items = (one other : Item) × (items ≡ one ∷ other ∷ []) × KeepsFold page room one other
-AreFolded page room true items = (one other : Item) × (items ≡ one ∷ other ∷ []) × KeepsFold page room other one
-
 -- on a leaf with even margins the first page lies before the fold, and the second beyond it; from the right it is the other
 -- way
 abbrev pub LeafKeepsFold : Type 0
@@ -315,15 +237,3 @@ abbrev pub RightToLeftIsMirror : Type 0
 RightToLeftIsMirror = (page : Paper) (room : Room) (s k : ℕ) → k < 2
     → item_in_cell page room (beside true) (leaf_order true) s k
     ≡ record (item_in_cell page room (beside true) (leaf_order false) s (1 - k)) { page = k }
-
--- two pages side by side on each side of a leaf, of the scale that is asked for, or as large as any two side by side. The fold is parallel to the shorter edge, as they are turned to the left on a sheet that is
--- no wider than high
-pub record IsBound (page sheet : Paper) (b : Binding) (spec : Spec) : Type 0 where
-  pub fold : nat_abs sheet.width ≤ nat_abs sheet.height
-  pub scale : ℕ
-  pub scale_is : (asked : ℤ) → b.scale ≡ Some asked → scale ≡ above_zero asked
-  pub sides : AreSidesIn page (room_of sheet b.free) (leaf_order b.right_to_left) b.long_edge scale spec
-  pub folded : (front : List Item) (more : List (List Item)) → spec.groups ≡ front ∷ more
-      → AreFolded page (room_of sheet b.free) b.right_to_left front
-  pub large : (g : Grid) (t : ℕ) → b.scale ≡ None → IsNotTiny page (room_of sheet b.free) → g.rows ≡ 1 → g.columns ≡ 2
-      → Allows page (room_of sheet b.free) g t → t < scale + 1_000

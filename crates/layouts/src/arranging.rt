@@ -1,159 +1,22 @@
-//! Pages in cells and on leaves, as a caller requests them.
-ghost use Rattle.std.specs.Prelude.{◌≡◌, ◌≤◌, IfOk, IfErr, OnOk, Some, None, IsTrue, map, ◌∷◌, []};
-ghost use Rattle.std.specs.List.{range_with_len};
+//! Sheets, margins and scales, as a caller requests them.
+ghost use Rattle.std.specs.Prelude.{◌≡◌, IfOk, IfErr, OnOk, Some, None, IsTrue};
 ghost use Rattle.rules.specs.Papers.{is_paper};
-ghost use Rattle.pagespec.specs.Items.{groups_of, item_of};
-ghost use Rattle.layouts.specs.Cells.{size};
-ghost use Rattle.layouts.specs.Fitted.{back_of, fitted, why_no_scale_on, why_not_fitted};
-ghost use Rattle.layouts.specs.Laws.{IsPaper, IsArranged, IsBound};
-ghost use Rattle.layouts.specs.Grids.{arranged, bound, is_same, is_itself as is_page_itself};
+ghost use Rattle.layouts.specs.Laws.{IsPaper};
+ghost use Rattle.layouts.specs.Grids.{is_same, is_itself as is_page_itself};
 ghost use Rattle.layouts.specs.Grids.{room_of};
 ghost use Rattle.layouts.specs.Grids.{scale_for, leaf_order as leaf_order_of};
-ghost use Rattle.layouts.specs.Refusals.{why_not_arranged, why_not_bound, IsArrangementFault};
 ghost use Rattle.layouts.specs.Refusals.{is_paper_reached, folds_short, why_no_room, why_no_sheet, why_no_scale, is_shown as are_shown};
 
-use super::arrangement::{Arrangement, Binding, FillOrder, Free, Order, Papers, Turned};
+use super::arrangement::{Arrangement, FillOrder, Free, Order, Papers, Turned};
 use super::error::ArrangementError;
 use super::grid::Grid;
 use super::item::within_reach;
 use super::room::{Room, are_lengths};
 use super::scale::{OUT_OF_REACH, extent, is_scale, left_free, scale_in};
-use super::setting::Setting;
 use lengths::{Number, Paper};
-use pagespec::{Item, Spec};
-use std::alloc::{AllocError, Global};
 
 /// The most pages that a sheet may have.
 pub const MOST_ON_SHEET: u64 = 1_024;
-
-/// The specification that arranges pages on each sheet as requested, with each page in the middle of its cell. A sheet has a page for each cell, or
-/// the requested number of pages in a grid with at least that number of cells. Pages keep the margins and gaps, and are as large as possible unless a
-/// scale is requested. A single page on a sheet of its own paper is left as it is if no margin, trim or scale is requested. Fails with
-/// `CellsOutOfRange`, `SideTooLong`, `LengthOutOfRange`, `NothingLeftOfPage`, `NoRoom`, `ScaleOutOfRange` or `ScaleTooLarge` if pages can't be
-/// arranged in this way. Without enough memory the error is `NoMemory`.
-pub fn arrange(
-    alloc: Global,
-    papers: &Papers,
-    arrangement: &Arrangement,
-) -> Result<Spec, ArrangementError>
-    ensures page { IsPaper papers.now.page }
-    ensures sheet { IsPaper papers.now.sheet }
-    ensures made { IfOk result (λ spec. spec ≡ arranged papers.now.page papers.now.sheet arrangement.now) }
-    ensures laid_out { IfOk result (IsArranged papers.now.page papers.now.sheet arrangement.now) }
-    ensures possible { OnOk result (why_not_arranged papers.now.page papers.now.sheet arrangement.now ≡ None) }
-    ensures refused { IfErr result (IsArrangementFault (why_not_arranged papers.now.page papers.now.sheet arrangement.now)) }
-{
-    let setting = match Setting::of(papers, arrangement) {
-        Ok(setting) => setting,
-        Err(error) => return Err(error),
-    };
-    let count = arrangement.cells.count();
-    let groups = one_side(alloc, &setting, &papers.page, count as u32)?;
-    Ok(Spec::of_groups(count as u32, groups))
-}
-
-/// The specification of a booklet, for a row of pages in signature order. Each side of a sheet has two pages side by side, and the fold is parallel
-/// to the sheet's shorter edge. Half of the gap is kept free on each side of the fold. Pages are as large as possible unless a scale is requested. For
-/// printers that flip a sheet on its long edge, the backs are rotated by 180 degrees. Fails with `SideTooLong`, `LengthOutOfRange`,
-/// `NothingLeftOfPage`, `UnevenMargins`, `FoldOnLongEdge`, `NoRoom`, `ScaleOutOfRange` or `ScaleTooLarge` if pages don't fit on the leaves. Without
-/// enough memory the error is `NoMemory`.
-pub fn bind(alloc: Global, papers: &Papers, binding: &Binding) -> Result<Spec, ArrangementError>
-    ensures page { IsPaper papers.now.page }
-    ensures sheet { IsPaper papers.now.sheet }
-    ensures made { IfOk result (λ spec. spec ≡ bound papers.now.page papers.now.sheet binding.now) }
-    ensures laid_out { IfOk result (IsBound papers.now.page papers.now.sheet binding.now) }
-    ensures possible { OnOk result (why_not_bound papers.now.page papers.now.sheet binding.now ≡ None) }
-    ensures refused { IfErr result (IsArrangementFault (why_not_bound papers.now.page papers.now.sheet binding.now)) }
-{
-    let setting = match Setting::of_binding(papers, binding) {
-        Ok(setting) => setting,
-        Err(error) => return Err(error),
-    };
-    if binding.long_edge {
-        let sides = leaf(alloc, &setting, &papers.page)?;
-        Ok(Spec::of_groups(4, sides))
-    } else {
-        let side = one_side(alloc, &setting, &papers.page, 2)?;
-        Ok(Spec::of_groups(2, side))
-    }
-}
-
-/// One side of a sheet: the first `n` pages, each fitted into its cell.
-fn one_side(
-    alloc: Global,
-    setting: &Setting,
-    page_paper: &Paper,
-    n: u32,
-) -> Result<Vec<Vec<Item>>, AllocError>
-    requires cells { n ≤ size setting.now.grid }
-    requires possible { why_not_fitted setting.now page_paper.now ≡ None }
-    ensures { IfOk result (λ groups. groups_of groups.items
-        ≡ map (fitted setting.now page_paper.now) (range_with_len 0 n) ∷ []) }
-{
-    let items = fronts(alloc, setting, page_paper, n)?;
-    let mut groups = Vec::new(alloc);
-    groups.push(items)?;
-    Ok(groups)
-}
-
-/// The two sides of a leaf. The back is rotated by 180 degrees.
-fn leaf(alloc: Global, setting: &Setting, page_paper: &Paper) -> Result<Vec<Vec<Item>>, AllocError>
-    requires cells { 2 ≤ size setting.now.grid }
-    requires possible { why_not_fitted setting.now page_paper.now ≡ None }
-    requires scaled { why_no_scale_on setting.now page_paper.now ≡ None }
-    ensures { IfOk result (λ groups. groups_of groups.items
-        ≡ map (fitted setting.now page_paper.now) (range_with_len 0 2)
-        ∷ map (back_of setting.now page_paper.now) (range_with_len 0 2) ∷ []) }
-{
-    let front = fronts(alloc, setting, page_paper, 2)?;
-    let back = backs(alloc, setting, page_paper)?;
-    let mut groups = Vec::new(alloc);
-    groups.push(front)?;
-    groups.push(back)?;
-    Ok(groups)
-}
-
-/// The first `n` pages, each fitted into its cell.
-fn fronts(
-    alloc: Global,
-    setting: &Setting,
-    page_paper: &Paper,
-    n: u32,
-) -> Result<Vec<Item>, AllocError>
-    requires cells { n ≤ size setting.now.grid }
-    requires possible { why_not_fitted setting.now page_paper.now ≡ None }
-    ensures { IfOk result (λ items. map item_of items.items
-        ≡ map (fitted setting.now page_paper.now) (range_with_len 0 n)) }
-{
-    let mut items = Vec::new(alloc);
-    for k in 0..n {
-        let Ok(item) = setting.item(page_paper, k) else {
-            unreachable!();
-        };
-        items.push(item)?;
-    }
-    Ok(items)
-}
-
-/// The two pages on the back of a leaf. The back is rotated by 180 degrees.
-fn backs(alloc: Global, setting: &Setting, page_paper: &Paper) -> Result<Vec<Item>, AllocError>
-    requires cells { 2 ≤ size setting.now.grid }
-    requires scaled { why_no_scale_on setting.now page_paper.now ≡ None }
-    ensures { IfOk result (λ items. map item_of items.items
-        ≡ map (back_of setting.now page_paper.now) (range_with_len 0 2)) }
-{
-    let mut items = Vec::new(alloc);
-    for k in 0..2 {
-        let Ok(item) = setting.back_item(page_paper, k) else {
-            unreachable!();
-        };
-        items.push(Item {
-            page: 2 + k,
-            ..item
-        })?;
-    }
-    Ok(items)
-}
 
 /// The order of the pages on a leaf: from the left, or from the right if the booklet is bound at the right.
 pub(crate) fn leaf_order(right_to_left: bool) -> Order
@@ -192,7 +55,7 @@ pub(crate) fn sheet_in(papers: &Papers, free: &Free) -> Result<Room, Arrangement
 }
 
 /// Checks that the margins leave some of the sheet, whatever the size of the pages. Fails with `NoRoom` if they leave nothing. Lengths out of range
-/// pass, because `arrange` and `bind` refuse them as `LengthOutOfRange`.
+/// pass, because `Setting::of` and `of_binding` refuse them as `LengthOutOfRange`.
 pub fn check_room(sheet: &Paper, free: &Free) -> Result<(), ArrangementError>
     ensures possible { OnOk result (why_no_room sheet.now free.now ≡ None) }
     ensures refused { IfErr result (λ error. why_no_room sheet.now free.now ≡ Some error) }

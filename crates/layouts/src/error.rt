@@ -1,9 +1,5 @@
 //! Why pages can't be arranged.
-ghost use Rattle.std.specs.Prelude.{◌≡◌};
-ghost use Rattle.layouts.specs.declared.error.ArrangementError.TheVariants.{NoMemory};
-
 use super::room::Room;
-use std::alloc::AllocError;
 use thiserror::Error;
 
 /// Why pages can't be arranged as requested.
@@ -43,12 +39,4 @@ pub enum ArrangementError {
     /// There was not enough memory.
     #[error("out of memory")]
     NoMemory,
-}
-
-impl From<AllocError> for ArrangementError {
-    ghost from_gives = { λ _ error. error ≡ NoMemory };
-
-    fn from(_error: AllocError) -> ArrangementError {
-        ArrangementError::NoMemory
-    }
 }

@@ -98,12 +98,14 @@ pub fn fitted_is_in_order()
     ensures { FittedIsInOrder }
 {}
 
-/// For pages of one paper, `arrange` fits each page into its cell.
+/// Pages of the paper for which the grid is chosen aren't refused in its cells.
 pub fn arranged_is_fitted()
     ensures { ArrangedIsFitted }
 {}
 
-/// For pages of one paper, `bind` fits each page into its half of the sheet.
+/// Pages of the paper for which leaves are bound aren't refused in the halves of a sheet, and the fold is parallel to the sheet's shorter edge. If no
+/// scale is requested, no two of them side by side, upright or turned, allow a scale that is larger by 10^-6, unless a side of the page without its
+/// trim is under 11 points.
 pub fn bound_is_fitted()
     ensures { BoundIsFitted }
 {}

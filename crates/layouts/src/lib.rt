@@ -1,4 +1,4 @@
-//! Layouts: specifications that a program makes, so that users needn't compute scales and offsets.
+//! Layouts: pages in cells and on leaves, so that users needn't compute scales and offsets.
 #![tactic(auto)]
 
 pub mod arrangement;
@@ -14,7 +14,7 @@ mod scale;
 pub mod setting;
 
 pub use arrangement::{Arrangement, Binding, Cells, FillOrder, Free, Order, Papers, Turned};
-pub use arranging::{MOST_ON_SHEET, arrange, bind, check_room, fits_offsets, is_of_size};
+pub use arranging::{MOST_ON_SHEET, check_room, fits_offsets, is_of_size};
 pub use cell::{Cell, from_far, gap_at, in_grains};
 pub use error::ArrangementError;
 pub use grid::Grid;

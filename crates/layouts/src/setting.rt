@@ -34,8 +34,9 @@ pub struct Setting {
 }
 
 impl Setting {
-    /// The setting for an arrangement. The grid is chosen for pages of the paper `papers.page`. Fails with the error of `arrange` if such pages can't
-    /// be arranged.
+    /// The setting for an arrangement. A sheet has the requested cells, or a grid with at least the requested number of them, in which pages of the
+    /// paper `papers.page` are as large as possible. Fails with `CellsOutOfRange`, `SideTooLong`, `LengthOutOfRange`, `NothingLeftOfPage`, `NoRoom`,
+    /// `ScaleOutOfRange` or `ScaleTooLarge` if such pages can't be arranged in this way.
     pub fn of(papers: &Papers, arrangement: &Arrangement) -> Result<Setting, ArrangementError>
         ensures page { IsPaper papers.now.page }
         ensures sheet { IsPaper papers.now.sheet }
@@ -74,8 +75,9 @@ impl Setting {
         Ok(setting)
     }
 
-    /// The setting for a booklet, with the two halves of a sheet as its cells. The fold is in the same place for pages of every paper. Fails with the
-    /// error of `bind` if pages of the paper `papers.page` can't be bound.
+    /// The setting for a booklet, with the two halves of a sheet as its cells. The fold is parallel to the sheet's shorter edge, and in the same place
+    /// for pages of every paper. Half of the gap is kept free on each side of it. Fails with `SideTooLong`, `LengthOutOfRange`, `NothingLeftOfPage`,
+    /// `UnevenMargins`, `FoldOnLongEdge`, `NoRoom`, `ScaleOutOfRange` or `ScaleTooLarge` if pages of the paper `papers.page` can't be bound.
     pub fn of_binding(papers: &Papers, binding: &Binding) -> Result<Setting, ArrangementError>
         ensures page { IsPaper papers.now.page }
         ensures sheet { IsPaper papers.now.sheet }

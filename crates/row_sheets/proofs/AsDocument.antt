@@ -19,8 +19,7 @@ use Rattle.row_sheets.specs.RowSheets.{as_it_is, selected, selected_sheet}
 use Rattle.row_sheets.specs.SameScale.{least_with}
 use Rattle.row_sheets.specs.Shapes.{cell_on, filling}
 use Rattle.row_sheets.specs.AsDocument.{AreLaidAlike, RowIsDocument, chosen_page, papers_at, renamed, renamed_slot}
-use Rattle.row_sheets.proofs.Filling.{sheet as sheet_of}
-use Rattle.row_sheets.proofs.Specified.{same_map}
+use Rattle.row_sheets.proofs.Filling.{sheet as sheet_of, same_map}
 
 -- ---- rows
 abbrev with_numbers : (ℕ → ℕ) → Row → Row

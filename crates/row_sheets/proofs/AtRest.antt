@@ -19,9 +19,8 @@ use Rattle.row_sheets.specs.Filled.{Filling, grid_entry, is_turned, slot_on}
 use Rattle.row_sheets.specs.Shapes.{first_refused, why_no_place}
 use Rattle.row_sheets.specs.Creep.{AreHalves, NoCreepIsPlain, creep_on, creeping, creeping_slot, first_over_fold, in_half, is_before_fold, moved_up, up_to_fold, why_no_half, why_not_creeping}
 use Rattle.row_sheets.proofs.Creeping.{halves, of_halves}
-use Rattle.row_sheets.proofs.Filling.{sheet}
+use Rattle.row_sheets.proofs.Filling.{sheet, same_map}
 use Rattle.row_sheets.proofs.Refused.{same_fault}
-use Rattle.row_sheets.proofs.Specified.{same_map}
 
 -- ---- how far
 

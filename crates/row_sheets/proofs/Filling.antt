@@ -4,8 +4,18 @@ use Rattle.std.specs.Prelude.{map}
 use Rattle.std.specs.List.{range_with_len}
 use Rattle.std.proofs.Math.Nat.{eq-or-lt_of_le}
 use Rattle.std.proofs.lemmas.List.FromFn.{map-range_with_len_more}
+use Rattle.std.proofs.lemmas.List.{map-append}
 use Rattle.rules.specs.Papers.{Paper}
 use Rattle.rules.specs.Made.{MadeSlot, MadeSheet}
+
+pub same_map : {X Y : Type 0} (f g : X → Y) → ((x : X) → f x ≡ g x) → (xs : List X) → map f xs ≡ map g xs
+same_map f g h [] = refl
+same_map f g h (x ∷ xs) = ap (λ y. y ∷ map f xs) (h x) ∙ ap (λ ys. g x ∷ ys) (same_map f g h xs)
+
+-- one more of a range
+pub pushed : {X Y : Type 0} (h : X → Y) (f : ℕ → Y) (xs ys : List X) (x : X) (k : ℕ) → map h xs ≡ map f (range_with_len 0 k) → h x ≡ f k → ys ≡ xs ++ x ∷ [] → map h ys ≡ map f (range_with_len 0 (k + 1))
+pushed h f xs ys x k so_far here e =
+    ap (map h) e ∙ (map-append h xs (x ∷ []) ∙ (ap (λ zs. zs ++ h x ∷ []) so_far ∙ (ap (λ z. map f (range_with_len 0 k) ++ z ∷ []) here ∙ sym (map-range_with_len_more f 0 k k (omega arith)))))
 
 -- one more sheet
 abbrev pub sheet : (paper : Paper) → (slots : List MadeSlot) → MadeSheet

@@ -27,9 +27,6 @@ mod Examples
 pub mod Filling
 mod Before
 mod Offsets
-mod Specified
-mod AsPrinted
 mod AsDocument
-mod PrintedBacks
 pub mod NoPlan
 pub mod CardGrid

@@ -13,8 +13,7 @@ use Rattle.row_sheets.specs.Filled.{Filling, behind_in, card_entry, duplex_entry
 use Rattle.row_sheets.specs.Bound.{shown_in}
 use Rattle.row_sheets.specs.Stacked.{CardsAreRead, GridIsRead, LeavesAreRead, StackIsRead, pile, shown_at, shown_on, turned_pile}
 use Rattle.row_sheets.proofs.Behind.{behind_is_mirror}
-use Rattle.row_sheets.proofs.Filling.{sheet}
-use Rattle.row_sheets.proofs.Specified.{same_map}
+use Rattle.row_sheets.proofs.Filling.{sheet, same_map}
 use Rattle.row_sheets.proofs.Runs.{duplex_runs_on, grid_runs_on, part_of_leaf, same_each, stack_runs_on}
 
 -- ---- a sheet shows its entries

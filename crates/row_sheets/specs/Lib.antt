@@ -14,7 +14,5 @@ pub mod Bound
 pub mod Stacked
 pub mod Zine
 pub mod Posters
-pub mod Specified
-pub mod AsPrinted
 pub mod AsDocument
 pub mod Schemes

@@ -1,8 +1,6 @@
 //! Laws of the sheets that are made from rows. Each function states one law in its contract, and does nothing.
 ghost use Rattle.row_sheets.specs.AsDocument.{RowIsDocument};
-ghost use Rattle.row_sheets.specs.AsPrinted.{NothingIsWrittenOfNumbers, PrintedBacksAreImposed, PrintedBookletIsImposed, PrintedIsImposed};
 ghost use Rattle.row_sheets.specs.BySpec.{BySpecOnAll};
-ghost use Rattle.row_sheets.specs.Specified.{GridIsSpecified, BookletIsSpecified};
 ghost use Rattle.row_sheets.specs.Filled.{BehindIsMirror, CardsAreGrid, GridRunsOn};
 ghost use Rattle.row_sheets.specs.Filled.{FilledIsInside, FilledIsApart, SidesAreInside, SidesAreApart, BookletIsGrid, BookletKeepsFold};
 ghost use Rattle.row_sheets.specs.Creep.{CreepMoves, CreepGrows, CreepKeepsSides, NoCreepIsPlain};
@@ -197,39 +195,6 @@ pub fn have_one_scale()
 /// If the pages of a row have one scale, each page lies in its cell.
 pub fn one_scale_stands()
     ensures { OneScaleStands }
-{}
-
-/// If all pages have one paper, the sheets of a grid are those that the specification for the same arrangement makes.
-pub fn grid_is_specified()
-    ensures { GridIsSpecified }
-{}
-
-/// If all pages have one paper and no back is rotated, the sides of a booklet are those that the specification for the same binding makes.
-pub fn booklet_is_specified()
-    ensures { BookletIsSpecified }
-{}
-
-/// If all pages have one paper, the specification that is printed for a grid of all pages makes the grid's sheets when it is read again.
-pub fn printed_is_imposed()
-    ensures { PrintedIsImposed }
-{}
-
-/// Suppose that all pages have one paper, the leaves don't creep, and the sheets are flipped on the short edge. Then the specification that is
-/// printed for a booklet of all pages makes the booklet's sheets when it is read again.
-pub fn printed_booklet_is_imposed()
-    ensures { PrintedBookletIsImposed }
-{}
-
-/// Suppose that all pages have one paper, the leaves don't creep, and the backs are rotated. Then the specification that is printed for a booklet of
-/// all pages makes the booklet's sheets when it is read again. Only the page numbers in the items differ, and the text of a sheet doesn't depend on
-/// them.
-pub fn printed_backs_are_imposed()
-    ensures { PrintedBacksAreImposed }
-{}
-
-/// The text of a sheet doesn't depend on the page numbers of its items.
-pub fn nothing_is_written_of_numbers()
-    ensures { NothingIsWrittenOfNumbers }
 {}
 
 /// With the same cells, a row of pages is laid out in the same way as all pages of a document that consists of these pages.

@@ -1,13 +1,14 @@
 //! The laws of layouts, tried on many papers by separate arithmetic on printed matrices. With pages and sheets of one paper, all numbers of pages up
 //! to 64 are tried, and some larger ones.
 use crate::answer::Answer;
+use crate::specifications::outlines::{arranged, bound};
 use crate::specifications::placed::{
     Kept, Placed, are_apart, are_in_order, are_inside, are_like, columns_of, largest, pages_of,
 };
 use crate::words::word;
-use layouts::{Arrangement, Binding, Cells, Free, Papers, arrange, bind};
+use layouts::{Arrangement, Binding, Cells, Free, Papers};
 use lengths::{Grains, paper_by_name};
-use pagespec::Spec;
+use pagespec::Item;
 use std::alloc::Global;
 
 /// The papers that are tried, with their sides in points.
@@ -121,9 +122,9 @@ fn booklets_tried(out: &mut Answer, page: &Named, sheet: &Named) -> Option<u32> 
     Some(2)
 }
 
-/// The specification of `n` pages on a sheet, with margins and gaps of `MILLIMETRES` unless `kept` has no margin. `None` if the layout or memory is
+/// The items of `n` pages on a sheet, with margins and gaps of `MILLIMETRES` unless `kept` has no margin. `None` if the layout or memory is
 /// refused.
-fn laid_out(alloc: Global, n: u32, papers: &Papers, kept: Kept) -> Option<Spec> {
+fn laid_out(alloc: Global, n: u32, papers: &Papers, kept: Kept) -> Option<Vec<Item>> {
     let mut arrangement = Arrangement::plain(Cells::AtLeast(n));
     if kept.margin != 0 {
         let margin = Grains::new(3_600_000_000_000)?;
@@ -138,7 +139,7 @@ fn laid_out(alloc: Global, n: u32, papers: &Papers, kept: Kept) -> Option<Spec> 
             ..Free::none()
         };
     }
-    arrange(alloc, papers, &arrangement).ok()
+    arranged(alloc, papers, &arrangement).ok()
 }
 
 fn papers_named(page: &str, sheet: &str) -> Option<Papers> {
@@ -153,14 +154,11 @@ fn fault_of(alloc: Global, n: u32, page: &Named, sheet: &Named, kept: Kept) -> &
     let Some(papers) = papers_named(page.0, sheet.0) else {
         return "no paper";
     };
-    let Some(spec) = laid_out(alloc, n, &papers, kept) else {
+    let Some(items) = laid_out(alloc, n, &papers, kept) else {
         return "refused, or out of memory";
     };
-    if spec.groups().len() != 1 || spec.modulo() != n {
-        return "not so many sheets";
-    }
     let sides = (page.1, page.2);
-    match pages_of(alloc, &spec, 0, &papers.page, sides) {
+    match pages_of(alloc, items.as_slice(), &papers.page, sides) {
         Ok(pages) => fault_among(pages.as_slice(), n, sides, (sheet.1, sheet.2), kept),
         Err(_) => "out of memory",
     }
@@ -208,14 +206,14 @@ fn booklet_fault(alloc: Global, page: &Named, sheet: &Named, long_edge: bool) ->
     let Some(papers) = papers_named(page.0, sheet.0) else {
         return "no paper";
     };
-    let Ok(spec) = bind(alloc, &papers, &Binding::plain(long_edge)) else {
+    let Ok((front, back)) = bound(alloc, &papers, &Binding::plain(long_edge)) else {
         return "refused, or out of memory";
     };
     let sides = (page.1, page.2);
-    let Ok(front) = pages_of(alloc, &spec, 0, &papers.page, sides) else {
+    let Ok(front) = pages_of(alloc, front.as_slice(), &papers.page, sides) else {
         return "out of memory";
     };
-    let Ok(back) = pages_of(alloc, &spec, 1, &papers.page, sides) else {
+    let Ok(back) = pages_of(alloc, back.as_slice(), &papers.page, sides) else {
         return "out of memory";
     };
     if back.len() != if long_edge { 2 } else { 0 } {

@@ -1,14 +1,12 @@
-//! Layouts: specifications that are made by a program.
+//! Layouts: the items that place pages of one paper in cells and on leaves.
 use crate::answer::Answer;
-use crate::specifications::specifications::written;
 use crate::words::{billionths, count, count_in, length, paper, word};
 use layouts::{
-    Arrangement, ArrangementError, Binding, Cells, FillOrder, Free, Order, Papers, Turned, arrange,
-    bind,
+    Arrangement, ArrangementError, Binding, Cells, FillOrder, Free, Order, Papers, Setting, Turned,
 };
-use lengths::a4;
-use pagespec::Spec;
-use std::fmt::{Debug, Display};
+use lengths::{Number, a4, print_number};
+use pagespec::{Item, Measure, Turn};
+use std::alloc::Global;
 
 pub fn run(out: &mut Answer, words: &[String]) -> Option<()> {
     match word(words, 0)? {
@@ -26,28 +24,74 @@ pub fn run(out: &mut Answer, words: &[String]) -> Option<()> {
 
 fn pages_on_sheets(out: &mut Answer, words: &[String]) -> Option<()> {
     let cells = Cells::AtLeast(count(words, 1)?);
-    let made = arrange(out.alloc, &papers(words)?, &Arrangement::plain(cells));
-    show(out, made)
+    let made = arranged(out.alloc, &papers(words)?, &Arrangement::plain(cells));
+    show_cells(out, made)
 }
 
 fn leaves(out: &mut Answer, words: &[String]) -> Option<()> {
     let binding = Binding::plain(word(words, 1)? == "long");
-    let made = bind(out.alloc, &papers(words)?, &binding);
-    show(out, made)
+    let made = bound(out.alloc, &papers(words)?, &binding);
+    show_leaves(out, made)
 }
 
 fn cells_of_a4(out: &mut Answer, words: &[String]) -> Option<()> {
     match arrangement(words) {
-        Some(asked) => show(out, arrange(out.alloc, &on_a4(), &asked)),
+        Some(asked) => show_cells(out, arranged(out.alloc, &on_a4(), &asked)),
         None => None,
     }
 }
 
 fn leaves_of_a4(out: &mut Answer, words: &[String]) -> Option<()> {
     match binding(words) {
-        Some(asked) => show(out, bind(out.alloc, &on_a4(), &asked)),
+        Some(asked) => show_leaves(out, bound(out.alloc, &on_a4(), &asked)),
         None => None,
     }
+}
+
+/// The items of a page in each cell that is requested. Without enough memory the error is `None`.
+pub fn arranged(
+    alloc: Global,
+    papers: &Papers,
+    arrangement: &Arrangement,
+) -> Result<Vec<Item>, Option<ArrangementError>> {
+    let setting = Setting::of(papers, arrangement).map_err(|error| Some(error))?;
+    let mut items = Vec::new(alloc);
+    for k in 0..arrangement.cells.count() as u32 {
+        if u64::from(k) < setting.grid.size() {
+            let item = setting.item(&papers.page, k).map_err(|error| Some(error))?;
+            // Written out, or the prover isn't told which module holds the numbers of a setting.
+            items.push(Item { page: k, ..item }).map_err(|_| None)?;
+        }
+    }
+    Ok(items)
+}
+
+/// The items of the two pages on the front of a leaf, and of those on its back if backs are rotated. Without enough memory the error is `None`.
+pub fn bound(
+    alloc: Global,
+    papers: &Papers,
+    binding: &Binding,
+) -> Result<(Vec<Item>, Vec<Item>), Option<ArrangementError>> {
+    let setting = Setting::of_binding(papers, binding).map_err(|error| Some(error))?;
+    let mut front = Vec::new(alloc);
+    let mut back = Vec::new(alloc);
+    for k in 0..2u32 {
+        if u64::from(k) < setting.grid.size() {
+            let item = setting.item(&papers.page, k).map_err(|error| Some(error))?;
+            front.push(item).map_err(|_| None)?;
+            if binding.long_edge {
+                let item = setting
+                    .back_item(&papers.page, k)
+                    .map_err(|error| Some(error))?;
+                let item = Item {
+                    page: k.saturating_add(2),
+                    ..item
+                };
+                back.push(item).map_err(|_| None)?;
+            }
+        }
+    }
+    Ok((front, back))
 }
 
 /// The paper of pages and the paper of sheets that the words name. `None` if one of the two isn't a paper.
@@ -58,13 +102,78 @@ fn papers(words: &[String]) -> Option<Papers> {
     })
 }
 
-/// Prints a specification, or the reason why there is none. Returns `Some` in both cases.
-fn show<E: Debug + Display + Drop>(out: &mut Answer, made: Result<Spec, E>) -> Option<()> {
+/// Prints the specification that has these items, or the reason why there are none. Returns `Some` in both cases.
+fn show_cells(out: &mut Answer, made: Result<Vec<Item>, Option<ArrangementError>>) -> Option<()> {
     match made {
-        Ok(spec) => written(out, &spec),
-        Err(error) => out.refusal(error),
+        Ok(items) => {
+            modulo(out, items.len());
+            group(out, items.as_slice());
+            out.text("\n");
+        }
+        Err(error) => refused(out, error),
     }
     Some(())
+}
+
+fn show_leaves(
+    out: &mut Answer,
+    made: Result<(Vec<Item>, Vec<Item>), Option<ArrangementError>>,
+) -> Option<()> {
+    match made {
+        Ok((front, back)) => {
+            modulo(out, front.len().saturating_add(back.len()));
+            group(out, front.as_slice());
+            if !back.is_empty() {
+                out.text(",");
+                group(out, back.as_slice());
+            }
+            out.text("\n");
+        }
+        Err(error) => refused(out, error),
+    }
+    Some(())
+}
+
+fn refused(out: &mut Answer, error: Option<ArrangementError>) {
+    match error {
+        Some(error) => out.refusal(error),
+        None => out.note(false),
+    }
+}
+
+fn modulo(out: &mut Answer, pages: usize) {
+    if pages != 1 {
+        out.show(format_args!("{pages}:"));
+    }
+}
+
+fn group(out: &mut Answer, items: &[Item]) {
+    for (place, item) in items.iter().enumerate() {
+        out.text(if place == 0 { "" } else { "+" });
+        out.show(item.page);
+        out.text(match item.turn {
+            Turn::None => "",
+            Turn::Left => "L",
+            Turn::Half => "U",
+            Turn::Right => "R",
+        });
+        if item.scale != Number::ONE {
+            number(out, "@", item.scale);
+        }
+        let (x, y) = item.offset;
+        if x != Measure::ZERO || y != Measure::ZERO {
+            number(out, "(", x.number);
+            number(out, ",", y.number);
+            out.text(")");
+        }
+    }
+}
+
+fn number(out: &mut Answer, before: &str, number: Number) {
+    out.text(before);
+    let length = out.bytes.len();
+    let added = print_number(number, &mut out.bytes);
+    out.note_appended(length, added.is_ok());
 }
 
 fn on_a4() -> Papers {

@@ -1,6 +1,6 @@
 //! The areas of pages on a sheet, computed from their printed matrices.
 use lengths::Paper;
-use pagespec::Spec;
+use pagespec::Item;
 use placement::{NoMemory, matrix_of, matrix_text};
 use std::alloc::Global;
 
@@ -122,20 +122,16 @@ fn turn_of(numbers: &[i64]) -> Option<(u32, i64)> {
     }
 }
 
-/// The pages of a sheet that a specification makes, as their printed matrices place them. Sheets are counted from 0. `sides` are the sides of a page,
-/// in points. The list is empty if there is no such sheet. It lacks each page whose matrix does more than turn, scale and move it.
+/// The pages of a sheet, as their printed matrices place them. `sides` are the sides of a page, in points. The list lacks each page whose matrix does
+/// more than turn, scale and move it.
 pub fn pages_of(
     alloc: Global,
-    spec: &Spec,
-    sheet: usize,
+    items: &[Item],
     page: &Paper,
     sides: (i64, i64),
 ) -> Result<Vec<Placed>, NoMemory> {
     let mut pages = Vec::new(alloc);
-    let Some(group) = spec.groups().get(sheet) else {
-        return Ok(pages);
-    };
-    for item in group.iter() {
+    for item in items {
         let mut text = Vec::new(alloc);
         matrix_text(&matrix_of(item, page), &mut text)?;
         let row = numbers(alloc, text.as_slice())?;

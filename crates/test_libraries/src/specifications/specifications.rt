@@ -50,7 +50,7 @@ fn measure(out: &mut Answer, measure: Measure) {
 }
 
 /// Prints the canonical text of a specification.
-pub fn written(out: &mut Answer, spec: &Spec) {
+fn written(out: &mut Answer, spec: &Spec) {
     match write_spec(out.alloc, spec) {
         Ok(text) => out.line(text.as_str()),
         Err(_) => out.note(false),

@@ -1,11 +1,10 @@
 use Rattle.std.proofs.Common.{arith, rules, ◌≡◌, ◌++◌, ◌∷◌, [], ◌∙◌, ◌-◌, length, ap, subst}
 use Rattle.sheet_plan.specs.OfSheets.{slot_of}
 use Rattle.rules.specs.Signatures.{entry_of}
-use Rattle.layouts.proofs.Writable.{pushed}
 use Rattle.row_sheets.specs.Shapes.{filling, entry_in_cell, cell_slot}
 use Rattle.row_sheets.specs.Standing.{EntryFits}
 use Rattle.row_sheets.proofs.Before.{cell_before, count_on}
-use Rattle.row_sheets.proofs.Filling.{one_more}
+use Rattle.row_sheets.proofs.Filling.{one_more, pushed}
 use Rattle.row_sheets.proofs.fill.RowFilling.fill_slots.Goals as goal
 
 pub placed_before-before-requires-clause-cell : goal.placed_before-before-requires-clause-cell
