@@ -26,8 +26,9 @@ ROOT = Path(__file__).resolve().parent.parent.parent
 PDFS = ROOT / "cases/pdfs"
 SETTINGS = (
     *("stdin", "limit", "stdout", "signal", "user", "rights", "umask", "link", "file", "pipe", "text", "papersize"),
-    *("room", "open", "impose", "copies", "stack", "python"),
+    *("room", "open", "impose", "copies", "stack", "memory", "python", "sized"),
 )
+MOST_COMPARED = 1 << 28  # bytes
 
 
 @dataclass
@@ -168,7 +169,9 @@ def prepared(case: Case, folder: Path) -> None:
         else:
             (folder / word).write_bytes(case.documents[word].data)
     for kind, *rest in case.settings:
-        if kind == "file":
+        if kind == "sized":
+            os.truncate(folder / rest[0], int(rest[1]))
+        elif kind == "file":
             (folder / unescaped(rest[0])).write_bytes(case.documents[rest[1]].data)
         elif kind == "copies":
             for name in case.copies(rest[0]):
@@ -194,7 +197,9 @@ def fed(path: Path, data: bytes) -> None:
 
 
 def contents(folder: Path) -> dict[str, bytes]:
-    return {str(path.relative_to(folder)): path.read_bytes() for path in sorted(folder.rglob("*")) if path.is_file()}
+    """What the files of a folder hold; of a vast one, as much as a case may look at."""
+    files = [path for path in sorted(folder.rglob("*")) if path.is_file()]
+    return {str(path.relative_to(folder)): path.open("rb").read(MOST_COMPARED) for path in files}
 
 
 def copied(programs: Programs, to: Path) -> Programs:
@@ -235,6 +240,7 @@ def ran(case: Case, programs: Programs, folder: Path) -> Run:
     prepared(case, inside)
     before = contents(inside)
     limits = [("limit", resource.RLIMIT_FSIZE), ("open", resource.RLIMIT_NOFILE), ("stack", resource.RLIMIT_STACK)]
+    limits.append(("memory", resource.RLIMIT_AS))
     umask = case.setting("umask")
     most = next((int(rest.split()[0]) for word, rest, _ in case.wanted if word == "costs"), None)
 
@@ -296,8 +302,13 @@ def ran(case: Case, programs: Programs, folder: Path) -> Run:
 
 
 def source_of(case: Case, folder: Path) -> IO[bytes]:
-    """Standard input: a document, as a file without a name, or the one in the folder if the setting says here."""
+    """Standard input: a document in a file without a name, or its file in the folder, or a pipe, as a setting says."""
     stdin = case.setting("stdin") or [""]
+    if "pipe" in stdin:
+        pipe = folder.parent / "stdin"
+        os.mkfifo(pipe)
+        threading.Thread(target=fed, args=(pipe, case.documents[stdin[0]].data), daemon=True).start()
+        return open(pipe, "rb")
     if "here" in stdin:
         return open(folder / stdin[0], "r+b")
     source = tempfile.TemporaryFile()

@@ -530,7 +530,7 @@ class Maker:
 
     def do_saved(self, *words: str) -> None:
         """How it is saved: linearized, objects, as-is, owner, user, no-print, low-print, broken-xref, before TEXT, cut
-        BYTES."""
+        BYTES, blanks BYTES."""
         self.saving.append(list(words))
 
     # The end.
@@ -601,6 +601,8 @@ class Maker:
             data = data.replace(b"startxref\n", b"startxref\n9", 1)
         if "before" in words:
             data = words["before"][0].encode().decode("unicode_escape").encode() + data
+        if "blanks" in words:
+            data = data.replace(b"startxref\n", b" " * int(words["blanks"][0]) + b"startxref\n", 1)
         if "cut" in words:
             data = data[: int(words["cut"][0])]
         return data

@@ -1,109 +1,23 @@
-"""INFILEs: opened, looked at, and what of them goes to sheets."""
+"""INFILEs: their pages, and what of them goes to sheets."""
 
-import io
-import os
-import re
 from collections.abc import Iterator
 from typing import Any
 
-from pikepdf import Array, Dictionary, Name, PasswordError, Pdf, PdfError
+from pikepdf import Array, Dictionary, Name, Pdf, PdfError
 
-from impose_pdf import images, notes
+from impose_pdf import notes
 from impose_pdf.forms import Forms, pictures_of
 from impose_pdf.labels import Labels
 from impose_pdf.links import Link, Ways
 from impose_pdf.looks import Looks
 from impose_pdf.losses import Losses
 from impose_pdf.pages import Box, bounds, box_of, common, leaves, number_of, shape_of, then
-from impose_pdf.plan import POSTSCRIPT, Placed, Size
+from impose_pdf.plan import Placed, Size
+from impose_pdf.reading import cause, opened, warnings_in
 from impose_pdf.trees import named
-from impose_pdf.words import RANGES, cause_of, pages_of, refusal, shown, told
+from impose_pdf.words import cause_of, pages_of, refusal, shown, told
 
 LEAST, MOST = 1, 100_000  # points: the sides of pages that impose knows
-MOST_TOLD = 300  # signs of what qpdf says
-
-
-def content(name: str) -> bytes | None:
-    """What an INFILE holds that is no plain file, or that pikepdf can't open by its name; None for any other."""
-    if name == "-":
-        with open(0, "rb", closefd=False) as stream:
-            return stream.read()
-    if os.path.isfile(name) and name.isprintable():  # as names outside UTF-8 aren't
-        return None
-    with open(name, "rb") as stream:
-        return stream.read()
-
-
-def start(name: str, held: bytes | None) -> bytes:
-    """The first bytes of an INFILE, in which a PDF has its mark."""
-    if held is not None:
-        return held[:1024]
-    with open(name, "rb") as stream:
-        return stream.read(1024)
-
-
-def opened(name: str) -> Pdf:
-    """An INFILE as a PDF that may be printed."""
-    try:
-        held = content(name)
-        first = start(name, held)
-    except FileNotFoundError:
-        of_ranges = "ranges come after select, as in: select 1-3 in.pdf, or else after their INFILE"
-        hint = of_ranges if RANGES.fullmatch(name) else "INFILE and OUTFILE come last"
-        raise refusal(3, f"cannot read {shown(name)}: no such file ({hint})") from None
-    except IsADirectoryError:
-        raise refusal(3, f"cannot read {shown(name)}: it is a folder") from None
-    if not first:
-        raise refusal(1, f"{shown(name)} is empty")
-    if first.startswith((images.JPEG, images.PNG)):
-        return image(name, held)
-    if b"%PDF-" not in first:
-        kind = "PostScript, not a PDF; use impose" if POSTSCRIPT.match(first) else "not a PDF"
-        raise refusal(1, f"{shown(name)} is {kind}")
-    return unlocked(name, held)
-
-
-def image(name: str, held: bytes | None) -> Pdf:
-    """An INFILE that is an image as a PDF."""
-    try:
-        if held is None:
-            with open(name, "rb") as stream:
-                held = stream.read()
-        return images.pdf_of(held)
-    except (ValueError, LookupError, OSError, SyntaxError) as error:
-        raise refusal(1, f"the image {shown(name)} can't be read: {cause(error, name)}") from None
-
-
-def unlocked(name: str, held: bytes | None) -> Pdf:
-    """A PDF that opens without a password, and may be printed."""
-    try:
-        pdf = Pdf.open(name if held is None else io.BytesIO(held), inherit_page_attributes=False)
-    except PasswordError:
-        cure = f"qpdf --decrypt --password=WORD {shown(name)} plain.pdf"
-        raise refusal(1, f"{shown(name)} opens with its password only; take that off first, as by {cure}") from None
-    if pdf.is_encrypted and not (pdf.allow.print_lowres or pdf.allow.print_highres):
-        raise refusal(1, f"{shown(name)} is encrypted, and its owner doesn't allow it to be printed")
-    return pdf
-
-
-def cause(error: object, name: str) -> str:
-    """What qpdf says, without the file's name, and not all of it if it is long."""
-    said = text_of(error) if isinstance(error, UnicodeDecodeError) else str(error)
-    said = re.sub(rf"^(<_io\.BytesIO [^>]*>|{re.escape(name)})(: |, )?", "", said).strip()
-    return said if len(said) <= MOST_TOLD else f"{said[:MOST_TOLD]}.."
-
-
-def text_of(error: UnicodeDecodeError) -> str:
-    """What qpdf says where a name of the PDF that is in it isn't UTF-8."""
-    return error.object.decode(errors="surrogateescape")
-
-
-def warnings_in(pdf: Pdf) -> list[Any]:
-    """What qpdf has mended since it was asked last."""
-    try:
-        return list(pdf.get_warnings())
-    except UnicodeDecodeError as error:
-        return [text_of(error)]
 
 
 class Source:
@@ -120,7 +34,7 @@ class Source:
             self.shapes = [shape_of(page, entries) for page, entries in self.pages]
             self.looks = Looks(self.pdf)
         except PdfError as error:
-            raise refusal(1, f"{shown(name)} can't be read: {cause(error, name)}") from None
+            raise refusal(1, f"{shown(name)} can't be read: {cause(error)}") from None
         except OSError as error:
             raise refusal(3, f"cannot read {shown(name)}: {cause_of(error)}") from None
         if not self.pages:
@@ -201,16 +115,16 @@ class Source:
 
     def warning(self) -> str:
         """A line on what was mended, and one on pages that are lost, or nothing."""
-        lines = damage(shown(self.name), self.found, self.name)
+        lines = damage(shown(self.name), self.found)
         if self.counted > len(self.pages):
             lines += told(f"{shown(self.name)} counts {self.counted:.0f} pages, and {len(self.pages)} can be found")
         return lines + self.looks.warning(shown(self.name))
 
 
-def damage(which: str, found: list[Any], name: str = "") -> str:
+def damage(which: str, found: list[Any]) -> str:
     """The line on what was mended in a PDF, or nothing."""
     more = f", and {len(found) - 1} more" if len(found) > 1 else ""
-    return told(f"{which} is damaged, and was mended: {cause(found[0], name)}{more}") if found else ""
+    return told(f"{which} is damaged, and was mended: {cause(found[0])}{more}") if found else ""
 
 
 def warnings_of(sources: list[Source]) -> str:
@@ -222,4 +136,4 @@ def warnings_of(sources: list[Source]) -> str:
             is_own = len(sources) == 1 or str(one).startswith((f"{name} (", f"{name}, "))
             (source.found if is_own else placeless).append(one)
         lines += source.warning()
-    return lines + damage("one of the PDFs", placeless, sources[0].name)
+    return lines + damage("one of the PDFs", placeless)

@@ -3,11 +3,11 @@
 import os
 import stat
 
-from pikepdf import DataDecodingError, Pdf
+from pikepdf import Pdf
 
 from impose_pdf.foreign import is_foreign
 from impose_pdf.words import Refusal, Request, cause_of, refusal, shown, told
-from impose_pdf.writing import Place, hand_over, saved
+from impose_pdf.writing import Place, hand_over
 
 OTHER_ENDINGS = (".ps", ".eps", ".svg", ".gz", ".txt", ".png", ".jpg", ".jpeg")
 MOST_LINKS = 40  # one after another, as Linux follows them
@@ -121,18 +121,11 @@ class Outfile:
     def write(self, pdf: Pdf) -> None:
         """Writes the PDF, or leaves the place as it was."""
         try:
-            try:
-                self.put(pdf, True)
-            except (RuntimeError, DataDecodingError):  # a stream can't be unpacked
-                self.put(pdf, False)
+            if self.is_file:
+                self.place.replace(pdf)
+            else:
+                hand_over(pdf, self.given)
         except BrokenPipeError:
             raise Refusal(3, "") from None  # a reader that leaves knows why
         except OSError as error:
             raise self.refused(cause_of(error)) from None
-
-    def put(self, pdf: Pdf, is_packed: bool) -> None:
-        """Writes the PDF, with streams packed anew or not."""
-        if self.is_file:
-            self.place.replace(pdf, is_packed)
-        else:
-            hand_over(saved(pdf, is_packed), self.given)

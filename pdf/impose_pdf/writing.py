@@ -2,21 +2,26 @@
 
 import io
 import os
+import shutil
 import signal
 import stat
 from dataclasses import dataclass
-from typing import Any
+from tempfile import SpooledTemporaryFile
+from typing import IO, Any
 
-from pikepdf import ObjectStreamMode, Pdf, StreamDecodeLevel
+from pikepdf import DataDecodingError, ObjectStreamMode, Pdf, StreamDecodeLevel
+
+from impose_pdf.reading import IN_MEMORY
 
 SIGNALS = (signal.SIGHUP, signal.SIGINT, signal.SIGTERM)
+PART = 1 << 20  # bytes that are written at once
 
 
 class Sink(io.RawIOBase):
     """A file that is written. A failure is kept until the end, since qpdf doesn't bear one."""
 
-    def __init__(self, descriptor: int):
-        self.descriptor = descriptor
+    def __init__(self, file: IO[bytes]):
+        self.file = file
         self.error: OSError | None = None
 
     def writable(self) -> bool:
@@ -28,7 +33,7 @@ class Sink(io.RawIOBase):
         left = memoryview(data)
         try:
             while left and self.error is None:
-                left = left[os.write(self.descriptor, left) :]
+                left = left[self.file.write(left) :]
         except OSError as error:
             self.error = error
         return len(data)
@@ -39,39 +44,39 @@ class Sink(io.RawIOBase):
             raise self.error
 
 
-def save(pdf: Pdf, stream: Any, is_packed: bool) -> None:
-    """Writes a PDF to a stream. Streams stay as they are, but for those without Flate, if they are to be packed."""
-    pdf.save(
-        stream,
-        min_version="1.7",
-        fix_metadata_version=False,
-        object_stream_mode=ObjectStreamMode.generate,
-        compress_streams=is_packed,
-        stream_decode_level=StreamDecodeLevel.generalized if is_packed else StreamDecodeLevel.none,
-        encryption=False,
-    )
-
-
-def saved(pdf: Pdf, is_packed: bool) -> memoryview:
-    """The bytes of a PDF."""
-    made = io.BytesIO()
-    save(pdf, made, is_packed)
-    return made.getbuffer()
-
-
-def nameless(folder: str) -> int | None:
-    """A new file in a folder, without a name as yet, or None where there can't be one."""
-    try:
-        return os.open(folder, os.O_TMPFILE | os.O_WRONLY, 0o666) if os.path.isdir("/proc/self/fd") else None
-    except OSError:
-        return None
-
-
-def hand_over(data: memoryview, name: str) -> None:
-    """Writes to standard output, a device or a pipe."""
-    sink = Sink(1 if name == "-" else os.open(name, os.O_WRONLY))
-    sink.write(data)
+def save(pdf: Pdf, file: IO[bytes], is_packed: bool) -> None:
+    """Writes a PDF to a file. Streams stay as they are, but for those without Flate, if they are to be packed."""
+    sink = Sink(file)
+    with io.BufferedWriter(sink, PART) as stream:
+        pdf.save(
+            stream,
+            min_version="1.7",
+            fix_metadata_version=False,
+            object_stream_mode=ObjectStreamMode.generate,
+            compress_streams=is_packed,
+            stream_decode_level=StreamDecodeLevel.generalized if is_packed else StreamDecodeLevel.none,
+            encryption=False,
+        )
     sink.end()
+
+
+def fill(file: IO[bytes], pdf: Pdf) -> None:
+    """Writes a PDF to an empty file, with its streams packed if all of them can be unpacked."""
+    try:
+        save(pdf, file, True)
+    except (RuntimeError, DataDecodingError):
+        file.seek(0)
+        file.truncate()
+        save(pdf, file, False)
+    file.seek(0)
+
+
+def hand_over(pdf: Pdf, name: str) -> None:
+    """Writes a whole PDF to standard output, a device or a pipe."""
+    with SpooledTemporaryFile(IN_MEMORY) as whole:
+        fill(whole, pdf)
+        with open(1 if name == "-" else os.open(name, os.O_WRONLY), "wb", closefd=name != "-") as to:
+            shutil.copyfileobj(whole, to, PART)
 
 
 @dataclass
@@ -82,51 +87,54 @@ class Place:
     last: str
     mode: int
 
-    def replace(self, pdf: Pdf, is_packed: bool) -> None:
+    def replace(self, pdf: Pdf) -> None:
         """Puts a new file in the old one's place. It gets a name when it is whole, so no signal leaves a part of it."""
-        path = os.path.join(self.folder, f".impose-pdf.{os.getpid()}")
         made = nameless(self.folder)
         if made is None:
-            return self.replace_by_name(saved(pdf, is_packed), path)
-        try:
-            sink = Sink(made)
-            with io.BufferedWriter(sink, 1 << 20) as stream:
-                save(pdf, stream, is_packed)
-            self.finish(sink)
-            os.link(f"/proc/self/fd/{made}", path, src_dir_fd=made)  # which makes it follow that link
-        finally:
-            os.close(made)
-        self.rename(path)
+            return self.replace_by_name(pdf)
+        with open(made, "r+b", buffering=0, closefd=False) as file:
+            fill(file, pdf)
+        self.finish(made)
+        path = self.free_name()
+        os.link(f"/proc/self/fd/{made}", path, src_dir_fd=made)  # which makes it follow that link
+        os.close(made)
+        os.rename(path, os.path.join(self.folder, self.last))
 
-    def replace_by_name(self, data: memoryview, path: str) -> None:
+    def replace_by_name(self, pdf: Pdf) -> None:
         """The same where every file needs a name, as over a network. A signal takes the file away."""
+        path = self.free_name()
 
         def leave(number: int, _: object) -> None:
             os.unlink(path)
             os._exit(128 + number)
 
-        sink = Sink(os.open(path, os.O_CREAT | os.O_EXCL | os.O_WRONLY, 0o666))
-        for number in SIGNALS:
-            signal.signal(number, leave)
-        try:
-            for start in range(0, len(data), 1 << 20):
-                sink.write(data[start : start + (1 << 20)])
-            self.finish(sink)
-        except OSError:
-            os.unlink(path)
-            raise
-        self.rename(path)
+        with SpooledTemporaryFile(IN_MEMORY) as kept:
+            fill(kept, pdf)
+            made = os.open(path, os.O_CREAT | os.O_EXCL | os.O_WRONLY, 0o666)
+            for number in SIGNALS:
+                signal.signal(number, leave)
+            try:
+                with open(made, "wb", closefd=False) as file:
+                    shutil.copyfileobj(kept, file, PART)
+                self.finish(made)
+                os.rename(path, os.path.join(self.folder, self.last))
+            except OSError:
+                os.unlink(path)
+                raise
 
-    def finish(self, sink: Sink) -> None:
-        """Looks whether all was written, and gives the new file the rights of the old one."""
-        sink.end()
+    def free_name(self) -> str:
+        """The name of the new file before it is OUTFILE's."""
+        return os.path.join(self.folder, f".impose-pdf.{os.getpid()}")
+
+    def finish(self, made: int) -> None:
+        """Gives the new file the rights of the old one."""
         if self.mode:
-            os.fchmod(sink.descriptor, stat.S_IMODE(self.mode))
+            os.fchmod(made, stat.S_IMODE(self.mode))
 
-    def rename(self, path: str) -> None:
-        """Gives a whole file the name of OUTFILE."""
-        try:
-            os.rename(path, os.path.join(self.folder, self.last))
-        except OSError:
-            os.unlink(path)
-            raise
+
+def nameless(folder: str) -> int | None:
+    """A new file in a folder, without a name as yet, or None where there can't be one."""
+    try:
+        return os.open(folder, os.O_TMPFILE | os.O_RDWR, 0o666) if os.path.isdir("/proc/self/fd") else None
+    except OSError:
+        return None

@@ -1,0 +1,104 @@
+"""INFILEs, opened as PDFs: what is neither a PDF nor an image is refused by its first bytes, unread."""
+
+import io
+import os
+import re
+import stat
+import tempfile
+from typing import IO, Any
+
+from pikepdf import PasswordError, Pdf
+
+from impose_pdf import images
+from impose_pdf.plan import POSTSCRIPT
+from impose_pdf.words import RANGES, cause_of, refusal, shown
+
+HEAD = 1024  # bytes, in which a PDF has its mark
+MOST_HELD = 1 << 32  # bytes that are read of what is no file
+MOST_OF_IMAGE = 1 << 30  # bytes, which are read into memory
+IN_MEMORY = 1 << 24  # bytes of it that need no temporary file
+MOST_TOLD = 300  # signs of what qpdf says
+
+
+def opened(name: str) -> Pdf:
+    """An INFILE as a PDF that may be printed."""
+    try:
+        stream = open(0 if name == "-" else os.open(name, os.O_RDONLY), "rb", closefd=name != "-")
+        is_file = stat.S_ISREG(os.fstat(stream.fileno()).st_mode) and stream.tell() == 0
+        first = stream.read(HEAD)
+    except FileNotFoundError:
+        of_ranges = "ranges come after select, as in: select 1-3 in.pdf, or else after their INFILE"
+        hint = of_ranges if RANGES.fullmatch(name) else "INFILE and OUTFILE come last"
+        raise refusal(3, f"cannot read {shown(name)}: no such file ({hint})") from None
+    except IsADirectoryError:
+        raise refusal(3, f"cannot read {shown(name)}: it is a folder") from None
+    if not first:
+        raise refusal(1, f"{shown(name)} is empty")
+    is_image = first.startswith((images.JPEG, images.PNG))
+    if not is_image and b"%PDF-" not in first:
+        kind = "PostScript, not a PDF; use impose" if POSTSCRIPT.match(first) else "not a PDF"
+        raise refusal(1, f"{shown(name)} is {kind}")
+    whole = stream if is_file else held(name, first, stream)
+    whole.seek(0)
+    return image(name, whole) if is_image else unlocked(name, whole)
+
+
+def held(name: str, first: bytes, stream: IO[bytes]) -> IO[bytes]:
+    """What a pipe or a device gives: in memory if it is short, or in a temporary file."""
+    start = first + stream.read(IN_MEMORY)
+    if len(start) < IN_MEMORY:
+        return io.BytesIO(start)
+    try:
+        kept = tempfile.TemporaryFile()
+        kept.write(start)
+        while part := stream.read(1 << 20):
+            if kept.tell() + len(part) > MOST_HELD:
+                raise refusal(1, f"{shown(name)} has more than {MOST_HELD >> 30} GiB; name a file that has it")
+            kept.write(part)
+        kept.flush()
+    except OSError as error:
+        raise refusal(3, f"cannot read {shown(name)} into a temporary file: {cause_of(error)}") from None
+    return kept
+
+
+def image(name: str, stream: IO[bytes]) -> Pdf:
+    """An INFILE that is an image as a PDF."""
+    try:
+        if stream.seek(0, os.SEEK_END) > MOST_OF_IMAGE:
+            raise ValueError(f"it has more than {MOST_OF_IMAGE >> 30} GiB")
+        stream.seek(0)
+        return images.pdf_of(stream.read())
+    except (ValueError, LookupError, OSError, SyntaxError) as error:
+        raise refusal(1, f"the image {shown(name)} can't be read: {cause(error)}") from None
+
+
+def unlocked(name: str, stream: IO[bytes]) -> Pdf:
+    """A PDF that opens without a password, and may be printed."""
+    try:
+        pdf = Pdf.open(stream, inherit_page_attributes=False)
+    except PasswordError:
+        cure = f"qpdf --decrypt --password=WORD {shown(name)} plain.pdf"
+        raise refusal(1, f"{shown(name)} opens with its password only; take that off first, as by {cure}") from None
+    if pdf.is_encrypted and not (pdf.allow.print_lowres or pdf.allow.print_highres):
+        raise refusal(1, f"{shown(name)} is encrypted, and its owner doesn't allow it to be printed")
+    return pdf
+
+
+def cause(error: object) -> str:
+    """What qpdf or Pillow says, without its name of the stream, and not all of it if it is long."""
+    said = text_of(error) if isinstance(error, UnicodeDecodeError) else str(error)
+    said = re.sub(r"^<_io\.\w+ [^>]*>(: |, )?| <_io\.\w+ [^>]*>$", "", said).strip()
+    return said if len(said) <= MOST_TOLD else f"{said[:MOST_TOLD]}.."
+
+
+def text_of(error: UnicodeDecodeError) -> str:
+    """What qpdf says where a name of the PDF that is in it isn't UTF-8."""
+    return error.object.decode(errors="surrogateescape")
+
+
+def warnings_in(pdf: Pdf) -> list[Any]:
+    """What qpdf has mended since it was asked last."""
+    try:
+        return list(pdf.get_warnings())
+    except UnicodeDecodeError as error:
+        return [text_of(error)]
