@@ -48,7 +48,8 @@ def say(text: str) -> None:
 
 def main(words: list[str], here: str) -> int:
     """Runs the program, and gives its exit status."""
-    signal.signal(signal.SIGINT, signal.SIG_DFL)
+    if signal.getsignal(signal.SIGINT) != signal.SIG_IGN:
+        signal.signal(signal.SIGINT, signal.SIG_DFL)
     warnings.simplefilter("ignore")  # of libraries, for programmers
     open_more()
     try:

@@ -1,10 +1,14 @@
 """Writing a PDF: to a file that gets its name when it is whole, or to a device or a pipe."""
 
+import errno
 import io
 import os
+import secrets
 import shutil
 import signal
 import stat
+from collections.abc import Callable
+from contextlib import suppress
 from dataclasses import dataclass
 from tempfile import SpooledTemporaryFile
 from typing import IO, Any
@@ -15,6 +19,7 @@ from impose_pdf.reading import IN_MEMORY
 
 SIGNALS = (signal.SIGHUP, signal.SIGINT, signal.SIGTERM)
 PART = 1 << 20  # bytes that are written at once
+MOST_NAMES = 100  # that are tried for a new file
 
 
 class Sink(io.RawIOBase):
@@ -88,48 +93,70 @@ class Place:
     mode: int
 
     def replace(self, pdf: Pdf) -> None:
-        """Puts a new file in the old one's place. It gets a name when it is whole, so no signal leaves a part of it."""
+        """Puts a new file in the old one's place."""
         made = nameless(self.folder)
         if made is None:
-            return self.replace_by_name(pdf)
+            self.replace_by_name(pdf)
+        else:
+            self.name_later(pdf, made)
+
+    def name_later(self, pdf: Pdf, made: int) -> None:
+        """Fills a file that gets a name when it is whole, so no signal leaves a part of it."""
         with open(made, "r+b", buffering=0, closefd=False) as file:
             fill(file, pdf)
         self.finish(made)
-        path = self.free_name()
-        os.link(f"/proc/self/fd/{made}", path, src_dir_fd=made)  # which makes it follow that link
-        os.close(made)
-        os.rename(path, os.path.join(self.folder, self.last))
+
+        def name(path: str) -> None:
+            os.link(f"/proc/self/fd/{made}", path, src_dir_fd=made)  # which makes it follow that link
+            os.close(made)
+
+        self.take(name)
 
     def replace_by_name(self, pdf: Pdf) -> None:
-        """The same where every file needs a name, as over a network. A signal takes the file away."""
-        path = self.free_name()
-
-        def leave(number: int, _: object) -> None:
-            os.unlink(path)
-            os._exit(128 + number)
-
+        """The same where every file needs a name, as over a network."""
         with SpooledTemporaryFile(IN_MEMORY) as kept:
             fill(kept, pdf)
-            made = os.open(path, os.O_CREAT | os.O_EXCL | os.O_WRONLY, 0o666)
-            for number in SIGNALS:
-                signal.signal(number, leave)
-            try:
+
+            def copy(path: str) -> None:
+                made = os.open(path, os.O_CREAT | os.O_EXCL | os.O_WRONLY, 0o666)
                 with open(made, "wb", closefd=False) as file:
                     shutil.copyfileobj(kept, file, PART)
                 self.finish(made)
-                os.rename(path, os.path.join(self.folder, self.last))
-            except OSError:
-                os.unlink(path)
-                raise
+                os.close(made)
 
-    def free_name(self) -> str:
-        """The name of the new file before it is OUTFILE's."""
-        return os.path.join(self.folder, f".impose-pdf.{os.getpid()}")
+            self.take(copy)
 
     def finish(self, made: int) -> None:
-        """Gives the new file the rights of the old one."""
+        """Gives the new file the rights of the old one, and has it on the disk before it is OUTFILE."""
         if self.mode:
             os.fchmod(made, stat.S_IMODE(self.mode))
+        os.fsync(made)
+
+    def take(self, make: Callable[[str], None]) -> None:
+        """Makes a file under a name of its own, then names it as OUTFILE. A signal or a failure takes it away."""
+        path = ""
+
+        def leave(number: int, _: object) -> None:
+            with suppress(OSError):
+                os.unlink(path)
+            signal.signal(number, signal.SIG_DFL)
+            os.kill(os.getpid(), number)
+
+        for number in SIGNALS:
+            if signal.getsignal(number) == signal.SIG_DFL:  # else it is ignored, as under nohup
+                signal.signal(number, leave)
+        for _ in range(MOST_NAMES):
+            path = os.path.join(self.folder, f".impose-pdf.{secrets.token_hex(8)}")
+            try:
+                make(path)
+                return os.rename(path, os.path.join(self.folder, self.last))
+            except FileExistsError:
+                continue
+            except OSError:
+                with suppress(OSError):
+                    os.unlink(path)
+                raise
+        raise FileExistsError(errno.EEXIST, "no name is free for a new file in its folder")
 
 
 def nameless(folder: str) -> int | None:
