@@ -46,6 +46,7 @@ LETTERS = {"p": "--paper", "q": "--quiet", "h": "--help", "V": "--version"}
 
 MOST_SHOWN = 100  # signs of a name, as in impose's messages
 QUOTED = "\\'"  # with a meaning of their own between the quotes of $'..'
+OPTION = re.compile("-[^0-9.]")  # the beginning of a word that is no value; one below zero is for impose to refuse
 PAGE = "_?[0-9]{1,9}"
 RANGES = re.compile(f"{PAGE}(-({PAGE})?)?(,{PAGE}(-({PAGE})?)?)*")
 
@@ -125,9 +126,11 @@ def read(words: list[str]) -> Request:
         else:
             name, value, is_open = option_of(word)
             request.words.append(word)
-            if is_open and (following := next(rest, None)) is not None:
-                request.words.append(following)
-                value = following
+            if is_open:
+                value = next(rest, "--")
+                if OPTION.match(value):
+                    raise refusal(2, f"{shown(word)} lacks its value")
+                request.words.append(value)
             request.options[name] = value
             if word.startswith("-q"):
                 request.options["--quiet"] = ""  # also in -qp a4
