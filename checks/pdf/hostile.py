@@ -45,3 +45,39 @@ def names(pdf: Pdf, count: int) -> None:
     held = pdf.make_indirect(Array(pairs))
     nodes = [pdf.make_indirect(Dictionary(Names=held)) for _ in range(count)]
     pdf.Root.Names = Dictionary(Dests=pdf.make_indirect(Dictionary(Kids=Array(nodes))))
+
+
+def shared_annotations(pdf: Pdf, count: int, annotation: dict[str, Any]) -> None:
+    """Each page has the same array of so many annotations."""
+    held = pdf.make_indirect(
+        Array(
+            [
+                pdf.make_indirect(Dictionary(Type=Name.Annot, Rect=Array([9, 9, 19, 19]), **annotation))
+                for _ in range(count)
+            ]
+        )
+    )
+    for page in pdf.pages:
+        page.obj.Annots = held
+
+
+@kind
+def notes(pdf: Pdf, count: int) -> None:
+    """Each page has the same array of so many notes, with one look of (255, 102, 0)."""
+    look = pdf.make_stream(b"1 .4 0 rg 0 0 9 9 re f")
+    look.Type, look.Subtype, look.BBox = Name.XObject, Name.Form, Array([0, 0, 9, 9])
+    shared_annotations(pdf, count, {"Subtype": Name.Stamp, "F": 4, "AP": Dictionary(N=look)})
+
+
+@kind
+def links(pdf: Pdf, count: int) -> None:
+    """Each page has the same array of so many links."""
+    action = pdf.make_indirect(Dictionary(S=Name.URI, URI=String("http://example.org/")))
+    shared_annotations(pdf, count, {"Subtype": Name.Link, "A": action})
+
+
+@kind
+def narrower(pdf: Pdf, count: int) -> None:
+    """Each page is narrower than the one before; so many times a tenth of a point."""
+    for k, page in enumerate(pdf.pages):
+        page.obj.MediaBox = Array([0, 0, 595 - k * count / 10, 842])

@@ -6,13 +6,14 @@ from typing import Any
 from pikepdf import Array, Dictionary, Name, Pdf, PdfError
 
 from impose_pdf import notes
+from impose_pdf.annotations import Held, owner_of
 from impose_pdf.forms import Forms, pictures_of
 from impose_pdf.labels import Labels
-from impose_pdf.links import Link, Ways
+from impose_pdf.links import Ways
 from impose_pdf.looks import Looks
 from impose_pdf.losses import Losses
-from impose_pdf.pages import Box, bounds, box_of, common, leaves, number_of, shape_of, then
-from impose_pdf.plan import Placed, Size
+from impose_pdf.pages import Box, bounds, common, leaves, number_of, shape_of, then
+from impose_pdf.plan import Matrix, Placed, Size
 from impose_pdf.reading import cause, opened, warnings_in
 from impose_pdf.trees import named
 from impose_pdf.words import cause_of, pages_of, refusal, shown, told
@@ -64,8 +65,8 @@ class Source:
         pages = list({page.objgen: page for page, _ in self.pages if page.is_indirect}.values())
         self.root.Pages = self.pdf.make_indirect(Dictionary(Type=Name.Pages, Kids=Array(pages), Count=len(pages)))
         self.put: dict[int, Any] = {}
-        self.links: dict[int, list[Link]] = {}
-        self.annotations: dict[int, list[Any]] = {}
+        self.held: dict[object, Held] = {}
+        self.on: dict[int, Held] = {}  # of pages that are on sheets
 
     def find_unshown(self, shown: set[tuple["Source", int]]) -> None:
         """Finds the forms and images of pages that aren't shown."""
@@ -77,30 +78,39 @@ class Source:
         if k not in self.put:
             page, entries = self.pages[k]
             self.looks.give(page)
-            self.annotations[k], others = notes.split(page)
-            over = notes.drawn(others, self.shapes[k].matrix)
-            self.losses.look_at(page, self.annotations[k], others)
-            form = self.forms.of(k, page, entries.get("/Resources"), self.shapes[k], over)
-            self.put[k] = self.ways.brought(form)
+            shape, resources, held = self.shapes[k], entries.get("/Resources"), self.annotations(k)
+            self.losses.look_at(page, *(([], []) if held.is_shared else (held.links, held.others)))
+            turn = tuple((part > 0) - (part < 0) for part in shape.matrix[:4])
+            if turn not in held.over:
+                held.over[turn] = self.forms.over(notes.drawn(held.others, shape.matrix), resources)
+            self.put[k] = self.ways.brought(self.forms.of(k, page, resources, shape, held.over[turn]))
         return self.put[k]
+
+    def annotations(self, k: int) -> Held:
+        """The annotations of a page."""
+        page, _ = self.pages[k]
+        owner = owner_of(page)
+        key = owner.objgen if owner.is_indirect else k
+        if key in self.held:
+            self.held[key].is_shared = True
+        else:
+            self.held[key] = Held(self.ways, *notes.split(page))
+        self.on[k] = self.held[key]
+        return self.held[key]
 
     def find_links(self, k: int) -> None:
         """Finds the links of a page that lead anywhere, if the page is on a sheet."""
-        boxed = ((link, box_of(link.get("/Rect"))) for link in self.annotations.pop(k, ()))
-        if found := [link for old, box in boxed if box for link in self.ways.link(old, box)]:
-            self.links[k] = found
+        if k in self.on:
+            self.on[k].find_links()
 
-    def links_at(self, k: int, placed: Placed, sheet: Size) -> Iterator[Any]:
-        """The links of a page on a sheet of this size, as far as they are seen there."""
-        if k not in self.links:
+    def links_at(self, k: int, placed: Placed, sheet: Size) -> Iterator[tuple[Held, Matrix, Box]]:
+        """The links of a page that is on a sheet of this size, the matrix to it, and the box that is seen there."""
+        if not self.on[k].found:
             return
         shape = self.shapes[k]
-        matrix = then(shape.matrix, placed.matrix)
         seen: Box = (0, 0, min(shape.size[0], placed.paper[0]), min(shape.size[1], placed.paper[1]))
-        cut = common(bounds(seen, placed.matrix), (0, 0, *sheet))
-        for link in self.links.get(k, ()):
-            if cut and common(bounds(link.box, matrix), cut):
-                yield self.ways.placed(link, matrix, cut)
+        if cut := common(bounds(seen, placed.matrix), (0, 0, *sheet)):
+            yield self.on[k], then(shape.matrix, placed.matrix), cut
 
     def attachments(self) -> Iterator[tuple[bytes, Any]]:
         """Its attachments, by their names."""

@@ -16,7 +16,7 @@ from pikepdf import (
     parse_content_stream,
 )
 
-from impose_pdf.pages import UPRIGHT, Shape, array, keys_of, name_of, numerals
+from impose_pdf.pages import UPRIGHT, Box, Shape, array, bounds, box_of, keys_of, name_of, numbers, numerals, then
 from impose_pdf.plan import Matrix
 from impose_pdf.words import refusal
 
@@ -68,6 +68,13 @@ def is_whole(picture: Any) -> bool:
     return picture.get("/Subtype") != Name.Form or "/Resources" in picture
 
 
+def extent(form: Any, matrix: Matrix) -> Box:
+    """The box round a form that is placed by a matrix."""
+    own = numbers(form.get("/Matrix"))
+    a, b, c, d, e, f = own if len(own) == 6 else UPRIGHT
+    return bounds(box_of(form.BBox) or (0, 0, 0, 0), then((a, b, c, d, e, f), matrix))
+
+
 class Forms:
     """The forms that pages of a PDF become."""
 
@@ -76,22 +83,20 @@ class Forms:
         self.unshown: set[tuple[int, int]] = set()  # objects that hold forms and images of pages that aren't shown
         self.made: dict[tuple[object, ...], Any] = {}
 
-    def of(self, number: int, page: Any, resources: Any, shape: Shape, notes: list[Note]) -> Any:
-        """The form of a page, by its number, with its notes over it. Pages that show the same share one."""
+    def of(self, number: int, page: Any, resources: Any, shape: Shape, over: Any) -> Any:
+        """The form of a page, by its number, with another over it. Pages that show the same share one."""
         streams, group = streams_of(page), page.get("/Group")
         resources = resources if isinstance(resources, Dictionary) else Dictionary()
         group = isolated(group) if isinstance(group, Dictionary) else None
-        over = ((form.objgen, matrix, None if layer is None else layer.unparse()) for form, matrix, layer in notes)
-        parts = *(stream.objgen for stream in streams), *over
+        parts = tuple(stream.objgen for stream in streams), None if over is None else over.objgen
         key = (*parts, resources.unparse(), group and group.unparse(), shape.box, shape.matrix)
         if key not in self.made:
             form = self.form(self.contents(streams, number), resources, shape)
-            looks = [look for look, _, _ in notes]
-            if all(map(is_whole, looks)):
-                self.leave_out([form, *looks])
-            if notes:
+            self.leave_out([form])
+            if over is not None:
                 form.Matrix = array(*UPRIGHT)
-                form = self.noted(form, notes, shape)
+                both = Dictionary(XObject=Dictionary(Page=form, Notes=over))
+                form = self.form(self.pdf.make_stream(b"/Page Do\n/Notes Do\n"), both, shape)
             if group is not None:
                 form.Group = group
             self.made[key] = form
@@ -129,17 +134,23 @@ class Forms:
             raise refusal(1, f"{self.name}: the contents of page {number + 1} can't be decoded") from None
         return self.pdf.make_stream(zlib.compress(data), Filter=Name.FlateDecode)
 
-    def noted(self, page: Any, notes: list[Note], shape: Shape) -> Any:
-        """A form of a page with notes over it."""
-        forms, layers, drawn = {"/Page": page}, dict[str, Any](), "/Page Do\n"
+    def over(self, notes: list[Note], resources: Any) -> Any:
+        """A form of notes as they lie over a page, or None. Those without resources have the page's."""
+        forms, layers, drawn = dict[str, Any](), dict[str, Any](), list[str]()
         for k, (form, matrix, layer) in enumerate(notes):
             forms[f"/Note{k}"] = form
             if "/Resources" not in form:  # those of its page hold (ISO 32000, 8.10.1)
-                form.Resources = page.Resources
+                form.Resources = resources if isinstance(resources, Dictionary) else Dictionary()
             one = f"q {numerals(*matrix)} cm /Note{k} Do Q\n"
             if layer is not None:
                 layers[f"/Layer{k}"] = layer
                 one = f"/OC /Layer{k} BDC {one}EMC\n"
-            drawn += one
-        resources = Dictionary(XObject=Dictionary(forms), Properties=Dictionary(layers))
-        return self.form(self.pdf.make_stream(drawn.encode()), resources, shape)
+            drawn.append(one)
+        if not notes:
+            return None
+        self.leave_out(list(forms.values()))
+        boxes = zip(*(extent(form, matrix) for form, matrix, _ in notes))
+        left, bottom, right, top = (choose(sides) for choose, sides in zip((min, min, max, max), boxes))
+        both = Dictionary(XObject=Dictionary(forms), Properties=Dictionary(layers))
+        shape = Shape((left, bottom, right, top), UPRIGHT, (right - left, top - bottom))
+        return self.form(self.pdf.make_stream("".join(drawn).encode()), both, shape)

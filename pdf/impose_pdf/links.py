@@ -51,6 +51,7 @@ class Ways:
         self.dests: dict[bytes, Any] = {}  # where they lead, by their new names
         self.old_style: Any = Dictionary()  # names that are no strings, and where they led
         self.changed: set[tuple[int, int]] = set()  # links that are used themselves, at their first place
+        self.shared = 0  # how many were placed of annotations that pages share
 
     def brought(self, thing: Any) -> Any:
         """A dictionary, stream or array of the PDF in the one that is made."""

@@ -27,6 +27,7 @@ class Making:
 
     def __init__(self, row: list[tuple[Source, int]]):
         self.row, self.sources, self.pdf = row, list(dict.fromkeys(source for source, _ in row)), row[0][0].pdf
+        self.annotations: dict[object, Any] = {}  # of sheets, by the links on them and their places
         for source in self.sources:
             source.prepare(self.pdf)
         self.font = Dictionary(Numbers=Dictionary(Type=Name.Font, Subtype=Name.Type1, BaseFont=Name("/Times-Roman")))
@@ -43,8 +44,8 @@ class Making:
         for source, k in self.row:
             source.find_links(k)
         for sheet, page in zip(sheets, pages):
-            if links := self.links(sheet):
-                page.Annots = Array(links)
+            if (links := self.links(sheet)) is not None:
+                page.Annots = links
         self.layers()
         tree = self.pdf.make_indirect(Dictionary(Type=Name.Pages, Kids=Array(pages), Count=len(pages)))
         for page in pages:
@@ -85,10 +86,14 @@ class Making:
             source.ways.places.setdefault(k, []).append((made, sheet.paper, placed))
         return made
 
-    def links(self, sheet: Sheet) -> list[Any]:
-        """The links on a sheet."""
-        pages = self.placed(sheet)
-        return [link for source, k, placed in pages for link in source.links_at(k, placed, sheet.paper)]
+    def links(self, sheet: Sheet) -> Any:
+        """The links on a sheet, or None. Sheets that have the same ones at the same places share their array."""
+        places = [source.links_at(k, placed, sheet.paper) for source, k, placed in self.placed(sheet)]
+        key = tuple(place for found in places for place in found)
+        if key not in self.annotations:
+            links = [link for held, matrix, cut in key for link in held.placed(matrix, cut)]
+            self.annotations[key] = self.pdf.make_indirect(Array(links)) if links else None
+        return self.annotations[key]
 
     def outlines(self) -> Any:
         """The outlines of all INFILEs, one after the other."""
