@@ -13,7 +13,7 @@ from pikepdf import Dictionary, Name, Pdf, Stream
 
 from . import pictures, plans, reading, wanted
 from .cases import Run, contents
-from .making import Made
+from .making import NAMESPACES, Made
 from .plans import Sheet
 from .reading import Goal
 from .wanted import Source
@@ -339,7 +339,7 @@ def _word(output: Output, rest: str, below: list[str]) -> Iterator[str]:
 def _fonts(output: Output, _rest: str, _below: list[str]) -> Iterator[str]:
     wants: set[tuple[str, str]] = set().union(*(reading.fonts(source.path) for source in output.sources))
     if any(sheet.numbers for sheet in output.sheets):
-        wants.add(("Times-Roman", "Type 1"))
+        wants.add(("[none]", "Type 3"))
     found = reading.fonts(output.path)
     if any(reading.catalog(source.pdf, "/AcroForm/NeedAppearances") for source in output.sources):
         found -= OF_FIELDS - wants
@@ -463,6 +463,27 @@ def _title(output: Output, rest: str, _: list[str]) -> Iterator[str]:
     yield from differs("/Title", str(output.pdf.docinfo.get("/Title", "")), rest)
     with output.pdf.open_metadata() as meta:
         yield from differs("dc:title", str(meta.get("dc:title", rest)), rest)
+
+
+@check("xmp")
+def _xmp(output: Output, _rest: str, below: list[str]) -> Iterator[str]:
+    """Entries of XMP below, as `pdfaid:part 2`, and of /Info, as `/Trapped True`; one without a value isn't there."""
+    with output.pdf.open_metadata(set_pikepdf_as_editor=False, update_docinfo=False) as meta:
+        for line in below:
+            key, _, value = line.partition(" ")
+            prefix, _, name = key.partition(":")
+            found = meta.get(f"{{{NAMESPACES[prefix]}}}{name}") if name else output.pdf.docinfo.get(key)
+            yield from differs(key, None if found is None else str(found), value or None)
+
+
+@check("embedded")
+def _embedded(output: Output, _rest: str, _below: list[str]) -> Iterator[str]:
+    """All fonts are in OUTFILE, but Helvetica, of which the words of pages are."""
+    ran = subprocess.run(["pdffonts", output.path], capture_output=True, text=True, timeout=60)
+    fonts = [line for line in ran.stdout.split("\n")[2:] if line and line[:10] != "Helvetica "]
+    yield from (f"{line} isn't embedded" for line in fonts if line.split()[-5] != "yes")
+    if not fonts:
+        yield "no fonts besides Helvetica"
 
 
 @check("forms")

@@ -19,6 +19,14 @@ from pikepdf import Array, Dictionary, Name, Pdf, String
 
 from . import hostile
 
+NAMESPACES = {
+    "rdf": "http://www.w3.org/1999/02/22-rdf-syntax-ns#",
+    "pdf": "http://ns.adobe.com/pdf/1.3/",
+    "xmp": "http://ns.adobe.com/xap/1.0/",
+    "pdfaid": "http://www.aiim.org/pdfa/ns/id/",
+    "pdfuaid": "http://www.aiim.org/pdfua/ns/id/",
+    "pdfxid": "http://www.npes.org/pdfx/ns/id/",
+}
 Box = tuple[float, float, float, float]
 Colour = tuple[int, int, int]
 PAGES_OF_A_ROUND = 60
@@ -130,6 +138,7 @@ class Maker:
         self.above, self.spare = dict[str, str](), 0
         self.saving: list[list[str]] = []
         self.repeated: list[int] = []
+        self.mends_metadata = True
 
     def line(self, text: str) -> None:
         word, *rest = shlex.split(text)
@@ -494,6 +503,24 @@ class Maker:
             meta["dc:title"] = text
         self.pdf.docinfo["/Title"] = text
 
+    def do_metadata(self, attributes: str, elements: str = "") -> None:
+        """XMP with a description that has these; as elements, `deep`, `bomb` or `entity` are attacks."""
+        spaces = " ".join(f'xmlns:{prefix}="{address}"' for prefix, address in NAMESPACES.items())
+        inner = {"deep": "<pdf:a>" * 10**5 + "</pdf:a>" * 10**5, "entity": "<pdf:Trapped>&e;</pdf:Trapped>"}
+        text = f'<rdf:RDF {spaces}><rdf:Description rdf:about="" {attributes}>{inner.get(elements, elements)}'
+        data = f"{text}</rdf:Description></rdf:RDF>".encode()
+        if elements == "entity":
+            data = b'<!DOCTYPE rdf:RDF [<!ENTITY e SYSTEM "file:///etc/passwd">]>' + data
+        how: dict[str, Any] = {"Type": Name.Metadata, "Subtype": Name.XML}
+        if elements == "bomb":
+            packer = zlib.compressobj()
+            begun = packer.compress(data[:-10]) + b"".join(packer.compress(b" " * 10**6) for _ in range(300))
+            data, how["Filter"] = begun + packer.compress(data[-10:]) + packer.flush(), Name.FlateDecode
+        self.pdf.Root.Metadata, self.mends_metadata = self.pdf.make_stream(data, **how), False
+
+    def do_info(self, key: str, text: str) -> None:
+        self.pdf.docinfo[key] = text
+
     def do_producer(self, text: str) -> None:
         self.pdf.docinfo["/Producer"] = text
 
@@ -595,7 +622,8 @@ class Maker:
         if "linearized" in words:
             how["linearize"] = True
         out = io.BytesIO()
-        self.pdf.save(out, **{key: value for key, value in how.items() if value or key == "compress_streams"})
+        kept = {key: value for key, value in how.items() if value or key == "compress_streams"}
+        self.pdf.save(out, fix_metadata_version=self.mends_metadata, **kept)
         data = out.getvalue()
         if "broken-xref" in words:
             data = data.replace(b"startxref\n", b"startxref\n9", 1)

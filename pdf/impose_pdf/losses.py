@@ -17,6 +17,7 @@ TAGS, XFA, SCRIPTS, THREADS, TRANSITIONS, THUMBNAILS, DIRECTION, ENCRYPTION = (
     *("tags", "the XFA form", "scripts", "article threads", "page transitions", "thumbnails", "the reading direction"),
     "the encryption",
 )
+CLAIMS = {name: f"the claim to be {name}" for name in ("PDF/A", "PDF/UA", "PDF/X", "PDF/VT", "PDF/E")}
 # The kinds in the order in which they are said, and several of each.
 SEVERAL = {
     SIGNATURE: "{} signatures",
@@ -26,6 +27,7 @@ SEVERAL = {
     TEXT: "the texts of {} notes",
     FILE: "{} attachments of notes",
     PLAYED: "{} films, sounds or 3D views",
+    **{claim: claim for claim in CLAIMS.values()},
     **{kind: kind for kind in (TAGS, XFA, SCRIPTS, THREADS, TRANSITIONS, THUMBNAILS, DIRECTION, ENCRYPTION)},
 }
 ARE_PLAYED = {"/Movie", "/Screen", "/Sound", "/RichMedia", "/3D"}
@@ -115,6 +117,10 @@ class Losses:
         self.found[FIELD] += field.objgen not in self.fields and not is_signed
         if field.is_indirect:
             self.fields.add(field.objgen)
+
+    def add_claims(self, names: set[str]) -> None:
+        """Adds claims that don't hold of the sheets."""
+        self.found.update(CLAIMS[name] for name in names)
 
     def line(self, which: str) -> str:
         """The line on what isn't kept, or nothing."""

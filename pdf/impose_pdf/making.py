@@ -5,7 +5,7 @@ from typing import Any
 
 from pikepdf import Array, Dictionary, Name, String
 
-from impose_pdf import outlines
+from impose_pdf import claims, digits, outlines
 from impose_pdf.document import Source
 from impose_pdf.labels import label
 from impose_pdf.pages import array, drop, keys_of
@@ -30,13 +30,14 @@ class Making:
         self.annotations: dict[object, Any] = {}  # of sheets, by the links on them and their places
         for source in self.sources:
             source.prepare(self.pdf)
-        self.font = Dictionary(Numbers=Dictionary(Type=Name.Font, Subtype=Name.Type1, BaseFont=Name("/Times-Roman")))
 
     def make(self, sheets: list[Sheet], turned: int, flip: str) -> None:
         """Puts sheets in place of the pages, and leads everything to them."""
         shown = {(source, k) for sheet in sheets for source, k, _ in self.placed(sheet)}
         for source in self.sources:
             source.find_unshown(shown)
+        if any(sheet.numbers for sheet in sheets):
+            self.font = Dictionary(Numbers=digits.font(self.pdf))
         pages = [self.page(sheet, turned) for sheet in sheets]
         taken: dict[bytes, int] = {}
         for source in self.sources:
@@ -63,6 +64,8 @@ class Making:
                 "/OpenAction": self.opening(),
             }
         )
+        lost = claims.settle(self.pdf, pages, len(self.sources) == 1, False)
+        self.sources[0].losses.add_claims(lost)
         for source in self.sources:
             source.keep_warnings()
 

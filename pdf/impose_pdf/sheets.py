@@ -34,11 +34,11 @@ def drawing(sheet: Sheet) -> bytes:
 
 
 def written(number: Number) -> str:
-    """The number of a page. Digits of Times are half as wide as high."""
+    """The number of a page. Digits are half as wide as high."""
     cos, sin = SIDES[number.degrees]
     left = number.foot[0] - len(number.digits) * number.size / 4
     at = then((1, 0, 0, 1, left, number.foot[1]), (cos, sin, -sin, cos, *number.origin))
-    return f"BT 0 g /Numbers {numerals(number.size)} Tf {numerals(*at)} Tm ({number.digits}) Tj ET"
+    return f"BT 0 g 0 G /Numbers {numerals(number.size)} Tf {numerals(*at)} Tm ({number.digits}) Tj ET"
 
 
 def turn_to_read(request: Request, sheets: list[Sheet]) -> int:
