@@ -5,7 +5,7 @@ from typing import Any
 from pikepdf import Dictionary, Name
 
 from impose_pdf.pages import numerals, then
-from impose_pdf.plan import Number, Sheet
+from impose_pdf.plan import Number, Placed, Sheet
 from impose_pdf.words import Request
 
 KEPT_PREFERENCES = (
@@ -42,15 +42,20 @@ def written(number: Number) -> str:
 
 
 def turn_to_read(request: Request, sheets: list[Sheet]) -> int:
-    """By how much sheets are turned on a screen to be read. What is folded or laid in a pile isn't turned."""
-    first = next((sheet.placed[0] for sheet in sheets if sheet.placed), None)
-    if request.command not in ("nup", "notes", "cards") or first is None:
-        return 0
-    lies = next(
-        (degrees for degrees, side in SIDES.items() if side == tuple((v > 0) - (v < 0) for v in first.matrix[:2])), 0
-    )
+    """By how much sheets are turned on a screen to be read, all alike: by their first page, or if all lie one way."""
+    pages = [placed for sheet in sheets for placed in sheet.placed]
+    if request.command in ("nup", "notes", "cards"):
+        pages = pages[:1]
+    turns = {turn_of(request, placed) for placed in pages}
+    return turns.pop() if request.command != "spec" and len(turns) == 1 else 0
+
+
+def turn_of(request: Request, placed: Placed) -> int:
+    """By how much a page is turned on its sheet, besides the turn that was asked for."""
+    way = tuple((v > 0) - (v < 0) for v in placed.matrix[:2])
+    lies = next((degrees for degrees, side in SIDES.items() if side == way), 0)
     turn = request.options.get("--turn")
-    if turn == "wide" and first.paper[0] <= first.paper[1]:
+    if turn == "wide" and placed.paper[0] <= placed.paper[1]:
         turn = None
     asked = turn or request.options.get("--turned")
     return (lies - {"left": 90, "wide": 90, "half": 180, "right": 270}.get(asked or "", 0)) % 360
