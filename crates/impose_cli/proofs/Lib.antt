@@ -13,3 +13,5 @@ pub mod TakenPages
 pub mod ReachingTaken
 mod Guarding
 pub mod Places
+pub mod Finishing
+pub mod OneText

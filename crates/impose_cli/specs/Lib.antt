@@ -1,6 +1,6 @@
 -- Read in this order: what a document's error makes of a request, which of its pages are taken, and the row that it asks for; what a run on a row writes; what a request comes to with a
 -- document, and what is refused; what its run leaves; what a look shows; what is printed; what is checked unread; laws; the
--- fronts of files; the whole program.
+-- fronts of files; the whole program, and what its success means.
 pub mod Claims
 pub mod Taken
 pub mod RowsAsked
@@ -17,3 +17,4 @@ pub mod Precheck
 pub mod Laws
 pub mod Fronts
 pub mod Programs
+pub mod Finished

@@ -1,4 +1,5 @@
 //! Laws of the output of impose. The functions do nothing, but one calls a law on which it rests.
+ghost use Rattle.impose_cli.specs.Finished.{OneText};
 ghost use Rattle.impose_cli.specs.Laws.{GuardIsOfFirst, ImposedKeepsPlaces, WroteDocument};
 
 use row_runs::laws::written_keeps_place;
@@ -21,4 +22,9 @@ pub fn imposed_keeps_places()
 /// The guard sets the page size of the first sheet.
 pub fn guard_is_of_first()
     ensures { GuardIsOfFirst }
+{}
+
+/// What is written for a request is fixed by the request and the input.
+pub fn one_text()
+    ensures { OneText }
 {}

@@ -1,10 +1,12 @@
 //! The whole program, over a world of files and standard streams.
 ghost use Rattle.std.specs.Prelude.{◌≡◌, ◌+◌, ◌<◌, ◌≤◌, drop, map, option_map, string_bytes, vec_len};
 ghost use Rattle.world.specs.Input.{document_in};
-ghost use Rattle.std.specs.Prelude.{Some, IfOk, IfErr, OnOk};
+ghost use Rattle.std.specs.Prelude.{Some, IfSome, IfOk, IfErr, OnOk};
 ghost use Rattle.impose_cli.specs.Endings.{edge_of_world, shown};
+ghost use Rattle.impose_cli.specs.Finished.{HasFinished};
 ghost use Rattle.impose_cli.specs.Programs.{EndsRequest, EndsProgram, FindsHome, HasGiven, IsCreatedFor, IsDrawnOver, IsForTerminal, IsReadOf, FailsToRead};
 ghost use Rattle.impose_cli.specs.Programs.{IsUnread, MakesProduct, Prints, ShowsSheets, Writes, status_of};
+ghost use Rattle.impose_words.specs.Words.{Entered, ReadsRequest};
 
 use crate::attempt::{Attempt, refused_before};
 use crate::fronts::{finds_foreign, front_of};
@@ -70,6 +72,10 @@ pub fn impose<R: Threads + Wait + Sync, W: World>(
       terminal = W.terminal world;
       edge = edge_of_world (W.reports_outputs world) W.seen W.Output.seen;
     }) result.request result.outcome world result.rest }
+    // The request is what the words ask for. This and `finished` are parts of `ended` that need fewer definitions.
+    ensures asked { IfSome result.request (λ r. Entered (map string_bytes words.now) (λ name found. ReadsRequest name found r)) }
+    // If the program succeeds and sheets were asked for, exactly their text was written.
+    ensures finished { HasFinished result.request result.outcome (W.gives world) (W.reports_outputs world) (shown W.Output.seen result.rest) }
     // If the request is refused, no output has been created, and the world is given back. If an output has been created, the request
     // was carried out, or a write failed, or memory ran out.
     ensures created { IsCreatedFor result.outcome result.rest }
