@@ -289,6 +289,13 @@ def _turned(output: Output, rest: str, _: list[str]) -> Iterator[str]:
     yield from differs("/Rotate", output.turns, values * len(output.turns) if len(values) == 1 else values)
 
 
+@check("unit")
+def _unit(output: Output, rest: str, _: list[str]) -> Iterator[str]:
+    """/UserUnit of all sheets."""
+    found = [str(page.obj.get("/UserUnit", 1)) for page in output.pdf.pages]
+    yield from differs("/UserUnit", found, [rest] * len(found))
+
+
 @check("point")
 def _point(output: Output, rest: str, below: list[str]) -> Iterator[str]:
     """`point SHEET X Y R G B`: the colour at a point of the paper."""

@@ -12,6 +12,7 @@ from impose_pdf.pages import array, drop, keys_of
 from impose_pdf.plan import Placed, Sheet
 from impose_pdf.sheets import drawing, preferences
 from impose_pdf.trees import add_layers, free, tree_of
+from impose_pdf.units import in_units
 
 # What the catalog keeps. Tags, threads, scripts, fields and signatures go, and all by which an old page could stay.
 KEPT = {
@@ -33,6 +34,7 @@ class Making:
 
     def make(self, sheets: list[Sheet], turned: int, flip: str) -> None:
         """Puts sheets in place of the pages, and leads everything to them."""
+        sheets = [in_units(sheet) for sheet in sheets]
         shown = {(source, k) for sheet in sheets for source, k, _ in self.placed(sheet)}
         for source in self.sources:
             source.find_unshown(shown)
@@ -84,6 +86,8 @@ class Making:
         made.Contents = self.pdf.make_stream(drawing(sheet))
         if turned:
             made.Rotate = turned
+        if sheet.unit > 1:
+            made.UserUnit = sheet.unit
         made = self.pdf.make_indirect(made)
         for source, k, placed in self.placed(sheet):
             source.ways.places.setdefault(k, []).append((made, sheet.paper, placed))

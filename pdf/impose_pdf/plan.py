@@ -41,12 +41,13 @@ class Number:
 
 @dataclass
 class Sheet:
-    """A sheet: its paper, its pages, and the lines and numbers over them."""
+    """A sheet: its paper, its pages, the lines and numbers over them, and the points of its unit."""
 
     paper: Size
     placed: list[Placed] = field(default_factory=list)
     strokes: list[tuple[float, ...]] = field(default_factory=list)
     numbers: list[Number] = field(default_factory=list)
+    unit: int = 1
 
 
 def read(text: str) -> list[Sheet]:
