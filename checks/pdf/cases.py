@@ -26,7 +26,7 @@ ROOT = Path(__file__).resolve().parent.parent.parent
 PDFS = ROOT / "cases/pdfs"
 SETTINGS = (
     *("stdin", "limit", "stdout", "signal", "user", "rights", "umask", "link", "file", "pipe", "text", "papersize"),
-    *("room", "open", "impose", "copies", "stack", "memory", "python", "sized"),
+    *("room", "open", "impose", "copies", "stack", "memory", "python", "sized", "traced"),
 )
 MOST_COMPARED = 1 << 28  # bytes
 
@@ -269,6 +269,8 @@ def ran(case: Case, programs: Programs, folder: Path) -> Run:
         "TMPDIR": str(spare),
         "HOME": str(folder),
     }
+    if case.setting("traced") is not None:
+        env["IMPOSE_PDF_TRACE"] = "1"
     if first := case.setting("python"):
         (folder / "sitecustomize.py").write_text(unescaped(first[0]))
         env["PYTHONPATH"] = str(folder)

@@ -107,7 +107,7 @@ def differs(what: str, found: object, other: object) -> Iterator[str]:
 def always(output: Output, is_told: bool) -> Iterator[str]:
     """What each run has to be: without a traceback, and with no file but OUTFILE made or changed."""
     run = output.run
-    if "Traceback" in run.error:
+    if "Traceback" in run.error and run.case.setting("traced") is None:
         yield "a traceback: " + run.error.strip().split("\n")[-1]
     after, made = contents(run.folder), set(run.case.words) if run.status == 0 else set()
     for name in sorted(run.before.keys() | after.keys()):

@@ -7,6 +7,7 @@ from pikepdf import Array, Dictionary, Name, Pdf, PdfError
 
 from impose_pdf import notes
 from impose_pdf.annotations import Held, owner_of
+from impose_pdf.faults import of_source
 from impose_pdf.forms import Forms, pictures_of
 from impose_pdf.labels import Labels
 from impose_pdf.links import Ways
@@ -28,12 +29,7 @@ class Source:
         self.name, self.found = name, list[Any]()
         try:
             self.pdf = opened(name)
-            self.root = self.pdf.Root
-            tree = self.root.get("/Pages")
-            self.pages = list(leaves(self.pdf))
-            self.counted = number_of(tree.get("/Count"), 0) if isinstance(tree, Dictionary) else 0
-            self.shapes = [shape_of(page, entries) for page, entries in self.pages]
-            self.looks = Looks(self.pdf)
+            self.find_pages()
         except PdfError as error:
             raise refusal(1, f"{shown(name)} can't be read: {cause(error)}") from None
         except OSError as error:
@@ -41,6 +37,16 @@ class Source:
         if not self.pages:
             raise refusal(1, f"{shown(name)} has no pages")
         self.keep_warnings()
+
+    @of_source
+    def find_pages(self) -> None:
+        """Finds its pages, and their shapes."""
+        self.root = self.pdf.Root
+        tree = self.root.get("/Pages")
+        self.pages = list(leaves(self.pdf))
+        self.counted = number_of(tree.get("/Count"), 0) if isinstance(tree, Dictionary) else 0
+        self.shapes = [shape_of(page, entries) for page, entries in self.pages]
+        self.looks = Looks(self.pdf)
 
     def taken(self, ranges: str) -> list[int]:
         """The pages that RANGES choose."""
@@ -55,6 +61,7 @@ class Source:
             )
         return width, height
 
+    @of_source
     def prepare(self, made: Pdf) -> None:
         """Gets ready for sheets of a PDF."""
         self.labels = Labels(self.pdf, len(self.pages))
@@ -73,6 +80,7 @@ class Source:
         others = (entries for k, (_, entries) in enumerate(self.pages) if (self, k) not in shown)
         self.forms.unshown = {held for entries in others for held in pictures_of(entries.get("/Resources"))}
 
+    @of_source
     def form(self, k: int) -> Any:
         """The form of a page, in the PDF that is made."""
         if k not in self.put:
@@ -98,6 +106,7 @@ class Source:
         self.on[k] = self.held[key]
         return self.held[key]
 
+    @of_source
     def find_links(self, k: int) -> None:
         """Finds the links of a page that lead anywhere, if the page is on a sheet."""
         if k in self.on:

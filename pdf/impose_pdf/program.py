@@ -5,6 +5,7 @@ import re
 import resource
 import shutil
 import signal
+import traceback
 import warnings
 from contextlib import suppress
 
@@ -51,8 +52,8 @@ def main(words: list[str], here: str) -> int:
     if signal.getsignal(signal.SIGINT) != signal.SIG_IGN:
         signal.signal(signal.SIGINT, signal.SIG_DFL)
     warnings.simplefilter("ignore")  # of libraries, for programmers
-    open_more()
     try:
+        open_more()
         run(words, here)
     except Refusal as refused:
         say(str(refused))
@@ -64,7 +65,19 @@ def main(words: list[str], here: str) -> int:
         name = f"{shown(error.filename)}: " if isinstance(error.filename, str) else ""
         say(said.told(f"{name}{cause_of(error)}"))
         return 3
+    except Exception as error:  # noqa: B902: a fault of this program
+        say(own_fault(error))
+        return 3
     return 0
+
+
+def own_fault(error: Exception) -> str:
+    """What is said of a fault of this program: where it is, and all of the way there if that is asked for."""
+    last = traceback.extract_tb(error.__traceback__)[-1]
+    place = f"{type(error).__name__}: {error} (line {last.lineno} of {os.path.basename(last.filename)})"
+    way = "".join(traceback.format_exception(error)).splitlines() if os.environ.get(said.TRACE) else []
+    ask = f"please report it, with what it says after {said.TRACE}=1"
+    return "".join(f"{said.plain(line)}\n" for line in way) + said.told(f"a fault of impose-pdf itself, {place}; {ask}")
 
 
 def open_more() -> None:
@@ -94,16 +107,10 @@ def run(words: list[str], here: str) -> None:
             raise refusal(2, f"OUTFILE is missing after {shown(request.infiles[0][0])}")
         raise refusal(2, said.WANTED)
     try:
-        import pikepdf
+        import pikepdf  # noqa: F401
     except ImportError:
         raise refusal(3, "pikepdf is missing: install python3-pikepdf") from None
-    broken = pikepdf.PdfError, pikepdf.DataDecodingError, pikepdf.ForeignObjectError
-    try:
-        impose(request, imposer(here))
-    except (*broken, RuntimeError, LookupError, TypeError, ValueError) as error:
-        # which pikepdf has for things that a PDF mustn't have
-        names = ", ".join(shown(name) for name, _ in request.infiles)
-        raise refusal(1, f"{names} can't be put on sheets: {error}") from None
+    impose(request, imposer(here))
 
 
 def look_at_words(request: Request, program: str) -> None:
@@ -120,6 +127,7 @@ def look_at_words(request: Request, program: str) -> None:
 def impose(request: Request, program: str) -> None:
     """Puts the pages of INFILEs on sheets."""
     from impose_pdf.document import Source, warnings_of
+    from impose_pdf.faults import OF_PIKEPDF, blaming
     from impose_pdf.files import Outfile, check_preview, take_last
     from impose_pdf.making import Making
     from impose_pdf.sheets import turn_to_read
@@ -145,8 +153,9 @@ def impose(request: Request, program: str) -> None:
         outfile.check_owner(request)
         turned, flip = turn_to_read(request, sheets), imposer.flip()
         making = Making(row)
-        deeply(lambda: making.make(sheets, turned, flip))
-        outfile.write(making.pdf)
+        with blaming([name for name, _ in request.infiles], *OF_PIKEPDF):
+            deeply(lambda: making.make(sheets, turned, flip))
+            outfile.write(making.pdf)
         if "--quiet" not in request.options:
             say(outfile.warning())
             say("".join(source.losses.line(shown(name)) for name, source in opened.items()))

@@ -47,6 +47,7 @@ LETTERS = {"p": "--paper", "q": "--quiet", "h": "--help", "V": "--version"}
 MOST_SHOWN = 100  # signs of a name, as in impose's messages
 QUOTED = "\\'"  # with a meaning of their own between the quotes of $'..'
 OPTION = re.compile("-[^0-9.]")  # the beginning of a word that is no value; one below zero is for impose to refuse
+TRACE = "IMPOSE_PDF_TRACE"  # the variable by which faults show where they are
 PAGE = "_?[0-9]{1,9}"
 RANGES = re.compile(f"{PAGE}(-({PAGE})?)?(,{PAGE}(-({PAGE})?)?)*")
 

@@ -1,0 +1,38 @@
+"""What goes wrong in a PDF, which is named then."""
+
+import os
+from collections.abc import Callable, Iterator
+from contextlib import contextmanager
+from functools import wraps
+from typing import Any, TypeVar, cast
+
+from pikepdf import DataDecodingError, ForeignObjectError, PdfError
+
+from impose_pdf.reading import cause
+from impose_pdf.words import TRACE, refusal, shown
+
+Method = TypeVar("Method", bound=Callable[..., Any])
+OF_PIKEPDF = PdfError, DataDecodingError, ForeignObjectError
+OF_OBJECTS = *OF_PIKEPDF, RuntimeError, LookupError, TypeError, ValueError  # which pikepdf has for odd ones, too
+
+
+@contextmanager
+def blaming(names: list[str], *kinds: type[Exception]) -> Iterator[None]:
+    """Names INFILEs where what is in them can't be worked on."""
+    try:
+        yield
+    except kinds as error:
+        if os.environ.get(TRACE):
+            raise
+        raise refusal(1, f"{', '.join(map(shown, names))} can't be put on sheets: {cause(error)}") from None
+
+
+def of_source(method: Method) -> Method:
+    """A method of a Source that names it where what is in it can't be worked on."""
+
+    @wraps(method)
+    def named(self: Any, *words: Any) -> Any:
+        with blaming([self.name], *OF_OBJECTS):
+            return method(self, *words)
+
+    return cast(Method, named)
