@@ -428,6 +428,16 @@ class Maker:
         one = Dictionary(Subtype=Name.Widget, F=4, Parent=above, Rect=Array([300, 300, 400, 400]))
         self.page(number).Annots = Array([self.pdf.make_indirect(copy(one)) for _ in range(int(count))])
 
+    def do_blank_look(self, number: str) -> None:
+        """A look without anything in it for the last annotation of a page."""
+        self.page(number).Annots[-1].AP = Dictionary(N=self.look("", 100, 100))
+
+    def do_many_lines(self, number: str, count: str, points: str) -> None:
+        """So many notes that are one line by hand through so many points."""
+        lines = self.pdf.make_indirect(Array([Array([100, 200] * int(points))]))
+        one = Dictionary(Subtype=Name.Ink, F=4, InkList=lines, Rect=Array([100, 200, 110, 210]))
+        self.page(number).Annots = Array([self.pdf.make_indirect(copy(one)) for _ in range(int(count))])
+
     def do_form_entry(self, key: str, value: str) -> None:
         """An entry of the form that holds all fields."""
         self.pdf.Root.AcroForm["/" + key] = pikepdf.Object.parse(value.encode())

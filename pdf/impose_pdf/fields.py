@@ -11,6 +11,7 @@ from impose_pdf.texts import LEADING, Setting, Style, Text, plain
 
 DEEPEST = 100  # of fields below fields
 LONGEST = 1000  # letters: what names a font, a size and a colour
+FEW = 16
 MOST_LINES = MOST_CELLS = 1000
 IN_LINES, PASSWORD, RADIO, PUSHED, OPENED, IN_CELLS = 1 << 12, 1 << 13, 1 << 15, 1 << 16, 1 << 17, 1 << 24  # flags
 CHOSEN = ".6 .757 .855 rg"  # below a chosen line
@@ -37,6 +38,11 @@ def text_of(value: Any) -> str:
         return bytes(value).decode("latin-1")
 
 
+def few(values: Any) -> list[float]:
+    """The numbers of a short array."""
+    return numbers(values) if isinstance(values, Array) and len(values) <= FEW else []
+
+
 def colour_of(values: list[float], is_line: bool = False) -> str:
     """What sets a colour of one, three or four numbers; nothing for any others."""
     if len(values) not in OPERATORS:
@@ -57,7 +63,7 @@ def style_of(text: str) -> tuple[str, Style]:
 
 def line_of(note: Any, usual: float) -> float:
     """How wide the line round an annotation is."""
-    style, border = note.get("/BS"), numbers(note.get("/Border"))
+    style, border = note.get("/BS"), few(note.get("/Border"))
     if isinstance(style, Dictionary) and "/W" in style:
         usual = number_of(style.W, usual)
     elif len(border) > 2:
@@ -141,7 +147,7 @@ class Field:
             below = self.below(setting) if self.chosen else ""
             drawn += f"/Tx BMC q {numerals(*inside)} re W n\n{below}{setting.drawn()}Q EMC\n"
             is_cut = setting.is_cut and not self.chosen
-            self.fault = "letters that no font has" if setting.text.lacks else "more text than fits" * is_cut
+            self.fault = "with letters that no font has" if setting.text.lacks else "with more text than fits" * is_cut
         if not drawn or not text.strip() and isinstance(self.own, Stream):
             return None
         look = pdf.make_stream(drawn.encode(), Type=Name.XObject, Subtype=Name.Form, Resources=resources)
@@ -174,7 +180,7 @@ class Field:
 
     def frame(self, width: float, height: float, edge: float) -> str:
         """Its ground and its border."""
-        ground, border = (colour_of(numbers(self.marks.get(key)), key == "/BC") for key in ("/BG", "/BC"))
+        ground, border = (colour_of(few(self.marks.get(key)), key == "/BC") for key in ("/BG", "/BC"))
         style = self.note.get("/BS")
         kind = name_of(style.get("/S")) if isinstance(style, Dictionary) else ""
         drawn = f"q {ground} 0 0 {numerals(width, height)} re f Q\n" if ground else ""

@@ -59,7 +59,7 @@ class Font:
         letters = letters_of(held)
         self.codes = {letters[code]: code for code in sorted(letters, reverse=True) if 0 <= code < 256}
         self.first, widths = number_of(held.get("/FirstChar"), 0), held.get("/Widths")
-        self.widths = numbers(widths)[:256] if isinstance(widths, Array) else []
+        self.widths = numbers(widths) if isinstance(widths, Array) and len(widths) <= 256 else []
 
     def width(self, letter: str) -> float:
         """The width of a letter that it may have; 0 if it hasn't."""

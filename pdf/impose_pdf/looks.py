@@ -1,22 +1,27 @@
 """Annotations that print, but show nothing by themselves: they get looks, as viewers draw them."""
 
 import zlib
+from collections.abc import Callable
 from decimal import Decimal
 from typing import Any
 
-from pikepdf import Array, Dictionary, Name, Pdf, PdfError, Stream, String, parse_content_stream
+from pikepdf import Array, Dictionary, Pdf, PdfError, Stream, String, parse_content_stream
 
 from impose_pdf.fields import Field
 from impose_pdf.fonts import Fonts
 from impose_pdf.notes import is_printed
-from impose_pdf.pages import items_of, name_of
+from impose_pdf.pages import items_of, name_of, number_of
+from impose_pdf.remarks import Remark
+from impose_pdf.shapes import Shape
 from impose_pdf.words import shown
 
 MOST_OF_LOOK = 1 << 20  # bytes: a longer one shows something
-MOST_PACKED = 1 << 16  # bytes
-MOST_OF_ALL = 2_000_000  # letters, numbers and so on, of all annotations of a PDF
-MOST_NAMED, LONGEST_NAME = 3, 60  # fields, letters
-TOO_MUCH = "letters beyond the most that are drawn"
+MOST_PACKED, SHORT = 1 << 16, 64  # bytes
+MOST_OF_ALL = 10_000_000  # letters, numbers and so on, of all annotations of a PDF
+DRAWN = 5  # how many times as much it is to draw something as to read it
+DRAWN_OF_NOTES = "/Contents", "/DA", "/QuadPoints", "/Vertices", "/InkList", "/L", "/CL"
+MOST_NAMES, MOST_SAID, LONGEST_NAME = 100, 3, 60
+TOO_MUCH = "beyond the most that are drawn"
 SHOWING = "Tj TJ ' \" Do sh BI ID EI"  # operators that show text, images or forms
 UNPACKED = {"/ASCIIHexDecode", "/ASCII85Decode"}
 
@@ -46,6 +51,13 @@ def is_empty(operands: Any) -> bool:
     )
 
 
+def is_blank(look: Any) -> bool:
+    """Whether a look is so short that nothing is in it."""
+    is_short = number_of(look.get("/Length"), SHORT) < SHORT
+    content = content_of(look) if is_short else None
+    return content is not None and not content.strip()
+
+
 class Looks:
     """The looks of a PDF's annotations."""
 
@@ -55,7 +67,7 @@ class Looks:
         self.form = form if isinstance(form, Dictionary) else Dictionary()
         self.seen: set[tuple[int, int]] = set()  # pages, arrays and annotations
         self.showing: dict[tuple[int, int], bool] = {}  # looks: whether they show text
-        self.faults: dict[str, dict[str, None]] = {}  # the names of fields that aren't drawn as they should be
+        self.faults: dict[str, list[str]] = {}  # the names of what isn't drawn as it should be
 
     def give(self, page: Any) -> None:
         """Gives looks to the annotations of a page that need them."""
@@ -74,27 +86,61 @@ class Looks:
 
     def give_one(self, note: Any) -> None:
         """Gives a look to an annotation if it needs one."""
-        if note.get("/Subtype") == Name.Widget:
+        looks, kind = note.get("/AP"), name_of(note.get("/Subtype"))
+        own = looks.get("/N") if isinstance(looks, Dictionary) else None
+        if kind == "/Widget":
             field = Field(note, self.form, self.fonts)
             if self.needs_one(field):
                 self.draw(field)
+        elif kind not in ("/Link", "/Popup") and (is_blank(own) if isinstance(own, Stream) else own is None):
+            self.draw_note(note, kind)
 
     def draw(self, field: Field) -> None:
         """Gives a field its look."""
-        if not self.takes(field.entry("/V"), field.entry("/Opt")):
+        read = field.entry("/Opt"), field.entry("/DA"), field.marks.get("/CA")
+        if not self.takes(field.entry("/V"), read=read):
             field.fault = TOO_MUCH
         elif (look := field.look(self.pdf)) is not None:
             field.note.AP = Dictionary(N=look)
         if field.fault:
-            self.faults.setdefault(field.fault, {})[field.name()] = None
+            self.name(f"fields {field.fault}", field.name)
 
-    def takes(self, *values: Any) -> bool:
-        """Whether what a field says is within what is drawn in all."""
+    def draw_note(self, note: Any, kind: str) -> None:
+        """Gives a note its look."""
+        if not self.takes(*(note.get(key) for key in DRAWN_OF_NOTES)):
+            self.name(f"notes {TOO_MUCH}", lambda: kind[1:])
+            return
+        shape = Remark(note, self.form, self.fonts) if kind == "/FreeText" else Shape(note)
+        shape.give_look(self.pdf)
+        if shape.fault:
+            self.name(f"notes {shape.fault}", lambda: kind[1:])
+
+    def name(self, what: str, name: Callable[[], str]) -> None:
+        """Keeps the name of something that isn't drawn as it should be, if it is among the first."""
+        names = self.faults.setdefault(what, [])
+        if len(names) < MOST_NAMES:
+            names.append(name())
+
+    def takes(self, *drawn: Any, read: tuple[Any, ...] = ()) -> bool:
+        """Whether what is drawn of an annotation, and read for it, is within the most of all."""
         self.left -= 20
-        for value in values:
-            self.left -= len(bytes(value)) if isinstance(value, String) else 0
-            self.left -= len(value) if isinstance(value, Array) else 0
+        for value in drawn:
+            self.weigh(value, DRAWN, 1)
+        for value in read:
+            self.weigh(value, 1, 2)
         return self.left >= 0
+
+    def weigh(self, value: Any, times: int, deeper: int) -> None:
+        """Takes from what is left to draw what is in a value, and in the arrays in it down to a depth."""
+        if isinstance(value, String) and self.left >= 0:
+            self.left -= times * len(bytes(value))
+        elif isinstance(value, Array) and self.left >= 0:
+            self.left -= times * len(value)
+            for one in list(value) if deeper else []:
+                if self.left < 0:
+                    break
+                if isinstance(one, (Array, String)):
+                    self.weigh(one, times, deeper - 1)
 
     def needs_one(self, field: Field) -> bool:
         """Whether a field has no look, or has a text that its look doesn't show."""
@@ -115,10 +161,11 @@ class Looks:
         return self.showing[look.objgen]
 
     def warning(self, name: str) -> str:
-        """Lines on the fields that aren't drawn as they should be, or nothing."""
+        """Lines on what isn't drawn as it should be, or nothing."""
         lines = ""
-        for what, fields in self.faults.items():
-            more = f", and {len(fields) - MOST_NAMED} more" if len(fields) > MOST_NAMED else ""
-            names = ", ".join(shown(field[:LONGEST_NAME]) for field in list(fields)[:MOST_NAMED])
-            lines += f"impose-pdf: {name}: fields with {what}: {names}{more}\n"
+        for what, names in self.faults.items():
+            first = list(dict.fromkeys(names))
+            more = ", and others" if len(first) > MOST_SAID else ""
+            said = ", ".join(shown(one[:LONGEST_NAME]) for one in first[:MOST_SAID])
+            lines += f"impose-pdf: {name}: {what}: {said}{more}\n"
         return lines
