@@ -19,7 +19,7 @@ from .reading import Goal
 from .wanted import Source
 
 LOOKS = {"--plan", "--preview", "--print-spec"}
-TELLS = {"--help", "--version"}
+TELLS = {"--help", "--version", "help"}
 # What draws fields that their PDF leaves to its readers.
 OF_FIELDS = {("Helvetica", "Type 1"), ("ZapfDingbats", "Type 1")}
 Check = Callable[["Output", str, list[str]], Iterator[str]]
@@ -165,6 +165,12 @@ def _prints(output: Output, rest: str, below: list[str]) -> Iterator[str]:
     for text in [rest] * bool(rest) + below:
         if text.encode() not in output.run.output:
             yield f"standard output {output.run.output[:200]!r} has no {text!r}"
+
+
+@check("prints-not")
+def _prints_not(output: Output, rest: str, _: list[str]) -> Iterator[str]:
+    if rest.encode() in output.run.output:
+        yield f"standard output has {rest!r}"
 
 
 @check("prints-as-impose")

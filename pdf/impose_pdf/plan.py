@@ -11,6 +11,7 @@ from collections.abc import Sequence
 from dataclasses import dataclass, field
 
 from impose_pdf.lines import Lines
+from impose_pdf.wording import as_ours
 from impose_pdf.words import Refusal, Request, cause_of, refusal, shown
 
 Matrix = tuple[float, float, float, float, float, float]
@@ -144,15 +145,15 @@ class Imposer:
     def run(self, *added: str) -> tuple[bytes, str]:
         """What it prints and what it says, with options put before its other words. A refusal is handed on."""
         unguarded = [] if "--unguarded" in self.request.options else ["--unguarded"]
-        words = [self.program, self.request.command, *unguarded, *added, *self.request.words, "-", "-"]
+        files = [] if self.request.lacks_word else ["-", "-"]
+        words = [self.program, self.request.command, *unguarded, *added, *self.request.words, *files]
         try:
             done = subprocess.run(words, input=self.stub, capture_output=True)
         except OSError as error:
             raise cannot_run(self.program, error) from None
         told = done.stderr.decode(errors="replace")
         if done.returncode:
-            told = re.sub(r"\bimpose (.*)in\.ps out\.ps", r"impose-pdf \1in.pdf out.pdf", told)
-            told = told.replace("standard input", ", ".join(shown(name) for name, _ in self.request.infiles))
+            told = as_ours(told).replace("standard input", ", ".join(shown(name) for name, _ in self.request.infiles))
             raise Refusal(min(done.returncode % 256, 3), told or f"impose-pdf: impose fails with {done.returncode}\n")
         return done.stdout, told
 

@@ -5,6 +5,7 @@ import re
 import resource
 import shutil
 import signal
+import subprocess
 import traceback
 import warnings
 from contextlib import suppress
@@ -12,7 +13,8 @@ from contextlib import suppress
 from impose_pdf import words as said
 from impose_pdf.deep import deeply
 from impose_pdf.plan import Imposer, cannot_run, usual
-from impose_pdf.words import Refusal, Request, cause_of, refusal, shown
+from impose_pdf.wording import as_ours, help_of
+from impose_pdf.words import WITH_WORD, Refusal, Request, cause_of, refusal, shown
 
 A4 = 595.0, 842.0
 MOST_OPEN = 65_536  # files: INFILEs stay open
@@ -96,11 +98,7 @@ def run(words: list[str], here: str) -> None:
         return
     request = said.read(words)
     if words[0] in ("help", "-V", "--version") or "--help" in request.options:
-        program = imposer(here)
-        try:
-            os.execv(program, [program, *words])
-        except OSError as error:
-            raise cannot_run(program, error) from None
+        return put(helped(words, imposer(here)))
     if not request.infiles or not (request.outfile or request.looks):
         look_at_words(request, imposer(here))
         if request.infiles:
@@ -113,6 +111,17 @@ def run(words: list[str], here: str) -> None:
     impose(request, imposer(here))
 
 
+def helped(words: list[str], program: str) -> bytes:
+    """impose's version, or its help on a command."""
+    try:
+        done = subprocess.run([program, *words], capture_output=True, text=True, errors="replace")
+    except OSError as error:
+        raise cannot_run(program, error) from None
+    if done.returncode:
+        raise Refusal(min(done.returncode % 256, 3), as_ours(done.stderr))
+    return help_of(done.stdout).encode()
+
+
 def look_at_words(request: Request, program: str) -> None:
     """Refuses mistakes among impose's words, which may be why other words were taken for files."""
     if "--preview" in request.options:
@@ -120,8 +129,16 @@ def look_at_words(request: Request, program: str) -> None:
     try:
         Imposer(program, request, [A4], A4).run()
     except Refusal as refused:
-        if refused.status == 2 or len(request.infiles) + bool(request.outfile) < 2:
+        if refused.status == 2 or is_file_taken_for_word(request):
             raise
+
+
+def is_file_taken_for_word(request: Request) -> bool:
+    """Whether the word of a command was forgotten, so that the first of two files was taken for it."""
+    if request.command not in WITH_WORD or len(request.infiles) != 1 or request.outfile:
+        return False
+    (name, _), word = request.infiles[0], request.words[-1]
+    return os.path.exists(word) or name != "-" and not os.path.exists(name)
 
 
 def impose(request: Request, program: str) -> None:

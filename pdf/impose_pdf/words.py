@@ -9,14 +9,14 @@ Puts the pages of PDFs on sheets of paper, and writes a PDF of the sheets
 
 Usage: impose-pdf COMMAND [OPTIONS] INFILE [RANGES].. OUTFILE
 
-COMMAND and its OPTIONS are those of impose (impose --help, impose booklet --help).
+COMMAND and its OPTIONS are those of impose: impose --help, impose-pdf booklet --help.
 Files come after them, OUTFILE last; - is standard input, and standard output.
 The pages of several INFILEs follow one another, as those of one document. RANGES after an
 INFILE are the pages that are taken of it, as 7, 3-9, 9-3, 5- or _1 (the last), with commas
 between them. A JPEG or a PNG is a page too.
 
 Pages are placed as they are: text, fonts, links and outlines, layers, attachments stay.
-With --print-spec, --plan or --preview no sheets are made: OUTFILE stays as it was, and may be
+With --plan or --preview no sheets are made: OUTFILE stays as it was, and may be
 left out. Every failure leaves it as it was, too. A document or image that impose-pdf didn't
 write, and that isn't an INFILE, is replaced only with --replace.
 
@@ -85,6 +85,7 @@ class Request:
     infiles: list[tuple[str, str]] = field(default_factory=list)  # a name, and its RANGES or ''
     outfile: str = ""
     replaces: bool = False
+    lacks_word: bool = False  # that a command has before its files
 
     @property
     def looks(self) -> bool:
@@ -135,6 +136,7 @@ def read(words: list[str]) -> Request:
             request.options[name] = value
             if word.startswith("-q"):
                 request.options["--quiet"] = ""  # also in -qp a4
+    request.lacks_word = request.command in WITH_WORD and not operands
     if request.command in WITH_WORD and operands:
         # Behind the options, since it may begin with a dash.
         request.words += ["--", operands.pop(0)] if operands[0].startswith("-") else [operands.pop(0)]
@@ -161,6 +163,8 @@ def name_files(request: Request, names: list[str]) -> None:
     for name in names:
         if files and not files[-1][1] and RANGES.fullmatch(name):
             files[-1] = files[-1][0], name
+        elif files and "blank" in name and RANGES.fullmatch(name.replace("blank", "1")):
+            raise refusal(2, f"RANGES have no blank pages; --pages {name} has; ./{name} names a file")
         else:
             files.append((name, ""))
     if files and files[-1][1] and not request.looks:
