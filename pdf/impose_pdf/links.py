@@ -124,7 +124,7 @@ class Ways:
 
     def led_names(self) -> Any:
         """Where names that are no strings lead."""
-        led = ((key, self.lead_value(self.old_style[key])) for key in keys_of(self.old_style))
+        led = ((key, self.lead_value(self.old_style.get(key))) for key in keys_of(self.old_style))
         return Dictionary({key: new for key, new in led if new is not None})
 
     def lead_value(self, dest: Any) -> Any:
