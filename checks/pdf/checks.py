@@ -4,6 +4,7 @@ from __future__ import annotations
 
 import re
 import subprocess
+import time
 from collections import Counter
 from collections.abc import Callable, Iterator
 from functools import cached_property
@@ -12,7 +13,7 @@ from pathlib import Path
 from pikepdf import Dictionary, Name, Pdf, Stream
 
 from . import pictures, plans, reading, wanted
-from .cases import Run, contents
+from .cases import Run, contents, ran
 from .making import NAMESPACES, Made
 from .plans import Sheet
 from .reading import Goal
@@ -132,6 +133,17 @@ def sound(output: Output) -> Iterator[str]:
         yield "names that aren't sorted"
     yield from reading.loose_corners(output.pdf)
     yield from reading.loose_outlines(output.pdf)
+
+
+@check("repeats")
+def _repeats(output: Output, _rest: str, _below: list[str]) -> Iterator[str]:
+    """A run in a later second writes the same bytes, with an /ID that isn't the one that qpdf gives every PDF."""
+    time.sleep(1.1)
+    folder = output.run.folder.parent / "again"
+    folder.mkdir()
+    again = ran(output.case, output.run.programs, folder).out.read_bytes()
+    yield from differs("the bytes of another run are the same:", again == output.run.out.read_bytes(), True)
+    yield from differs("qpdf's static /ID is there:", b"31415926535897932384626433832795" in again, False)
 
 
 # How it ends.

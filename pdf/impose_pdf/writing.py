@@ -1,8 +1,10 @@
 """Writing a PDF: to a file that gets its name when it is whole, or to a device or a pipe."""
 
 import errno
+import hashlib
 import io
 import os
+import re
 import secrets
 import shutil
 import signal
@@ -19,6 +21,8 @@ from impose_pdf.reading import IN_MEMORY
 
 SIGNALS = (signal.SIGHUP, signal.SIGINT, signal.SIGTERM)
 PART = 1 << 20  # bytes that are written at once
+END = 64  # bytes, in which a PDF says where its trailer is
+STATIC_ID = b"31415926535897932384626433832795"  # which qpdf gives every PDF, if it isn't to take the time for it
 MOST_NAMES = 100  # that are tried for a new file
 
 
@@ -26,7 +30,7 @@ class Sink(io.RawIOBase):
     """A file that is written. A failure is kept until the end, since qpdf doesn't bear one."""
 
     def __init__(self, file: IO[bytes]):
-        self.file = file
+        self.file, self.digest = file, hashlib.blake2b(digest_size=len(STATIC_ID) // 2)
         self.error: OSError | None = None
 
     def writable(self) -> bool:
@@ -36,6 +40,7 @@ class Sink(io.RawIOBase):
     def write(self, data: Any) -> int:
         """Writes all of the data, or nothing more after a failure."""
         left = memoryview(data)
+        self.digest.update(left)
         try:
             while left and self.error is None:
                 left = left[self.file.write(left) :]
@@ -49,8 +54,8 @@ class Sink(io.RawIOBase):
             raise self.error
 
 
-def save(pdf: Pdf, file: IO[bytes], is_packed: bool) -> None:
-    """Writes a PDF to a file. Streams stay as they are, but for those without Flate, if they are to be packed."""
+def save(pdf: Pdf, file: IO[bytes], is_packed: bool) -> str:
+    """Writes a PDF to a file, and gives a digest of it. Streams stay as they are, or those without Flate are packed."""
     sink = Sink(file)
     with io.BufferedWriter(sink, PART) as stream:
         pdf.save(
@@ -61,19 +66,32 @@ def save(pdf: Pdf, file: IO[bytes], is_packed: bool) -> None:
             compress_streams=is_packed,
             stream_decode_level=StreamDecodeLevel.generalized if is_packed else StreamDecodeLevel.none,
             encryption=False,
+            static_id=True,
         )
     sink.end()
+    return sink.digest.hexdigest()
 
 
 def fill(file: IO[bytes], pdf: Pdf) -> None:
     """Writes a PDF to an empty file, with its streams packed if all of them can be unpacked."""
     try:
-        save(pdf, file, True)
+        digest = save(pdf, file, True)
     except (RuntimeError, DataDecodingError):
         file.seek(0)
         file.truncate()
-        save(pdf, file, False)
+        digest = save(pdf, file, False)
+    identify(file, digest)
     file.seek(0)
+
+
+def identify(file: IO[bytes], digest: str) -> None:
+    """Puts a digest of a PDF for its /ID, so that the same PDF has the same, and no other has."""
+    file.seek(-END, os.SEEK_END)
+    if found := re.search(rb"startxref\n(\d+)\n%%EOF\n\Z", file.read()):
+        file.seek(int(found[1]))
+        trailer, _, _ = file.read().partition(b"stream\n")
+        file.seek(int(found[1]))
+        file.write(trailer.replace(STATIC_ID, digest.encode()))
 
 
 def hand_over(pdf: Pdf, name: str) -> None:
