@@ -179,8 +179,10 @@ def prepared(case: Case, folder: Path) -> None:
         elif kind == "text":
             (folder / rest[0]).write_bytes(rest[1].encode().decode("unicode_escape").encode("latin-1"))
         elif kind == "link":
-            linked = os.link if "hard" in rest else os.symlink
-            linked(folder / rest[1] if "hard" in rest else rest[1], folder / rest[0])
+            if "hard" in rest:
+                os.link(folder / rest[1], folder / rest[0])
+            else:
+                os.symlink(rest[1], folder / rest[0])
     for kind, *rest in case.settings:
         if kind == "rights":
             (folder / rest[0]).chmod(int(rest[1], 8))

@@ -229,7 +229,7 @@ def words(path: Path) -> list[Counter[str]]:
 
 def places(path: Path, page: int, word: str) -> list[tuple[float, ...]]:
     """Where a page that isn't turned has a word: left, bottom, right and top of each."""
-    words = ["pdftotext", "-bbox", "-f", str(page), "-l", str(page), path, "-"]
+    words = ["pdftotext", "-bbox", "-f", str(page), "-l", str(page), str(path), "-"]
     text = subprocess.run(words, capture_output=True, text=True, timeout=60).stdout
     size = re.search(r'<page width="[\d.]+" height="([\d.]+)"', text)
     height = float(size[1]) if size else 0

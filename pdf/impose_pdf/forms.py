@@ -33,7 +33,7 @@ def streams_of(page: Any) -> list[Any]:
 def isolated(group: Any) -> Any:
     """A group by itself, as a page's is and a form's need not be."""
     made = copy(group)
-    made.I = True
+    made["/I"] = True
     return made
 
 

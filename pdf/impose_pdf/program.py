@@ -67,7 +67,7 @@ def main(words: list[str], here: str) -> int:
         name = f"{shown(error.filename)}: " if isinstance(error.filename, str) else ""
         say(said.told(f"{name}{cause_of(error)}"))
         return 3
-    except Exception as error:  # noqa: B902: a fault of this program
+    except Exception as error:  # a fault of this program
         say(own_fault(error))
         return 3
     return 0
