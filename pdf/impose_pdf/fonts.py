@@ -8,7 +8,7 @@ from typing import Any
 
 from pikepdf import Array, Dictionary, Name, Pdf
 
-from impose_pdf.letters import ENCODINGS, STANDARD, letter_of
+from impose_pdf.letters import ENCODINGS, MORE, NAMES_IN_FONTS, STANDARD, letter_of
 from impose_pdf.pages import name_of, number_of, numbers
 from impose_pdf.widths import width_of
 
@@ -20,6 +20,7 @@ SUPPLIED = {
     **{"/CoBo": "Courier-Bold", "/CoOb": "Courier-Oblique", "/CoBO": "Courier-BoldOblique", "/TiRo": "Times-Roman"},
     **{"/TiBo": "Times-Bold", "/TiIt": "Times-Italic", "/TiBI": "Times-BoldItalic", "/ZaDb": "ZapfDingbats"},
 }
+LATIN = "Helvetica+"  # that font, with more letters
 STANDARD_FONTS = {"Helvetica", *SUPPLIED.values()}
 
 
@@ -80,7 +81,7 @@ class Fonts:
 
     def of(self, name: str, *resources: Any) -> list[Font]:
         """The font of a name in the first resources that have it, or one that all readers have, and what may help."""
-        return [self.found(name, resources), self.supplied("Helvetica")]
+        return [self.found(name, resources), self.supplied("Helvetica"), self.supplied(LATIN)]
 
     def found(self, name: str, resources: tuple[Any, ...]) -> Font:
         """The font of a name."""
@@ -96,8 +97,11 @@ class Fonts:
     def supplied(self, name: str) -> Font:
         """A font that all readers have."""
         if name not in self.known:
-            held = Dictionary(Type=Name.Font, Subtype=Name.Type1, BaseFont=Name("/" + name))
-            if name != "ZapfDingbats":
+            held = Dictionary(Type=Name.Font, Subtype=Name.Type1, BaseFont=Name("/" + name.rstrip("+")))
+            if name == LATIN:
+                names = (NAMES_IN_FONTS.get(one, f"uni{ord(one):04X}") for one in MORE)
+                held.Encoding = Dictionary(Differences=Array([128, *(Name("/" + name) for name in names)]))
+            elif name != "ZapfDingbats":
                 held.Encoding = Name.WinAnsiEncoding
             self.known[name] = Font(self.pdf.make_indirect(held))
         return self.known[name]

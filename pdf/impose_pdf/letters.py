@@ -41,7 +41,10 @@ def names() -> dict[str, str]:
     for code in [*range(0x41, 0x5B), *range(0x61, 0x7B), *range(0xC0, 0x250)]:
         parts = unicodedata.normalize("NFD", chr(code))
         if parts[0].isascii() and all(accent in ACCENTS for accent in parts[1:]):
-            found.setdefault(parts[0] + "".join(ACCENTS[accent] for accent in parts[1:]), chr(code))
+            name = parts[0] + "".join(ACCENTS[accent] for accent in parts[1:])
+            found.setdefault(name, chr(code))
+            if parts[0] in "GKLNRTgklnrt":  # whose cedillas most fonts call commas
+                found.setdefault(name.replace("cedilla", "commaaccent"), chr(code))
     return found
 
 
@@ -60,6 +63,11 @@ ENCODINGS = {
     "/MacRomanEncoding": decoded("mac_roman"),
     "/PDFDocEncoding": decoded("pdfdoc"),
 }
+
+
+# What fonts of Latin letters have beyond those of WinAnsiEncoding.
+MORE = "ĀāĂăĄąĆćČčĎďĐđĒēĖėĘęĚěĞğĢģĪīĮįİıĶķĹĺĻļĽľŁłŃńŅņŇňŌōŐőŔŕŖŗŘřŚśŞşȘșŢţȚțŤťŪūŮůŰűŲųŹźŻż"
+NAMES_IN_FONTS = {letter: name for name, letter in NAMES.items()}
 
 
 def letter_of(name: str) -> str:
