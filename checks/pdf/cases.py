@@ -26,7 +26,7 @@ ROOT = Path(__file__).resolve().parent.parent.parent
 PDFS = ROOT / "cases/pdfs"
 SETTINGS = (
     *("stdin", "limit", "stdout", "signal", "user", "rights", "umask", "link", "file", "pipe", "text", "papersize"),
-    *("room", "open", "impose", "copies", "stack", "memory", "python", "sized", "traced"),
+    *("room", "open", "impose", "copies", "stack", "memory", "python", "sized", "traced", "needs"),
 )
 MOST_COMPARED = 1 << 28  # bytes
 

@@ -21,7 +21,9 @@ def all_cases(only: str) -> list[Case]:
 
 
 def can_be_run(case: Case) -> bool:
-    """Whether this machine lets a case make its full device."""
+    """Whether this machine lets a case make its full device, and has the file that the case needs."""
+    if needed := case.setting("needs"):
+        return Path(needed[0]).exists()
     return not case.setting("room") or subprocess.run(["unshare", "-rm", "true"], capture_output=True).returncode == 0
 
 

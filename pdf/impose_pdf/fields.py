@@ -164,7 +164,7 @@ class Field:
             style.side, name = 1, name if self.flags & PUSHED else "/ZaDb"
         style.cells = self.cells()
         own = self.own.get("/Resources") if isinstance(self.own, Stream) else None
-        fonts = self.fonts.of(name, own, self.form.get("/DR"), self.entry("/DR"))
+        fonts = self.fonts.of(text, name, own, self.form.get("/DR"), self.entry("/DR"))
         return Setting(Text(text if style.in_lines else text.replace("\n", " "), fonts), style, width, height, edge)
 
     def cells(self) -> int:

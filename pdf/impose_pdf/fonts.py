@@ -1,19 +1,22 @@
 """Fonts of a PDF: the codes and widths of their letters, and those that all readers have."""
 
 import re
+import zlib
 from collections.abc import Iterator
 from itertools import islice
 from math import isfinite
 from typing import Any
 
-from pikepdf import Array, Dictionary, Name, Pdf
+from pikepdf import Array, Dictionary, Name, Object, Pdf, String
 
+from impose_pdf import truetype
 from impose_pdf.letters import ENCODINGS, MORE, NAMES_IN_FONTS, STANDARD, letter_of
-from impose_pdf.pages import name_of, number_of, numbers
+from impose_pdf.pages import array, name_of, number_of, numbers
 from impose_pdf.widths import width_of
 
 SYMBOLIC = 4  # a flag of fonts
 WIDEST = 5000  # thousandths
+BLOCK = 100  # letters of Unicode: as many as a list of them may have
 # Fonts by the names that fields give them, where their PDF lacks them.
 SUPPLIED = {
     **{"/HeBo": "Helvetica-Bold", "/HeOb": "Helvetica-Oblique", "/HeBO": "Helvetica-BoldOblique", "/Cour": "Courier"},
@@ -55,6 +58,8 @@ def differences(differing: Any) -> Iterator[tuple[int, str]]:
 class Font:
     """A font of a PDF, with the codes and widths of its letters."""
 
+    digits = 2  # of a code
+
     def __init__(self, held: Any):
         self.held, self.name = held, name_of(held.get("/BaseFont"))[1:]
         letters = letters_of(held)
@@ -73,15 +78,65 @@ class Font:
         return min(width, WIDEST) if isfinite(width) else 0
 
 
+class Borrowed(Font):
+    """Letters of a font of this machine: those of a block of Unicode that it has."""
+
+    digits = 4
+
+    def __init__(self, pdf: Pdf, block: int):
+        source = truetype.font()
+        letters = map(chr, range(block * BLOCK, (block + 1) * BLOCK)) if source else iter(())
+        self.codes = {letter: source.glyphs[letter] for letter in letters if letter in source.glyphs} if source else {}
+        if source and self.codes:
+            self.wide = {letter: source.width(code) for letter, code in self.codes.items()}
+            self.held = self.made(pdf, source.part(self.codes.values()))
+
+    def width(self, letter: str) -> float:
+        """The width of a letter that it may have; 0 if it hasn't."""
+        return self.wide[letter] if letter in self.codes else 0
+
+    def made(self, pdf: Pdf, data: bytes) -> Any:
+        """The font as the PDF has it."""
+        file = pdf.make_stream(zlib.compress(data), Filter=Name.FlateDecode, Length1=len(data))
+        name, box = Name("/IMPOSE+Borrowed"), array(-200, -300, 1200, 1000)
+        described = Dictionary(Type=Name.FontDescriptor, FontName=name, Flags=SYMBOLIC, FontBBox=box, FontFile2=file)
+        described.ItalicAngle, described.Ascent, described.Descent, described.CapHeight = 0, 900, -250, 720
+        described.StemV = 80
+        below = Dictionary(Type=Name.Font, Subtype=Name.CIDFontType2, BaseFont=name, FontDescriptor=described)
+        below.CIDSystemInfo = Dictionary(Registry=String("Adobe"), Ordering=String("Identity"), Supplement=0)
+        widths = " ".join(f"{self.codes[letter]} [{wide:.0f}]" for letter, wide in self.wide.items())
+        below.CIDToGIDMap, below.W = Name.Identity, Object.parse(f"[{widths}]".encode())
+        made = Dictionary(Type=Name.Font, Subtype=Name.Type0, BaseFont=name, Encoding=Name("/Identity-H"))
+        made.DescendantFonts, made.ToUnicode = Array([pdf.make_indirect(below)]), pdf.make_stream(self.unicode())
+        return pdf.make_indirect(made)
+
+    def unicode(self) -> bytes:
+        """What tells its letters to readers; so many fit into one list of them."""
+        pairs = "".join(f"<{code:04x}> <{ord(letter):04x}>\n" for letter, code in self.codes.items())
+        return (
+            "/CIDInit /ProcSet findresource begin 12 dict begin begincmap /CMapName /Borrowed def /CMapType 2 def\n"
+            f"1 begincodespacerange <0000> <ffff> endcodespacerange\n{len(self.codes)} beginbfchar\n{pairs}endbfchar\n"
+            "endcmap CMapName currentdict /CMap defineresource pop end end\n"
+        ).encode()
+
+
 class Fonts:
     """The fonts of the fields of a PDF."""
 
     def __init__(self, pdf: Pdf):
         self.pdf, self.known = pdf, dict[Any, Font]()
 
-    def of(self, name: str, *resources: Any) -> list[Font]:
-        """The font of a name in the first resources that have it, or one that all readers have, and what may help."""
-        return [self.found(name, resources), self.supplied("Helvetica"), self.supplied(LATIN)]
+    def of(self, text: str, name: str, *resources: Any) -> list[Font]:
+        """Fonts for a text: that of a name in the first resources that have it, or of all readers, and what helps."""
+        fonts = [self.found(name, resources), self.supplied("Helvetica"), self.supplied(LATIN)]
+        lacking = {letter for letter in set(text) if not any(font.width(letter) for font in fonts)} - {"\n"}
+        return fonts + [self.borrowed(block) for block in sorted({ord(letter) // BLOCK for letter in lacking})]
+
+    def borrowed(self, block: int) -> Font:
+        """A font of this machine, with the letters of a block of Unicode."""
+        if block not in self.known:
+            self.known[block] = Borrowed(self.pdf, block)
+        return self.known[block]
 
     def found(self, name: str, resources: tuple[Any, ...]) -> Font:
         """The font of a name."""

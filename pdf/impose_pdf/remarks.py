@@ -18,7 +18,8 @@ class Remark(Shape):
         super().__init__(note)
         name, self.style = style_of(text_of(note.get("/DA")))
         self.style.in_lines, self.style.side = True, int(number_of(note.get("/Q"), 0)) % 3
-        self.text = Text(plain(text_of(note.get("/Contents"))), fonts.of(name, form.get("/DR")))
+        text = plain(text_of(note.get("/Contents")))
+        self.text = Text(text, fonts.of(text, name, form.get("/DR")))
         self.fault = ""
 
     def content(self) -> str:

@@ -33,9 +33,9 @@ class Text:
         self.lacks = any(letter not in font.codes for letter, (font, _) in found.items() if not letter.isspace())
 
     def place(self, letter: str, fonts: list[Font]) -> tuple[Font, float]:
-        """The font for a letter, and its width there; where none has it, those of a space."""
+        """The font for a letter, and its width there; where none has it, those of a space of all readers."""
         wide = ((font, font.width(letter)) for font in fonts)
-        return next(((font, width) for font, width in wide if width > 0), (fonts[-1], fonts[-1].width(" ")))
+        return next(((font, width) for font, width in wide if width > 0), (fonts[1], fonts[1].width(" ")))
 
     def lines(self, most: float) -> list[tuple[int, int]]:
         """Where its lines begin and end, each at most so wide (in sizes of the font) unless it is a single letter."""
@@ -71,7 +71,7 @@ class Text:
         """What shows some of its letters."""
         parts = []
         for font, run in groupby(range(begin, end), key=self.fonts.__getitem__):
-            codes = "".join(f"{font.codes.get(self.letters[k], SPACE):02x}" for k in run)
+            codes = "".join(f"{font.codes.get(self.letters[k], SPACE):0{font.digits}x}" for k in run)
             parts.append(f"{self.name(font)} {numerals(size)} Tf <{codes}> Tj")
         return " ".join(parts)
 
