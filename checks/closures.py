@@ -15,6 +15,7 @@ CRATES = [line.split(":")[0] for line in (ROOT / "crates.txt").read_text().split
 WORD = re.compile(r"[A-Za-z][\w'-]*(?:\.[A-Za-z][\w'-]*)?")
 HEAD = re.compile(r"(?:abbrev |unfoldable )*(?:pub )?(?:record |data )?([A-Za-z◌]\S*)(?= .*(?::|where))")
 Place = tuple[Path, str]
+MOST_HELPING = 12  # lines of an example's own words
 
 # What a reader can leave out, each with the definitions through which a request comes to it.
 TOPICS = {
@@ -165,23 +166,42 @@ def in_order(reached: set[Place]) -> Iterator[tuple[Path, list[str]]]:
         yield free, [name for name in definitions(free) if name in names[free]]
 
 
+def own_words(said: str, file: Path, name: str) -> set[str]:
+    """The words of its own file that an example of this name needs."""
+    found, todo = {name}, [said]
+    while todo:
+        for where, word in cited(todo.pop(), file):
+            if where == file and word not in found:
+                found.add(word)
+                todo.append("\n".join(definitions(file)[word].text))
+    return found - {name}
+
+
 @functools.cache
-def examples() -> dict[Place, list[tuple[int, Path, str]]]:
-    """The worked examples that name a definition in what they say, each with the number of definitions that it names."""
-    found = defaultdict[Place, list[tuple[int, Path, str]]](list)
+def examples() -> dict[Place, list[tuple[frozenset[Place], Path, str]]]:
+    """The worked examples that name a definition in their equation, each with all that it names, and with its own words in its text."""
+    found = defaultdict[Place, list[tuple[frozenset[Place], Path, str]]](list)
     for file in sorted(ROOT.glob("crates/*/proofs/*Examples.antt")):
         for name, one in definitions(file).items():
             said = re.split(rf"\n(?:unfolding|{re.escape(name)})\b", "\n".join(one.text))[0]
-            told = {place for place in cited(said, file) if is_ours(place)}
-            for place in told:
-                found[place].append((len(told), file, "\n".join([*one.comment, said])))
+            words = own_words(said, file, name)
+            helpers = [line for word in sorted(words) for line in definitions(file)[word].text]
+            told = frozenset(place for text in (said, *helpers) for place in cited(text, file) if is_ours(place) and place[0] != file)
+            for place in told if "≡" in said and len(helpers) <= MOST_HELPING else ():
+                found[place].append((told, file, "\n".join([*one.comment, said, *helpers])))
     return found
 
 
-def example(place: Place) -> str | None:
-    """The worked example of a definition that names the fewest others, of its own crate if that has one."""
-    found = examples().get(place, [])
-    return min(found, key=lambda one: (place[0].parents[1] not in one[1].parents, one[0], len(one[2])))[2] if found else None
+def example(place: Place, reached: set[Place]) -> str | None:
+    """The worked example of a definition that names the fewest others, all of which are read too, of its own crate if that has one."""
+    found = [one for one in examples().get(place, []) if one[0] <= reached]
+    return min(found, key=lambda one: (place[0].parents[1] not in one[1].parents, len(one[0]), len(one[2])))[2] if found else None
+
+
+def of_kit(reached: set[Place]) -> list[str]:
+    """The words of the kit that definitions name, which aren't printed."""
+    named = {place for one in reached for place in below(one) if place[0].relative_to(ROOT / "crates").parts[0] not in CRATES}
+    return sorted(f"{name} ({file.relative_to(ROOT / 'crates').parts[0]})" for file, name in named if re.match(r"[A-Za-z]", name))
 
 
 def types(reached: set[Place]) -> Iterator[tuple[Path, str]]:
@@ -209,8 +229,9 @@ def path(reached: set[Place]) -> Iterator[str]:
             yield from [f"{heading}\n"] if heading else []
             for name in section:
                 one = definitions(file)[name]
-                shown = ["-- for example:", *said.splitlines()] if (said := example((file, name))) else []
+                shown = ["-- for example:", *said.splitlines()] if (said := example((file, name), reached)) else []
                 yield "\n".join([*one.comment, *one.text, *(f"    {line}" for line in shown), ""])
-    for source, texts in itertools.groupby(types(reached), key=lambda one: one[0]):
+    for source, texts in itertools.groupby(dict.fromkeys(types(reached)), key=lambda one: one[0]):
         yield f"==== {source.relative_to(ROOT)}\n"
         yield from (text for _, text in texts)
+    yield f"==== words of the kit, which `rt lemma WORD` prints\n{', '.join(of_kit(reached))}"
