@@ -1,6 +1,5 @@
 """What goes wrong in a PDF, which is named then."""
 
-import os
 from collections.abc import Callable, Iterator
 from contextlib import contextmanager
 from functools import wraps
@@ -9,11 +8,11 @@ from typing import Any, TypeVar, cast
 from pikepdf import DataDecodingError, ForeignObjectError, PdfError
 
 from impose_pdf.reading import cause
-from impose_pdf.words import TRACE, refusal, shown
+from impose_pdf.words import Refusal, shown, told, way_to
 
 Method = TypeVar("Method", bound=Callable[..., Any])
-OF_PIKEPDF = PdfError, DataDecodingError, ForeignObjectError
-OF_OBJECTS = *OF_PIKEPDF, RuntimeError, LookupError, TypeError, ValueError  # which pikepdf has for odd ones, too
+OF_PIKEPDF = PdfError, DataDecodingError, ForeignObjectError, RuntimeError
+OF_OBJECTS = *OF_PIKEPDF, LookupError, TypeError, ValueError  # which pikepdf has for odd ones, too
 
 
 @contextmanager
@@ -22,9 +21,8 @@ def blaming(names: list[str], *kinds: type[Exception]) -> Iterator[None]:
     try:
         yield
     except kinds as error:
-        if os.environ.get(TRACE):
-            raise
-        raise refusal(1, f"{', '.join(map(shown, names))} can't be put on sheets: {cause(error)}") from None
+        why = f"{', '.join(map(shown, names))} can't be put on sheets: {cause(error)}"
+        raise Refusal(1, way_to(error) + told(why)) from None
 
 
 def of_source(method: Method) -> Method:

@@ -29,10 +29,12 @@ def take_last(request: Request) -> None:
 def check_preview(request: Request) -> None:
     """Refuses to draw over an INFILE, or over a document that this program didn't write."""
     name = request.options.get("--preview", "-")
+    if name == "-":
+        return
     try:
         there = os.stat(name)
     except OSError:
-        return  # it is -, or impose says what is wrong
+        return  # it isn't there, or impose says what is wrong
     for infile, _ in request.infiles:
         if is_at(infile, there):
             cure = "name another file, as sheets.svg, or - for standard output"

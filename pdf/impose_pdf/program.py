@@ -17,6 +17,7 @@ from impose_pdf.wording import as_ours, help_of
 from impose_pdf.words import WITH_WORD, Refusal, Request, cause_of, refusal, shown
 
 A4 = 595.0, 842.0
+ENDINGS = (".pdf", ".png", ".jpg", ".jpeg")  # of words that name files
 MOST_OPEN = 65_536  # files: INFILEs stay open
 OPENED: dict[str, object] = {}  # PDFs, which stay open to the end
 
@@ -77,9 +78,8 @@ def own_fault(error: Exception) -> str:
     """What is said of a fault of this program: where it is, and all of the way there if that is asked for."""
     last = traceback.extract_tb(error.__traceback__)[-1]
     place = f"{type(error).__name__}: {error} (line {last.lineno} of {os.path.basename(last.filename)})"
-    way = "".join(traceback.format_exception(error)).splitlines() if os.environ.get(said.TRACE) else []
     ask = f"please report it, with what it says after {said.TRACE}=1"
-    return "".join(f"{said.plain(line)}\n" for line in way) + said.told(f"a fault of impose-pdf itself, {place}; {ask}")
+    return said.way_to(error) + said.told(f"a fault of impose-pdf itself, {place}; {ask}")
 
 
 def open_more() -> None:
@@ -137,8 +137,8 @@ def is_file_taken_for_word(request: Request) -> bool:
     """Whether the word of a command was forgotten, so that the first of two files was taken for it."""
     if request.command not in WITH_WORD or len(request.infiles) != 1 or request.outfile:
         return False
-    (name, _), word = request.infiles[0], request.words[-1]
-    return os.path.exists(word) or name != "-" and not os.path.exists(name)
+    word = request.words[-1]
+    return os.path.exists(word) or word.lower().endswith(ENDINGS)
 
 
 def impose(request: Request, program: str) -> None:

@@ -1,7 +1,9 @@
 """The command line: which words are impose's, which name files, and what is said of a mistake."""
 
+import os
 import re
 import shlex
+import traceback
 from dataclasses import dataclass, field
 
 USAGE = """\
@@ -73,6 +75,12 @@ def told(line: str) -> str:
 def cause_of(error: OSError) -> str:
     """What the system says of a failure."""
     return (error.strerror or str(error)).lower()
+
+
+def way_to(error: Exception) -> str:
+    """The lines of the program on the way to a failure, if they are asked for."""
+    lines = "".join(traceback.format_exception(error)).splitlines() if os.environ.get(TRACE) else []
+    return "".join(f"{plain(line)}\n" for line in lines)
 
 
 @dataclass

@@ -170,7 +170,7 @@ class Place:
                 return os.rename(path, os.path.join(self.folder, self.last))
             except FileExistsError:
                 continue
-            except OSError:
+            except BaseException:
                 with suppress(OSError):
                     os.unlink(path)
                 raise
