@@ -17,7 +17,7 @@ from impose_pdf.words import shown
 
 MOST_OF_LOOK = 1 << 20  # bytes: a longer one shows something
 MOST_PACKED, SHORT = 1 << 16, 64  # bytes
-MOST_OF_ALL = 10_000_000  # letters, numbers and so on, of all annotations of a PDF
+MOST_OF_ALL = 5_000_000  # letters, numbers and so on, of all annotations of a PDF
 DRAWN = 5  # how many times as much it is to draw something as to read it
 DRAWN_OF_NOTES = "/Contents", "/DA", "/QuadPoints", "/Vertices", "/InkList", "/L", "/CL"
 MOST_NAMES, MOST_SAID, LONGEST_NAME = 100, 3, 60
