@@ -9,6 +9,7 @@ from collections import Counter
 from collections.abc import Callable, Iterator
 from functools import cached_property
 from pathlib import Path
+from typing import Any
 
 from pikepdf import Dictionary, Name, Pdf, Stream
 
@@ -89,12 +90,41 @@ class Output:
         return reading.opened(self.path)
 
     @cached_property
+    def own(self) -> set[int]:
+        """The sheets that are pages themselves: each alone, where and as large as it is by itself, and there once."""
+        if not self.case.inputs or any(self.case.documents[name].image for name, _ in self.case.inputs):
+            return set(range(len(self.pdf.pages))) if self.case.words[0] == "select" else set()
+        names = [name for name, _ in self.case.inputs]
+        row = [(name, page) for name, source in zip(names, self.sources) for page in source.taken]
+        uses = Counter(row[placed.page] for sheet in self.sheets for placed in sheet.pages)
+        found = set()
+        for at, sheet in enumerate(self.sheets):
+            if len(sheet.pages) == 1 and not (sheet.strokes or sheet.numbers or sheet.pages[0].border):
+                (placed,) = sheet.pages
+                sides = (*sheet.paper, *placed.paper, *placed.matrix), (*self.sizes[placed.page] * 2, *plans.UPRIGHT)
+                if uses[row[placed.page]] == 1 and all(abs(a - b) < 1e-4 for a, b in zip(*sides)):
+                    found.add(at)
+        for source in self.sources:
+            source.own = found
+        return found
+
+    @cached_property
     def turns(self) -> list[int]:
         return [int(page.obj.get("/Rotate", 0)) % 360 for page in self.pdf.pages]
 
     @cached_property
     def pictures(self) -> list[pictures.Picture]:
-        return pictures.pictures(self.path, self.turns)
+        """The sheets, and pages that are sheets as they are shown, in points."""
+        own = self.own if any(self.turns) or any("/UserUnit" in page.obj for page in self.pdf.pages) else set()
+        turns = [0 if at in own else turn for at, turn in enumerate(self.turns)]
+        units = [float(page.obj.get("/UserUnit", 1)) if at in own else 1 for at, page in enumerate(self.pdf.pages)]
+        return pictures.pictures(self.path, turns, units)
+
+    def page_of(self, at: int) -> tuple[Source, int]:
+        """The PDF and the number there of a page that is a sheet."""
+        (placed,) = self.sheets[at].pages
+        found = [(source, page) for source in self.sources if (page := source.page(placed.page)) is not None]
+        return found[0]
 
 
 def differs(what: str, found: object, other: object) -> Iterator[str]:
@@ -131,7 +161,11 @@ def sound(output: Output) -> Iterator[str]:
         yield f"{left} pages left over"
     if not reading.Names(output.pdf).are_sorted:
         yield "names that aren't sorted"
-    yield from reading.loose_corners(output.pdf)
+    yield from (
+        f"sheet {at + 1}: a link has corners outside of it"
+        for at in reading.loose_corners(output.pdf)
+        if at not in output.own
+    )
     yield from reading.loose_outlines(output.pdf)
 
 
@@ -239,6 +273,9 @@ def _laid(output: Output, _rest: str, _below: list[str]) -> Iterator[str]:
     """Each page is seen where impose puts it, and nowhere else; papers, marks and numbers too."""
     yield from differs("number of sheets", len(output.pdf.pages), len(output.sheets))
     for at, (sheet, page) in enumerate(zip(output.sheets, output.pdf.pages), 1):
+        if at - 1 in output.own:
+            yield from (f"sheet {at}: {fault}" for fault in unlike(page.obj, *output.page_of(at - 1)))
+            continue
         sides = [round(float(side), 2) for side in page.mediabox]
         yield from differs(
             f"sheet {at} has the MediaBox", sides, [0, 0, round(sheet.paper[0], 2), round(sheet.paper[1], 2)]
@@ -246,6 +283,18 @@ def _laid(output: Output, _rest: str, _below: list[str]) -> Iterator[str]:
     for at, (sheet, picture) in enumerate(zip(output.sheets, output.pictures), 1):
         yield from (f"sheet {at}: {fault}" for fault in pictures.faults(sheet, picture, output.origin)[:4])
     yield from numbered(output)
+
+
+def unlike(found: Any, source: Source, number: int) -> Iterator[str]:
+    """What of a page that is a sheet isn't as it was."""
+    old = source.pdf.pages[number].obj
+    for key in ("/MediaBox", "/CropBox", "/TrimBox", "/Rotate", "/UserUnit"):
+        one, other = found.get(key), wanted.entry(old, key)
+        yield from differs(
+            key,
+            one and one.unparse() if hasattr(one, "unparse") else one,
+            other and other.unparse() if hasattr(other, "unparse") else other,
+        )
 
 
 def numbered(output: Output) -> Iterator[str]:
@@ -275,8 +324,11 @@ def _sheets(output: Output, rest: str, _: list[str]) -> Iterator[str]:
 
 @check("paper")
 def _paper(output: Output, rest: str, below: list[str]) -> Iterator[str]:
-    """The papers of all sheets, or of each."""
-    found = [f"{float(page.mediabox[2]):g}x{float(page.mediabox[3]):g}" for page in output.pdf.pages]
+    """The papers of all sheets, or of each; of pages that are sheets, what is seen."""
+    sizes = [(float(page.mediabox[2]), float(page.mediabox[3])) for page in output.pdf.pages]
+    for at in output.own:
+        sizes[at] = wanted.shape(output.pdf.pages[at].obj).size
+    found = [f"{width:g}x{height:g}" for width, height in sizes]
     yield from differs("papers", found, below or [rest] * len(found))
 
 
@@ -377,7 +429,7 @@ def _links(output: Output, _rest: str, below: list[str]) -> Iterator[str]:
     if below:
         wants = [link_of(line) for line in below if line != "none"]
     else:
-        wants = [link for source in output.sources for link in source.links(output.sheets)]
+        wants = [link for source in output.sources if output.own is not None for link in source.links(output.sheets)]
     yield from wanted.link_faults(reading.links(output.pdf), wants)[:6]
 
 
@@ -404,7 +456,7 @@ def _outlines(output: Output, _rest: str, below: list[str]) -> Iterator[str]:
             wants.append((int(depth), title, goal_of(goal) if goal else None))
     else:
         wants = []
-        for source in output.sources:
+        for source in output.sources if output.own is not None else []:
             for level, title, place in reading.outlines(source.pdf):
                 wants.append((level, title, source.goal(place, output.sheets) if isinstance(place, Goal) else place))
     yield from wanted.outline_faults(reading.outlines(output.pdf), wants)
@@ -454,6 +506,36 @@ def _has(output: Output, rest: str, _below: list[str]) -> Iterator[str]:
 @check("lacks")
 def _lacks(output: Output, rest: str, _: list[str]) -> Iterator[str]:
     yield from (f"there is {path}" for path in rest.split() if reading.catalog(output.pdf, path) is not None)
+
+
+@check("fields")
+def _fields(output: Output, _rest: str, below: list[str]) -> Iterator[str]:
+    """The names and values of fields that can be filled in, as `name value`; of a group, how many places it has."""
+    found = []
+    for field in reading.catalog(output.pdf, "/AcroForm/Fields") or []:
+        value = len(field.Kids) if "/Kids" in field else field.get("/V", "")
+        found.append(f"{field.T} {value}".strip())
+    yield from differs("fields", found, below)
+
+
+def on_page(output: Output, rest: str) -> Iterator[tuple[str, bool]]:
+    """Entries of a page, as `2 /Trans`, and whether each is there; numbers are of arrays."""
+    number, *paths = rest.split()
+    for path in paths:
+        found: Any = output.pdf.pages[int(number) - 1].obj
+        for key in path.strip("/").split("/"):
+            found = found and (found[int(key)] if key.isdigit() else found.get("/" + key))
+        yield path, found is not None
+
+
+@check("on-page")
+def _on_page(output: Output, rest: str, _: list[str]) -> Iterator[str]:
+    yield from (f"there is no {path}" for path, is_there in on_page(output, rest) if not is_there)
+
+
+@check("not-on-page")
+def _not_on_page(output: Output, rest: str, _: list[str]) -> Iterator[str]:
+    yield from (f"there is {path}" for path, is_there in on_page(output, rest) if is_there)
 
 
 @check("annotations")
@@ -526,6 +608,7 @@ def _streams(output: Output, _rest: str, _below: list[str]) -> Iterator[str]:
         for one in output.pdf.objects
         if isinstance(one, Stream) and one.get("/Subtype") == Name.Form
     }
+    held |= {page.obj.Contents.read_raw_bytes() for page in output.pdf.pages if "/Contents" in page.obj}
     for source in output.sources:
         for at, page in enumerate(source.pdf.pages, 1):
             if isinstance(page.obj.Contents, Stream) and page.obj.Contents.read_raw_bytes() not in held:

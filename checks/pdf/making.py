@@ -542,8 +542,8 @@ class Maker:
             found += [int(start), Dictionary(S=Name("/" + style), **({"P": String(before[0])} if before else {}))]
         self.pdf.Root.PageLabels = Dictionary(Nums=Array(found))
 
-    def do_shared(self, kind: str, count: str) -> None:
-        """So many objects share what is of this kind in checks/pdf/hostile.py."""
+    def do_hostile(self, kind: str, count: str) -> None:
+        """So many objects of a kind of checks/pdf/hostile.py."""
         hostile.KINDS[kind](self.pdf, int(count))
 
     def do_long_labels(self) -> None:
@@ -557,6 +557,14 @@ class Maker:
     def do_entry(self, number: str, key: str, value: str) -> None:
         """An entry of a page, as PDF has it."""
         self.page(number)[key] = pikepdf.Object.parse(value.encode())
+
+    def do_grouped(self, name: str) -> None:
+        """The last annotation of each page is a place of one field."""
+        kids = [page.obj.Annots[-1] for page in self.pdf.pages]
+        field = self.pdf.make_indirect(Dictionary(FT=Name.Btn, T=String(name), Kids=Array(kids)))
+        for kid in kids:
+            kid.Parent = field
+        self.pdf.Root.AcroForm = Dictionary(Fields=Array([field]))
 
     def do_catalog(self, key: str, value: str = "<< >>") -> None:
         """An entry of the catalog, as PDF has it; an @ is the first page."""

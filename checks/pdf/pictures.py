@@ -15,15 +15,17 @@ from .plans import Placed, Sheet
 
 @dataclass
 class Picture:
-    """A page, a pixel a point, as one holds the printed paper: /Rotate is undone."""
+    """A page, a pixel a unit, as one holds the printed paper: /Rotate is undone."""
 
     width: int
     height: int
     rows: bytes
     turn: int = 0
+    unit: float = 1  # in points
 
     def at(self, x: float, y: float) -> Colour:
         """The colour at a point of the paper."""
+        x, y = x / self.unit, y / self.unit
         across, up = {
             0: (x, y),
             90: (y, self.height - x),
@@ -39,11 +41,11 @@ class Picture:
         text, found, at = bytes(wanted), 0, -1
         while (at := self.rows.find(text, at + 1)) >= 0:
             found += at % 3 == 0
-        return found
+        return round(found * self.unit**2)
 
 
-def pictures(path: Path, turns: list[int]) -> list[Picture]:
-    """Each page of a PDF, without smooth edges; turns are its pages' /Rotate."""
+def pictures(path: Path, turns: list[int], units: list[float]) -> list[Picture]:
+    """Each page of a PDF, without smooth edges; turns are its pages' /Rotate, and units their points."""
     ran = subprocess.run(
         ["pdftoppm", "-r", "72", "-cropbox", "-aa", "no", "-aaVector", "no", path], capture_output=True, timeout=120
     )
@@ -51,9 +53,8 @@ def pictures(path: Path, turns: list[int]) -> list[Picture]:
     while head := re.compile(rb"P6\n(\d+) (\d+)\n255\n").match(ran.stdout, at):
         width, height = int(head[1]), int(head[2])
         end = head.end() + 3 * width * height
-        found.append(
-            Picture(width, height, ran.stdout[head.end() : end], turns[len(found)] if len(found) < len(turns) else 0)
-        )
+        turn, unit = [*zip(turns, units), (0, 1)][min(len(found), len(turns))]
+        found.append(Picture(width, height, ran.stdout[head.end() : end], turn, unit))
         at = end
     return found
 

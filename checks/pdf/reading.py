@@ -210,15 +210,15 @@ def left_over(pdf: Pdf) -> int:
     return sum(one.objgen not in shown for one in found)
 
 
-def loose_corners(pdf: Pdf) -> Iterator[str]:
-    """Links whose /QuadPoints lie outside their /Rect, where they don't count (ISO 32000, 12.5.6.5)."""
-    for at, page in enumerate(pdf.pages, 1):
+def loose_corners(pdf: Pdf) -> Iterator[int]:
+    """Pages with links whose /QuadPoints lie outside their /Rect, where they don't count (ISO 32000, 12.5.6.5)."""
+    for at, page in enumerate(pdf.pages):
         for one in page.obj.get("/Annots", []):
             left, bottom, right, top = (float(side) for side in one.Rect)
             corners = [float(value) for value in one.get("/QuadPoints", [])]
             across = all(left - 0.01 <= x <= right + 0.01 for x in corners[::2])
             if not (across and all(bottom - 0.01 <= y <= top + 0.01 for y in corners[1::2])):
-                yield f"sheet {at}: a link has corners outside of it"
+                yield at
 
 
 def words(path: Path) -> list[Counter[str]]:

@@ -71,6 +71,7 @@ class Source:
     first: int = 0  # the row's number of its first page
     shapes: list[Shape] = field(default_factory=list)
     taken: list[int] = field(default_factory=list)  # the pages that are taken of it, from 0
+    own: set[int] = field(default_factory=set)  # sheets that are pages themselves
 
     @classmethod
     def read(cls, path: Path, first: int, ranges: str = "") -> Source:
@@ -126,6 +127,8 @@ class Source:
         if found is None:
             return None
         at, placed = found
+        if at in self.own:
+            return Goal(at, goal.kind, goal.values)
         if goal.kind in ("Fit", "FitB"):
             return Goal(at, "Fit", ())
         if goal.kind == "FitR" and None not in goal.values[:4]:
@@ -139,7 +142,7 @@ class Source:
             for placed in sheet.pages:
                 for link in self.links_of(self.page(placed.page)):
                     goal = self.goal(link.goal, sheets) if isinstance(link.goal, Goal) else link.goal
-                    area = self.moved(link, placed, sheet)
+                    area = link.box if at in self.own else self.moved(link, placed, sheet)
                     if goal is not None and area is not None:
                         found.append(Link(at, area, goal))
         return found
@@ -173,7 +176,9 @@ def matches(found: Goal | str | None, wanted: Goal | str | None) -> bool:
         return False
     number = {"XYZ": 2, "FitR": 4}.get(wanted.kind, 0)
     pairs = zip(found.values[:number], wanted.values[:number])
-    return all(one is not None and other is not None and abs(one - other) < NEAR for one, other in pairs)
+    return all(
+        one is other or one is not None and other is not None and abs(one - other) < NEAR for one, other in pairs
+    )
 
 
 def link_faults(found: list[Link], wanted: list[Link]) -> list[str]:

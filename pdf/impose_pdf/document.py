@@ -74,6 +74,8 @@ class Source:
         self.put: dict[int, Any] = {}
         self.held: dict[object, Held] = {}
         self.on: dict[int, Held] = {}  # of pages that are on sheets
+        form = self.root.get("/AcroForm")
+        self.needs_looks = isinstance(form, Dictionary) and form.get("/NeedAppearances") is True
 
     def find_unshown(self, shown: set[tuple["Source", int]]) -> None:
         """Finds the forms and images of pages that aren't shown."""
@@ -93,6 +95,11 @@ class Source:
                 held.over[turn] = self.forms.over(notes.drawn(held.others, shape.matrix), resources)
             self.put[k] = self.ways.brought(self.forms.of(k, page, resources, shape, held.over[turn]))
         return self.put[k]
+
+    def held_by(self, k: int) -> set[tuple["Source", tuple[int, int]]]:
+        """A page, and what holds its annotations, by their numbers."""
+        page, _ = self.pages[k]
+        return {(self, page.objgen), (self, owner_of(page).objgen)}
 
     def annotations(self, k: int) -> Held:
         """The annotations of a page."""

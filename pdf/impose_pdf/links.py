@@ -8,7 +8,21 @@ from typing import Any
 
 from pikepdf import Array, Dictionary, Name, Object, Pdf, String
 
-from impose_pdf.pages import Box, Shape, array, bounds, drop, keys_of, moved, name_of, nearest, numbers, numerals, then
+from impose_pdf.pages import (
+    FARTHEST,
+    Box,
+    Shape,
+    array,
+    bounds,
+    drop,
+    keys_of,
+    moved,
+    name_of,
+    nearest,
+    numbers,
+    numerals,
+    then,
+)
 from impose_pdf.plan import Matrix, Placed, Size
 from impose_pdf.trees import free, named
 
@@ -19,6 +33,9 @@ DEEPEST = 100  # of actions after actions
 NEAR = 0.02  # points, which a sheet shows of a page at least where something leads to it
 TARGET = re.compile(rb"\[ ([0-9]+) (?:([0-9]+) R )?(.*)\]", re.DOTALL)  # a page by its number, or as an object
 POINTS = {b"/XYZ": (0, 1), b"/FitV": (0, None), b"/FitBV": (0, None), b"/FitH": (None, 0), b"/FitBH": (None, 0)}
+
+KINDS = {*POINTS, b"/Fit", b"/FitB", b"/FitR"}
+EVERYWHERE: Box = (-FARTHEST, -FARTHEST, FARTHEST, FARTHEST)
 
 
 @dataclass
@@ -47,6 +64,7 @@ class Ways:
         self.source, self.made, self.shapes = source, made, shapes
         self.numbers = {page.objgen: k for k, page in reversed(list(enumerate(pages)))}
         self.places: dict[int, list[tuple[Any, Size, Placed]]] = {}  # of each page: its sheets, their papers, and how
+        self.whole = set[int]()  # pages that are sheets themselves
         self.renamed: dict[bytes, bytes] = {}  # names that lead to a sheet, and what they are called there
         self.dests: dict[bytes, Any] = {}  # where they lead, by their new names
         self.old_style: Any = Dictionary()  # names that are no strings, and where they led
@@ -79,7 +97,10 @@ class Ways:
         sheet, shape = self.places[page][0][0], self.shapes[page]
         left, bottom, right, top = shape.box
         kind, values = words[0] if words else b"/Fit", [number(word) for word in words[1:]]
-        if kind == b"/FitR" and len(values) == 4 and None not in values:
+        if page in self.whole and kind in KINDS:
+            parts = ("null" if value is None else numerals(nearest(value, 0, EVERYWHERE)[0]) for value in values)
+            text = " ".join([kind.decode(), *parts])
+        elif kind == b"/FitR" and len(values) == 4 and None not in values:
             a, b, c, d = (value or 0.0 for value in values)
             area = bounds((a, b, c, d), shape.matrix)
             sheet, matrix = self.place(page, area[0], area[3])

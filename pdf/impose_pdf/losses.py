@@ -56,6 +56,11 @@ def has_script(holder: Any) -> bool:
     return any(map(runs_script, [holder.get("/A"), holder.get("/OpenAction"), *actions]))
 
 
+def is_signature(value: Any) -> bool:
+    """Whether the value of a field is a signature."""
+    return isinstance(value, Dictionary) and "/ByteRange" in value
+
+
 def signatures(form: Any) -> int:
     """The number of signatures among the fields of a form."""
     seen, left, found = set(), [form.get("/Fields")], 0
@@ -68,8 +73,7 @@ def signatures(form: Any) -> int:
         if isinstance(one, Array):
             left += list(one)
         else:
-            value = one.get("/V")
-            found += isinstance(value, Dictionary) and "/ByteRange" in value
+            found += is_signature(one.get("/V"))
             left.append(one.get("/Kids"))
     return found
 
@@ -108,12 +112,15 @@ class Losses:
             elif kind != "/Link":
                 self.found.update(kinds_of(note, kind))
 
+    def look_at_whole(self, page: Any, annotations: list[Any]) -> None:
+        """Counts what isn't kept of a page that is kept itself, with these annotations."""
+        self.found[SCRIPTS] += sum(map(has_script, [page, *annotations]))
+
     def count_field(self, note: Any) -> None:
         """Counts the field of a place where it is shown, once."""
         above = note.get("/Parent")
         field = above if "/T" not in note and isinstance(above, Dictionary) else note
-        value = entry_of(note, "/V")
-        is_signed = isinstance(value, Dictionary) and "/ByteRange" in value
+        is_signed = is_signature(entry_of(note, "/V"))
         self.found[FIELD] += field.objgen not in self.fields and not is_signed
         if field.is_indirect:
             self.fields.add(field.objgen)

@@ -1,5 +1,6 @@
 """The PDF of sheets: that of the first INFILE, with sheets in place of its pages, and with what others have."""
 
+from collections import Counter
 from collections.abc import Iterator
 from typing import Any
 
@@ -8,17 +9,20 @@ from pikepdf import Array, Dictionary, Name, String
 from impose_pdf import claims, digits, outlines
 from impose_pdf.document import Source
 from impose_pdf.labels import label
+from impose_pdf.losses import TAGS
 from impose_pdf.pages import array, drop, keys_of
 from impose_pdf.plan import Placed, Sheet
 from impose_pdf.sheets import drawing, preferences
 from impose_pdf.trees import add_layers, free, tree_of
 from impose_pdf.units import in_units
+from impose_pdf.whole import Whole, is_page
 
-# What the catalog keeps. Tags, threads, scripts, fields and signatures go, and all by which an old page could stay.
+# What the catalog keeps. Threads, scripts and signatures go, and all by which an old page could stay.
 KEPT = {
     *("/Type", "/Version", "/Extensions", "/PageMode", "/Metadata", "/Lang", "/OCProperties", "/OutputIntents", "/AF"),
     *("/URI", "/Collection"),
 }
+OF_TAGS = {"/StructTreeRoot", "/MarkInfo"}
 KEPT_OF_TRAILER = {"/Root", "/Info", "/ID", "/Size", "/Encrypt"}
 PRODUCER = "impose-pdf"  # the mark by which its own sheets are known
 
@@ -31,25 +35,20 @@ class Making:
         self.annotations: dict[object, Any] = {}  # of sheets, by the links on them and their places
         for source in self.sources:
             source.prepare(self.pdf)
+        self.whole = Whole(self.pdf)
 
     def make(self, sheets: list[Sheet], turned: int, flip: str) -> None:
         """Puts sheets in place of the pages, and leads everything to them."""
-        sheets = [in_units(sheet) for sheet in sheets]
         shown = {(source, k) for sheet in sheets for source, k, _ in self.placed(sheet)}
         for source in self.sources:
             source.find_unshown(shown)
         if any(sheet.numbers for sheet in sheets):
             self.font = Dictionary(Numbers=digits.font(self.pdf))
-        pages = [self.page(sheet, turned) for sheet in sheets]
-        taken: dict[bytes, int] = {}
-        for source in self.sources:
-            source.ways.lead_names(source.root, taken)
-        for source, k in self.row:
-            source.find_links(k)
-        for sheet, page in zip(sheets, pages):
-            if (links := self.links(sheet)) is not None:
-                page.Annots = links
-        self.layers()
+        kept = self.kept(sheets) if not turned else set[int]()
+        self.whole.is_tagged = len(self.sources) == 1 and len(kept) == len(self.sources[0].pages)
+        sheets = [sheet if k in kept else in_units(sheet) for k, sheet in enumerate(sheets)]
+        pages = [self.kept_page(sheet) if k in kept else self.page(sheet, turned) for k, sheet in enumerate(sheets)]
+        self.lead([(sheet, page) for k, (sheet, page) in enumerate(zip(sheets, pages)) if k not in kept])
         tree = self.pdf.make_indirect(Dictionary(Type=Name.Pages, Kids=Array(pages), Count=len(pages)))
         for page in pages:
             page.Parent = tree
@@ -64,12 +63,43 @@ class Making:
                 "/Names": self.names(),
                 "/Dests": self.sources[0].ways.led_names() or None,
                 "/OpenAction": self.opening(),
+                "/AcroForm": self.whole.form.entry(),
             }
         )
-        lost = claims.settle(self.pdf, pages, len(self.sources) == 1, False)
+        if self.whole.is_tagged:
+            del self.sources[0].losses.found[TAGS]
+        lost = claims.settle(self.pdf, pages, len(self.sources) == 1, self.whole.is_tagged)
         self.sources[0].losses.add_claims(lost)
         for source in self.sources:
             source.keep_warnings()
+
+    def kept(self, sheets: list[Sheet]) -> set[int]:
+        """The sheets that are pages themselves, each of which is on no other sheet, and shares no annotations."""
+        places = [list(self.placed(sheet)) for sheet in sheets]
+        uses = Counter(thing for place in places for source, k, _ in place for thing in source.held_by(k))
+        found = set()
+        for at, (sheet, place) in enumerate(zip(sheets, places)):
+            for source, k, _ in place[: len(place) == 1]:
+                if is_page(sheet, source, k) and all(uses[thing] == 1 for thing in source.held_by(k)):
+                    found.add(at)
+        return found
+
+    def kept_page(self, sheet: Sheet) -> Any:
+        """The page that is a sheet."""
+        return self.whole.page(sheet, *self.row[sheet.placed[0].page])
+
+    def lead(self, sheets: list[tuple[Sheet, Any]]) -> None:
+        """Leads what leads to pages, and the links on sheets, each of which is a page, and on pages that are kept."""
+        taken: dict[bytes, int] = {}
+        for source in self.sources:
+            source.ways.lead_names(source.root, taken)
+        for source, k in self.row:
+            source.find_links(k)
+        for sheet, page in sheets:
+            if (links := self.links(sheet)) is not None:
+                page.Annots = links
+        self.whole.lead()
+        self.layers()
 
     def placed(self, sheet: Sheet) -> Iterator[tuple[Source, int, Placed]]:
         """The pages on a sheet: the INFILE and the number there of each, and how it is placed."""
@@ -129,12 +159,13 @@ class Making:
 
     def enter(self, entries: dict[str, Any]) -> None:
         """Gives the catalog its new entries, and takes away what isn't kept, the old pages too."""
-        drop(self.pdf.Root, set(keys_of(self.pdf.Root)) - KEPT)
+        drop(self.pdf.Root, set(keys_of(self.pdf.Root)) - KEPT - (OF_TAGS if self.whole.is_tagged else set()))
         for key, value in entries.items():
             if value is not None:
                 self.pdf.Root[key] = value
         for page, _ in self.sources[0].pages:  # whatever else refers to one keeps nothing of it in the file
-            drop(page, set(keys_of(page)))
+            if not self.whole.has(page):
+                drop(page, set(keys_of(page)))
         if not isinstance(self.pdf.trailer.get("/Info", Dictionary()), Dictionary):
             del self.pdf.trailer.Info
         self.pdf.docinfo.Producer = String(PRODUCER)
