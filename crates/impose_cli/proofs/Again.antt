@@ -14,7 +14,7 @@ use Rattle.rules.specs.Dress.{Dress}
 use Rattle.dressing.specs.Numbered.{drawn_on}
 use Rattle.dressing.proofs.Tame.{drawn_is_tame}
 use Rattle.row_runs.specs.Runs.{border_on, drawn_of, output_on}
-use Rattle.impose_cli.specs.RowTasks.{FinishesRow, text_for}
+use Rattle.impose_cli.specs.RowTasks.{FinishesRow}
 use Rattle.impose_cli.specs.Laws.{IsMadeDocument, WroteDocument}
 use Rattle.impose_words.specs.declared.request.ImposeRequest.{ImposeRequest}
 use Rattle.impose_messages.specs.declared.finished.Finished.{Finished}
@@ -40,7 +40,7 @@ row_again : (r : ImposeRequest) (input old text : List ℕ) (done : Finished) (h
     → length (output_on h.job h.imposes.made) ≤ most_input_bytes → 0 < length h.imposes.made
     → IsMadeDocument (border_on h.job) (dress_on h) h.imposes.made h.job.document.now (output_on h.job h.imposes.made)
 row_again r input old text done h l some =
-    let taken = text_for r h.job.papers.now done.findings.page_paper input in
+    let taken = h.task.text.items in
     let made = h.imposes.made in
     let us = h.job.document.now in
     let i = made_is_document (border_on h.job) (dress_on h) made taken us (drawn_is_tame (drawn_of h.job) (reporting made) (reporting_is_tame made)) h.is_job.document some (few_sheets _ made h.imposes.planned.planned) l in

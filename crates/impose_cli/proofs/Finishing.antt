@@ -60,6 +60,7 @@ use Rattle.impose_words.specs.declared.request.Layout.{Layout}
 use Rattle.impose_words.specs.declared.request.Layout.TheVariants as layout
 use Rattle.impose_words.specs.declared.request.Product.{Product}
 use Rattle.impose_words.specs.declared.request.Product.TheVariants as product
+use Rattle.impose_cli.proofs.Rows.{is_row_job}
 use Rattle.impose_cli.specs.Endings.{Edge}
 use Rattle.impose_cli.specs.Finished.{HasFinished, HasMade, IsTextOf, Lays, cells_of, chosen_by, counted_of, page_numbers, pages_named, paper_for_cells, paper_of_all, paper_of_first, row_of, sheets_of, sheets_paper, taken_of}
 use Rattle.impose_cli.specs.Fronts.{Inputs, SameFiles}
@@ -191,15 +192,17 @@ row_found : (r : ImposeRequest) (input : List ℕ) (old new : Option (List ℕ))
     → (text : List ℕ) × RowFound r input text × Appends old new text
 row_found r input old new done h =
     let j = h.job in
-    let us = h.papers.0 in
-    let read = h.papers.1 in
-    let papers = h.papers.2 in
+    let found = h.is_task.findings in
+    let is = is_row_job r input h.task j h.is_task h.is_job in
+    let us = h.is_task.papers.0 in
+    let read = h.is_task.papers.1 in
+    let papers : j.papers.now ≡ papers_in r input us = h.is_job.papers ∙ h.is_task.papers.2 in
     let asked = h.imposes.planned.are.asked in
     let row = asked.row in
     let l = j.asked.laying in
-    let paper : done.findings.page_paper ≡ (row_paper r input us).0 =
-    ap (λ p. p.0) h.findings.page_paper ∙ ap (λ u. (row_paper r input u).0) (same_ok _ us (sym h.findings.document ∙ read)) in
-    let turns : j.turns.now ≡ turns_in r input us = h.is_job.turns.2 ∙ ap (turns_in r input) (same_ok _ us (sym h.is_job.turns.1 ∙ read)) in
+    let paper : h.task.findings.page_paper ≡ (row_paper r input us).0 =
+    ap (λ p. p.0) found.page_paper ∙ ap (λ u. (row_paper r input u).0) (same_ok _ us (sym found.document ∙ read)) in
+    let turns : j.turns.now ≡ turns_in r input us = is.turns.2 ∙ ap (turns_in r input) (same_ok _ us (sym is.turns.1 ∙ read)) in
     let printed = printed_row (row_asked r) row in
     let ps = papers_in r input us in
     let made_is = h.imposes.planned.are.turned ∙ ap (turned_on j) asked.are_laid in (
@@ -208,11 +211,11 @@ row_found r input old new done h =
         units = us;
         document = read;
         taken = j.document.now;
-        guarded = ap₂ (λ (o : List Paper) (p : Paper). document_of (text_for r o p input)) (sym papers) (sym paper) ∙ h.is_job.document;
+        guarded = ap₂ (λ (o : List Paper) (p : Paper). document_of (text_for r o p input)) (sym papers) (sym paper) ∙ is.document;
         row = row;
         chosen = sym (ap (row_read (length (pages j.document.now))) h.is_job.row) ∙ asked.is_chosen;
         laying = l;
-        lays = subst (λ p. LaysBy r p l) paper h.is_job.laying;
+        lays = subst (λ p. LaysBy r p l) paper is.laying;
         written = job_output j row h.imposes.made asked.is_chosen made_is
             ∙ each_same (λ swap blank below strokes a border numbers even own by. out_by swap blank below strokes a border numbers even own by row j.document.now)
             _ _ _ _ _ _ _ _ _ _ _ _ _ _ _ _ _ _ _ _

@@ -89,17 +89,13 @@ uncreated name text what reports_outputs f outcome world rest written told none 
 pub printed : {V O : Type 0} (r : ImposeRequest) (input : List ℕ) (reports_outputs : Edge V O) (text : List ℕ) (outcome : Result Done ImposeFault)
     (world : V) (rest : Rest V O) (written : Option (List ℕ)) → IsSpecText r input text
     → Writes None text done.Printed reports_outputs outcome world rest written → Prints r input reports_outputs outcome world rest written
-printed r input reports_outputs text (Ok what) world rest written told h =
-    subst (λ d. Prints r input reports_outputs (Ok d) world rest written) (sym h.0) (text, told, h.1, h.2)
-printed r input reports_outputs text (Err f) world rest written told h = inr (text, told, h)
+printed r input reports_outputs text outcome world rest written told h = inr (text, told, h)
 
 -- the plan or the picture was written to the output of that name
 pub shown_whole : {V O : Type 0} (l : Overview) (name : Option (List ℕ)) (r : ImposeRequest) (input : List ℕ) (reports_outputs : Edge V O) (text : List ℕ)
     (outcome : Result Done ImposeFault) (world : V) (rest : Rest V O) (written : Option (List ℕ)) → IsRowText r input l text
     → Writes name text done.Shown reports_outputs outcome world rest written → ShowsSheets l name r input reports_outputs outcome world rest written
-shown_whole l name r input reports_outputs text (Ok what) world rest written told h =
-    subst (λ d. ShowsSheets l name r input reports_outputs (Ok d) world rest written) (sym h.0) (text, told, h.1, h.2)
-shown_whole l name r input reports_outputs text (Err f) world rest written told h = inr (text, told, h)
+shown_whole l name r input reports_outputs text outcome world rest written told h = inr (text, told, h)
 
 -- ---- an output that exists
 
@@ -137,15 +133,15 @@ run_created r input reports_outputs f world rest written h = elim h [
 made_created : {V O : Type 0} (p : Product) (r : ImposeRequest) (input : List ℕ) (reports_outputs : Edge V O) (f : ImposeFault) (world : V) (rest : Rest V O) (written : Option (List ℕ)) → MakesProduct p r input reports_outputs (Err f) world rest written → IsCreatedFor (Err f) rest
 made_created product.Sheets r input reports_outputs f world rest written h = run_created r input reports_outputs f world rest written h
 made_created product.Specification r input reports_outputs f world rest written h = elim h [
-  | inl stopped ↦ inl (ap has_output stopped.1)
+  | inl stopped ↦ inl (ap has_output stopped.3)
   | inr some ↦ text_created None some.0 reports_outputs f world rest written some.2
 ]
 made_created product.Plan r input reports_outputs f world rest written h = elim h [
-  | inl stopped ↦ inl (ap has_output stopped.1)
+  | inl stopped ↦ inl (ap has_output stopped.3)
   | inr some ↦ text_created None some.0 reports_outputs f world rest written some.2
 ]
 made_created (product.Picture file) r input reports_outputs f world rest written h = elim h [
-  | inl stopped ↦ inl (ap has_output stopped.1)
+  | inl stopped ↦ inl (ap has_output stopped.3)
   | inr some ↦ text_created (option_map string_bytes file) some.0 reports_outputs f world rest written some.2
 ]
 

@@ -34,7 +34,7 @@ use Rattle.impose_messages.specs.declared.scales.Scales.{Scales}
 use Rattle.impose_cli.specs.Tasks.{HasPageCount, page_paper_found}
 use Rattle.impose_cli.specs.Refusals.{HasGoodName, RefusesDocument, RefusesFor, RefusesNamed, RefusesOptions, RefusesRowLayout, RefusesRowTask}
 use Rattle.impose_cli.specs.Reaches.{reach_in}
-use Rattle.impose_cli.specs.RowTasks.{ArePapersOf, FindsForRow, cut_in, papers_in, papers_to_place, row_paper, text_for, why_no_row, FinishesRow, ImposesTask, IsJobOf, IsRowJob, IsRowPaper, IsRowTask, HasTurns, IsLaidBy, IsLaidSo, IsLayingOf, LaysSo, TakesNamed, cells_paper, counted_among, counted_in, first_paper, guarded_in, has_cuts_apart, paper_turned, turns_in, laying_in, own_in, paper_for, row_papers, sheet_paper_in}
+use Rattle.impose_cli.specs.RowTasks.{ArePapersOf, FindsForRow, cut_in, papers_in, papers_to_place, row_paper, text_for, why_no_row, FinishesRow, ImposesTask, IsJobOf, IsRowPaper, IsRowTask, HasTurns, IsLaidBy, IsLaidSo, IsLayingOf, LaysBy, LaysSo, TakesNamed, cells_paper, counted_among, counted_in, first_paper, guarded_in, has_cuts_apart, paper_turned, turns_in, laying_in, own_in, paper_for, row_papers, sheet_paper_in}
 use Rattle.impose_cli.specs.Taken.{row_in, row_or_none, taken_below, taken_in}
 use Rattle.row_runs.specs.declared.sheet_request.Laying.{Laying}
 use Rattle.row_runs.specs.declared.sheet_request.Laying.TheVariants as laying
@@ -77,19 +77,17 @@ lays_by l s page sheet (row.Plain plain) (laying.AsTheyAre blank) is so = is ∙
 lays_by l s page sheet (row.Plain plain) (laying.InCells t way) is so = is ∙ ap Some (sym so)
 lays_by l s page sheet (row.Plain plain) (laying.Poster p) is so = is ∙ ap Some (sym so)
 
+-- the job is what the request asks for with this document, laid out for pages of this paper
+pub record IsRowJob (r : ImposeRequest) (input : List ℕ) (page_paper : Paper) (job : RowJob) : Type 0 where
+  pub document : document_of (text_for r job.papers.now page_paper input) ≡ Ok job.document.now
+  pub turns : HasTurns r input job.turns.now
+  pub laying : LaysBy r page_paper job.asked.laying
+
 pub is_row_job : (r : ImposeRequest) (input : List ℕ) (t : RowTask) (job : RowJob) → IsRowTask r input t → IsJobOf r t job → IsRowJob r input t.findings.page_paper job
 is_row_job r input t job is of = record {
   document = ap (λ ps. document_of (text_for r ps t.findings.page_paper input)) of.papers ∙ ap document_of (sym is.text) ∙ of.document;
   turns = subst (HasTurns r input) (sym of.turns) is.turns;
-  row = of.row;
   laying = lays_by r.layout r.spacing _ _ t.laying job.asked.laying is.laying of.laying;
-  possible = is.possible;
-  options = is.options;
-  same_scale = of.same_scale;
-  border = of.border;
-  inset = of.inset;
-  marks = of.marks;
-  swapped = of.swapped;
 }
 
 -- an accepted document is the whole of its text
@@ -235,10 +233,11 @@ refused_found r input f h = elim h [
 pub finishes_row : (r : ImposeRequest) (input : List ℕ) (t : RowTask) (scales : Option Scales) (old new : Option (List ℕ)) (report : Report) → IsRowTask r input t → ImposesTask r t scales old new report
     → FinishesRow r input old new (record { report = report; scales = scales; findings = t.findings })
 finishes_row r input t scales old new report is h = record {
-  findings = is.findings;
+  task = t;
+  is_task = is;
+  findings = refl;
   job = h.0;
-  papers = subst (ArePapersOf r input) (sym h.1.papers) is.papers;
-  is_job = is_row_job r input t h.0 is h.1;
+  is_job = h.1;
   imposes = h.2;
 }
 

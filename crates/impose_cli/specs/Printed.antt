@@ -15,11 +15,11 @@ use Rattle.impose_words.specs.declared.request.ImposeRequest.{ImposeRequest}
 use Rattle.impose_messages.specs.Faults.{without_memory}
 use Rattle.impose_messages.specs.declared.fault.ImposeFault.{ImposeFault}
 use Rattle.impose_messages.specs.declared.fault.ImposeFault.TheVariants as fault
-use Rattle.impose_messages.specs.declared.finished.PaperOrigin.{PaperOrigin}
 use Rattle.impose_cli.specs.Refusals.{RefusesRowTask}
 use Rattle.impose_cli.specs.declared.laying.RowLaying.{RowLaying}
 use Rattle.impose_cli.specs.declared.laying.RowLaying.TheVariants as row
-use Rattle.impose_cli.specs.RowTasks.{ArePapersOf, IsRowPaper, TakesNamed, why_no_row}
+use Rattle.impose_cli.specs.declared.row_task.RowTask.{RowTask}
+use Rattle.impose_cli.specs.RowTasks.{IsRowTask, TakesNamed}
 use Rattle.impose_cli.specs.RowsAsked.{row_asked, signing_in}
 
 -- ---- words
@@ -75,13 +75,8 @@ IsPrintedFor r paper pages text = (spec : Spec) × (says_all r ≡ true) × Take
     × (text ≡ printed_text r (canonical spec) paper (option_map (λ how. sides_for (signing_of how) pages) (signing_in r.layout)))
 
 -- for this document, whose pages can be laid so
-pub record IsSpecText (r : ImposeRequest) (input : List ℕ) (text : List ℕ) : Type 0 where
-  pub page_paper : Paper × PaperOrigin
-  pub found : IsRowPaper r input page_paper
-  pub papers : List Paper
-  pub are_papers : ArePapersOf r input papers
-  pub possible : why_no_row r page_paper.0 ≡ None
-  pub printed : IsPrintedFor r page_paper.0 (length papers) text
+abbrev pub IsSpecText : ImposeRequest → (input text : List ℕ) → Type 0
+IsSpecText r input text = (t : RowTask) × IsRowTask r input t × IsPrintedFor r t.findings.page_paper (length t.papers.items) text
 
 -- why nothing is: there is no task; or memory ran out, or no specification says what is asked for
 abbrev pub RefusesPrinting : ImposeRequest → (input : List ℕ) → ImposeFault → Type 0

@@ -19,7 +19,6 @@ use Rattle.impose_cli.specs.Printed.{IsSpecText, RefusesPrinting}
 use Rattle.impose_messages.specs.Statuses.{fault_status}
 use Rattle.impose_cli.specs.Precheck.{MayBeRead, RefusesRequest}
 use Rattle.impose_words.specs.Faults.{RefusesCommand}
-use Rattle.impose_words.specs.Words.{Entered, ReadsRequest}
 use Rattle.impose_messages.specs.declared.fault.ImposeFault.{ImposeFault}
 use Rattle.impose_messages.specs.declared.fault.ImposeFault.TheVariants as fault
 use Rattle.impose_messages.specs.declared.finished.Done.{Done}
@@ -99,30 +98,24 @@ Writes name text what edge (Ok said) world rest written =
     (said ≡ what) × Appends (reported_if edge.reports_outputs name []) written text × IsUnfailed edge rest
 Writes name text what edge (Err f) world rest written = FailsToWrite name text edge f world rest written
 
--- What comes of a request to print the specification for this input: standard output has what is printed for it; or nothing is,
--- and the world is back; or there is such a text, and a write failed.
+-- What comes of a request to report something: it is refused, and the world is back; or there is such a text, and this comes of it.
+abbrev pub Reports : {W O : Type 0} → (Refuses : ImposeFault → Type 0) → (IsText : List ℕ → Type 0) → (name : Option (List ℕ)) → Done → (edge : Edge W O)
+    → Result Done ImposeFault → (world : W) → (rest : Rest W O) → (written : Option (List ℕ)) → Type 0
+Reports Refuses IsText name what edge outcome world rest written =
+    ((f : ImposeFault) × (outcome ≡ Err f) × Refuses f × (rest ≡ World world))
+    ⊎ ((text : List ℕ) × IsText text × Writes name text what edge outcome world rest written)
+
+-- the specification for this input is printed to standard output
 abbrev pub Prints : {W O : Type 0} → ImposeRequest → (input : List ℕ) → (edge : Edge W O) → Result Done ImposeFault
     → (world : W) → (rest : Rest W O) → (written : Option (List ℕ)) → Type 0
-Prints r input edge (Ok (done.Imposed finished)) world rest written = ⊥
-Prints r input edge (Ok done.Printed) world rest written =
-    (text : List ℕ) × IsSpecText r input text × Appends (reported_if edge.reports_outputs None []) written text × IsUnfailed edge rest
-Prints r input edge (Ok done.Shown) world rest written = ⊥
-Prints r input edge (Err f) world rest written =
-    (RefusesPrinting r input f × (rest ≡ World world))
-    ⊎ ((text : List ℕ) × IsSpecText r input text × FailsToWrite None text edge f world rest written)
+Prints r input edge outcome world rest written =
+    Reports (RefusesPrinting r input) (IsSpecText r input) None done.Printed edge outcome world rest written
 
--- What comes of a request to show the sheets for this input: the output of this name has exactly the text that reports on the
--- sheets that would be imposed; or the request is refused as its run would be, and the world is back; or there is such a
--- text, and a write failed.
+-- the sheets that would be imposed are shown in the output of this name; or they are refused as their run would be
 abbrev pub ShowsSheets : {W O : Type 0} → Overview → (name : Option (List ℕ)) → ImposeRequest → (input : List ℕ) → (edge : Edge W O) → Result Done ImposeFault
     → (world : W) → (rest : Rest W O) → (written : Option (List ℕ)) → Type 0
-ShowsSheets l name r input edge (Ok (done.Imposed finished)) world rest written = ⊥
-ShowsSheets l name r input edge (Ok done.Printed) world rest written = ⊥
-ShowsSheets l name r input edge (Ok done.Shown) world rest written =
-    (text : List ℕ) × IsRowText r input l text × Appends (reported_if edge.reports_outputs name []) written text × IsUnfailed edge rest
-ShowsSheets l name r input edge (Err f) world rest written =
-    (RefusesRowRun r input f × (rest ≡ World world))
-    ⊎ ((text : List ℕ) × IsRowText r input l text × FailsToWrite name text edge f world rest written)
+ShowsSheets l name r input edge outcome world rest written =
+    Reports (RefusesRowRun r input) (IsRowText r input l) name done.Shown edge outcome world rest written
 
 -- ---- all of it
 
@@ -187,15 +180,15 @@ pub record Surroundings (W O : Type 0) : Type 0 where
   pub terminal : Option Bool
   pub edge : Edge W O
 
--- How the program ends: the words are refused, and the world is back; or they make a request, with the paper at home; OUTFILE is looked at,
--- and this comes of it.
+-- How the program ends: the words are refused, and the world is back; or there is a request, with the paper at home; OUTFILE is looked at,
+-- and this comes of it. That the request is what the words ask for is said apart.
 abbrev pub EndsProgram : {W O : Type 0} → (words : List Text) → (variable : List ℕ) → Surroundings W O → Option ImposeRequest
     → Result Done ImposeFault → (world : W) → (rest : Rest W O) → Type 0
 EndsProgram words variable around None (Ok what) world rest = ⊥
 EndsProgram words variable around None (Err (fault.Command f)) world rest = RefusesCommand words f × (rest ≡ World world)
 EndsProgram words variable around None (Err other) world rest = ⊥
 EndsProgram {W} words variable around (Some r) outcome world rest =
-    Entered words (λ name found. ReadsRequest name found r) × (looked : W)
+    (looked : W)
     × FindsHome variable around.gives (around.regular world) (around.edge.seen world) (around.edge.seen looked) r.default_paper
     × (found : W) × (foreign : Bool)
     × FindsForeign r around.gives (around.regular looked) around.same (around.edge.seen looked) (around.edge.seen found) foreign

@@ -340,26 +340,12 @@ pub record IsJobOf (r : ImposeRequest) (t : RowTask) (job : RowJob) : Type 0 whe
 abbrev pub ImposesTask : ImposeRequest → RowTask → Option Scales → (old new : Option (List ℕ)) → Report → Type 0
 ImposesTask r t scales old new report = (job : RowJob) × IsJobOf r t job × Imposes job scales old new report
 
--- the job is what the request asks for with this document, laid out for pages of this paper; and for none of its lengths,
--- its cells, these papers and its options it had to be refused
-pub record IsRowJob (r : ImposeRequest) (input : List ℕ) (page_paper : Paper) (job : RowJob) : Type 0 where
-  pub document : document_of (text_for r job.papers.now page_paper input) ≡ Ok job.document.now
-  pub turns : HasTurns r input job.turns.now
-  pub row : asked_by job.asked.row ≡ row_asked r
-  pub laying : LaysBy r page_paper job.asked.laying
-  pub possible : why_no_row r page_paper ≡ None
-  pub options : HasOptions r
-  pub same_scale : job.asked.same_scale ≡ r.spacing.same_scale
-  pub border : job.border ≡ r.border
-  pub inset : job.inset ≡ r.spacing.free.trim
-  pub marks : job.marks ≡ r.marks
-  pub swapped : job.swapped ≡ swaps_margins r.layout r.spacing
-
 -- The request was carried out for this document: exactly the output was appended of the sheets on which its layout lays
 -- its row, with the lines by which they report their papers and the marks that it asks for.
 pub record FinishesRow (r : ImposeRequest) (input : List ℕ) (old new : Option (List ℕ)) (done : Finished) : Type 0 where
-  pub findings : FindsForRow r input done.findings
+  pub task : RowTask
+  pub is_task : IsRowTask r input task
+  pub findings : done.findings ≡ task.findings
   pub job : RowJob
-  pub papers : ArePapersOf r input job.papers.now
-  pub is_job : IsRowJob r input done.findings.page_paper job
+  pub is_job : IsJobOf r task job
   pub imposes : Imposes job done.scales old new done.report

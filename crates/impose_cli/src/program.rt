@@ -72,9 +72,9 @@ pub fn impose<R: Threads + Wait + Sync, W: World>(
       terminal = W.terminal world;
       edge = edge_of_world (W.reports_outputs world) W.seen W.Output.seen;
     }) result.request result.outcome world result.rest }
-    // The request is what the words ask for. This and `finished` are parts of `ended` that need fewer definitions.
+    // The request of `ended` is what the words ask for.
     ensures asked { IfSome result.request (λ r. Entered (map string_bytes words.now) (λ name found. ReadsRequest name found r)) }
-    // If the program succeeds and sheets were asked for, exactly their text was written.
+    // If the program succeeds and sheets were asked for, exactly their text was written. This is a part of `ended` that needs fewer definitions.
     ensures finished { HasFinished result.request result.outcome (W.gives world) (W.reports_outputs world) (shown W.Output.seen result.rest) }
     // If the request is refused, no output has been created, and the world is given back. If an output has been created, the request
     // was carried out, or a write failed, or memory ran out.

@@ -1,4 +1,4 @@
-use Rattle.impose_cli.proofs.Rows.{papers_count, row_paper_of}
+use Rattle.impose_cli.proofs.Rows.{papers_count}
 use Rattle.impose_cli.proofs.printed.spec_text.Goals as goal
 
 pub printed_task-requires-clause-some : goal.printed_task-requires-clause-some
@@ -11,14 +11,4 @@ pub printed_task-requires-clause-laying : goal.printed_task-requires-clause-layi
 printed_task-requires-clause-laying c = c.in_ok-task.ensures.is_task.laying
 
 pub returns-clause-text : goal.returns-clause-text
-returns-clause-text c =
-    let t = c.in_ok-task.task in
-    let is = c.in_ok-task.ensures.is_task in
-    record {
-      page_paper = (t.findings.page_paper, t.findings.origin);
-      found = row_paper_of c.args.request.now c.args.input.items t.findings is.findings;
-      papers = t.papers.items;
-      are_papers = is.papers;
-      possible = is.possible;
-      printed = c.in_ok-text.ensures.printed;
-    }
+returns-clause-text c = (c.in_ok-task.task, c.in_ok-task.ensures.is_task, c.in_ok-text.ensures.printed)

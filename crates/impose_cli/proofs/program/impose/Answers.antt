@@ -16,10 +16,8 @@ returns-in-Ok g c =
     let carried = at_home g.W.World.seen c.at_home-request.result (g.W.World.gives c.args.world) _ (g.W.World.same c.args.world) _ (g.W.World.terminal c.args.world) _ foreign edge _ attempt.outcome found attempt.rest
     (shown g.W.Output.Output.seen attempt.rest) (c.finds_foreign-is_foreign.ensures.again ∙ c.home_of.ensures.again) (c.finds_foreign-is_foreign.ensures.same ∙ c.home_of.ensures.same)
     (c.finds_foreign-is_foreign.ensures.terminal ∙ c.home_of.ensures.terminal)
-    (ap (λ t. edge_of_world t g.W.World.seen g.W.Output.Output.seen) (c.finds_foreign-is_foreign.ensures.reports_outputs ∙ c.home_of.ensures.reports_outputs)) c.carry_out-attempt.ensures in
-    let asked = entered_at_home (map string_bytes c.args.words.now) c.in-Ok.read c.at_home-request.result c.home_of.result c.at_home-request.ensures c.in-Ok.ensures.read in record {
+    (ap (λ t. edge_of_world t g.W.World.seen g.W.Output.Output.seen) (c.finds_foreign-is_foreign.ensures.reports_outputs ∙ c.home_of.ensures.reports_outputs)) c.carry_out-attempt.ensures in record {
       ended = (
-        asked,
         c.home_of.new.world,
         subst (λ p. FindsHome c.args.paper_size.now (g.W.World.gives c.args.world) (g.W.World.regular c.args.world) (g.W.World.seen c.args.world) (g.W.World.seen c.home_of.new.world) p)
             (sym (ap (λ r. r.default_paper) c.at_home-request.ensures)) c.home_of.ensures.home,
@@ -29,7 +27,7 @@ returns-in-Ok g c =
             c.finds_foreign-is_foreign.ensures.found,
         carried,
       );
-      asked = asked;
+      asked = entered_at_home (map string_bytes c.args.words.now) c.in-Ok.read c.at_home-request.result c.home_of.result c.at_home-request.ensures c.in-Ok.ensures.read;
       finished = has_finished g.W.World.seen c.at_home-request.result (g.W.World.gives c.args.world) (g.W.World.same c.args.world) (g.W.World.terminal c.args.world) foreign edge attempt.outcome found attempt.rest
           (shown g.W.Output.Output.seen attempt.rest) carried;
       created = created_for g.W.World.seen c.at_home-request.result (g.W.World.gives c.args.world) (g.W.World.same c.args.world) (g.W.World.terminal c.args.world) foreign edge attempt.outcome found attempt.rest

@@ -1,6 +1,5 @@
-use Rattle.std.proofs.Common.{inl, subst, sym}
+use Rattle.std.proofs.Common.{inl}
 use Rattle.impose_cli.specs.Endings.{edge_of_world, shown}
-use Rattle.impose_cli.specs.Programs.{Prints}
 use Rattle.impose_cli.proofs.Programs.{printed}
 use Rattle.impose_cli.proofs.program.print_input.Goals as goal
 
@@ -11,7 +10,4 @@ returns-in-Ok g c =
     c.in-Ok.ensures.text (rw c.as_slice.ensures.value at c.create_with_text.ensures)
 
 pub returns-in-Err : goal.returns-in-Err
-returns-in-Err g c =
-    subst (λ o. Prints c.args.request.now c.args.input.items (edge_of_world (g.W.World.reports_outputs c.args.world) g.W.World.seen g.W.Output.Output.seen) o
-    c.args.world c.refused_before.result.rest (shown g.W.Output.Output.seen c.refused_before.result.rest)) (sym c.refused_before.ensures.outcome)
-    (inl (c.in-Err.ensures.refused, c.refused_before.ensures.rest))
+returns-in-Err g c = inl (_, c.refused_before.ensures.outcome, c.in-Err.ensures.refused, c.refused_before.ensures.rest)

@@ -1,6 +1,5 @@
-use Rattle.std.proofs.Common.{inl, option_map, subst, sym}
+use Rattle.std.proofs.Common.{inl, option_map}
 use Rattle.impose_cli.specs.Endings.{edge_of_world, shown}
-use Rattle.impose_cli.specs.Programs.{ShowsSheets}
 use Rattle.impose_cli.proofs.Programs.{shown_whole}
 use Rattle.impose_cli.proofs.program.show_input.Goals as goal
 
@@ -11,7 +10,4 @@ returns-in-Ok g c =
     (shown g.W.Output.Output.seen c.create_with_text.result.rest) c.in-Ok.ensures.text (rw c.as_slice.ensures.value at c.create_with_text.ensures)
 
 pub returns-in-Err : goal.returns-in-Err
-returns-in-Err g c =
-    subst (λ o. ShowsSheets c.args.look (option_map (λ n. n.now) c.args.name) c.args.request.now c.args.input.items (edge_of_world (g.W.World.reports_outputs c.args.world) g.W.World.seen g.W.Output.Output.seen) o
-    c.args.world c.refused_before.result.rest (shown g.W.Output.Output.seen c.refused_before.result.rest)) (sym c.refused_before.ensures.outcome)
-    (inl (c.in-Err.ensures.refused, c.refused_before.ensures.rest))
+returns-in-Err g c = inl (_, c.refused_before.ensures.outcome, c.in-Err.ensures.refused, c.refused_before.ensures.rest)
