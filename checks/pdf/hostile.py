@@ -81,3 +81,40 @@ def narrower(pdf: Pdf, count: int) -> None:
     """Each page is narrower than the one before; so many times a tenth of a point."""
     for k, page in enumerate(pdf.pages):
         page.obj.MediaBox = Array([0, 0, 595 - k * count / 10, 842])
+
+
+def linked_to(pdf: Pdf, link: dict[str, Any]) -> Any:
+    """A new link on the first page."""
+    return pdf.make_indirect(Dictionary(Type=Name.Annot, Subtype=Name.Link, Rect=Array([9, 9, 19, 19]), **link))
+
+
+@kind
+def links_to_one_place(pdf: Pdf, count: int) -> None:
+    """The first page has so many links to one destination, which has twenty times as many numbers."""
+    dest = pdf.make_indirect(Array([pdf.pages[0].obj, Name.XYZ, *range(20 * count)]))
+    pdf.pages[0].obj.Annots = Array([linked_to(pdf, {"Dest": dest}) for _ in range(count)])
+
+
+@kind
+def actions_after_links(pdf: Pdf, count: int) -> None:
+    """The first page has so many links, each with an action before the same array of as many others."""
+    action = Dictionary(S=Name.URI, URI=String("http://example.org/"))
+    after = pdf.make_indirect(Array([pdf.make_indirect(Dictionary(action)) for _ in range(count)]))
+    links = [linked_to(pdf, {"A": Dictionary({**action, "/Next": after})}) for _ in range(count)]
+    pdf.pages[0].obj.Annots = Array(links)
+
+
+@kind
+def long_link(pdf: Pdf, count: int) -> None:
+    """Each page has the same link, whose address has hundred times so many letters, in an array of its own."""
+    link = linked_to(pdf, {"A": Dictionary(S=Name.URI, URI=String("http://example.org/" + "a" * 100 * count))})
+    for page in pdf.pages:
+        page.obj.Annots = Array([link])
+
+
+@kind
+def group(pdf: Pdf, count: int) -> None:
+    """Each page has the same transparency group, in which twenty times so many numbers are."""
+    held = pdf.make_indirect(Dictionary(S=Name.Transparency, CS=Name.DeviceRGB, Spare=Array(range(20 * count))))
+    for page in pdf.pages:
+        page.obj.Group = held

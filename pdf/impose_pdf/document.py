@@ -6,7 +6,7 @@ from typing import Any
 from pikepdf import Array, Dictionary, Name, Pdf, PdfError
 
 from impose_pdf import notes
-from impose_pdf.annotations import Held, owner_of
+from impose_pdf.annotations import Held, Links, owner_of
 from impose_pdf.faults import of_source
 from impose_pdf.forms import Forms, pictures_of
 from impose_pdf.labels import Labels
@@ -72,6 +72,7 @@ class Source:
         pages = list({page.objgen: page for page, _ in self.pages if page.is_indirect}.values())
         self.root.Pages = self.pdf.make_indirect(Dictionary(Type=Name.Pages, Kids=Array(pages), Count=len(pages)))
         self.put: dict[int, Any] = {}
+        self.links = Links(self.ways)
         self.held: dict[object, Held] = {}
         self.on: dict[int, Held] = {}  # of pages that are on sheets
         form = self.root.get("/AcroForm")
@@ -109,7 +110,7 @@ class Source:
         if key in self.held:
             self.held[key].is_shared = True
         else:
-            self.held[key] = Held(self.ways, *notes.split(page))
+            self.held[key] = Held(self.links, *notes.split(page))
         self.on[k] = self.held[key]
         return self.held[key]
 

@@ -82,12 +82,12 @@ class Forms:
         self.pdf, self.name = pdf, name
         self.unshown: set[tuple[int, int]] = set()  # objects that hold forms and images of pages that aren't shown
         self.made: dict[tuple[object, ...], Any] = {}
+        self.groups: dict[tuple[int, int], Any] = {}
 
     def of(self, number: int, page: Any, resources: Any, shape: Shape, over: Any) -> Any:
         """The form of a page, by its number, with another over it. Pages that show the same share one."""
-        streams, group = streams_of(page), page.get("/Group")
+        streams, group = streams_of(page), self.group(page)
         resources = resources if isinstance(resources, Dictionary) else Dictionary()
-        group = isolated(group) if isinstance(group, Dictionary) else None
         parts = tuple(stream.objgen for stream in streams), None if over is None else over.objgen
         key = (*parts, resources.unparse(), group and group.unparse(), shape.box, shape.matrix)
         if key not in self.made:
@@ -101,6 +101,16 @@ class Forms:
                 form.Group = group
             self.made[key] = form
         return self.made[key]
+
+    def group(self, page: Any) -> Any:
+        """The group of a page, isolated, or None. Pages may share it."""
+        found = page.get("/Group")
+        if not isinstance(found, Dictionary):
+            return None
+        key = found.objgen
+        if key not in self.groups or not found.is_indirect:
+            self.groups[key] = self.pdf.make_indirect(isolated(found)) if found.is_indirect else isolated(found)
+        return self.groups[key]
 
     def leave_out(self, forms: list[Any]) -> None:
         """Takes from the resources of forms, and of those that they draw, what only pages draw that aren't shown."""

@@ -1,9 +1,8 @@
 """What leads somewhere: destinations, names, actions and links of a PDF, made anew so that they lead to sheets."""
 
 import re
-from collections.abc import Iterator
+from collections.abc import Callable, Iterator
 from copy import copy
-from dataclasses import dataclass
 from typing import Any
 
 from pikepdf import Array, Dictionary, Name, Object, Pdf, String
@@ -12,14 +11,13 @@ from impose_pdf.pages import (
     FARTHEST,
     Box,
     Shape,
-    array,
+    are_new,
     bounds,
     drop,
     keys_of,
     moved,
     name_of,
     nearest,
-    numbers,
     numerals,
     then,
 )
@@ -28,8 +26,7 @@ from impose_pdf.trees import free, named
 
 # Actions that are kept as they are. Others are scripts, or lead to notes and threads, which aren't there any more.
 KEPT_ACTIONS = {"/URI", "/GoToR", "/GoToE", "/Launch", "/Named", "/SetOCGState"}
-LOST = {"/P", "/Parent", "/Popup", "/StructParent", "/AA", "/AP", "/AS", "/Dest", "/A", "/QuadPoints"}
-DEEPEST = 100  # of actions after actions
+MOST_ACTIONS = 100  # of a link or an outline item
 NEAR = 0.02  # points, which a sheet shows of a page at least where something leads to it
 TARGET = re.compile(rb"\[ ([0-9]+) (?:([0-9]+) R )?(.*)\]", re.DOTALL)  # a page by its number, or as an object
 POINTS = {b"/XYZ": (0, 1), b"/FitV": (0, None), b"/FitBV": (0, None), b"/FitH": (None, 0), b"/FitBH": (None, 0)}
@@ -38,23 +35,26 @@ KINDS = {*POINTS, b"/Fit", b"/FitB", b"/FitR"}
 EVERYWHERE: Box = (-FARTHEST, -FARTHEST, FARTHEST, FARTHEST)
 
 
-@dataclass
-class Link:
-    """A link of a page, and where it leads by which entry."""
-
-    old: Any
-    box: Box
-    corners: list[float]
-    entry: str
-    way: Any
-
-
 def number(word: bytes) -> float | None:
     """A number of a destination; null, which leaves that of the screen, is none."""
     try:
         return float(word)
     except ValueError:
         return None
+
+
+def in_turn(action: Any) -> Iterator[Any]:
+    """An action and those after it, each once, in the order in which they are done, up to a limit."""
+    seen, left = set[tuple[int, int]](), [iter([action])]
+    for _ in range(MOST_ACTIONS):
+        while (each := next(left[-1], left)) is left:
+            left.pop()
+            if not left:
+                return
+        if isinstance(each, Dictionary) and are_new(seen, each):
+            yield each
+            after = each.get("/Next")
+            left.append(map(after.__getitem__, range(len(after))) if isinstance(after, Array) else iter([after]))
 
 
 class Ways:
@@ -68,8 +68,7 @@ class Ways:
         self.renamed: dict[bytes, bytes] = {}  # names that lead to a sheet, and what they are called there
         self.dests: dict[bytes, Any] = {}  # where they lead, by their new names
         self.old_style: Any = Dictionary()  # names that are no strings, and where they led
-        self.changed: set[tuple[int, int]] = set()  # links that are used themselves, at their first place
-        self.shared = 0  # how many were placed of annotations that pages share
+        self.known: dict[tuple[str, bytes], Any] = {}  # what several may have, by how it was led
 
     def brought(self, thing: Any) -> Any:
         """A dictionary, stream or array of the PDF in the one that is made."""
@@ -77,8 +76,23 @@ class Ways:
             return thing
         return self.made.copy_foreign(thing if thing.is_indirect else self.source.make_indirect(thing))
 
+    def once(self, lead: Callable[[Any], Any], thing: Any) -> Any:
+        """What a thing is led to, made once if several may have it: an object, or a name."""
+        if not isinstance(thing, Object) or not (thing.is_indirect or isinstance(thing, Name)):
+            return lead(thing)
+        key = lead.__name__, thing.unparse()
+        if key not in self.known:
+            self.known[key] = lead(thing)
+        elif (way := self.known[key]) is not None and not way.is_indirect:
+            self.known[key] = self.made.make_indirect(way)
+        return self.known[key]
+
     def lead(self, dest: Any) -> Any:
         """Where a destination leads now, or None if its page isn't on a sheet."""
+        return self.once(self.lead_alone, dest)
+
+    def lead_alone(self, dest: Any) -> Any:
+        """The same of one that wasn't led before."""
         if isinstance(dest, Array):
             if not (match := TARGET.match(dest.unparse(True))):
                 return None
@@ -90,7 +104,7 @@ class Ways:
         if isinstance(dest, String):
             new = self.renamed.get(bytes(dest))
             return None if new is None else String(new)
-        return self.lead_value(self.old_style.get(dest)) if isinstance(dest, Name) else None
+        return self.once(self.lead_value, self.old_style.get(dest)) if isinstance(dest, Name) else None
 
     def led(self, page: int, words: list[bytes]) -> Any:
         """The destination on the first sheet with the point of an old one, by the words after the page in that."""
@@ -136,7 +150,7 @@ class Ways:
         """Leads all names, which get other ones where they are taken."""
         if isinstance(names := root.get("/Names"), Dictionary):
             for name, dest in named(names.get("/Dests")):
-                new = self.lead_value(dest)
+                new = self.once(self.lead_value, dest)
                 if new is not None and bytes(name) not in self.renamed:
                     self.renamed[bytes(name)] = chosen = free(bytes(name), taken)
                     self.dests[chosen] = new
@@ -145,7 +159,7 @@ class Ways:
 
     def led_names(self) -> Any:
         """Where names that are no strings lead."""
-        led = ((key, self.lead_value(self.old_style.get(key))) for key in keys_of(self.old_style))
+        led = ((key, self.once(self.lead_value, self.old_style.get(key))) for key in keys_of(self.old_style))
         return Dictionary({key: new for key, new in led if new is not None})
 
     def lead_value(self, dest: Any) -> Any:
@@ -153,22 +167,16 @@ class Ways:
         dest = dest.get("/D") if isinstance(dest, Dictionary) else dest
         return self.lead(dest) if isinstance(dest, Array) else None
 
-    def lead_action(self, action: Any, depth: int = 0, done: set[tuple[int, int]] | None = None) -> Any:
-        """An action and those after it, as far as they are new, and lead to sheets or out of the PDF; or None."""
-        done = set() if done is None else done
-        if not isinstance(action, Dictionary) or depth == DEEPEST or action.objgen in done:
-            return None
-        if action.is_indirect:
-            done.add(action.objgen)
-        after = action.get("/Next")
-        all_after = list(after) if isinstance(after, Array) else [after]
-        led = [self.lead_alone(action), *(self.lead_action(each, depth + 1, done) for each in all_after)]
-        first, *others = [each for each in led if each is not None] or [None]
-        if others:  # they come after those that are after the first
-            first.Next = Array([*first.get("/Next", ()), *others])
+    def lead_action(self, action: Any) -> Any:
+        """An action and those after it, as far as they lead to sheets or out of the PDF; or None."""
+        led = [way for each in in_turn(action) if (way := self.once(self.lead_step, each)) is not None]
+        if len(led) < 2:
+            return led[0] if led else None
+        first = copy(led[0])
+        first.Next = Array(led[1:])
         return first
 
-    def lead_alone(self, action: Any) -> Any:
+    def lead_step(self, action: Any) -> Any:
         """An action without those after it, or None if it isn't kept."""
         kind = name_of(action.get("/S"))
         if kind == "/GoTo":
@@ -185,7 +193,7 @@ class Ways:
         if (dest := holder.get("/Dest")) is not None:
             entry, way = "/Dest", self.lead(dest)
         else:
-            entry, way = "/A", self.lead_action(holder.get("/A"))
+            entry, way = "/A", self.once(self.lead_action, holder.get("/A"))
         return None if way is None else (entry, way)
 
     def bare(self, thing: Any, lost: set[str]) -> Any:
@@ -193,28 +201,3 @@ class Ways:
         made = copy(thing)
         drop(made, lost)
         return self.made.make_indirect(made) if self.source is self.made else self.brought(made)
-
-    def link(self, annotation: Any, box: Box) -> Iterator[Link]:
-        """An annotation as a link, if it leads anywhere."""
-        if found := self.lead_holder(annotation):
-            corners = numbers(annotation.get("/QuadPoints"))
-            yield Link(annotation, box, corners if len(corners) % 8 == 0 else [], *found)
-
-    def placed(self, link: Link, matrix: Matrix, cut: Box) -> Any:
-        """A link at a place of its page, cut at a box. The first is the old one, which saves a third of the memory."""
-        made, has_look = link.old, "/AP" in link.old
-        if self.source is self.made and made.is_indirect and made.objgen not in self.changed:
-            self.changed.add(made.objgen)
-            drop(made, LOST)
-        else:
-            made = self.bare(made, LOST)
-        left, bottom, right, top = bounds(link.box, matrix)
-        made.Rect = array(*nearest(left, bottom, cut), *nearest(right, top, cut))
-        if link.corners:
-            points = zip(link.corners[::2], link.corners[1::2])
-            made.QuadPoints = array(*(value for point in points for value in nearest(*moved(*point, matrix), cut)))
-        if has_look:  # which is drawn, and stands for a border
-            drop(made, {"/BS"})
-            made.Border = array(0, 0, 0)
-        made[link.entry] = link.way
-        return made

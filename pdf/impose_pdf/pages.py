@@ -71,7 +71,7 @@ def numbers(values: Any) -> list[float]:
 
 def box_of(values: Any) -> Box | None:
     """A rectangle as left, bottom, right, top."""
-    found = numbers(values) if isinstance(values, Array) else []
+    found = numbers(values) if isinstance(values, Array) and len(values) == 4 else []
     if len(found) != 4 or not all(map(isfinite, found)):
         return None
     a, b, c, d = found
