@@ -2,6 +2,7 @@
 
 from __future__ import annotations
 
+import zlib
 from collections.abc import Callable
 from typing import Any
 
@@ -118,3 +119,24 @@ def group(pdf: Pdf, count: int) -> None:
     held = pdf.make_indirect(Dictionary(S=Name.Transparency, CS=Name.DeviceRGB, Spare=Array(range(20 * count))))
     for page in pdf.pages:
         page.obj.Group = held
+
+
+@kind
+def blanks(pdf: Pdf, count: int) -> None:
+    """The contents of the first page name one stream of so many million blanks three times."""
+    held = pdf.make_stream(zlib.compress(b" " * 1_000_000 * count), Filter=Name.FlateDecode)
+    pdf.pages[0].obj.Contents = Array([held, pdf.pages[0].obj.Contents, held, held])
+
+
+@kind
+def long_contents(pdf: Pdf, count: int) -> None:
+    """The pages share resources with an image; the contents of the first have so many million commands more."""
+    image = pdf.make_stream(b"\0", Type=Name.XObject, Subtype=Name.Image, Width=1, Height=1)
+    image.BitsPerComponent, image.ColorSpace = 8, Name.DeviceGray
+    first = pdf.pages[0].obj
+    first.Resources.XObject = Dictionary(Image=image)
+    held = pdf.make_indirect(first.Resources)
+    for page in pdf.pages:
+        page.obj.Resources = held
+    data = first.Contents.read_bytes() + b"0 g " * 1_000_000 * count
+    first.Contents = pdf.make_stream(zlib.compress(data), Filter=Name.FlateDecode)

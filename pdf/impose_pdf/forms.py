@@ -1,25 +1,16 @@
 """The forms that pages become: a single stream of contents is the form itself, neither decoded nor copied."""
 
-import zlib
 from copy import copy
 from typing import Any
 
-from pikepdf import (
-    Array,
-    DataDecodingError,
-    Dictionary,
-    Name,
-    Pdf,
-    PdfError,
-    Stream,
-    StreamDecodeLevel,
-    parse_content_stream,
-)
+from pikepdf import Array, Dictionary, Name, Pdf, Stream, parse_content_stream
 
+from impose_pdf.contents import UNDECODABLE, Joining, is_longer
 from impose_pdf.pages import UPRIGHT, Box, Shape, array, bounds, box_of, keys_of, name_of, numbers, numerals, then
 from impose_pdf.plan import Matrix
 from impose_pdf.words import refusal
 
+MOST_PARSED = 8 << 20  # bytes of contents of which it is told what they draw
 Note = tuple[Any, Matrix, Any]  # a form, its place on the page, and the layer that it is in, or None
 
 
@@ -47,8 +38,10 @@ def pictures_of(resources: Any) -> set[tuple[int, int]]:
 def drawn_by(form: Any) -> dict[str, Any] | None:
     """The forms and images that a form draws, if these can be told."""
     try:
+        if is_longer(form, MOST_PARSED):
+            return None
         names = {name_of(name) for operands, _ in parse_content_stream(form, "Do") for name in operands}
-    except (PdfError, DataDecodingError):
+    except UNDECODABLE:
         return None
     drawn = {name: form.Resources.XObject[name] for name in names if name and name in form.Resources.XObject}
     are_all = "" not in names and all(isinstance(one, Stream) and is_whole(one) for one in drawn.values())
@@ -82,6 +75,7 @@ class Forms:
         self.pdf, self.name = pdf, name
         self.unshown: set[tuple[int, int]] = set()  # objects that hold forms and images of pages that aren't shown
         self.made: dict[tuple[object, ...], Any] = {}
+        self.joining = Joining()
         self.groups: dict[tuple[int, int], Any] = {}
 
     def of(self, number: int, page: Any, resources: Any, shape: Shape, over: Any) -> Any:
@@ -139,10 +133,10 @@ class Forms:
                     own[key] = stream[key]
             return own
         try:
-            data = b"\n".join(stream.read_bytes(StreamDecodeLevel.specialized) for stream in streams)
-        except (PdfError, RuntimeError):
+            data = self.joining.joined(streams)
+        except UNDECODABLE:
             raise refusal(1, f"{self.name}: the contents of page {number + 1} can't be decoded") from None
-        return self.pdf.make_stream(zlib.compress(data), Filter=Name.FlateDecode)
+        return self.pdf.make_stream(data, Filter=Name.FlateDecode)
 
     def over(self, notes: list[Note], resources: Any) -> Any:
         """A form of notes as they lie over a page, or None. Those without resources have the page's."""
