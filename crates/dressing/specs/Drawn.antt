@@ -20,8 +20,4 @@ mark_lines (s ∷ strokes) =
 
 -- the dress with these strokes at the end of each sheet, after its own lines there
 abbrev pub strokes_added : List Stroke → Dress → Dress
-strokes_added strokes dress = record {
-  header = dress.header;
-  start = dress.start;
-  finish = λ s paper. dress.finish s paper ++ mark_lines strokes;
-}
+strokes_added strokes dress = record dress { finish = λ s paper. dress.finish s paper ++ mark_lines strokes }

@@ -11,11 +11,7 @@ use Rattle.dressing.specs.declared.strokes.Stroke.{Stroke}
 -- the dress with these numbers at the end of each sheet, after its own lines there
 abbrev pub with_page_numbers : Option Numbers → Dress → Dress
 with_page_numbers None dress = dress
-with_page_numbers (Some n) dress = record {
-  header = dress.header;
-  start = dress.start;
-  finish = λ s paper. dress.finish s paper ++ number_lines n s;
-}
+with_page_numbers (Some n) dress = record dress { finish = λ s paper. dress.finish s paper ++ number_lines n s }
 
 -- what is drawn on sheets: the same strokes on each, and on each its numbers, if there are some
 pub record Drawn : Type 0 where

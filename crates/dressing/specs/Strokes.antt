@@ -19,25 +19,18 @@ far_end edge = grains_in (if edge == 0 then longest else edge)
 abbrev pub near_end : (edge : ℕ) → ℕ
 near_end edge = far_end edge - grains_in longest
 
--- along a line that is so far from the left edge: at its lower end, and at its upper one
-abbrev pub upright_strokes : Room → (x : ℤ) → List Stroke
-upright_strokes room x =
-    record { start = (x, pos (near_end room.bottom)); end = (x, pos (far_end room.bottom)) }
-    ∷ record {
-      start = (x, room.paper.height -ℤ pos (near_end room.top));
-      end = (x, room.paper.height -ℤ pos (far_end room.top));
-    }
-    ∷ []
+-- at both ends of a line, of which each point is so far along a side of the sheet
+abbrev pub both_ends : (point : ℤ → ℤ × ℤ) → (first last : ℕ) → (side : ℤ) → List Stroke
+both_ends point first last side =
+    record { start = point (pos (near_end first)); end = point (pos (far_end first)) }
+    ∷ record { start = point (side -ℤ pos (near_end last)); end = point (side -ℤ pos (far_end last)) } ∷ []
 
--- along a line that lies so far from the lower edge: at its left end, and at its right one
+-- along a line that is so far from the left edge, or so far from the lower one
+abbrev pub upright_strokes : Room → (x : ℤ) → List Stroke
+upright_strokes room x = both_ends (λ y. (x, y)) room.bottom room.top room.paper.height
+
 abbrev pub level_strokes : Room → (y : ℤ) → List Stroke
-level_strokes room y =
-    record { start = (pos (near_end room.left), y); end = (pos (far_end room.left), y) }
-    ∷ record {
-      start = (room.paper.width -ℤ pos (near_end room.right), y);
-      end = (room.paper.width -ℤ pos (far_end room.right), y);
-    }
-    ∷ []
+level_strokes room y = both_ends (λ x. (x, y)) room.left room.right room.paper.width
 
 -- along the line before cell k of so many side by side, or one above another
 abbrev pub upright_at : Room → (parts k : ℕ) → List Stroke
@@ -92,21 +85,19 @@ one_cell = record { rows = 1; columns = 1; turned = false }
 abbrev pub tile_of : Room → Cell
 tile_of room = cell_at room one_cell 0 0
 
+-- along the lines that are an overlap inside a tile that begins here and is so long, if it has neighbours
+abbrev pub overlaps_at : (strokes : ℤ → List Stroke) → (begin long tiles overlap : ℕ) → List Stroke
+overlaps_at strokes begin long tiles overlap =
+    if nat_lt 1 tiles && nat_lt 0 overlap
+    then strokes (pos (grains_in (begin + min overlap long))) ++ strokes (pos (grains_in (begin + (long - overlap)))) else []
+
 -- along the lines where the tiles of the neighbours at the left and at the right end: an overlap inside the tile
 abbrev pub overlaps_beside : Room → (columns overlap : ℕ) → List Stroke
-overlaps_beside room columns overlap = let tile = tile_of room in
-    if nat_lt 1 columns && nat_lt 0 overlap
-    then upright_strokes room (pos (grains_in (tile.left + min overlap tile.width)))
-    ++ upright_strokes room (pos (grains_in (tile.left + (tile.width - overlap))))
-    else []
+overlaps_beside room = let tile = tile_of room in overlaps_at (upright_strokes room) tile.left tile.width
 
 -- where those of the neighbours below and above end
 abbrev pub overlaps_above : Room → (rows overlap : ℕ) → List Stroke
-overlaps_above room rows overlap = let tile = tile_of room in
-    if nat_lt 1 rows && nat_lt 0 overlap
-    then level_strokes room (pos (grains_in (tile.bottom + min overlap tile.height)))
-    ++ level_strokes room (pos (grains_in (tile.bottom + (tile.height - overlap))))
-    else []
+overlaps_above room = let tile = tile_of room in overlaps_at (level_strokes room) tile.bottom tile.height
 
 -- the marks on each sheet of a poster: round its tile, where it is cut, and where the tiles of its neighbours end
 abbrev pub tile_marks : Room → (tiles : Grid) → (overlap : ℕ) → List Stroke

@@ -2,7 +2,7 @@
 -- at which scale the pages are.
 use Rattle.std.specs.Prelude.{ℕ, ℤ, pos, negsuc, ◌+ℤ◌, Bool, true, false, ◌&&◌, if◌then◌else◌, is_some, Option, Some, None, unwrap_or}
 use Rattle.std.specs.Ordering.{int_eq}
-use Rattle.layouts.specs.Grids.{leaf_order, nothing_free, plain, plain_order}
+use Rattle.layouts.specs.Grids.{leaf_order, nothing_free, plain_order}
 use Rattle.layouts.specs.Refusals.{is_length}
 use Rattle.layouts.specs.declared.arrangement.Arrangement.{Arrangement}
 use Rattle.layouts.specs.declared.arrangement.Binding.{Binding}
@@ -65,9 +65,10 @@ some_gap gap = if int_eq gap (pos 0) then pos 1 else gap
 
 -- two rows of four cells, that one reads from the left, or from the right (RULES, 14.4)
 abbrev pub zine_in : Spacing → Arrangement
-zine_in s = record (plain (Exactly 4 2)) {
+zine_in s = record (arrangement_in s (Exactly 4 2)) {
   free = record s.free { across = some_gap s.free.across; up = some_gap s.free.up; trim = pos 0 };
   order = leaf_order s.order.right_to_left;
+  scale = None;
 }
 
 -- the inner edge of each half is at the fold, so the gap there has that margin on both sides; what is no length gives none

@@ -184,16 +184,13 @@ in_points z = record { number = pos 10_000 *ℤ z; unit = Pt }
 abbrev pub turn_in : Grid → Turn
 turn_in g = if g.turned then Left else Upright
 
+-- page k, which is counted from 0: turned so, at this scale in 10^-9, and so far to the right and up
+abbrev pub item_at : (k : ℕ) → Turn → (scale : ℕ) → (x y : ℤ) → Item
+item_at k turn s x y = record { page = k; from_end = false; turn = turn; scale = pos s; x = in_points x; y = in_points y }
+
 -- page k in this row and column, at this scale
 abbrev pub cell_item : (page : Paper) → Room → Grid → (scale k row column : ℕ) → Item
-cell_item page room g s k row column = record {
-  page = k;
-  from_end = false;
-  turn = turn_in g;
-  scale = pos s;
-  x = in_points (to_right page room g s row column);
-  y = in_points (to_top page room g s row column);
-}
+cell_item page room g s k row column = item_at k (turn_in g) s (to_right page room g s row column) (to_top page room g s row column)
 
 -- ---- the order of cells
 
@@ -262,11 +259,6 @@ half_turned Right = Left
 
 -- page n + k of a block, where page k stands if the whole sheet is turned by half (RULES, 14.1)
 abbrev pub back_in : (page : Paper) → Room → Grid → Order → (scale n k : ℕ) → Item
-back_in page room g o s n k = record {
-  page = n + k;
-  from_end = false;
-  turn = half_turned (turn_in g);
-  scale = pos s;
-  x = in_points (pos (whole_parts (nat_abs room.paper.width)) -ℤ to_right page room g s (row_of o g k) (column_of o g k));
-  y = in_points (pos (whole_parts (nat_abs room.paper.height)) -ℤ to_top page room g s (row_of o g k) (column_of o g k));
-}
+back_in page room g o s n k = item_at (n + k) (half_turned (turn_in g)) s
+    (pos (whole_parts (nat_abs room.paper.width)) -ℤ to_right page room g s (row_of o g k) (column_of o g k))
+    (pos (whole_parts (nat_abs room.paper.height)) -ℤ to_top page room g s (row_of o g k) (column_of o g k))

@@ -2,9 +2,9 @@
 use Rattle.std.specs.Prelude.{ℕ, ◌+◌, ◌-◌, ◌*◌, ◌/◌, suc, zero, ℤ, pos, negsuc, nat_abs, Bool, true, false, ◌&&◌, ◌||◌, ◌==◌, nat_lt}
 use Rattle.std.specs.Prelude.{if◌then◌else◌, Option, Some, None, is_none}
 use Rattle.rules.specs.Papers.{Paper}
-use Rattle.rules.specs.Specification.{Item, Upright, zero_points}
+use Rattle.rules.specs.Specification.{Item, Upright}
 use Rattle.layouts.specs.Placed.{Room}
-use Rattle.layouts.specs.Cells.{Grid, size, exact_scale}
+use Rattle.layouts.specs.Cells.{Grid, size, exact_scale, item_at}
 use Rattle.layouts.specs.declared.arrangement.Arrangement.{Arrangement}
 use Rattle.layouts.specs.declared.arrangement.Binding.{Binding}
 use Rattle.layouts.specs.declared.arrangement.Cells.{Cells}
@@ -53,14 +53,7 @@ best_formed page room t columns rows = better page room (formed t false columns 
 
 -- a page alone, as it is; it is counted from 0 (RULES, 13.4)
 abbrev pub page_alone : ℕ → Item
-page_alone k = record {
-  page = k;
-  from_end = false;
-  turn = Upright;
-  scale = pos 1_000_000_000;
-  x = zero_points;
-  y = zero_points;
-}
+page_alone k = item_at k Upright 1_000_000_000 (pos 0) (pos 0)
 
 abbrev pub is_same : (page sheet : Paper) → Bool
 is_same page sheet = (nat_abs page.width == nat_abs sheet.width) && (nat_abs page.height == nat_abs sheet.height)

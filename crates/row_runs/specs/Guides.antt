@@ -9,9 +9,10 @@ use Rattle.row_sheets.specs.declared.poster.Poster.{Poster}
 use Rattle.preview.specs.declared.guides.Guide.{Guide}
 use Rattle.preview.specs.declared.guides.GuideKind.{GuideKind}
 use Rattle.preview.specs.declared.guides.GuideKind.TheVariants.{Margin, Fold, Cut, Note}
+use Rattle.dressing.specs.Ruled.{note_lines}
 use Rattle.dressing.specs.declared.strokes.Marks.{Marks}
 use Rattle.dressing.specs.declared.strokes.Stroke.{Stroke}
-use Rattle.row_runs.specs.Marked.{ruled_if, tile_room}
+use Rattle.row_runs.specs.Marked.{if_asked, tile_room}
 use Rattle.row_runs.specs.declared.sheet_request.Laying.{Laying}
 use Rattle.row_runs.specs.declared.sheet_request.Laying.TheVariants as laying
 use Rattle.row_sheets.specs.declared.fill.Scheme.TheVariants as scheme
@@ -78,7 +79,7 @@ abbrev pub note_guide : Stroke → Guide
 note_guide s = record { kind = Note; start = s.start; end = s.end }
 
 abbrev pub note_guides : Marks → Laying → List Guide
-note_guides marks (laying.InCells t (scheme.Grid cells)) = map note_guide (ruled_if marks.ruled t)
+note_guides marks (laying.InCells t (scheme.Grid cells)) = map note_guide (if_asked marks.ruled note_lines t)
 note_guides marks other = []
 
 -- all lines of a laying with these marks

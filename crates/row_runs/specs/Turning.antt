@@ -50,14 +50,7 @@ shifted by m = record { number = m.number +ℤ (pos 10_000 *ℤ by); unit = m.un
 abbrev pub turned_item : Turn → (paper : Paper) → Item → Item
 turned_item turn paper item =
     let by = turned item.turn (turned_corner turn (pos (scaled_length item.scale paper.width)) (pos (scaled_length item.scale paper.height))) in
-    record {
-      page = item.page;
-      from_end = item.from_end;
-      turn = turn_sum turn item.turn;
-      scale = item.scale;
-      x = shifted by.x item.x;
-      y = shifted by.y item.y;
-    }
+    record item { turn = turn_sum turn item.turn; x = shifted by.x item.x; y = shifted by.y item.y }
 
 -- the turn of a page of which the turns of the document's pages are listed; one that isn't in the list stays as it is
 abbrev pub turn_on : List PageTurn → (page : ℕ) → Turn

@@ -1,6 +1,8 @@
 //! The marks that are drawn on sheets.
 ghost use Rattle.std.specs.Prelude.{◌≡◌, ◌≤◌, ◌++◌, IfOk};
-ghost use Rattle.row_runs.specs.Marked.{cut_if as cut_of, fold_if as fold_of, outer_cut_if as outer_cut_of, ruled_if as ruled_of, strokes_in};
+ghost use Rattle.dressing.specs.Ruled.{note_lines as note_lines_of};
+ghost use Rattle.dressing.specs.Strokes.{cut_marks as cut_marks_of, fold_marks as fold_marks_of, outer_cut_marks as outer_cut_marks_of};
+ghost use Rattle.row_runs.specs.Marked.{if_asked, strokes_in};
 ghost use Rattle.row_runs.specs.Marked.{tile_room as tile_room_of};
 ghost use Rattle.row_runs.specs.Sheets.{MayBeLaid};
 
@@ -63,7 +65,7 @@ fn booklet_strokes(
     setting: &Setting,
 ) -> Result<Vec<Stroke>, AllocError>
     ensures { IfOk result (λ strokes. strokes.items
-        ≡ fold_of marks.fold setting.now ++ outer_cut_of marks.cut setting.now) }
+        ≡ if_asked marks.fold fold_marks_of setting.now ++ if_asked marks.cut outer_cut_marks_of setting.now) }
 {
     let mut strokes = fold_if(alloc, marks.fold, setting)?;
     let outer = outer_cut_if(alloc, marks.cut, setting)?;
@@ -73,7 +75,7 @@ fn booklet_strokes(
 
 /// The requested cut marks, followed by the requested lines for notes.
 fn cut_and_ruled(alloc: Global, marks: Marks, setting: &Setting) -> Result<Vec<Stroke>, AllocError>
-    ensures { IfOk result (λ strokes. strokes.items ≡ cut_of marks.cut setting.now ++ ruled_of marks.ruled setting.now) }
+    ensures { IfOk result (λ strokes. strokes.items ≡ if_asked marks.cut cut_marks_of setting.now ++ if_asked marks.ruled note_lines_of setting.now) }
 {
     let mut strokes = cut_if(alloc, marks.cut, setting)?;
     let lines = ruled_if(alloc, marks.ruled, setting)?;
@@ -82,7 +84,7 @@ fn cut_and_ruled(alloc: Global, marks: Marks, setting: &Setting) -> Result<Vec<S
 }
 
 fn cut_if(alloc: Global, asked: bool, setting: &Setting) -> Result<Vec<Stroke>, AllocError>
-    ensures { IfOk result (λ strokes. strokes.items ≡ cut_of asked setting.now) }
+    ensures { IfOk result (λ strokes. strokes.items ≡ if_asked asked cut_marks_of setting.now) }
 {
     if asked {
         cut_marks(alloc, &setting.room, setting.grid)
@@ -92,7 +94,7 @@ fn cut_if(alloc: Global, asked: bool, setting: &Setting) -> Result<Vec<Stroke>, 
 }
 
 fn fold_if(alloc: Global, asked: bool, setting: &Setting) -> Result<Vec<Stroke>, AllocError>
-    ensures { IfOk result (λ strokes. strokes.items ≡ fold_of asked setting.now) }
+    ensures { IfOk result (λ strokes. strokes.items ≡ if_asked asked fold_marks_of setting.now) }
 {
     if asked {
         fold_marks(alloc, &setting.room, setting.grid)
@@ -102,7 +104,7 @@ fn fold_if(alloc: Global, asked: bool, setting: &Setting) -> Result<Vec<Stroke>,
 }
 
 fn outer_cut_if(alloc: Global, asked: bool, setting: &Setting) -> Result<Vec<Stroke>, AllocError>
-    ensures { IfOk result (λ strokes. strokes.items ≡ outer_cut_of asked setting.now) }
+    ensures { IfOk result (λ strokes. strokes.items ≡ if_asked asked outer_cut_marks_of setting.now) }
 {
     if asked {
         outer_cut_marks(alloc, &setting.room, setting.grid)
@@ -116,7 +118,7 @@ pub(crate) fn ruled_if(
     asked: bool,
     setting: &Setting,
 ) -> Result<Vec<Stroke>, AllocError>
-    ensures { IfOk result (λ strokes. strokes.items ≡ ruled_of asked setting.now) }
+    ensures { IfOk result (λ strokes. strokes.items ≡ if_asked asked note_lines_of setting.now) }
 {
     if asked {
         note_lines(alloc, &setting.room, setting.grid)

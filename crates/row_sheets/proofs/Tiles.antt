@@ -6,12 +6,12 @@ use Rattle.std.proofs.lemmas.Bool.{cases_lt}
 use Rattle.std.proofs.lemmas.Int.{ints}
 use Rattle.rules.specs.Papers.{Paper}
 use Rattle.layouts.specs.Placed.{stands, IsOfPage}
-use Rattle.layouts.specs.Cells.{fitting}
+use Rattle.layouts.specs.Cells.{fitting, slack}
 use Rattle.layouts.proofs.AlongSide.{scaled_fits, in_cell}
 use Rattle.layouts.proofs.Sides.{of_sides, point}
 use Rattle.layouts.proofs.InGrid.{sides_are}
 use Rattle.row_sheets.specs.declared.poster.Poster.{Poster}
-use Rattle.row_sheets.specs.Posters.{tile, stride, asked_scale, poster_width, poster_height, poster_scale, begins_at, tile_item, IsShown, HasTiles, PosterCovers, TilesOverlap}
+use Rattle.row_sheets.specs.Posters.{tile, stride, asked_scale, poster_width, poster_height, poster_scale, tile_item, IsShown, HasTiles, PosterCovers, TilesOverlap}
 
 -- ---- a point along a side
 
@@ -36,7 +36,7 @@ on_tile P d t n some short many most =
     ]
 
 -- a point of the page along a side
-along : (length side s a : ℕ) → s ≤ fitting length side → a ≤ side → 1_270_000_000_000_000 * begins_at length side s + s * a ≤ 1_270_000_000_000_000 * length
+along : (length side s a : ℕ) → s ≤ fitting length side → a ≤ side → 1_270_000_000_000_000 * slack length side s + s * a ≤ 1_270_000_000_000_000 * length
 along length side s a fits in_page =
     omega (arith, in_cell length side s (scaled_fits length side s fits), mul-le-mul_left s in_page)
 
@@ -65,8 +65,8 @@ covers_at v u p (pos a) (pos b) has of =
     let across = along (poster_width p) v s a (fits_width page p) in_width in
     let up = along (poster_height p) u s b (fits_height page p) in_height in
     let wide = has.wide in let high = has.high in
-    let column = on_tile (1_270_000_000_000_000 * begins_at (poster_width p) v s + s * a) (stride w p.edge p.overlap) (tile w p.edge) p.columns (omega (arith, wide)) (omega arith) has.some_columns across in
-    let row = on_tile (1_270_000_000_000_000 * begins_at (poster_height p) u s + s * b) (stride h p.edge p.overlap) (tile h p.edge) p.rows (omega (arith, high)) (omega arith) has.some_rows up in
+    let column = on_tile (1_270_000_000_000_000 * slack (poster_width p) v s + s * a) (stride w p.edge p.overlap) (tile w p.edge) p.columns (omega (arith, wide)) (omega arith) has.some_columns across in
+    let row = on_tile (1_270_000_000_000_000 * slack (poster_height p) u s + s * b) (stride h p.edge p.overlap) (tile h p.edge) p.rows (omega (arith, high)) (omega arith) has.some_rows up in
     let left = column.from in let right = column.to in let bottom = row.from in let top = row.to in (
       column.at,
       row.at,

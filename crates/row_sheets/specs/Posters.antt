@@ -1,12 +1,12 @@
 -- Posters: one page over several sheets, which are its tiles. All here is this project's own rules.
 use Rattle.std.specs.Prelude.{◌≡◌, ◌⊎◌, ⊤, ℕ, ◌+◌, ◌-◌, ◌*◌, ◌/◌, ◌%◌, ◌<◌, min, pos, ◌+ℤ◌, ◌-ℤ◌, ◌≤ℤ◌, ◌≤◌, nat_abs, nat_le, nat_lt, ◌&&◌}
-use Rattle.std.specs.Prelude.{false, if◌then◌else◌, List, [], ◌∷◌, length, map, flat_map, slice_get, slice_index_or, Option, Some, None, ℤ, unwrap_or}
+use Rattle.std.specs.Prelude.{if◌then◌else◌, List, [], ◌∷◌, length, map, flat_map, slice_get, slice_index_or, Option, Some, None, ℤ, unwrap_or}
 use Rattle.std.specs.List.{range_with_len}
 use Rattle.rules.specs.Papers.{Paper}
 use Rattle.rules.specs.Specification.{Item, Upright}
 use Rattle.rules.specs.Placement.{Point}
 use Rattle.layouts.specs.Placed.{fine, stands, IsOfPage}
-use Rattle.layouts.specs.Cells.{fitting, slack, in_points, whole_parts}
+use Rattle.layouts.specs.Cells.{fitting, item_at, slack, whole_parts}
 use Rattle.layouts.specs.Grids.{above_zero, scale_for}
 use Rattle.layouts.specs.Refusals.{is_paper_reached, is_scale_in_range, most_on_sheet}
 use Rattle.layouts.specs.Laws.{Cell, IsInMiddle, IsPaper}
@@ -50,22 +50,11 @@ asked_scale page p = scale_for p.scale (largest_scale page p)
 abbrev pub poster_scale : (page : Paper) → Poster → ℕ
 poster_scale page p = min (asked_scale page p) (largest_scale page p)
 
--- where the page begins on the poster: it is in its middle
-abbrev pub begins_at : (length side scale : ℕ) → ℕ
-begins_at length side scale = slack length side scale
-
--- the page on the tile in this column, and in this row from the foot: the same for all pages of a paper
+-- the page on the tile in this column, and in this row from the foot: the same for all pages of a paper. It is in the middle of the poster
 abbrev pub tile_item : (page : Paper) → Poster → (column row : ℕ) → Item
-tile_item page p column row = let s = poster_scale page p in record {
-  page = 0;
-  from_end = false;
-  turn = Upright;
-  scale = pos s;
-  x = in_points (pos (p.edge + begins_at (poster_width p) (nat_abs page.width) s)
-      -ℤ pos (column * stride (nat_abs p.sheet.width) p.edge p.overlap));
-  y = in_points (pos (p.edge + begins_at (poster_height p) (nat_abs page.height) s)
-      -ℤ pos (row * stride (nat_abs p.sheet.height) p.edge p.overlap));
-}
+tile_item page p column row = let s = poster_scale page p in item_at 0 Upright s
+    (pos (p.edge + slack (poster_width p) (nat_abs page.width) s) -ℤ pos (column * stride (nat_abs p.sheet.width) p.edge p.overlap))
+    (pos (p.edge + slack (poster_height p) (nat_abs page.height) s) -ℤ pos (row * stride (nat_abs p.sheet.height) p.edge p.overlap))
 
 -- the sheets of a page: row by row from the head, and each from the left
 abbrev pub poster_sheets : (page : Paper) → Poster → (page_number : ℕ) → List MadeSheet
@@ -156,21 +145,14 @@ IsNoPosterFor p papers row e = IsNoPoster (first_no_poster p papers row) e
 abbrev pub laid_of : (page : Paper) → Poster → PosterFit
 laid_of page p = let s = poster_scale page p in record {
   scale = s;
-  left = p.edge + begins_at (poster_width p) (nat_abs page.width) s;
-  bottom = p.edge + begins_at (poster_height p) (nat_abs page.height) s;
+  left = p.edge + slack (poster_width p) (nat_abs page.width) s;
+  bottom = p.edge + slack (poster_height p) (nat_abs page.height) s;
   across = stride (nat_abs p.sheet.width) p.edge p.overlap;
   down = stride (nat_abs p.sheet.height) p.edge p.overlap;
 }
 
 abbrev pub laid_item : PosterFit → (column row : ℕ) → Item
-laid_item l column row = record {
-  page = 0;
-  from_end = false;
-  turn = Upright;
-  scale = pos l.scale;
-  x = in_points (pos l.left -ℤ pos (column * l.across));
-  y = in_points (pos l.bottom -ℤ pos (row * l.down));
-}
+laid_item l column row = item_at 0 Upright l.scale (pos l.left -ℤ pos (column * l.across)) (pos l.bottom -ℤ pos (row * l.down))
 
 -- its offsets can be written
 abbrev pub IsNear : PosterFit → (column row : ℕ) → Type 0
