@@ -79,7 +79,7 @@ class Field:
         self.flags, self.kind = int(number_of(self.entry("/Ff"), 0)), name_of(self.entry("/FT"))
         marks = note.get("/MK")
         self.marks = marks if isinstance(marks, Dictionary) else Dictionary()
-        self.chosen: set[str] = set()
+        self.is_list, self.chosen = False, set[str]()
         self.fault = ""  # what isn't drawn as it should be
         looks = note.get("/AP")
         self.own = looks.get("/N") if isinstance(looks, Dictionary) else None
@@ -118,10 +118,11 @@ class Field:
     def choice(self, value: Any, options: Any) -> str:
         """The option that is chosen, or all lines that a list has, of which some are chosen."""
         values = {text_of(one) for one in items_of(value)}
-        first = int(number_of(self.entry("/TI"), 0))
-        is_list = not self.flags & OPENED
-        found = [self.option(one) for one in islice(options, max(first, 0) * is_list, MOST_LINES + max(first, 0))]
-        if is_list:
+        first = max(int(number_of(self.entry("/TI"), 0)), 0)
+        self.is_list = not self.flags & OPENED
+        seen = islice(options, first, first + MOST_LINES) if self.is_list else options
+        found = [self.option(one) for one in seen]
+        if self.is_list:
             self.chosen = {shown for value, shown in found if value in values}
             return "\n".join(shown for _, shown in found)
         return next((shown for value, shown in found if value in values), plain(text_of(value)))
@@ -144,9 +145,8 @@ class Field:
         if text.strip():
             setting, inside = self.setting(text, width, height, edge), (edge, edge, width - 2 * edge, height - 2 * edge)
             resources.Font = setting.text.resources
-            below = self.below(setting) if self.chosen else ""
-            drawn += f"/Tx BMC q {numerals(*inside)} re W n\n{below}{setting.drawn()}Q EMC\n"
-            is_cut = setting.is_cut and not self.chosen
+            drawn += f"/Tx BMC q {numerals(*inside)} re W n\n{self.below(setting)}{setting.drawn()}Q EMC\n"
+            is_cut = setting.is_cut and not self.is_list
             self.fault = "with letters that no font has" if setting.text.lacks else "with more text than fits" * is_cut
         if not drawn or not text.strip() and isinstance(self.own, Stream):
             return None
@@ -158,8 +158,8 @@ class Field:
         """Its text in its box."""
         name, style = style_of(text_of(self.entry("/DA")))
         style.side = int(number_of(self.entry("/Q"), 0)) % 3
-        style.in_lines = bool(self.chosen or self.kind == "/Tx" and self.flags & IN_LINES)
-        style.wraps = not self.chosen
+        style.in_lines = bool(self.is_list or self.kind == "/Tx" and self.flags & IN_LINES)
+        style.wraps = not self.is_list
         if self.kind == "/Btn":
             style.side, name = 1, name if self.flags & PUSHED else "/ZaDb"
         style.cells = self.cells()

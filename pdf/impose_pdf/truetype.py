@@ -111,6 +111,6 @@ def font() -> TrueType | None:
         try:
             with open(name, "rb") as stream:
                 return TrueType(stream.read())
-        except (OSError, LookupError, StopIteration, error):
+        except (OSError, LookupError, RuntimeError, error):
             continue
     return None
