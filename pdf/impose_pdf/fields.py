@@ -103,6 +103,7 @@ class Field:
         if self.kind == "/Btn":
             return self.mark()
         value, options = self.entry("/V"), self.entry("/Opt")
+        self.fault = "whose text is a stream" if isinstance(value, Stream) else ""
         if self.kind == "/Ch" and isinstance(options, Array):
             return self.choice(value, options)
         text = plain(text_of(value))
