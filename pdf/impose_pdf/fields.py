@@ -119,7 +119,7 @@ class Field:
     def choice(self, value: Any, options: Any) -> str:
         """The option that is chosen, or all lines that a list has, of which some are chosen."""
         values = {text_of(one) for one in items_of(value)}
-        first = max(int(number_of(self.entry("/TI"), 0)), 0)
+        first = min(max(int(number_of(self.entry("/TI"), 0)), 0), len(options))
         self.is_list = not self.flags & OPENED
         seen = islice(options, first, first + MOST_LINES) if self.is_list else options
         found = [self.option(one) for one in seen]
