@@ -413,7 +413,11 @@ def _word(output: Output, rest: str, below: list[str]) -> Iterator[str]:
 
 
 @check("fonts")
-def _fonts(output: Output, _rest: str, _below: list[str]) -> Iterator[str]:
+def _fonts(output: Output, rest: str, _below: list[str]) -> Iterator[str]:
+    """The fonts are those of the pages, or have these names."""
+    if rest:
+        yield from differs("fonts", sorted({name for name, _ in reading.fonts(output.path)}), rest.split())
+        return
     wants: set[tuple[str, str]] = set().union(*(reading.fonts(source.path) for source in output.sources))
     if any(sheet.numbers for sheet in output.sheets):
         wants.add(("[none]", "Type 3"))

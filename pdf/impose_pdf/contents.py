@@ -5,7 +5,7 @@ import zlib
 from collections.abc import Iterator
 from typing import Any
 
-from pikepdf import Array, DataDecodingError, Name, Pdf, PdfError, StreamDecodeLevel
+from pikepdf import Array, DataDecodingError, Dictionary, Name, Pdf, PdfError, StreamDecodeLevel
 
 UNDECODABLE = PdfError, DataDecodingError, RuntimeError, zlib.error
 TURN = 1 << 20  # bytes
@@ -19,8 +19,10 @@ def filters_of(stream: Any) -> list[Any]:
 
 
 def is_flate(stream: Any) -> bool:
-    """Whether a stream is packed by Flate alone."""
-    return filters_of(stream) == [Name.FlateDecode] and "/DecodeParms" not in stream
+    """Whether a stream is packed by Flate alone, without a predictor."""
+    parameters = stream.get("/DecodeParms")
+    is_plain = parameters is None or isinstance(parameters, Dictionary) and parameters.get("/Predictor", 1) == 1
+    return filters_of(stream) == [Name.FlateDecode] and is_plain
 
 
 def packed_anew(stream: Any) -> bytes:

@@ -9,6 +9,7 @@ from pikepdf import Array, Dictionary, Pdf, PdfError, Stream, String, parse_cont
 
 from impose_pdf.fields import Field
 from impose_pdf.fonts import Fonts
+from impose_pdf.losses import ARE_PLAYED
 from impose_pdf.notes import is_printed
 from impose_pdf.pages import items_of, name_of, number_of
 from impose_pdf.remarks import Remark
@@ -92,7 +93,9 @@ class Looks:
             field = Field(note, self.form, self.fonts)
             if self.needs_one(field):
                 self.draw(field)
-        elif kind not in ("/Link", "/Popup") and (is_blank(own) if isinstance(own, Stream) else own is None):
+        elif kind not in ("/Link", "/Popup", *ARE_PLAYED) and (
+            is_blank(own) if isinstance(own, Stream) else own is None
+        ):
             self.draw_note(note, kind)
 
     def draw(self, field: Field) -> None:

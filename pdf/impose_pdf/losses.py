@@ -9,9 +9,9 @@ from impose_pdf import notes
 from impose_pdf.fields import entry_of
 from impose_pdf.pages import name_of
 
-SIGNATURE, FIELD, BARE, UNPRINTED, TEXT, FILE, PLAYED = (
-    *("a signature", "a form field (drawn as it is)", "a note without a look", "a note that doesn't print"),
-    *("the text of a note", "an attachment of a note", "a film, sound or 3D view"),
+SIGNATURE, FIELD, UNPRINTED, TEXT, FILE, PLAYED = (
+    *("a signature", "a form field (drawn as it is)", "a note that doesn't print", "the text of a note"),
+    *("an attachment of a note", "a film, sound or 3D view"),
 )
 TAGS, XFA, SCRIPTS, THREADS, TRANSITIONS, THUMBNAILS, DIRECTION, ENCRYPTION = (
     *("tags", "the XFA form", "scripts", "article threads", "page transitions", "thumbnails", "the reading direction"),
@@ -22,7 +22,6 @@ CLAIMS = {name: f"the claim to be {name}" for name in ("PDF/A", "PDF/UA", "PDF/X
 SEVERAL = {
     SIGNATURE: "{} signatures",
     FIELD: "{} form fields (drawn as they are)",
-    BARE: "{} notes without a look",
     UNPRINTED: "{} notes that don't print",
     TEXT: "the texts of {} notes",
     FILE: "{} attachments of notes",
@@ -146,6 +145,6 @@ def kinds_of(note: Any, kind: str) -> list[str]:
     text = note.get("/Contents")
     of_file = [FILE] * (kind == "/FileAttachment")
     if notes.appearance(note) is None:
-        return [BARE if notes.is_printed(note) else UNPRINTED, *of_file]
+        return [UNPRINTED] * (not notes.is_printed(note)) + of_file
     has_text = isinstance(text, String) and (text.is_indirect or len(bytes(text)) > 0)
     return [TEXT, *of_file] if has_text and kind != "/FreeText" else of_file
