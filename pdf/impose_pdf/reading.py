@@ -18,12 +18,36 @@ MOST_HELD = 1 << 32  # bytes that are read of what is no file
 MOST_OF_IMAGE = 1 << 30  # bytes, which are read into memory
 IN_MEMORY = 1 << 24  # bytes of it that need no temporary file
 MOST_TOLD = 300  # signs of what qpdf says
+PART = 1 << 16  # bytes that are read at once
+FAILED: list[tuple[str, OSError]] = []  # INFILEs that couldn't be read to their ends
+
+
+class Infile(io.FileIO):
+    """A file that is read. A failure is kept, since qpdf takes it for damage, which it mends."""
+
+    def __init__(self, name: str):
+        super().__init__(0 if name == "-" else name, closefd=name != "-")
+        self.label = shown(name)
+
+    def readinto(self, buffer: Any) -> Any:
+        """Reads what comes next."""
+        try:
+            return super().readinto(buffer)
+        except OSError as error:
+            FAILED.append((self.label, error))
+            raise
+
+
+def check_reads() -> None:
+    """Refuses what was made of INFILEs that couldn't be read to their ends."""
+    for name, error in FAILED:
+        raise refusal(3, f"cannot read {name}: {cause_of(error)}")
 
 
 def opened(name: str) -> Pdf:
     """An INFILE as a PDF that may be printed."""
     try:
-        stream = open(0 if name == "-" else os.open(name, os.O_RDONLY), "rb", closefd=name != "-")
+        stream = io.BufferedReader(Infile(name), PART)
         is_file = stat.S_ISREG(os.fstat(stream.fileno()).st_mode) and stream.tell() == 0
         first = stream.read(HEAD)
     except FileNotFoundError:

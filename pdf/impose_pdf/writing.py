@@ -17,7 +17,7 @@ from typing import IO, Any
 
 from pikepdf import DataDecodingError, ObjectStreamMode, Pdf, StreamDecodeLevel
 
-from impose_pdf.reading import IN_MEMORY
+from impose_pdf.reading import IN_MEMORY, check_reads
 
 SIGNALS = (signal.SIGHUP, signal.SIGINT, signal.SIGTERM)
 PART = 1 << 20  # bytes that are written at once
@@ -80,6 +80,7 @@ def fill(file: IO[bytes], pdf: Pdf) -> None:
         file.seek(0)
         file.truncate()
         digest = save(pdf, file, False)
+    check_reads()
     identify(file, digest)
     file.seek(0)
 
