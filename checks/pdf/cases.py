@@ -29,6 +29,7 @@ SETTINGS = (
     *("room", "open", "impose", "copies", "stack", "memory", "python", "sized", "traced", "needs"),
 )
 MOST_COMPARED = 1 << 28  # bytes
+MOST_SECONDS = 30  # of processor time, unless a case says how many: a wrong program may have no end
 
 
 @dataclass
@@ -244,7 +245,7 @@ def ran(case: Case, programs: Programs, folder: Path) -> Run:
     limits = [("limit", resource.RLIMIT_FSIZE), ("open", resource.RLIMIT_NOFILE), ("stack", resource.RLIMIT_STACK)]
     limits.append(("memory", resource.RLIMIT_AS))
     umask = case.setting("umask")
-    most = next((int(rest.split()[0]) for word, rest, _ in case.wanted if word == "costs"), None)
+    most = next((int(rest.split()[0]) for word, rest, _ in case.wanted if word == "costs"), MOST_SECONDS)
 
     def limited() -> None:
         signal.signal(signal.SIGXFSZ, signal.SIG_IGN)
@@ -253,8 +254,7 @@ def ran(case: Case, programs: Programs, folder: Path) -> Run:
         for name, kind in limits:
             if values := case.setting(name):
                 resource.setrlimit(kind, (int(values[0]), int(values[-1])))
-        if most:
-            resource.setrlimit(resource.RLIMIT_CPU, (most + 1, most + 1))
+        resource.setrlimit(resource.RLIMIT_CPU, (most + 1, most + 1))
 
     impose, papersize = programs.impose, case.setting("papersize") or ["a4"]
     if named := case.setting("impose"):
