@@ -50,6 +50,8 @@ def runs_script(action: Any) -> bool:
 
 def has_script(holder: Any) -> bool:
     """Whether a page, an annotation or a catalog has a script."""
+    if not any(key in holder for key in ("/A", "/AA", "/OpenAction")):
+        return False
     events = holder.get("/AA")
     actions = [events.get(key) for key in EVENTS] if isinstance(events, Dictionary) else []
     return any(map(runs_script, [holder.get("/A"), holder.get("/OpenAction"), *actions]))

@@ -171,7 +171,10 @@ def impose(request: Request, program: str) -> None:
         turned, flip = turn_to_read(request, sheets), imposer.flip()
         making = Making(row)
         with blaming([name for name, _ in request.infiles], *OF_PIKEPDF):
-            deeply(lambda: making.make(sheets, turned, flip))
+            if len(opened) > 1:  # what is brought from one PDF to another is copied by recursion
+                deeply(lambda: making.make(sheets, turned, flip))
+            else:
+                making.make(sheets, turned, flip)
             outfile.write(making.pdf)
         if "--quiet" not in request.options:
             say(outfile.warning())
