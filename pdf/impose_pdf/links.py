@@ -68,6 +68,7 @@ class Ways:
         self.renamed: dict[bytes, bytes] = {}  # names that lead to a sheet, and what they are called there
         self.dests: dict[bytes, Any] = {}  # where they lead, by their new names
         self.old_style: Any = Dictionary()  # names that are no strings, and where they led
+        self.scripts = 0  # actions that aren't kept
         self.known: dict[tuple[str, bytes], Any] = {}  # what several may have, by how it was led
 
     def brought(self, thing: Any) -> Any:
@@ -183,6 +184,7 @@ class Ways:
             dest = self.lead(action.get("/D"))
             return None if dest is None else Dictionary(S=Name.GoTo, D=dest)
         if kind not in KEPT_ACTIONS:
+            self.scripts += kind == "/JavaScript"
             return None
         made = copy(action)
         drop(made, {"/Next"})

@@ -103,7 +103,8 @@ class Losses:
 
     def look_at(self, page: Any, links: list[Any], others: list[Any]) -> None:
         """Counts what isn't kept of a page that is drawn on a sheet, with these links and other annotations."""
-        self.found[SCRIPTS] += sum(map(has_script, [page, *links, *others]))
+        acting = [link for link in links if "/AA" in link]  # their own actions are looked at as they are led
+        self.found[SCRIPTS] += sum(map(has_script, [page, *acting, *others]))
         self.found[TRANSITIONS] += is_shown_anew(page)
         self.found[THUMBNAILS] += "/Thumb" in page
         for note in others:
@@ -116,6 +117,10 @@ class Losses:
     def look_at_whole(self, page: Any, annotations: list[Any]) -> None:
         """Counts what isn't kept of a page that is kept itself, with these annotations."""
         self.found[SCRIPTS] += sum(map(has_script, [page, *annotations]))
+
+    def add_scripts(self, count: int) -> None:
+        """Counts the scripts that links and outlines lead to."""
+        self.found[SCRIPTS] += count
 
     def count_field(self, note: Any) -> None:
         """Counts the field of a place where it is shown, once."""

@@ -71,6 +71,7 @@ class Making:
         lost = claims.settle(self.pdf, pages, len(self.sources) == 1, self.whole.is_tagged)
         self.sources[0].losses.add_claims(lost)
         for source in self.sources:
+            source.losses.add_scripts(source.ways.scripts)
             source.keep_warnings()
 
     def kept(self, sheets: list[Sheet]) -> set[int]:
