@@ -29,7 +29,5 @@ pub mod Outcomes
 pub mod Ascii
 pub mod Joining
 pub mod Canonical
-pub mod Making
-pub mod MadeShort
 pub mod Examples
 pub mod PlaceExamples

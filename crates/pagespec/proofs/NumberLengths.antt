@@ -105,9 +105,6 @@ whole_short (w ∷ whole) fraction decimals (p ∷ ps) pass small is some few =
 pub small_abs : (v : ℤ) → is_large v ≡ false → nat_abs v < 10 ^ 14
 small_abs v e = search (rules, e)
 
-pub not_large : (v : ℤ) → nat_abs v ≤ 99_999_999_999_999 → is_large v ≡ false
-not_large v h = search (rules, h)
-
 pub record NumberParts (v : ℤ) (whole decimals : List ℕ) : Type 0 where
   pub below : decimals_value 9 decimals < 10 ^ 9
   pub whole_is : nat_abs v / 10 ^ 9 ≡ number_of whole
@@ -162,16 +159,4 @@ number_few v small =
       part_few (n % 10 ^ 9) (omega arith),
       length-append (sign_text v ++ whole_text (n / 10 ^ 9) ds) (fraction_text ds),
       length-append (sign_text v) (whole_text (n / 10 ^ 9) ds),
-    )
-
--- and with at most 15 if it has no sign
-pub positive_few : (n : ℕ) → n ≤ 99_999_999_999_999 → length (number_text (pos n)) ≤ 15
-positive_few n h =
-    let ds = decimals_of 9 (n % 10 ^ 9) in
-    omega (
-      arith,
-      whole_few (n / 10 ^ 9) ds (omega (arith, h)),
-      fraction_few ds,
-      part_few (n % 10 ^ 9) (omega arith),
-      length-append (whole_text (n / 10 ^ 9) ds) (fraction_text ds),
     )

@@ -2,7 +2,6 @@
 ghost use Rattle.std.specs.Prelude.{◌≡◌};
 ghost use Rattle.rules.specs.Admissible.{IsAdmissible, most_slots};
 ghost use Rattle.pagespec.specs.Items.{groups_of};
-ghost use Rattle.pagespec.specs.Made.{IsWritable};
 
 use crate::item::Item;
 use std::marker::Model;
@@ -36,15 +35,6 @@ impl Spec {
         ensures { result ≡ record { modulo = modulo; groups = groups_of groups.items } }
     {
         Spec { modulo, groups }
-    }
-
-    /// The specification with this modulo and these groups, for a program that doesn't read it from a text. The caller has to show that the
-    /// specification passes every check, and that its canonical text has at most 65,536 bytes.
-    pub fn of_groups(modulo: u32, groups: Vec<Vec<Item>>) -> Spec
-        requires { IsWritable most_slots (record { modulo = modulo; groups = groups_of groups.items }) }
-        ensures { result ≡ record { modulo = modulo; groups = groups_of groups.items } }
-    {
-        Spec::new(modulo, groups)
     }
 
     /// The number of pages in a block, from 1 to 99,999.
