@@ -176,7 +176,7 @@ impl<'s, 'r, 't, 'd, G: Gate + Sync> Shared<'s, 'r, 't, 'd, G> {
     {
         let alloc = self.objects.alloc;
         let job = self.objects.job;
-        let Ok(setup) = Setup::<'r, T>::new(alloc, job, self.window.len) else {
+        let Ok(setup) = Setup::<'r, T>::new(alloc, job, &self.window) else {
             return out_of_memory(0);
         };
         let Setup {

@@ -1,10 +1,11 @@
 //! Objects that are made before the workers of a run start.
-ghost use Rattle.std.specs.Prelude.{IfOk, ◌<◌};
+ghost use Rattle.std.specs.Prelude.{◌≡◌, IfOk, ◌<◌, length, max, min};
 ghost use Rattle.crossbeam_channel.specs.Claims.{IsSeatAt};
 ghost use Rattle.crossbeam_channel.specs.Ends.{sends_on, receives_on};
 ghost use Rattle.imposer.specs.CollectorStart.{ArePartsOf};
 
 use crate::channel::{Channel, SheetRule, SheetTexts, Ticket};
+use crate::window::Window;
 use crossbeam_channel::bounded_with;
 use crossbeam_queue::ArrayQueue;
 use sheet_text::Job;
@@ -29,17 +30,17 @@ pub(crate) struct Setup<'r, T: SheetTexts> {
 }
 
 impl<'r, T: SheetTexts> Setup<'r, T> {
-    /// Makes what the collector begins with, and the channel of a job. `window` is the number of sheets in a window. The reorder buffer, the channel
-    /// and the queue of written texts each have room for this number of sheets, or for all sheets of a shorter job. So imposers needn't wait for
-    /// room. The only error is refused memory.
-    pub(crate) fn new(alloc: Global, job: &Job<'_, '_>, window: u32) -> Result<Self, AllocError>
+    /// Makes what the collector begins with, and the channel of a job. The reorder buffer, the channel and the queue of written texts each have room
+    /// for the sheets of a window, or for all sheets of a shorter job. So imposers needn't wait for room. The only error is refused memory.
+    pub(crate) fn new(alloc: Global, job: &Job<'_, '_>, window: &Window) -> Result<Self, AllocError>
+        ensures room { IfOk result (λ s. length s.parts.early.places.items ≡ max 1 (min (length job.now.plan.sheets) window.now.len)) }
         ensures parts { IfOk result (λ s. ArePartsOf job.now s.parts) }
         ensures receiving { IfOk result (λ s. IsSeatAt (receives_on s.channel.receiver) s.parts.receiving) }
         ensures sending { IfOk result (λ s. IsSeatAt (sends_on s.channel.sender) s.sending) }
     {
         let header = job.document().dressed_preamble(job.sheets(), job.header())?;
         let trailer = job.document().trailer_text()?;
-        let room = job.sheets().min(window).max(1);
+        let room = job.sheets().min(window.len).max(1);
         let early = ReorderBuffer::new(alloc, room)?;
         let (channel, sending, receiving) = channel_of(alloc, room as usize)?;
         let parts = CollectorParts {
