@@ -372,3 +372,19 @@ box_within_setup = refl
 sum_of_a_box : told (codes "%!\n%%BoundingBox: 300 300 99999 700\n") ≡ None
 unfolding number_at
 sum_of_a_box = refl
+
+-- Papers that the setup names.
+
+-- as pmw writes it
+named_in_setup : told (codes "%!\n%%EndComments\n%%BeginPaperSize: a3\na3\n%%EndPaperSize\n") ≡ Some (points 842 1_191, Setup)
+unfolding papers
+named_in_setup = refl
+
+of_a_feature : told (codes "%!\n%%BeginFeature: *Duplex None\n%%BeginFeature: *PageRegion Legal\n") ≡ Some (points 612 1_008, Setup)
+unfolding papers
+of_a_feature = refl
+
+-- the first line that has a paper counts, and an unknown name is none
+first_line_of_setup : told (codes "%!\n%%BeginPaperSize: SixByNine\n/PageSize [5 6]\n%%BeginPaperSize: a3\n") ≡ Some (points 5 6, Setup)
+unfolding number_at papers
+first_line_of_setup = refl

@@ -1,5 +1,6 @@
 -- The paper that a document is made for, by its comments (DSC 3.0, %%DocumentMedia and %%BoundingBox, and
--- (atend); DSC 2.1, %%DocumentPaperSizes), or by its setup (PostScript Language Reference, page device parameter PageSize).
+-- (atend); DSC 2.1, %%DocumentPaperSizes), or by its setup (PostScript Language Reference, page device parameter PageSize;
+-- DSC 2.1, %%BeginPaperSize; DSC 3.0, %%BeginFeature, with keywords of PostScript Printer Descriptions 4.3).
 use Rattle.std.specs.Prelude.{ℕ, zero, suc, ◌+◌, ◌*◌, ℤ, pos, ◌+ℤ◌, ◌-ℤ◌, nat_abs, nat_le, int_lt, Bool, false, not, ◌&&◌, ◌||◌, if◌then◌else◌, option_map, option_and_then, unwrap_or}
 use Rattle.std.specs.Prelude.{List, [], ◌∷◌, length, take, drop, map, filter, codes, Option, Some, None, nat_eq, ◌-◌, ◌==◌, slice_index, slice_range}
 use Rattle.std.specs.Ordering.{int_eq}
@@ -266,11 +267,31 @@ size_after text = option_and_then (λ inside. two_sides (fields_in inside)) (in_
 abbrev pub size_asked : (content : List ℕ) → Option Paper
 size_asked content = option_and_then size_after (after_key content)
 
--- that of the first line before the first page that asks for one
+-- the keywords of features that are papers
+abbrev pub is_size_keyword : List ℕ → Bool
+is_size_keyword keyword =
+    bytes_eq keyword (codes "*PageSize") || (bytes_eq keyword (codes "*PaperSize") || bytes_eq keyword (codes "*PageRegion"))
+
+-- the paper of a feature: its keyword, and the first name after it that is known
+abbrev pub feature_paper : List (List ℕ) → Option Paper
+feature_paper [] = None
+feature_paper (keyword ∷ options) = if is_size_keyword keyword then paper_of_first_name options else None
+
+-- the paper that a line names before it is set up
+abbrev pub size_named : (content : List ℕ) → Option Paper
+size_named content =
+    if is_comment (codes "%%BeginPaperSize") content then paper_of_first_name (fields_in (value_of content))
+    else (if is_comment (codes "%%BeginFeature") content then feature_paper (fields_in (value_of content)) else None)
+
+-- that of a line, which asks for it or names it (RULES, 12.2)
+abbrev pub size_of_line : (content : List ℕ) → Option Paper
+size_of_line content = else_take (size_asked content) (size_named content)
+
+-- that of the first line before the first page that has one
 abbrev pub set_size : List (List ℕ) → Option Paper
 set_size [] = None
 set_size (content ∷ rest) =
-    if is_comment (codes "%%Page") content then None else else_take (size_asked content) (set_size rest)
+    if is_comment (codes "%%Page") content then None else else_take (size_of_line content) (set_size rest)
 
 -- the paper that is taken of a document without comments: the one that its setup asks for, or else this one
 abbrev pub usual_in : (home : Paper) → (text : List ℕ) → Paper

@@ -23,8 +23,8 @@ pub enum Comment {
     DocumentPaperSizes,
     /// The first `%%BoundingBox:`.
     BoundingBox,
-    /// No comment, but the setup: among the lines before the first page, the first that asks for a paper with
-    /// `/PageSize [width height]`.
+    /// No comment of the header, but the setup: among the lines before the first page, the first that asks for a paper
+    /// with `/PageSize [width height]`, or names one in `%%BeginPaperSize:` or `%%BeginFeature:`.
     Setup,
 }
 
@@ -39,7 +39,9 @@ pub enum Comment {
 /// 3. `%%BoundingBox:`, as `paper_of_box` reads it. If its value is `(atend)`, the first `%%BoundingBox:` of the
 /// trailer counts. A text with a faulty data block has no trailer;
 ///
-/// 4. the paper that the setup (the lines before the first page) asks for, with `/PageSize`.
+/// 4. the paper of the first line of the setup (the lines before the first page) that has one: two numbers after
+/// `/PageSize`, a known name in `%%BeginPaperSize:`, or one in a `%%BeginFeature:` with the keyword `*PageSize`,
+/// `*PaperSize` or `*PageRegion`.
 ///
 /// A box that doesn't begin at 0 0 must reach beyond the paper of the setup, or beyond `usual` if the setup asks for
 /// no paper. None if none of the four gives a paper.
@@ -115,7 +117,7 @@ fn named_in_rest(text: &[u8]) -> Option<Paper>
 }
 
 /// The paper of the first field that is the name of a known paper. None if there is no such field.
-fn first_named(value: &[u8]) -> Option<Paper>
+pub(crate) fn first_named(value: &[u8]) -> Option<Paper>
     ensures { result ≡ meaning.paper_of_first_name (fields_in value.now) }
 {
     let mut rest = value;

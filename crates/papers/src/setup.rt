@@ -1,11 +1,14 @@
-//! Finds the paper that a document's setup asks for, with `/PageSize`. All lines before the first page count as setup.
+//! Finds the paper that a document's setup asks for, with `/PageSize`, or names, with `%%BeginPaperSize:` or
+//! `%%BeginFeature:`. All lines before the first page count as setup.
 ghost use Rattle.std.specs.Prelude.{◌≡◌, ◌≤◌, codes, length, option_map};
 ghost use Rattle.rules.specs.Units.{is_comment};
 ghost use Rattle.dsc.specs.Fields.{fields_in};
 ghost use Rattle.papers.specs.Media as meaning;
 
 use crate::boxes::paper_with_sides;
+use crate::comments::value_after;
 use crate::fields::{leading_blanks, points_of};
+use crate::media::first_named;
 use dsc::{comment_value, first_content, line_end_after, next_field};
 use lengths::Paper;
 
@@ -16,7 +19,8 @@ pub(crate) fn usual_in(text: &[u8], home: &Paper) -> Paper
     set_size(text).unwrap_or(*home)
 }
 
-/// The paper in the first line that asks for a paper, among the lines before the first page. None if no line does.
+/// The paper in the first line that asks for a paper or names one, among the lines before the first page. None if no
+/// line does.
 pub(crate) fn set_size(text: &[u8]) -> Option<Paper>
     ensures { result ≡ meaning.set_size (meaning.contents text.now) }
 {
@@ -26,7 +30,7 @@ pub(crate) fn set_size(text: &[u8]) -> Option<Paper>
         if begins_page(content) {
             return None;
         }
-        if let Some(paper) = size_asked(content) {
+        if let Some(paper) = size_of_line(content) {
             return Some(paper);
         }
         let (_, others) = rest.split_at(line_end_after(rest, content.len()));
@@ -40,6 +44,46 @@ fn begins_page(content: &[u8]) -> bool
     ensures { result ≡ is_comment (codes "%%Page") content.now }
 {
     comment_value(content, b"%%Page", b"%%Page:").is_some()
+}
+
+/// The paper that a line asks for with `/PageSize`, or names in a comment. None if the line does neither.
+fn size_of_line(content: &[u8]) -> Option<Paper>
+    ensures { result ≡ meaning.size_of_line content.now }
+{
+    size_asked(content).or_else(|| size_named(content))
+}
+
+/// The paper that a comment names before the setup sets it: the first known name in `%%BeginPaperSize:`, or after the
+/// keyword of a feature that is a paper. None for any other line.
+fn size_named(content: &[u8]) -> Option<Paper>
+    ensures { result ≡ meaning.size_named content.now }
+{
+    match value_after(content, b"%%BeginPaperSize", b"%%BeginPaperSize:") {
+        Some(names) => first_named(names),
+        None => feature_paper(value_after(content, b"%%BeginFeature", b"%%BeginFeature:")?),
+    }
+}
+
+/// The paper of a feature, from the value of `%%BeginFeature:`: the first known name after `*PageSize`, `*PaperSize` or
+/// `*PageRegion`. None for any other feature, or if no name is known.
+fn feature_paper(feature: &[u8]) -> Option<Paper>
+    ensures { result ≡ meaning.feature_paper (fields_in feature.now) }
+{
+    let (keyword, options) = next_field(feature)?;
+    if is_size_keyword(keyword) {
+        first_named(options)
+    } else {
+        None
+    }
+}
+
+/// Whether the features with this keyword are papers.
+fn is_size_keyword(keyword: &[u8]) -> bool
+    ensures { result ≡ meaning.is_size_keyword keyword.now }
+{
+    keyword == b"*PageSize".as_slice()
+        || keyword == b"*PaperSize".as_slice()
+        || keyword == b"*PageRegion".as_slice()
 }
 
 /// The paper that a line asks for: its width and its height in points, in brackets after the line's first `/PageSize`.
