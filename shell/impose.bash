@@ -27,6 +27,9 @@ _impose_options_of() {
     esac
 }
 
+# The options that impose-pdf has besides.
+_impose_options_of_pdfs='--each --suffix'
+
 # The values of an option, if some can be offered; its status is 1 for one that takes none.
 _impose_values_of() {
     case "$1" in
@@ -44,7 +47,8 @@ _impose_values_of() {
         --numbers-from) echo '1 2 3' ;;
         --creep) echo '.5mm 1mm 2mm' ;;
         --signature) echo 'auto 4 8 12 16 20 24 28 32' ;;
-        --pages | --preview) ;;
+        --pages | --preview | --each) ;;
+        --suffix) echo '-booklet -sheets' ;;
         *) return 1 ;;
     esac
 }
@@ -59,9 +63,11 @@ _impose_files() {
 }
 
 _impose() {
+    local of_pdfs=''
     local cur=${COMP_WORDS[COMP_CWORD]} before=${COMP_WORDS[COMP_CWORD - 1]} command='' is_behind='' number=0 at word values
     local patterns=('*.[pP][sS]' '*.[eE][pP][sS]')
     if [ "${1##*/}" = impose-pdf ]; then
+        of_pdfs=$_impose_options_of_pdfs
         patterns=('*.[pP][dD][fF]' '*.[jJ][pP][gG]' '*.[jJ][pP][eE][gG]' '*.[pP][nN][gG]')
     fi
     COMPREPLY=()
@@ -84,10 +90,13 @@ _impose() {
     done
     if [ -z "$is_behind" ] && [ "$before" = --preview ]; then
         _impose_files '*.svg'
+    elif [ -z "$is_behind" ] && [ "$before" = --each ]; then
+        compopt -o filenames 2>/dev/null
+        COMPREPLY=($(compgen -d -- "$cur"))
     elif [ -z "$is_behind" ] && values=$(_impose_values_of "$before"); then
         COMPREPLY=($(compgen -W "$values" -- "$cur"))
     elif [ -z "$is_behind" ] && [ "${cur:0:1}" = - ]; then
-        COMPREPLY=($(compgen -W "$(_impose_options_of "$command")" -- "$cur"))
+        COMPREPLY=($(compgen -W "$(_impose_options_of "$command") ${command:+$of_pdfs}" -- "$cur"))
     elif [ -z "$command" ]; then
         COMPREPLY=($(compgen -W "$_impose_commands" -- "$cur"))
     else

@@ -26,7 +26,7 @@ ROOT = Path(__file__).resolve().parent.parent.parent
 PDFS = ROOT / "cases/pdfs"
 SETTINGS = (
     *("stdin", "limit", "stdout", "signal", "user", "rights", "umask", "link", "file", "pipe", "text", "papersize"),
-    *("room", "open", "impose", "copies", "stack", "memory", "python", "sized", "traced", "needs"),
+    *("room", "open", "impose", "copies", "stack", "memory", "python", "sized", "traced", "needs", "folder"),
 )
 MOST_COMPARED = 1 << 28  # bytes
 MOST_SECONDS = 30  # of processor time, unless a case says how many: a wrong program may have no end
@@ -67,11 +67,24 @@ class Case:
         return next((line[1:] for line in self.settings if line[0] == name), None)
 
     @property
+    def outfiles(self) -> list[tuple[str, str]]:
+        """The OUTFILEs of a run that has one for each INFILE, and these."""
+        pairs = (rest.split(" of ") for word, rest, _ in self.wanted if word == "outfile")
+        return [(outfile, infile) for outfile, infile in pairs]
+
+    @property
     def inputs(self) -> list[tuple[str, str]]:
+        """The documents of OUTFILE, or of the first of several, each with the ranges after it."""
+        own = {infile for _, infile in self.outfiles[:1]}
+        return [(name, ranges) for name, ranges in self.named if not own or name in own]
+
+    @property
+    def named(self) -> list[tuple[str, str]]:
         """The documents that the command names, each with the ranges after it; OUTFILE, the last word, isn't read."""
         looks = {"--plan", "--preview", "--print-spec"} & set(self.words)
         words, stdin, found = self.words, self.setting("stdin"), list[tuple[str, str]]()
-        if not looks or sum(word.endswith(".pdf") for word in words) > 1:
+        is_each = any(word.startswith(("--each", "--suffix")) for word in words)
+        if not is_each and (not looks or sum(word.endswith(".pdf") for word in words) > 1):
             words = words[:-1]
         for word in words:
             name = stdin[0] if word == "-" and stdin else word
@@ -118,7 +131,7 @@ class Run:
 
     @property
     def out(self) -> Path:
-        return self.folder / self.case.words[-1]
+        return self.folder / [*self.case.outfiles, (self.case.words[-1], "")][0][0]
 
 
 def unescaped(word: str) -> str:
@@ -163,7 +176,7 @@ def read(path: Path) -> list[Case]:
 
 def prepared(case: Case, folder: Path) -> None:
     """Puts the files of a case into its folder."""
-    for word, _ in case.inputs:
+    for word, _ in case.named:
         if ["pipe", word] in case.settings:
             os.mkfifo(folder / word)
             threading.Thread(target=fed, args=(folder / word, case.documents[word].data), daemon=True).start()
@@ -172,6 +185,8 @@ def prepared(case: Case, folder: Path) -> None:
     for kind, *rest in case.settings:
         if kind == "sized":
             os.truncate(folder / rest[0], int(rest[1]))
+        elif kind == "folder":
+            (folder / rest[0]).mkdir()
         elif kind == "file":
             (folder / unescaped(rest[0])).write_bytes(case.documents[rest[1]].data)
         elif kind == "copies":

@@ -79,7 +79,7 @@ class Output:
     @cached_property
     def path(self) -> Path:
         """OUTFILE, or standard output in a file."""
-        if self.case.words[-1] != "-":
+        if self.run.out.name != "-":
             return self.run.out
         path = self.run.folder.parent / "output.pdf"
         path.write_bytes(self.run.output)
@@ -140,12 +140,13 @@ def always(output: Output, is_told: bool) -> Iterator[str]:
     run = output.run
     if "Traceback" in run.error and run.case.setting("traced") is None:
         yield "a traceback: " + run.error.strip().split("\n")[-1]
-    after, made = contents(run.folder), set(run.case.words) if run.status == 0 else set()
+    after, made = contents(run.folder), {name for name, _ in run.case.outfiles}
+    made |= set(run.case.words) if run.status == 0 else set()
     for name in sorted(run.before.keys() | after.keys()):
         if run.before.get(name) != after.get(name) and name not in made and not is_told:
             yield f"{name} is " + ("left" if name not in run.before else "gone" if name not in after else "changed")
     yield from (f"{name} is left in TMPDIR" for name in contents(run.folder.parent / "tmp"))
-    if run.status == 0 and not (LOOKS | TELLS) & set(run.case.words):
+    if (run.status == 0 or run.case.outfiles) and not (LOOKS | TELLS) & set(run.case.words):
         yield from sound(output)
 
 
@@ -263,6 +264,14 @@ def _changes(output: Output, rest: str, _: list[str]) -> Iterator[str]:
     """That a file was replaced; `always` leaves it out then."""
     if contents(output.run.folder).get(rest) == output.run.before.get(rest):
         yield f"{rest} is as it was"
+
+
+@check("outfile")
+def _outfile(output: Output, rest: str, _: list[str]) -> Iterator[str]:
+    """`outfile NAME of INFILE`: that OUTFILE is there; all else is wanted of the first of several."""
+    name = rest.split(" of ")[0]
+    if not (output.run.folder / name).is_file():
+        yield f"there is no {name}"
 
 
 # Where pages are.

@@ -8,6 +8,7 @@ from __future__ import annotations
 import re
 import subprocess
 from collections import Counter
+from collections.abc import Iterator
 from dataclasses import dataclass, field
 
 Size = tuple[float, float]
@@ -63,9 +64,22 @@ def document(sizes: list[Size]) -> bytes:
     return "\n".join([*lines, "%%EOF", ""]).encode()
 
 
+OWN = {"--replace": 0, "--each": 1, "--suffix": 1}  # options that impose doesn't have, and how many words follow each
+
+
+def for_impose(words: list[str]) -> Iterator[str]:
+    """The words that impose has."""
+    left = iter(words)
+    for word in left:
+        if (name := word.partition("=")[0]) not in OWN:
+            yield word
+        elif name == word and OWN[name]:
+            next(left)
+
+
 def run(impose: str, words: list[str], sizes: list[Size]) -> subprocess.CompletedProcess[bytes]:
     """impose with these words, over such a document."""
-    words = [word for word in words if word != "--replace"]  # which is of impose-pdf alone
+    words = list(for_impose(words))
     return subprocess.run([impose, *words, "-", "-"], input=document(sizes), capture_output=True, timeout=60)
 
 

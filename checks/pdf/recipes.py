@@ -45,13 +45,18 @@ def told() -> list[str]:
     return list(dict.fromkeys(html.unescape(line.strip()) for line in found))
 
 
+def is_typed(line: str) -> bool:
+    """Whether a shell has to read a line, or it makes several PDFs."""
+    return bool(set("|;&<>*") & set(line)) or "--suffix" in line
+
+
 def cases() -> list[Case]:
     """A case for each line; one without a pipe is looked at in full."""
     documents = {name: Document(lines, 1 + at % 13) for at, (name, lines) in enumerate(DOCUMENTS.items())}
     found = []
     for number, line in enumerate(told(), 1):
         case = Case("recipes", number, line, line, documents)
-        is_plain = not set("|;&<>*") & set(line)
+        is_plain = not is_typed(line)
         looks = checks.LOOKS & set(shlex.split(line)) if is_plain else set()
         if is_plain and not looks:
             # Words that a sheet or a paper cuts off are on no sheet.
@@ -67,7 +72,7 @@ def tried(case: Case, programs: Programs) -> list[str]:
     """The faults of a recipe."""
     folder = Path(tempfile.mkdtemp())
     try:
-        if "--preview" in case.command or set("|;&<>*") & set(case.command):
+        if "--preview" in case.command or is_typed(case.command):
             return typed(case, programs, folder)
         return checks.faults(ran(case, programs, folder))
     finally:

@@ -8,11 +8,13 @@ import signal
 import subprocess
 import traceback
 import warnings
+from collections.abc import Callable
 from contextlib import suppress
 
 from impose_pdf import words as said
 from impose_pdf.deep import deeply
 from impose_pdf.plan import Imposer, cannot_run, usual
+from impose_pdf.usage import USAGE
 from impose_pdf.wording import as_ours, help_of
 from impose_pdf.words import WITH_WORD, Refusal, Request, cause_of, refusal, shown
 
@@ -55,9 +57,14 @@ def main(words: list[str], here: str) -> int:
     if signal.getsignal(signal.SIGINT) != signal.SIG_IGN:
         signal.signal(signal.SIGINT, signal.SIG_DFL)
     warnings.simplefilter("ignore")  # of libraries, for programmers
+    open_more()
+    return status_of(lambda: run(words, here))
+
+
+def status_of(work: Callable[[], None]) -> int:
+    """Does what is to be done, says what goes wrong, and gives the exit status for it."""
     try:
-        open_more()
-        run(words, here)
+        work()
     except Refusal as refused:
         say(str(refused))
         return refused.status
@@ -92,14 +99,14 @@ def open_more() -> None:
 def run(words: list[str], here: str) -> None:
     """Does what the words ask for."""
     if not words:
-        raise Refusal(2, said.USAGE)
+        raise Refusal(2, USAGE)
     if words[0] in ("-h", "--help") or words == ["help"]:
-        put(said.USAGE.encode())
+        put(USAGE.encode())
         return
     request = said.read(words)
     if words[0] in ("help", "-V", "--version") or "--help" in request.options:
         return put(helped(words, imposer(here)))
-    if not request.infiles or not (request.outfile or request.looks):
+    if not request.infiles or not (request.outfile or request.looks or request.is_each):
         look_at_words(request, imposer(here))
         if request.infiles:
             raise refusal(2, f"OUTFILE is missing after {shown(request.infiles[0][0])}")
@@ -108,7 +115,17 @@ def run(words: list[str], here: str) -> None:
         import pikepdf  # noqa: F401
     except ImportError:
         raise refusal(3, "pikepdf is missing: install python3-pikepdf") from None
+    if request.is_each:
+        return impose_each(request, imposer(here))
     impose(request, imposer(here))
+
+
+def impose_each(request: Request, program: str) -> None:
+    """Puts the pages of each INFILE on sheets of its own."""
+    from impose_pdf import many
+
+    look_at_words(request, program)  # once for all
+    many.run(many.parted(request), lambda one: status_of(lambda: impose(one, program)), say)
 
 
 def helped(words: list[str], program: str) -> bytes:

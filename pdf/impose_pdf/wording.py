@@ -2,6 +2,8 @@
 
 import re
 
+from impose_pdf.usage import OPTIONS
+
 FILES = "INFILE [RANGES].. OUTFILE"
 OWN = (
     (r"\Aimpose: ", "impose-pdf: "),
@@ -30,4 +32,5 @@ def as_ours(text: str) -> str:
 def help_of(text: str) -> str:
     """The help of impose on a command as that of impose-pdf."""
     lines = [line for line in as_ours(text).splitlines() if not NOT_OURS.match(line)]
-    return "".join(f"{ARGUMENTS.get(line[:11], line)}\n" for line in lines)
+    options = f"\n{OPTIONS}" if any(line.startswith("Options:") for line in lines) else ""
+    return "".join(f"{ARGUMENTS.get(line[:11], line)}\n" for line in lines) + options

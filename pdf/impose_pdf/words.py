@@ -6,35 +6,6 @@ import shlex
 import traceback
 from dataclasses import dataclass, field
 
-USAGE = """\
-Puts the pages of PDFs on sheets of paper, and writes a PDF of the sheets
-
-Usage: impose-pdf COMMAND [OPTIONS] INFILE [RANGES].. OUTFILE
-
-COMMAND and its OPTIONS are those of impose: impose --help, impose-pdf booklet --help.
-Files come after them, OUTFILE last; - is standard input, and standard output.
-The pages of several INFILEs follow one another, as those of one document. RANGES after an
-INFILE are the pages that are taken of it, as 7, 3-9, 9-3, 5- or _1 (the last), with commas
-between them. A JPEG or a PNG is a page too.
-
-Pages are placed as they are: text, fonts, links and outlines, layers, attachments stay.
-With --plan or --preview no sheets are made: OUTFILE stays as it was, and may be
-left out. Every failure leaves it as it was, too. A document or image that impose-pdf didn't
-write, and that isn't an INFILE, is replaced only with --replace.
-
-Exit status:
-  0  the PDF was written, or a text printed
-  1  the PDF, the layout or the specification is refused
-  2  a bad command line
-  3  a program is missing or failed, or reading or writing failed, or out of memory
-
-Examples:
-  impose-pdf booklet in.pdf out.pdf           print on both sides, fold, staple
-  impose-pdf nup 4 --sheet a3 in.pdf out.pdf  four pages on each sheet of A3
-  impose-pdf select 3-9,12 in.pdf out.pdf     some pages
-  impose-pdf booklet a.pdf b.pdf out.pdf      a booklet of two PDFs
-  impose-pdf booklet a.pdf 1-3 b.pdf 5- out.pdf
-"""
 WANTED = "COMMAND, INFILE and OUTFILE are wanted; write: impose-pdf booklet in.pdf out.pdf"
 
 # Commands of impose that have a word of their own before the files, and its options that have a value.
@@ -43,6 +14,7 @@ WITH_VALUE = {
     *("--border", "--creep", "--gap", "--margin", "--marks", "--numbers", "--numbers-from", "--order", "--overlap"),
     *("--pages", "--paper", "--preview", "--scale", "--sheet", "--signature", "--skip", "--trim", "--turn", "--turned"),
 }
+OWN = {"--each", "--suffix"}  # options with a value that impose doesn't have
 LOOKS = ("--plan", "--preview", "--print-spec")
 LETTERS = {"p": "--paper", "q": "--quiet", "h": "--help", "V": "--version"}
 
@@ -93,12 +65,18 @@ class Request:
     infiles: list[tuple[str, str]] = field(default_factory=list)  # a name, and its RANGES or ''
     outfile: str = ""
     replaces: bool = False
+    own: dict[str, list[str]] = field(default_factory=dict)  # options that impose doesn't have, and their values
     lacks_word: bool = False  # that a command has before its files
 
     @property
     def looks(self) -> bool:
         """Whether a text or a drawing is asked for in place of sheets."""
         return any(option in self.options for option in LOOKS)
+
+    @property
+    def is_each(self) -> bool:
+        """Whether each INFILE has an OUTFILE of its own."""
+        return "--each" in self.own or "--suffix" in self.own
 
 
 def shown(name: str) -> str:
@@ -135,12 +113,16 @@ def read(words: list[str]) -> Request:
             request.replaces = True
         else:
             name, value, is_open = option_of(word)
-            request.words.append(word)
+            kept = [word]
             if is_open:
                 value = next(rest, "--")
-                if OPTION.match(value):
+                if OPTION.match(value) and (name != "--suffix" or value.startswith("--")):
                     raise refusal(2, f"{shown(word)} lacks its value")
-                request.words.append(value)
+                kept.append(value)
+            if name in OWN:
+                request.own.setdefault(name, []).append(value)
+                continue
+            request.words += kept
             request.options[name] = value
             if word.startswith("-q"):
                 request.options["--quiet"] = ""  # also in -qp a4
@@ -156,7 +138,7 @@ def option_of(word: str) -> tuple[str, str, bool]:
     """An option's name, its value as far as it is in the word, and whether the next word is its value."""
     if word.startswith("--"):
         name, sign, value = word.partition("=")
-        return name, value, name in WITH_VALUE and not sign
+        return name, value, name in WITH_VALUE | OWN and not sign
     letter, rest = word[1], word[2:]
     while letter == "q" and rest:
         letter, rest = rest[0], rest[1:]
@@ -175,6 +157,8 @@ def name_files(request: Request, names: list[str]) -> None:
             raise refusal(2, f"RANGES have no blank pages; --pages {name} has; ./{name} names a file")
         else:
             files.append((name, ""))
+    if request.is_each:
+        return
     if files and files[-1][1] and not request.looks:
         raise refusal(
             2, f"OUTFILE is missing after {shown(files[-1][0])} {files[-1][1]}; ./{files[-1][1]} names a file"

@@ -1,0 +1,38 @@
+"""What impose-pdf --help prints."""
+
+OPTIONS = """\
+Options that impose doesn't have:
+  --each FOLDER   each INFILE has its own OUTFILE, in this folder
+  --suffix WORD   each INFILE has its own OUTFILE, with this added to its name
+"""
+USAGE = f"""\
+Puts the pages of PDFs on sheets of paper, and writes a PDF of the sheets
+
+Usage: impose-pdf COMMAND [OPTIONS] INFILE [RANGES].. OUTFILE
+       impose-pdf COMMAND [OPTIONS] --each FOLDER INFILE [RANGES]..
+
+COMMAND and its OPTIONS are those of impose: impose --help, impose-pdf booklet --help.
+Files come after them, OUTFILE last; - is standard input, and standard output.
+The pages of several INFILEs follow one another, as those of one document. RANGES after an
+INFILE are the pages that are taken of it, as 7, 3-9, 9-3, 5- or _1 (the last), with commas
+between them. A JPEG or a PNG is a page too.
+
+Pages are placed as they are: text, fonts, links and outlines, layers, attachments stay.
+With --plan or --preview no sheets are made: OUTFILE stays as it was, and may be
+left out. Every failure leaves it as it was, too. A document or image that impose-pdf didn't
+write, and that isn't an INFILE, is replaced only with --replace.
+
+{OPTIONS}
+Exit status:
+  0  the PDF was written, or a text printed
+  1  the PDF, the layout or the specification is refused
+  2  a bad command line
+  3  a program is missing or failed, or reading or writing failed, or out of memory
+
+Examples:
+  impose-pdf booklet in.pdf out.pdf           print on both sides, fold, staple
+  impose-pdf nup 4 --sheet a3 in.pdf out.pdf  four pages on each sheet of A3
+  impose-pdf select 3-9,12 in.pdf out.pdf     some pages
+  impose-pdf booklet a.pdf b.pdf out.pdf      a booklet of two PDFs
+  impose-pdf booklet a.pdf 1-3 b.pdf 5- out.pdf
+"""
