@@ -4,7 +4,7 @@
 ghost use Rattle.std.specs.Prelude.{◌≡◌, []};
 
 use impose_cli::{
-    Ended, ImposeFault, ReportText, RequestFault, fault_status, impose, text_of_fault, text_said,
+    Ended, ImposeFault, RequestFault, empty_report, fault_status, impose, text_of_fault, text_said,
 };
 use std::alloc::Global;
 use std::env;
@@ -15,7 +15,7 @@ use world::{Host, World, report_line};
 
 fn main(rt: HostRuntime) -> ExitCode {
     // Memory for the report is reserved before the run.
-    let report = match ReportText::new(rt.alloc()) {
+    let report = match empty_report(rt.alloc()) {
         Ok(report) => report,
         Err(_) => return end_with(&rt, ImposeFault::no_memory()),
     };
@@ -49,11 +49,11 @@ fn main(rt: HostRuntime) -> ExitCode {
 /// printed. If standard error was closed at the start, its file descriptor may have been given to the output.
 fn said<W: World>(
     alloc: Global,
-    report: ReportText,
+    report: Vec<u8>,
     ended: Ended<W>,
     words: &[String],
 ) -> (Vec<u8>, u8)
-    requires { report ≡ [] }
+    requires { report.items ≡ [] }
 {
     let text = text_said(alloc, report, &ended.outcome, ended.request.as_ref(), words);
     (text, ended.status())
@@ -81,5 +81,5 @@ fn paper_size(rt: &(impl Env + AllocGlobal)) -> String {
 fn end_with(rt: &HostRuntime, fault: ImposeFault) -> ExitCode {
     let status = fault_status(&fault);
     let text = text_of_fault(rt.alloc(), &fault, None, &[]);
-    ExitCode::from(report_line(&mut rt.stderr(), text.as_str().as_bytes(), status))
+    ExitCode::from(report_line(&mut rt.stderr(), text.as_slice(), status))
 }

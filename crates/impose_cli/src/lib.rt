@@ -17,8 +17,8 @@ mod taken;
 
 pub use guard::RoomyText;
 pub use impose_messages::{
-    Claims, Compression, Done, Findings, Finished, ImposeFault, PaperOrigin, ReportText, Scales,
-    command_text, fault_status, fault_text, text_of_fault, text_said, words_text,
+    Claims, Compression, Done, Findings, Finished, ImposeFault, PaperOrigin, Scales, command_text,
+    empty_report, fault_status, fault_text, text_of_fault, text_said, words_text,
 };
 pub use impose_words::{
     CellCommand, IdleOption, ImposeRequest, Layout, OptionId, PageChoice, Product, ProductOption,

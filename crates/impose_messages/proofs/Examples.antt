@@ -1,5 +1,5 @@
 -- Exit statuses, and what is said, worked out.
-use Rattle.std.proofs.Common.{◌≡◌, true, false, [], ◌∷◌, refl, map}
+use Rattle.std.proofs.Common.{◌≡◌, false, [], ◌∷◌, refl, map}
 use Rattle.std.specs.Prelude.{ℤ, List, codes, neg_ℤ, pos, Some}
 use Rattle.std.specs.Fmt.{digits}
 use Rattle.layouts.specs.Placed.{bare}
@@ -7,7 +7,7 @@ use Rattle.layouts.specs.declared.error.ArrangementError.TheVariants as layout
 use Rattle.impose_messages.specs.declared.fault.ImposeFault.TheVariants as fault
 use Rattle.impose_messages.specs.Scales.{scales_of}
 use Rattle.impose_messages.specs.Statuses.{fault_status}
-use Rattle.impose_messages.specs.Said.{edges_text, is_pdf_name, shown_name, paper_size_text, unknown_text}
+use Rattle.impose_messages.specs.Said.{edges_text, shown_name, paper_size_text, unknown_text}
 use Rattle.rules.specs.Made.{Blank, MadeSheet, MadeSlot, Placed}
 use Rattle.rules.specs.Papers.{points}
 use Rattle.rules.specs.Specification.{Upright, zero_points}
@@ -30,15 +30,6 @@ before_the_corner = refl
 -- what a terminal might take for more than letters isn't shown
 unknown_bytes : unknown_text (Some (shown_name (27 ∷ 91 ∷ 127 ∷ 200 ∷ []))) ≡ Some (codes "the document names an unknown paper, ?[??")
 unknown_bytes = refl
-
-pdf_in_capitals : is_pdf_name (codes "a.PDF") ≡ true
-pdf_in_capitals = refl
-
-pdf_in_both : is_pdf_name (codes "a.Pdf") ≡ false
-pdf_in_both = refl
-
-pdf_before_the_end : is_pdf_name (codes "a.pdf.ps") ≡ false
-pdf_before_the_end = refl
 
 -- Scales of pages.
 

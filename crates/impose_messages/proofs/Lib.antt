@@ -1,7 +1,5 @@
-mod Short
 mod OneByOne
 mod Pieces
-mod Noted
 mod NoRoom
 pub mod Examples
 mod InputExamples

@@ -1,5 +1,7 @@
 -- Texts that are put after others, piece by piece.
 use Rattle.std.proofs.Common.{◌≡◌, ◌∙◌, ◌++◌, ℕ, List, ap, append_assoc}
+use Rattle.std.specs.Prelude.{OnOk, Result, Ok, Err, if◌then◌else◌}
+use Rattle.std.specs.Result.{is_ok}
 
 pub two : (o a b l t : List ℕ) → l ≡ o ++ a → t ≡ l ++ b → t ≡ o ++ (a ++ b)
 two o a b l t before is = is ∙ ap (λ (x : List ℕ). x ++ b) before ∙ append_assoc o a b
@@ -23,3 +25,8 @@ pub seven : (o a b c d e f g l m n p q r t : List ℕ) → l ≡ o ++ a → m �
     → t ≡ o ++ (a ++ (b ++ (c ++ (d ++ (e ++ (f ++ g))))))
 seven o a b c d e f g l m n p q r t before one two_more three_more four_more five_more last =
     two o a (b ++ (c ++ (d ++ (e ++ (f ++ g))))) l t before (six l b c d e f g m n p q r t one two_more three_more four_more five_more last)
+
+-- what is appended, if it can be
+pub if_ok : {T E : Type 0} (r : Result T E) (now more old : List ℕ) → now ≡ (if is_ok r then more else old) → OnOk r (now ≡ more)
+if_ok (Ok x) now more old e = e
+if_ok (Err x) now more old e = tt

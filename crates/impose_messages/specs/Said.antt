@@ -1,10 +1,9 @@
 -- What is said on standard error of how the program ended: which lines, in which order, and what is in those of a finished run. Of
 -- messages of faults only one is here, and nothing of what is said of words that the command doesn't take.
 use Rattle.std.specs.Prelude.{⊤, ◌≡◌, ◌==◌, ◌⊎◌, ◌++◌, if◌then◌else◌, ℕ, List, [], Bool, true, false, Option, Some, None, Result, Ok, Err}
-use Rattle.std.specs.Prelude.{◌+◌, ◌-◌, ◌*◌, ◌/◌, ℤ, pos, int_le, codes, decimal, nat_abs, not, nat_eq, nat_le, nat_lt, ◌||◌, ◌&&◌, option_map, string_bytes}
+use Rattle.std.specs.Prelude.{◌+◌, ◌-◌, ◌*◌, ◌/◌, ℤ, pos, int_le, codes, decimal, nat_abs, not, nat_le, nat_lt, ◌&&◌, string_bytes}
 use Rattle.std.specs.Prelude.{String, length, map, min, take}
 use Rattle.std.specs.declared.alloc.Global.{Global}
-use Rattle.std.specs.List.{ends_with}
 use Rattle.std.specs.Ordering.{int_eq}
 use Rattle.std.specs.IoError.{error_kind}
 use Rattle.std.specs.declared.io.ErrorKind.{ErrorKind}
@@ -240,31 +239,6 @@ abbrev pub dependence_text : Option Dependence → (pages : ℕ) → Option (Lis
 dependence_text None pages = None
 dependence_text (Some dependence) pages = if depends dependence pages then Some (dependence_message dependence) else None
 
--- a file is named as a PDF
-abbrev pub is_pdf_name : (name : List ℕ) → Bool
-is_pdf_name name = ends_with nat_eq name (codes ".pdf") || ends_with nat_eq name (codes ".PDF")
-
--- for a file that isn't named as PostScript: that it holds PostScript, and how to make what its name promises
-abbrev pub advice_on : (name : List ℕ) → Option (List ℕ)
-advice_on name =
-    if is_pdf_name name then Some (codes " holds PostScript, not a PDF; for a PDF use: impose .. | ps2pdf -dAutoRotatePages=/None - ")
-    else (if ends_with nat_eq name (codes ".gz") then Some (codes " holds PostScript that isn't compressed; for that use: impose .. | gzip >")
-    else (if ends_with nat_eq name (codes ".svg") then Some (codes " holds PostScript, not an SVG; for a picture of the sheets use: impose .. --preview ")
-    else (if ends_with nat_eq name (codes ".eps") then Some (codes " holds whole sheets, not an EPS; for an EPS use: impose .. | eps2eps - ") else None)))
-
--- this of a file, by its name as it is shown
-abbrev pub note_text : (advice shown : List ℕ) → List ℕ
-note_text advice shown = shown ++ (advice ++ shown)
-
-abbrev pub IsNoteIf : (advice : Option (List ℕ)) → (message : Option (List ℕ)) → Type 0
-IsNoteIf None message = message ≡ None
-IsNoteIf (Some advice) message = (shown : List ℕ) × (message ≡ Some (note_text advice shown))
-
--- that the output is PostScript, if it is named as something else
-abbrev pub IsNote : (outfile : Option (List ℕ)) → (message : Option (List ℕ)) → Type 0
-IsNote None message = message ≡ None
-IsNote (Some name) message = IsNoteIf (advice_on name) message
-
 -- ---- the message of sheets without room for pages
 
 -- two lengths of so many 10^-5 of a point
@@ -329,14 +303,15 @@ run_lines finished r = let f = finished.findings in
     ++ line_of (cut_text f.cut f.page_paper) ++ line_of (reach_text f.reach) ++ line_of (pages_after_text f.after_trailer)
     ++ line_of (claim_text f.claims.pages finished.report.pages) ++ line_of (dependence_text f.claims.dependence finished.report.pages)
 
--- a line that the output is PostScript comes after what was said before, if it is named as something else
-abbrev pub AddsNote : (outfile : Option (List ℕ)) → (before after : List ℕ) → Type 0
-AddsNote outfile before after = (note : Option (List ℕ)) × IsNote outfile note × (after ≡ before ++ line_of note)
+-- after what was said before at most one line comes, with some message
+abbrev pub AddsOne : (before after : List ℕ) → Type 0
+AddsOne before after = AddsText (λ text. MaySay (λ message. ⊤) text) before after
 
--- A quiet request says nothing. Of another nothing is left out.
+-- A quiet request says nothing. Of another all these lines are said, and then one on the name of the output, if it is named as
+-- something else than PostScript. Without memory for the lines there is nothing.
 abbrev pub SaysUnless : (quiet : Bool) → Finished → ImposeRequest → (text : List ℕ) → Type 0
 SaysUnless true finished r text = text ≡ []
-SaysUnless false finished r text = AddsNote (option_map string_bytes r.outfile) (run_lines finished r) text
+SaysUnless false finished r text = (text ≡ []) ⊎ AddsOne (run_lines finished r) text
 
 abbrev pub SaysRun : Finished → ImposeRequest → (text : List ℕ) → Type 0
 SaysRun finished r text = SaysUnless r.is_quiet finished r text

@@ -35,10 +35,8 @@ impl ShownName {
         ShownName { text }
     }
 
-    /// The bytes to show, at most 102.
     pub(crate) fn as_slice(&self) -> &[u8]
-        ensures value { result.now ≡ self.now }
-        ensures short { length result.now ≤ 102 }
+        ensures { result.now ≡ self.now }
     {
         self.text.as_slice()
     }

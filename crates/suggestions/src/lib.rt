@@ -15,6 +15,6 @@ mod wordings;
 mod words;
 
 pub use mistakes::words_text;
-pub use shown::{MOST_SHOWN, shown_in_place, shown_word};
+pub use shown::{MOST_SHOWN, shown_word};
 pub use values::value_text;
 pub use words::{is_range, looks_like_file};

@@ -1,7 +1,4 @@
 //! Messages about words of the command line that the command doesn't take.
-ghost use Rattle.std.specs.Prelude.{IfOk, OnOk, string_bytes};
-ghost use Rattle.suggestions.specs.Shown.{IsLines};
-
 use crate::clap_text::{POINTER, Quoted, USAGE, is_tip_left_out, quoted_words};
 use crate::nearest::{COMMANDS, distance, nearest_command};
 use crate::other_programs::{FOR_COMMANDS, tip_on_other};
@@ -19,9 +16,7 @@ use std::alloc::{AllocError, Global};
 /// The message about a command line with words that the command doesn't take. `words` is the whole command line, with the program's name first. The
 /// message is clap's text without clap's own tips, and with a tip on the mistake if one is known. Hidden characters are escaped, and long words are
 /// cut. The only error is running out of memory.
-pub fn words_text(alloc: Global, error: &Error, words: &[String]) -> Result<String, AllocError>
-    ensures { IfOk result (λ said. IsLines (string_bytes said)) }
-{
+pub fn words_text(alloc: Global, error: &Error, words: &[String]) -> Result<String, AllocError> {
     let mut text = format!(in alloc; "{error}")?;
     for word in words {
         let word = word.as_str();
@@ -55,9 +50,7 @@ fn with_shown(alloc: Global, text: String, word: &str) -> Result<String, AllocEr
 
 /// Clap's text with `tip` inserted above the usage, or above the last line if the usage is missing or left out. An empty tip isn't inserted. Clap's
 /// own tips are left out, and so is the usage unless `keeps_usage` is true. Of blank lines that then follow one another, only the first is kept.
-fn with_tip(alloc: Global, text: &str, tip: &str, keeps_usage: bool) -> Result<String, AllocError>
-    ensures { IfOk result (λ said. IsLines (string_bytes said)) }
-{
+fn with_tip(alloc: Global, text: &str, tip: &str, keeps_usage: bool) -> Result<String, AllocError> {
     let mut out = String::new(alloc);
     let tip_line = format!(in alloc; "  tip: {tip}")?;
     let mut is_told = tip.is_empty();
@@ -67,24 +60,15 @@ fn with_tip(alloc: Global, text: &str, tip: &str, keeps_usage: bool) -> Result<S
         if is_tip_left_out(line) || line.is_empty() && follows_blank || is_usage && !keeps_usage {
             continue;
         }
-        let is_due = !is_told && (is_usage || line.starts_with(POINTER));
-        push_tip(&mut out, tip_line.as_str(), is_due)?;
-        is_told |= is_due;
+        if !is_told && (is_usage || line.starts_with(POINTER)) {
+            push_line(&mut out, tip_line.as_str())?;
+            push_line(&mut out, "")?;
+            is_told = true;
+        }
         push_line(&mut out, line)?;
         follows_blank = line.is_empty();
     }
     Ok(out)
-}
-
-/// Appends the line of a tip and a blank line, if the tip is due here.
-fn push_tip(out: &mut String, tip: &str, is_due: bool) -> Result<(), AllocError>
-    ensures { OnOk result (IsLines (string_bytes out.old) → IsLines (string_bytes out.new)) }
-{
-    if is_due {
-        push_line(out, tip)?;
-        push_line(out, "")?;
-    }
-    Ok(())
 }
 
 /// The tip that names a similar command or option. It is empty if none has a similar name.

@@ -1,12 +1,9 @@
 //! Messages about values that options and arguments don't take.
-ghost use Rattle.std.specs.Prelude.{IfOk, string_bytes};
-ghost use Rattle.suggestions.specs.Shown.{IsMessageOn};
-
 use crate::cell_values::cells_wording;
 use crate::length_values::{UNITS_IN_LISTS, length_wording, margin_wording, may_be_list};
 use crate::mistakes::begins_with_digit;
 use crate::paper_values::{paper_wording, ranges_wording};
-use crate::shown::{message_on, shown_word};
+use crate::shown::shown_word;
 use crate::wordings::{Wording, name_and_advice, refusal};
 use crate::words::{has_file_ending, is_range};
 use impose_words::{
@@ -14,13 +11,11 @@ use impose_words::{
 };
 use std::alloc::{AllocError, Global};
 
-/// The message about a text that the option or argument doesn't take as its value. The message shows this text as `shown_word` does, and has no
-/// hidden characters.
-pub fn value_text(alloc: Global, option: OptionId, text: &str) -> Result<String, AllocError>
-    ensures { IfOk result (λ said. IsMessageOn text.now (string_bytes said)) }
-{
-    let wording = wording_for(alloc, option, text)?;
-    message_on(alloc, wording.before.as_str(), text, wording.after.as_str())
+/// The message about a text that the option or argument doesn't take as its value. The message shows this text as `shown_word` does.
+pub fn value_text(alloc: Global, option: OptionId, text: &str) -> Result<String, AllocError> {
+    let Wording { before, after } = wording_for(alloc, option, text)?;
+    let shown = shown_word(alloc, text)?;
+    format!(in alloc; "{before}{shown}{after}")
 }
 
 /// The wording about a text that the option or argument doesn't take.

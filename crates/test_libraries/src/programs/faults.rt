@@ -14,6 +14,6 @@ pub fn reported(out: &mut Answer, words: &[String]) -> Option<()> {
     let said = text_of_fault(out.alloc, &fault, Some(&request), words);
     // A closed pipe has no message. Any other message is missing only if memory runs out for it.
     out.note(!said.is_empty() || name.starts_with("Write.BrokenPipe"));
-    out.text(said.as_str());
+    out.add_bytes(said.as_slice());
     Some(())
 }

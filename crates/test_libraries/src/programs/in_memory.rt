@@ -3,7 +3,7 @@ ghost use Rattle.std.specs.Prelude.{◌≡◌};
 
 use crate::answer::Answer;
 use crate::programs::in_folder::asked_for;
-use impose_cli::{Done, ReportText, Rest, impose, text_said};
+use impose_cli::{Done, Rest, empty_report, impose, text_said};
 use std::alloc::{AllocError, Global};
 use std::sync::Wait;
 use std::thread::Threads;
@@ -99,7 +99,7 @@ fn said_of<'w, R: Threads + Wait + Sync>(
     requires fresh { (⟦<Folder<'w> as World>⟧.seen world).failures ≡ 0 }
 {
     let alloc = out.alloc;
-    let (Ok(words), Ok(report)) = (owned(alloc, words), ReportText::new(alloc)) else {
+    let (Ok(words), Ok(report)) = (owned(alloc, words), empty_report(alloc)) else {
         out.note(false);
         return None;
     };

@@ -1,3 +1,0 @@
-pub mod Escapes
-pub mod Messages
-pub mod Examples
