@@ -15,7 +15,7 @@ from impose_pdf.looks import Looks
 from impose_pdf.losses import Losses
 from impose_pdf.pages import Box, bounds, common, leaves, number_of, shape_of, then
 from impose_pdf.plan import Matrix, Placed, Size
-from impose_pdf.reading import cause, opened, warnings_in
+from impose_pdf.reading import cause, check_reads, opened, warnings_in
 from impose_pdf.trees import named
 from impose_pdf.words import cause_of, pages_of, refusal, shown, told
 
@@ -34,6 +34,8 @@ class Source:
             raise refusal(1, f"{shown(name)} can't be read: {cause(error)}") from None
         except OSError as error:
             raise refusal(3, f"cannot read {shown(name)}: {cause_of(error)}") from None
+        finally:
+            check_reads()
         if not self.pages:
             raise refusal(1, f"{shown(name)} has no pages")
         self.keep_warnings()

@@ -23,19 +23,39 @@ FAILED: list[tuple[str, OSError]] = []  # INFILEs that couldn't be read to their
 
 
 class Infile(io.FileIO):
-    """A file that is read. A failure is kept, since qpdf takes it for damage, which it mends."""
+    """A file that is read. A failure is kept, since qpdf takes it for damage, which it mends.
 
-    def __init__(self, name: str):
-        super().__init__(0 if name == "-" else name, closefd=name != "-")
-        self.label = shown(name)
+    A seek can't fail: a file is read where that leads, and nothing else is sought in.
+    """
+
+    def __init__(self, file: str | int, label: str):
+        super().__init__(file, closefd=file != 0)
+        found = os.fstat(self.fileno())
+        self.is_whole = stat.S_ISREG(found.st_mode) and super().tell() == 0
+        self.label, self.at, self.size = label, 0, found.st_size
 
     def readinto(self, buffer: Any) -> Any:
         """Reads what comes next."""
         try:
-            return super().readinto(buffer)
+            if not self.is_whole:
+                return super().readinto(buffer)
+            is_in_it = 0 <= self.at < self.size  # a damaged PDF may lead anywhere
+            data = os.pread(self.fileno(), len(buffer), self.at) if is_in_it else b""
         except OSError as error:
             FAILED.append((self.label, error))
             raise
+        buffer[: len(data)] = data
+        self.at += len(data)
+        return len(data)
+
+    def seek(self, offset: int, whence: int = os.SEEK_SET, /) -> int:
+        """Chooses what comes next."""
+        self.at = offset + {os.SEEK_SET: 0, os.SEEK_CUR: self.at, os.SEEK_END: self.size}[whence]
+        return self.at
+
+    def tell(self) -> int:
+        """Where what comes next is."""
+        return self.at
 
 
 def check_reads() -> None:
@@ -47,8 +67,8 @@ def check_reads() -> None:
 def opened(name: str) -> Pdf:
     """An INFILE as a PDF that may be printed."""
     try:
-        stream = io.BufferedReader(Infile(name), PART)
-        is_file = stat.S_ISREG(os.fstat(stream.fileno()).st_mode) and stream.tell() == 0
+        infile = Infile(0 if name == "-" else name, shown(name))
+        stream = io.BufferedReader(infile, PART)
         first = stream.read(HEAD)
     except FileNotFoundError:
         of_ranges = "ranges come after select, as in: select 1-3 in.pdf, or else after their INFILE"
@@ -62,7 +82,7 @@ def opened(name: str) -> Pdf:
     if not is_image and b"%PDF-" not in first:
         kind = "PostScript, not a PDF; use impose" if POSTSCRIPT.match(first) else "not a PDF"
         raise refusal(1, f"{shown(name)} is {kind}")
-    whole = stream if is_file else held(name, first, stream)
+    whole = stream if infile.is_whole else held(name, first, stream)
     whole.seek(0)
     return image(name, whole) if is_image else unlocked(name, whole)
 
@@ -79,19 +99,19 @@ def held(name: str, first: bytes, stream: IO[bytes]) -> IO[bytes]:
             if kept.tell() + len(part) > MOST_HELD:
                 raise refusal(1, f"{shown(name)} has more than {MOST_HELD >> 30} GiB; name a file that has it")
             kept.write(part)
-        kept.flush()
+        kept.seek(0)
+        return io.BufferedReader(Infile(os.dup(kept.fileno()), shown(name)), PART)
     except OSError as error:
         raise refusal(3, f"cannot read {shown(name)} into a temporary file: {cause_of(error)}") from None
-    return kept
 
 
 def image(name: str, stream: IO[bytes]) -> Pdf:
     """An INFILE that is an image as a PDF."""
     try:
-        if stream.seek(0, os.SEEK_END) > MOST_OF_IMAGE:
+        if (size := stream.seek(0, os.SEEK_END)) > MOST_OF_IMAGE:
             raise ValueError(f"it has more than {MOST_OF_IMAGE >> 30} GiB")
         stream.seek(0)
-        return images.pdf_of(stream.read())
+        return images.pdf_of(stream.read(size))
     except (ValueError, LookupError, OSError, SyntaxError) as error:
         raise refusal(1, f"the image {shown(name)} can't be read: {cause(error)}") from None
 
