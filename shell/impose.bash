@@ -28,7 +28,7 @@ _impose_options_of() {
 }
 
 # The options that impose-pdf has besides.
-_impose_options_of_pdfs='--each --suffix'
+_impose_options_of_pdfs='--bleed --box --each --suffix'
 
 # The values of an option, if some can be offered; its status is 1 for one that takes none.
 _impose_values_of() {
@@ -48,6 +48,8 @@ _impose_values_of() {
         --creep) echo '.5mm 1mm 2mm' ;;
         --signature) echo 'auto 4 8 12 16 20 24 28 32' ;;
         --pages | --preview | --each) ;;
+        --box) echo 'art bleed crop media trim' ;;
+        --bleed) echo '3mm 5mm .125in' ;;
         --suffix) echo '-booklet -sheets' ;;
         *) return 1 ;;
     esac

@@ -94,6 +94,8 @@ class Output:
         """The sheets that are pages themselves: each alone, where and as large as it is by itself, and there once."""
         if not self.case.inputs or any(self.case.documents[name].image for name, _ in self.case.inputs):
             return set(range(len(self.pdf.pages))) if self.case.words[0] == "select" else set()
+        if any(word.startswith(("--box", "--bleed")) for word in self.case.words):
+            return set()
         names = [name for name, _ in self.case.inputs]
         row = [(name, page) for name, source in zip(names, self.sources) for page in source.taken]
         uses = Counter(row[placed.page] for sheet in self.sheets for placed in sheet.pages)
@@ -359,6 +361,14 @@ def _place(output: Output, rest: str, below: list[str]) -> Iterator[str]:
         for square in pictures.squares(placed, made, number)[:4]:
             if pictures.is_on(laid, *square.middle) and not pictures.near(picture.at(*square.middle), square.colour):
                 yield f"sheet {sheet}: {square.name} isn't at {square.middle[0]:.1f} {square.middle[1]:.1f}"
+
+
+@check("box")
+def _box(output: Output, rest: str, _: list[str]) -> Iterator[str]:
+    """`box SHEET KEY LEFT BOTTOM RIGHT TOP`: a box of a sheet."""
+    sheet, key, *sides = rest.split()
+    found = [round(float(side), 2) for side in output.pdf.pages[int(sheet) - 1].obj.get(key, [])]
+    yield from differs(key, found, [float(side) for side in sides])
 
 
 @check("turned")

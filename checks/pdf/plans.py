@@ -64,7 +64,13 @@ def document(sizes: list[Size]) -> bytes:
     return "\n".join([*lines, "%%EOF", ""]).encode()
 
 
-OWN = {"--replace": 0, "--each": 1, "--suffix": 1}  # options that impose doesn't have, and how many words follow each
+OWN = {
+    "--replace": 0,
+    "--each": 1,
+    "--suffix": 1,
+    "--box": 1,
+    "--bleed": 1,
+}  # options that impose doesn't have, and how many words follow each
 
 
 def for_impose(words: list[str]) -> Iterator[str]:

@@ -13,7 +13,7 @@ from impose_pdf.labels import Labels
 from impose_pdf.links import Ways
 from impose_pdf.looks import Looks
 from impose_pdf.losses import Losses
-from impose_pdf.pages import Box, bounds, common, leaves, number_of, shape_of, then
+from impose_pdf.pages import Box, Choice, bounds, common, leaves, number_of, shape_of, then
 from impose_pdf.plan import Matrix, Placed, Size
 from impose_pdf.reading import cause, check_reads, opened, warnings_in
 from impose_pdf.trees import named
@@ -25,8 +25,8 @@ LEAST, MOST = 1, 100_000  # points: the sides of pages that impose knows
 class Source:
     """An INFILE: its pages, and their shapes."""
 
-    def __init__(self, name: str):
-        self.name, self.found = name, list[Any]()
+    def __init__(self, name: str, choose: Choice | None = None):
+        self.name, self.found, self.choose = name, list[Any](), choose
         try:
             self.pdf = opened(name)
             self.find_pages()
@@ -47,7 +47,7 @@ class Source:
         tree = self.root.get("/Pages")
         self.pages = list(leaves(self.pdf))
         self.counted = number_of(tree.get("/Count"), 0) if isinstance(tree, Dictionary) else 0
-        self.shapes = [shape_of(page, entries) for page, entries in self.pages]
+        self.shapes = [shape_of(page, entries, self.choose) for page, entries in self.pages]
         self.looks = Looks(self.pdf)
 
     def taken(self, ranges: str) -> list[int]:

@@ -83,7 +83,7 @@ class Forms:
         streams, group = streams_of(page), self.group(page)
         resources = resources if isinstance(resources, Dictionary) else Dictionary()
         parts = tuple(stream.objgen for stream in streams), None if over is None else over.objgen
-        key = (*parts, resources.unparse(), group and group.unparse(), shape.box, shape.matrix)
+        key = (*parts, resources.unparse(), group and group.unparse(), shape.drawn, shape.matrix)
         if key not in self.made:
             form = self.form(self.contents(streams, number), resources, shape)
             self.leave_out([form])
@@ -118,7 +118,7 @@ class Forms:
     def form(self, stream: Any, resources: Any, shape: Shape) -> Any:
         """A stream made a form of a page's shape."""
         stream.Type, stream.Subtype, stream.Resources = Name.XObject, Name.Form, resources
-        stream.BBox, stream.Matrix = array(*shape.box), array(*shape.matrix)
+        stream.BBox, stream.Matrix = array(*shape.drawn), array(*shape.matrix)
         return stream
 
     def contents(self, streams: list[Any], number: int) -> Any:
@@ -156,5 +156,6 @@ class Forms:
         boxes = zip(*(extent(form, matrix) for form, matrix, _ in notes))
         left, bottom, right, top = (choose(sides) for choose, sides in zip((min, min, max, max), boxes))
         both = Dictionary(XObject=Dictionary(forms), Properties=Dictionary(layers))
-        shape = Shape((left, bottom, right, top), UPRIGHT, (right - left, top - bottom))
+        box = left, bottom, right, top
+        shape = Shape(box, UPRIGHT, (right - left, top - bottom), box)
         return self.form(self.pdf.make_stream("".join(drawn).encode()), both, shape)

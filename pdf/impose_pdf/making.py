@@ -30,7 +30,8 @@ PRODUCER = "impose-pdf"  # the mark by which its own sheets are known
 class Making:
     """Sheets being made of the pages of INFILEs, which follow one another in a row."""
 
-    def __init__(self, row: list[tuple[Source, int]]):
+    def __init__(self, row: list[tuple[Source, int]], draws: bool = False):
+        self.draws = draws  # something on pages that isn't theirs, or a part of them
         self.row, self.sources, self.pdf = row, list(dict.fromkeys(source for source, _ in row)), row[0][0].pdf
         self.annotations: dict[object, Any] = {}  # of sheets, by the links on them and their places
         for source in self.sources:
@@ -44,7 +45,7 @@ class Making:
             source.find_unshown(shown)
         if any(sheet.numbers for sheet in sheets):
             self.font = Dictionary(Numbers=digits.font(self.pdf))
-        kept = self.kept(sheets) if not turned else set[int]()
+        kept = self.kept(sheets) if not turned and not self.draws else set[int]()
         self.whole.is_tagged = len(self.sources) == 1 and len(kept) == len(self.sources[0].pages)
         sheets = [sheet if k in kept else in_units(sheet) for k, sheet in enumerate(sheets)]
         pages = [self.kept_page(sheet) if k in kept else self.page(sheet, turned) for k, sheet in enumerate(sheets)]
@@ -115,6 +116,8 @@ class Making:
             resources.Font = self.font
         made = Dictionary(Type=Name.Page, MediaBox=array(0, 0, *sheet.paper), Resources=resources)
         made.Contents = self.pdf.make_stream(drawing(sheet))
+        for key, box in sheet.boxes.items():
+            made[key] = array(*box)
         if turned:
             made.Rotate = turned
         if sheet.unit > 1:

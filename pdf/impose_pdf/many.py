@@ -27,8 +27,9 @@ def parted(request: Request) -> list[Request]:
         raise refusal(2, f"--suffix is added to names, as -booklet: 1 to {LONGEST} signs without a slash")
     if "--each" in request.own and not os.path.isdir(folder):
         raise refusal(3, f"cannot write into {shown(folder) or 'a folder without a name'}: no such folder")
+    others = {name: values for name, values in request.own.items() if name not in ("--each", "--suffix")}
     requests = [
-        replace(request, infiles=[(name, ranges)], outfile=outfile_of(name, folder, suffix), own={})
+        replace(request, infiles=[(name, ranges)], outfile=outfile_of(name, folder, suffix), own=others)
         for name, ranges in request.infiles
     ]
     check_names(requests)

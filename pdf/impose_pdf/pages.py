@@ -1,6 +1,6 @@
 """Pages of a PDF: their boxes, how they are held, and their sizes."""
 
-from collections.abc import Iterable, Iterator
+from collections.abc import Callable, Iterable, Iterator
 from dataclasses import dataclass
 from math import isfinite
 from typing import Any
@@ -152,15 +152,21 @@ class Shape:
     box: Box
     matrix: Matrix
     size: Size
+    drawn: Box  # what of it may be printed
 
 
-def shape_of(page: Any, entries: dict[str, Any]) -> Shape:
-    """The shape of a page: its CropBox within its MediaBox, turned by /Rotate, times UserUnit."""
+Choice = Callable[[Any, Box, Box], tuple[Box, Box]]
+
+
+def shape_of(page: Any, entries: dict[str, Any], choose: Choice | None = None) -> Shape:
+    """The shape of a page: its CropBox within its MediaBox, or what is chosen, turned by /Rotate, times UserUnit."""
     media = box_of(entries.get("/MediaBox")) or LETTER
     media = media if media[0] < media[2] and media[1] < media[3] else LETTER
     crop = box_of(entries.get("/CropBox")) or media
     box = max(media[0], crop[0]), max(media[1], crop[1]), min(media[2], crop[2]), min(media[3], crop[3])
-    left, bottom, right, top = box = box if box[0] < box[2] and box[1] < box[3] else media
+    box = box if box[0] < box[2] and box[1] < box[3] else media
+    box, drawn = choose(page, media, box) if choose else (box, box)
+    left, bottom, right, top = box
     turn, unit = number_of(entries.get("/Rotate"), 0) % 360, number_of(page.get("/UserUnit"), 1)
     turned: dict[float, Matrix] = {
         90: (0, -1, 1, 0, -bottom, right),
@@ -170,4 +176,4 @@ def shape_of(page: Any, entries: dict[str, Any]) -> Shape:
     unit = unit if unit > 0 else 1
     matrix = then(turned.get(turn, (1, 0, 0, 1, -left, -bottom)), (unit, 0, 0, unit, 0, 0))
     width, height = round(unit * (right - left), 5), round(unit * (top - bottom), 5)
-    return Shape(box, matrix, (height, width) if turn in (90, 270) else (width, height))
+    return Shape(box, matrix, (height, width) if turn in (90, 270) else (width, height), drawn)

@@ -27,6 +27,13 @@ class Placed:
     matrix: Matrix
     paper: Size
     border: tuple[float, ...] = ()
+    beyond: tuple[float, float, float, float] = (0, 0, 0, 0)  # how far past each edge of the paper it may print
+
+    @property
+    def clip(self) -> tuple[float, float, float, float]:
+        """The rectangle at which it is cut: its corner, width and height."""
+        left, bottom, right, top = self.beyond
+        return -left, -bottom, self.paper[0] + left + right, self.paper[1] + bottom + top
 
 
 @dataclass
@@ -49,6 +56,7 @@ class Sheet:
     strokes: list[tuple[float, ...]] = field(default_factory=list)
     numbers: list[Number] = field(default_factory=list)
     unit: int = 1
+    boxes: dict[str, tuple[float, float, float, float]] = field(default_factory=dict)  # in which it is cut
 
 
 def read(text: str) -> list[Sheet]:

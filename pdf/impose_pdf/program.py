@@ -1,7 +1,6 @@
 """The program: reads pages, has impose lay them out, makes the sheets, and writes OUTFILE."""
 
 import os
-import re
 import resource
 import shutil
 import signal
@@ -10,13 +9,17 @@ import traceback
 import warnings
 from collections.abc import Callable
 from contextlib import suppress
+from typing import TYPE_CHECKING
 
 from impose_pdf import words as said
 from impose_pdf.deep import deeply
 from impose_pdf.plan import Imposer, cannot_run, usual
 from impose_pdf.usage import USAGE
-from impose_pdf.wording import as_ours, help_of
+from impose_pdf.wording import as_ours, help_of, reported
 from impose_pdf.words import WITH_WORD, Refusal, Request, cause_of, refusal, shown
+
+if TYPE_CHECKING:
+    from impose_pdf.extras import Extras
 
 A4 = 595.0, 842.0
 ENDINGS = (".pdf", ".png", ".jpg", ".jpeg")  # of words that name files
@@ -128,6 +131,15 @@ def impose_each(request: Request, program: str) -> None:
     many.run(many.parted(request), lambda one: status_of(lambda: impose(one, program)), say)
 
 
+def extras_of(request: Request) -> "Extras | None":
+    """What is asked for that impose doesn't do, if there is anything."""
+    if not request.own and "cut" not in request.options.get("--marks", ""):
+        return None
+    from impose_pdf.extras import Extras
+
+    return Extras(request)
+
+
 def helped(words: list[str], program: str) -> bytes:
     """impose's version, or its help on a command."""
     try:
@@ -166,11 +178,13 @@ def impose(request: Request, program: str) -> None:
     from impose_pdf.making import Making
     from impose_pdf.sheets import turn_to_read
 
+    extras = extras_of(request)
+    choose = extras.boxing.boxes if extras else None
     take_last(request)
     check_preview(request)
     outfile = None if request.looks else Outfile(request.outfile)
     try:
-        opened = {name: Source(name) for name in dict.fromkeys(name for name, _ in request.infiles)}
+        opened = {name: Source(name, choose) for name in dict.fromkeys(name for name, _ in request.infiles)}
         row = [(opened[name], k) for name, ranges in request.infiles for k in opened[name].taken(ranges)]
     except Refusal:
         look_at_words(request, program)
@@ -186,7 +200,9 @@ def impose(request: Request, program: str) -> None:
         sheets, report = imposer.sheets()
         outfile.check_owner(request)
         turned, flip = turn_to_read(request, sheets), imposer.flip()
-        making = Making(row)
+        if extras:
+            extras.dress(sheets, row)
+        making = Making(row, extras is not None and extras.draws)
         with blaming([name for name, _ in request.infiles], *OF_PIKEPDF):
             if len(opened) > 1:  # what is brought from one PDF to another is copied by recursion
                 deeply(lambda: making.make(sheets, turned, flip))
@@ -199,12 +215,3 @@ def impose(request: Request, program: str) -> None:
     say(warnings_of(list(opened.values())))
     all_pages = sum(len(source.pages) for source in opened.values())
     say(reported(report, len(set(sizes)) == 1, len(set(row)), all_pages))
-
-
-def reported(report: str, is_one_size: bool, taken: int, pages: int) -> str:
-    """impose's report, without what is of the stub alone, whose pages are those that RANGES take."""
-    report = re.sub(r", bytes \d+", "", report)
-    if taken < pages:
-        report = re.sub(r"^impose: pages \d+(?=,)", f"impose: pages {taken}", report)
-        report = re.sub(r"^(impose: pages \d+)( of \d+)?", rf"\1 of {pages}", report)
-    return report.replace(", by its %%DocumentMedia", "" if is_one_size else ", as most are")

@@ -19,7 +19,7 @@ def drawing(sheet: Sheet) -> bytes:
     """The content of a sheet: its pages, each cut at its paper and over its border, and then lines and numbers."""
     lines = []
     for placed in sheet.placed:
-        lines.append(f"q {numerals(*placed.matrix)} cm 0 0 {numerals(*placed.paper)} re W n")
+        lines.append(f"q {numerals(*placed.matrix)} cm {numerals(*placed.clip)} re W n")
         if placed.border:
             pen, *corners = placed.border
             path = " l ".join(numerals(*corners[k : k + 2]) for k in (2, 4, 6))

@@ -2,6 +2,8 @@
 
 OPTIONS = """\
 Options that impose doesn't have:
+  --box BOX       which box of a page is placed: crop, trim, bleed, media or art
+  --bleed LENGTH  the TrimBox of a page is placed, and what is around it printed so far
   --each FOLDER   each INFILE has its own OUTFILE, in this folder
   --suffix WORD   each INFILE has its own OUTFILE, with this added to its name
 """

@@ -34,3 +34,12 @@ def help_of(text: str) -> str:
     lines = [line for line in as_ours(text).splitlines() if not NOT_OURS.match(line)]
     options = f"\n{OPTIONS}" if any(line.startswith("Options:") for line in lines) else ""
     return "".join(f"{ARGUMENTS.get(line[:11], line)}\n" for line in lines) + options
+
+
+def reported(report: str, is_one_size: bool, taken: int, pages: int) -> str:
+    """impose's report, without what is of the stub alone, whose pages are those that RANGES take."""
+    report = re.sub(r", bytes \d+", "", report)
+    if taken < pages:
+        report = re.sub(r"^impose: pages \d+(?=,)", f"impose: pages {taken}", report)
+        report = re.sub(r"^(impose: pages \d+)( of \d+)?", rf"\1 of {pages}", report)
+    return report.replace(", by its %%DocumentMedia", "" if is_one_size else ", as most are")

@@ -1,0 +1,113 @@
+"""Which box of a page is placed, how far beyond it a page may print, and the boxes of sheets that are cut."""
+
+import re
+from typing import Any
+
+from impose_pdf.pages import Box, Shape, bounds, box_of, common
+from impose_pdf.plan import Matrix, Placed, Sheet
+from impose_pdf.words import Request, refusal, shown
+
+KINDS = {"media": "/MediaBox", "crop": "/CropBox", "bleed": "/BleedBox", "trim": "/TrimBox", "art": "/ArtBox"}
+LENGTH = re.compile(r"(\d{1,6}|\d{0,6}\.\d{1,9})(pt|mm|cm|in)|0")
+UNITS = {"pt": 1, "mm": 72 / 25.4, "cm": 72 / 2.54, "in": 72}
+NEAR = 1e-4  # points
+
+
+def length(option: str, word: str) -> float:
+    """The points of a length that an option has."""
+    if not (found := LENGTH.fullmatch(word)):
+        raise refusal(2, f"{option} wants a length with its unit, as 3mm, and got {shown(word)}")
+    return float(found[1]) * UNITS[found[2]] if found[1] else 0
+
+
+def inverse(m: Matrix) -> Matrix:
+    """The matrix that leads back."""
+    a, b, c, d, e, f = m
+    area = a * d - b * c
+    return d / area, -b / area, -c / area, a / area, (c * f - d * e) / area, (b * e - a * f) / area
+
+
+class Boxing:
+    """The box that is the page, and how far beyond it is printed."""
+
+    def __init__(self, request: Request):
+        own = request.own
+        self.bleed = length("--bleed", own["--bleed"][-1]) if "--bleed" in own else 0.0
+        kind = own.get("--box", ["trim" if "--bleed" in own else "crop"])[-1]
+        if kind not in KINDS:
+            raise refusal(2, f"--box is one of {', '.join(KINDS)}, and not {shown(kind)}")
+        if "--bleed" in own and "--trim" in request.options:
+            raise refusal(2, "--bleed and --trim both say where a page ends: leave one of them out")
+        self.key = KINDS[kind]
+
+    @property
+    def draws(self) -> bool:
+        """Whether pages aren't shown as they are by themselves."""
+        return self.key != "/CropBox" or self.bleed > 0
+
+    def boxes(self, page: Any, media: Box, crop: Box) -> tuple[Box, Box]:
+        """The page, and what of it may be printed, of a page with these boxes."""
+        known = {"/MediaBox": media, "/CropBox": crop}
+
+        def found(key: str) -> Box:
+            own = known.get(key) or box_of(page.get(key))
+            inner = common(own, media) if own else None
+            return inner if inner and inner[0] < inner[2] and inner[1] < inner[3] else crop
+
+        box, more = found(self.key), found("/BleedBox")
+        if self.bleed == 0:
+            return box, box
+        return box, (min(box[0], more[0]), min(box[1], more[1]), max(box[2], more[2]), max(box[3], more[3]))
+
+    def let_out(self, sheet: Sheet, shapes: list[Shape]) -> None:
+        """Lets the pages of a sheet print beyond their edges: to half the way to the next page, or the sheet's edge."""
+        places = [bounds((0, 0, *placed.paper), placed.matrix) for placed in sheet.placed]
+        for k, (placed, shape) in enumerate(zip(sheet.placed, shapes)):
+            room = self.room(places[k], places[:k] + places[k + 1 :], sheet.paper)
+            left, bottom, right, top = places[k]
+            whole = left - room[0], bottom - room[1], right + room[2], top + room[3]
+            seen = common(bounds(whole, inverse(placed.matrix)), bounds(shape.drawn, shape.matrix))
+            if seen:
+                width, height = placed.paper
+                placed.beyond = max(0, -seen[0]), max(0, -seen[1]), max(0, seen[2] - width), max(0, seen[3] - height)
+
+    def room(self, own: Box, others: list[Box], paper: tuple[float, float]) -> Box:
+        """How far a page may print beyond its left, lower, right and upper edge."""
+        spare = [own[0], own[1], paper[0] - own[2], paper[1] - own[3]]
+        for other in others:
+            for side in range(4):
+                at, across = side % 2, 1 - side % 2
+                is_beside = min(own[across + 2], other[across + 2]) - max(own[across], other[across]) > NEAR
+                gap = own[at] - other[at + 2] if side < 2 else other[at] - own[at + 2]
+                if is_beside and (own[at] + own[at + 2] > other[at] + other[at + 2]) == (side < 2):
+                    spare[side] = min(spare[side], gap / 2)
+        left, bottom, right, top = (max(0.0, min(self.bleed, one)) for one in spare)
+        return left, bottom, right, top
+
+
+def clipped(placed: Placed) -> Box:
+    """Where a page may print on its sheet."""
+    left, bottom, width, height = placed.clip
+    return bounds((left, bottom, left + width, bottom + height), placed.matrix)
+
+
+def give_boxes(sheet: Sheet, is_poster: bool) -> None:
+    """Gives a sheet that is cut its TrimBox, which its outermost cuts bound, and its BleedBox."""
+    upright = [x for x, _, other, _ in sheet.strokes if x == other]
+    level = [y for _, y, _, other in sheet.strokes if y == other]
+    pages = [bounds((0, 0, *placed.paper), placed.matrix) for placed in sheet.placed]
+    ends = [ends_of(cuts, pages, k, sheet.paper[k], is_poster) for k, cuts in enumerate((upright, level))]
+    (left, right), (bottom, top) = ends
+    sheet.boxes = {"/TrimBox": (left, bottom, right, top)}
+    for box in [clipped(placed) for placed in sheet.placed if any(placed.beyond)]:
+        left, bottom, right, top = min(left, box[0]), min(bottom, box[1]), max(right, box[2]), max(top, box[3])
+    sheet.boxes["/BleedBox"] = max(left, 0), max(bottom, 0), min(right, sheet.paper[0]), min(top, sheet.paper[1])
+
+
+def ends_of(cuts: list[float], pages: list[Box], k: int, side: float, is_poster: bool) -> tuple[float, float]:
+    """The outermost cuts, or a sheet's edges where it isn't cut outside of its pages."""
+    if is_poster:
+        return min(cuts, default=0), max(cuts, default=side)
+    low, high = min((box[k] for box in pages), default=side), max((box[k + 2] for box in pages), default=0)
+    before, behind = [at for at in cuts if at <= low + NEAR], [at for at in cuts if at >= high - NEAR]
+    return min(before, default=0), max(behind, default=side)
