@@ -141,13 +141,17 @@ def extras_of(request: Request) -> "Extras | None":
 
 
 def helped(words: list[str], program: str) -> bytes:
-    """impose's version, or its help on a command."""
+    """The version, or impose's help on a command."""
     try:
         done = subprocess.run([program, *words], capture_output=True, text=True, errors="replace")
     except OSError as error:
         raise cannot_run(program, error) from None
     if done.returncode:
         raise Refusal(min(done.returncode % 256, 3), as_ours(done.stderr))
+    if words[0] in ("-V", "--version"):
+        from impose_pdf.version import version
+
+        return version(done.stdout).encode()
     return help_of(done.stdout).encode()
 
 
