@@ -18,8 +18,6 @@ DOCUMENTS = {
     "in.pdf": ["page 595x842 times 12"],
     "one.pdf": ["page 595x842 times 5"],
     "two.pdf": ["page 595x842 times 3"],
-    "a.pdf": ["page 595x842 times 5"],
-    "b.pdf": ["page 595x842 times 7"],
     "fronts.pdf": ["page 595x842 times 6"],
     "backs.pdf": ["page 595x842 times 6"],
     "slides.pdf": ["page 842x595 times 12"],
