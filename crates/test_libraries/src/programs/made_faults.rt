@@ -75,6 +75,7 @@ fn other_fault_named(name: &str, written: u64) -> Option<ImposeFault> {
         "Plan.TooManyPages" => Some(ImposeFault::Run(RunError::Plan(PlanError::TooManyPages))),
         "Plan.TooManyPlaces" => Some(ImposeFault::Run(RunError::Plan(PlanError::TooManyPlaces))),
         "Sheets.TooManySheets" => Some(ImposeFault::Sheets(MadeError::TooManySheets)),
+        "Sheets.SlotsOutOfRange" => Some(ImposeFault::Sheets(MadeError::SlotsOutOfRange(0))),
         "Layout.CellsOutOfRange" => Some(ImposeFault::Layout(ArrangementError::CellsOutOfRange)),
         "Layout.ScaleOutOfRange" => Some(ImposeFault::Layout(ArrangementError::ScaleOutOfRange)),
         "Poster.TilesOutOfRange" => Some(ImposeFault::Poster(PosterError::TilesOutOfRange)),
