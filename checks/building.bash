@@ -33,7 +33,7 @@ look_for_rt() {
 
 # Installs packages by apt-get, if root calls this and isn't against it; succeeds if all are there then.
 install_packages() {
-    [ "$may_install" = yes ] && [ "$(id -u)" = 0 ] && command -v apt-get >/dev/null || return 1
+    [ "${may_install-}" = yes ] && [ "$(id -u)" = 0 ] && command -v apt-get >/dev/null || return 1
     printf 'Installing by apt-get: %s\n' "$*"
     { apt-get -qq update && DEBIAN_FRONTEND=noninteractive apt-get -qq -y install --no-install-recommends "$@"; } >/dev/null 2>&1 && return
     echo "apt-get can't install them; is there a network?"
