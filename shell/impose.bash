@@ -28,7 +28,7 @@ _impose_options_of() {
 }
 
 # The options that impose-pdf has besides.
-_impose_options_of_pdfs='--bleed --box --each --suffix'
+_impose_options_of_pdfs='--bleed --box --each --over --stamp --suffix --text --under'
 
 # The values of an option, if some can be offered; its status is 1 for one that takes none.
 _impose_values_of() {
@@ -47,7 +47,9 @@ _impose_values_of() {
         --numbers-from) echo '1 2 3' ;;
         --creep) echo '.5mm 1mm 2mm' ;;
         --signature) echo 'auto 4 8 12 16 20 24 28 32' ;;
-        --pages | --preview | --each) ;;
+        --pages | --preview | --each | --under | --over) ;;
+        --stamp) echo 'DRAFT COPY' ;;
+        --text) echo 'foot: head: outer-foot: inner-foot: centre:' ;;
         --box) echo 'art bleed crop media trim' ;;
         --bleed) echo '3mm 5mm .125in' ;;
         --suffix) echo '-booklet -sheets' ;;
@@ -92,6 +94,8 @@ _impose() {
     done
     if [ -z "$is_behind" ] && [ "$before" = --preview ]; then
         _impose_files '*.svg'
+    elif [ -z "$is_behind" ] && [[ $before == --under || $before == --over ]]; then
+        _impose_files '*.[pP][dD][fF]'
     elif [ -z "$is_behind" ] && [ "$before" = --each ]; then
         compopt -o filenames 2>/dev/null
         COMPREPLY=($(compgen -d -- "$cur"))

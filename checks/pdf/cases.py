@@ -26,7 +26,7 @@ ROOT = Path(__file__).resolve().parent.parent.parent
 PDFS = ROOT / "cases/pdfs"
 SETTINGS = (
     *("stdin", "limit", "stdout", "signal", "user", "rights", "umask", "link", "file", "pipe", "text", "papersize"),
-    *("room", "open", "impose", "copies", "stack", "memory", "python", "sized", "traced", "needs", "folder"),
+    *("room", "open", "impose", "copies", "stack", "memory", "python", "sized", "traced", "needs", "folder", "date"),
 )
 MOST_COMPARED = 1 << 28  # bytes
 MOST_SECONDS = 30  # of processor time, unless a case says how many: a wrong program may have no end
@@ -288,6 +288,8 @@ def ran(case: Case, programs: Programs, folder: Path) -> Run:
     }
     if case.setting("traced") is not None:
         env["IMPOSE_PDF_TRACE"] = "1"
+    if date := case.setting("date"):
+        env["SOURCE_DATE_EPOCH"] = date[0]
     if first := case.setting("python"):
         (folder / "sitecustomize.py").write_text(unescaped(first[0]))
         env["PYTHONPATH"] = str(folder)

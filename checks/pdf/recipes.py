@@ -30,6 +30,7 @@ DOCUMENTS = {
     "scan.pdf": ["page 595x842 times 4"],
     "cover.pdf": ["page 595x842 times 2"],
     "text.pdf": ["page 595x842 times 6"],
+    "letterhead.pdf": ["page 595x842"],
 }
 
 
@@ -45,7 +46,7 @@ def told() -> list[str]:
 
 def is_typed(line: str) -> bool:
     """Whether a shell has to read a line, or it makes several PDFs."""
-    return bool(set("|;&<>*") & set(line)) or "--suffix" in line
+    return bool(set("|;&<>*") & set(line)) or bool({"--suffix", "--text", "--stamp", "--under"} & set(line.split()))
 
 
 def cases() -> list[Case]:

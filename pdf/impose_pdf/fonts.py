@@ -2,7 +2,7 @@
 
 import re
 import zlib
-from collections.abc import Iterator
+from collections.abc import Iterable, Iterator
 from itertools import islice
 from math import isfinite
 from typing import Any
@@ -79,13 +79,12 @@ class Font:
 
 
 class Borrowed(Font):
-    """Letters of a font of this machine: those of a block of Unicode that it has."""
+    """Letters of a font of this machine: those of some that it has."""
 
     digits = 4
 
-    def __init__(self, pdf: Pdf, block: int):
+    def __init__(self, pdf: Pdf, letters: Iterable[str]):
         source = truetype.font()
-        letters = map(chr, range(block * BLOCK, (block + 1) * BLOCK)) if source else iter(())
         self.codes = {letter: source.glyphs[letter] for letter in letters if letter in source.glyphs} if source else {}
         if source and self.codes:
             self.wide = {letter: source.width(code) for letter, code in self.codes.items()}
@@ -111,11 +110,13 @@ class Borrowed(Font):
         return pdf.make_indirect(made)
 
     def unicode(self) -> bytes:
-        """What tells its letters to readers; so many fit into one list of them."""
-        pairs = "".join(f"<{code:04x}> <{ord(letter):04x}>\n" for letter, code in self.codes.items())
+        """What tells its letters to readers, in lists of as many as these may have."""
+        pairs = [f"<{code:04x}> <{ord(letter):04x}>\n" for letter, code in self.codes.items()]
+        parts = [pairs[at : at + BLOCK] for at in range(0, len(pairs), BLOCK)]
+        lists = "".join(f"{len(part)} beginbfchar\n{''.join(part)}endbfchar\n" for part in parts)
         return (
             "/CIDInit /ProcSet findresource begin 12 dict begin begincmap /CMapName /Borrowed def /CMapType 2 def\n"
-            f"1 begincodespacerange <0000> <ffff> endcodespacerange\n{len(self.codes)} beginbfchar\n{pairs}endbfchar\n"
+            f"1 begincodespacerange <0000> <ffff> endcodespacerange\n{lists}"
             "endcmap CMapName currentdict /CMap defineresource pop end end\n"
         ).encode()
 
@@ -135,7 +136,7 @@ class Fonts:
     def borrowed(self, block: int) -> Font:
         """A font of this machine, with the letters of a block of Unicode."""
         if block not in self.known:
-            self.known[block] = Borrowed(self.pdf, block)
+            self.known[block] = Borrowed(self.pdf, map(chr, range(block * BLOCK, (block + 1) * BLOCK)))
         return self.known[block]
 
     def found(self, name: str, resources: tuple[Any, ...]) -> Font:

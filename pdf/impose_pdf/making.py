@@ -32,6 +32,8 @@ class Making:
 
     def __init__(self, row: list[tuple[Source, int]], draws: bool = False):
         self.draws = draws  # something on pages that isn't theirs, or a part of them
+        self.others = list[Source]()  # PDFs of which something is on sheets, but no pages
+        self.added = dict[str, dict[str, Any]]()  # resources of sheets
         self.row, self.sources, self.pdf = row, list(dict.fromkeys(source for source, _ in row)), row[0][0].pdf
         self.annotations: dict[object, Any] = {}  # of sheets, by the links on them and their places
         for source in self.sources:
@@ -69,7 +71,7 @@ class Making:
         )
         if self.whole.is_tagged:
             del self.sources[0].losses.found[TAGS]
-        lost = claims.settle(self.pdf, pages, len(self.sources) == 1, self.whole.is_tagged)
+        lost = claims.settle(self.pdf, pages, len(self.sources + self.others) == 1, self.whole.is_tagged)
         self.sources[0].losses.add_claims(lost)
         for source in self.sources:
             source.losses.add_scripts(source.ways.scripts)
@@ -114,6 +116,8 @@ class Making:
         resources = Dictionary(XObject=Dictionary(forms))
         if sheet.numbers:
             resources.Font = self.font
+        for key, things in self.added.items():
+            resources[key] = Dictionary({**(resources[key].as_dict() if key in resources else {}), **things})
         made = Dictionary(Type=Name.Page, MediaBox=array(0, 0, *sheet.paper), Resources=resources)
         made.Contents = self.pdf.make_stream(drawing(sheet))
         for key, box in sheet.boxes.items():
@@ -159,6 +163,7 @@ class Making:
     def layers(self) -> None:
         """Adds the layers of the other INFILEs to those of the first."""
         found = [(source.ways, source.root.get("/OCProperties")) for source in self.sources[1:]]
+        found += [(source.ways, source.root.get("/OCProperties")) for source in self.others]
         add_layers(self.pdf.Root, [ways.brought(layers) for ways, layers in found if isinstance(layers, Dictionary)])
 
     def enter(self, entries: dict[str, Any]) -> None:

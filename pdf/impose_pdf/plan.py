@@ -28,6 +28,8 @@ class Placed:
     paper: Size
     border: tuple[float, ...] = ()
     beyond: tuple[float, float, float, float] = (0, 0, 0, 0)  # how far past each edge of the paper it may print
+    under: str = ""  # what is drawn below it, and over it
+    over: str = ""
 
     @property
     def clip(self) -> tuple[float, float, float, float]:
@@ -57,6 +59,7 @@ class Sheet:
     numbers: list[Number] = field(default_factory=list)
     unit: int = 1
     boxes: dict[str, tuple[float, float, float, float]] = field(default_factory=dict)  # in which it is cut
+    over: str = ""  # what is drawn over everything, in points
 
 
 def read(text: str) -> list[Sheet]:
@@ -165,11 +168,11 @@ class Imposer:
             raise Refusal(min(done.returncode % 256, 3), told or f"impose-pdf: impose fails with {done.returncode}\n")
         return done.stdout, told
 
-    def sheets(self) -> tuple[list[Sheet], str]:
-        """The sheets, and impose's report."""
+    def sheets(self, *more: str) -> tuple[list[Sheet], str]:
+        """The sheets, and impose's report, with further options."""
         # Of all pages, spec leaves the sheets' paper out.
         added = ["--pages", "1-"] if self.request.command == "spec" and "--pages" not in self.request.options else []
-        text, report = self.run(*added)
+        text, report = self.run(*added, *more)
         sheets = read(text.decode(errors="replace"))
         if any(placed.page >= self.count for sheet in sheets for placed in sheet.placed):
             raise refusal(3, "impose places pages that there aren't")

@@ -104,8 +104,7 @@ def run(words: list[str], here: str) -> None:
     if not words:
         raise Refusal(2, USAGE)
     if words[0] in ("-h", "--help") or words == ["help"]:
-        put(USAGE.encode())
-        return
+        return put(USAGE.encode())
     request = said.read(words)
     if words[0] in ("help", "-V", "--version") or "--help" in request.options:
         return put(helped(words, imposer(here)))
@@ -118,9 +117,7 @@ def run(words: list[str], here: str) -> None:
         import pikepdf  # noqa: F401
     except ImportError:
         raise refusal(3, "pikepdf is missing: install python3-pikepdf") from None
-    if request.is_each:
-        return impose_each(request, imposer(here))
-    impose(request, imposer(here))
+    (impose_each if request.is_each else impose)(request, imposer(here))
 
 
 def impose_each(request: Request, program: str) -> None:
@@ -128,6 +125,7 @@ def impose_each(request: Request, program: str) -> None:
     from impose_pdf import many
 
     look_at_words(request, program)  # once for all
+    extras_of(request)
     many.run(many.parted(request), lambda one: status_of(lambda: impose(one, program)), say)
 
 
@@ -201,14 +199,14 @@ def impose(request: Request, program: str) -> None:
         text, report = imposer.run()
         put(text)
     else:
-        sheets, report = imposer.sheets()
+        sheets, report = imposer.sheets(*(extras.more if extras else []))
         outfile.check_owner(request)
         turned, flip = turn_to_read(request, sheets), imposer.flip()
-        if extras:
-            extras.dress(sheets, row)
         making = Making(row, extras is not None and extras.draws)
         with blaming([name for name, _ in request.infiles], *OF_PIKEPDF):
-            if len(opened) > 1:  # what is brought from one PDF to another is copied by recursion
+            if extras:
+                extras.dress(making, sheets)
+            if len(opened) > 1 or making.others:  # what is brought from one PDF to another is copied by recursion
                 deeply(lambda: making.make(sheets, turned, flip))
             else:
                 making.make(sheets, turned, flip)

@@ -24,12 +24,14 @@ def drawing(sheet: Sheet) -> bytes:
             pen, *corners = placed.border
             path = " l ".join(numerals(*corners[k : k + 2]) for k in (2, 4, 6))
             lines.append(f"q {numerals(pen)} w {numerals(*corners[:2])} m {path} l s Q")
-        lines.append(f"/P{placed.page} Do Q")
+        lines.append(f"{placed.under}/P{placed.page} Do {placed.over}Q")
     if sheet.strokes:
         lines.append(f"q 0 G {numerals(0.25 / sheet.unit)} w")
         lines += [f"{numerals(*stroke[:2])} m {numerals(*stroke[2:])} l S" for stroke in sheet.strokes]
         lines.append("Q")
     lines += [written(number) for number in sheet.numbers]
+    if sheet.over:
+        lines += [f"q {numerals(1 / sheet.unit, 0, 0, 1 / sheet.unit, 0, 0)} cm", sheet.over, "Q"]
     return "\n".join([*lines, ""]).encode()
 
 

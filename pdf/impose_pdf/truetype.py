@@ -20,7 +20,7 @@ LONG_PLACES = 50  # where in its table head a font says how wide the places of i
 
 def is_simple(letter: str) -> bool:
     """Whether a letter is read from left to right, and looks the same beside any others."""
-    return bidirectional(letter) not in ("R", "AL", "AN", "NSM") and category(letter)[0] in "LNPS"
+    return letter == " " or bidirectional(letter) not in ("R", "AL", "AN", "NSM") and category(letter)[0] in "LNPS"
 
 
 class TrueType:

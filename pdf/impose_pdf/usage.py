@@ -4,6 +4,11 @@ OPTIONS = """\
 Options that impose doesn't have:
   --box BOX       which box of a page is placed: crop, trim, bleed, media or art
   --bleed LENGTH  the TrimBox of a page is placed, and what is around it printed so far
+  --text WHERE:WORDS  words at the foot, head, outer-foot, inner-foot or centre of each
+                  cell; {page}, {pages}, {label}, {sheet}, {file}, {date} are filled in
+  --stamp WORDS   words across each page
+  --under FILE    the first page of this PDF is under each page
+  --over FILE     the first page of this PDF is over each page
   --each FOLDER   each INFILE has its own OUTFILE, in this folder
   --suffix WORD   each INFILE has its own OUTFILE, with this added to its name
 """

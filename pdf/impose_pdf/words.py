@@ -14,7 +14,16 @@ WITH_VALUE = {
     *("--border", "--creep", "--gap", "--margin", "--marks", "--numbers", "--numbers-from", "--order", "--overlap"),
     *("--pages", "--paper", "--preview", "--scale", "--sheet", "--signature", "--skip", "--trim", "--turn", "--turned"),
 }
-OWN = {"--bleed", "--box", "--each", "--suffix"}  # options with a value that impose doesn't have
+OWN = {
+    "--bleed",
+    "--box",
+    "--each",
+    "--over",
+    "--stamp",
+    "--suffix",
+    "--text",
+    "--under",
+}  # options with a value that impose doesn't have
 LOOKS = ("--plan", "--preview", "--print-spec")
 LETTERS = {"p": "--paper", "q": "--quiet", "h": "--help", "V": "--version"}
 
