@@ -100,6 +100,8 @@ _impose() {
         compopt -o filenames 2>/dev/null
         COMPREPLY=($(compgen -d -- "$cur"))
     elif [ -z "$is_behind" ] && values=$(_impose_values_of "$before"); then
+        # The name of a paper goes on after a hyphen.
+        [ "$values" != "$_impose_papers" ] || [ "${cur%%-*}" = "$cur" ] || values=${values// /-landscape }-landscape
         COMPREPLY=($(compgen -W "$values" -- "$cur"))
     elif [ -z "$is_behind" ] && [ "${cur:0:1}" = - ]; then
         COMPREPLY=($(compgen -W "$(_impose_options_of "$command") ${command:+$of_pdfs}" -- "$cur"))
