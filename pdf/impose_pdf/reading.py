@@ -20,6 +20,21 @@ IN_MEMORY = 1 << 24  # bytes of it that need no temporary file
 MOST_TOLD = 300  # signs of what qpdf says
 PART = 1 << 16  # bytes that are read at once
 FAILED: list[tuple[str, OSError]] = []  # INFILEs that couldn't be read to their ends
+# What files are that are no PDFs, by their first bytes, and what to do about them.
+OTHERS = (
+    (POSTSCRIPT, "PostScript, not a PDF; use impose"),
+    (re.compile(rb"\x1f\x8b"), "compressed; use: zcat in.pdf.gz > in.pdf"),
+    (re.compile(rb"BZh"), "compressed; use: bzcat in.pdf.bz2 > in.pdf"),
+    (re.compile(rb"\xfd7zXZ\x00"), "compressed; use: xzcat in.pdf.xz > in.pdf"),
+    (re.compile(rb"II\*\x00|MM\x00\*"), "a TIFF; use: tiff2pdf -o in.pdf in.tif"),
+    (re.compile(rb"\xf7\x02"), "a DVI by TeX; use: dvipdfmx -o in.pdf in.dvi"),
+    (re.compile(rb"<"), "HTML, an SVG or the like; print it into a PDF by a browser"),
+    (
+        re.compile(rb"(?s)PK\x03\x04.{26}(\[Content_Types|_rels/|mimetype)"),
+        "a document of an office program; save it as a PDF",
+    ),
+    (re.compile(rb"PK\x03\x04"), "a zip archive; take the PDF out by: unzip in.zip"),
+)
 
 
 class Infile(io.FileIO):
@@ -71,20 +86,29 @@ def opened(name: str) -> Pdf:
         stream = io.BufferedReader(infile, PART)
         first = stream.read(HEAD)
     except FileNotFoundError:
-        of_ranges = "ranges come after select, as in: select 1-3 in.pdf, or else after their INFILE"
-        hint = of_ranges if RANGES.fullmatch(name) else "INFILE and OUTFILE come last"
-        raise refusal(3, f"cannot read {shown(name)}: no such file ({hint})") from None
+        raise refusal(3, f"cannot read {shown(name)}: no such file ({hint_on(name)})") from None
     except IsADirectoryError:
         raise refusal(3, f"cannot read {shown(name)}: it is a folder") from None
     if not first:
         raise refusal(1, f"{shown(name)} is empty")
     is_image = first.startswith((images.JPEG, images.PNG))
     if not is_image and b"%PDF-" not in first:
-        kind = "PostScript, not a PDF; use impose" if POSTSCRIPT.match(first) else "not a PDF"
+        kind = next((kind for mark, kind in OTHERS if mark.match(first)), "not a PDF")
         raise refusal(1, f"{shown(name)} is {kind}")
     whole = stream if infile.is_whole else held(name, first, stream)
     whole.seek(0)
     return image(name, whole) if is_image else unlocked(name, whole)
+
+
+def hint_on(name: str) -> str:
+    """What a word most likely is that names no file."""
+    if RANGES.fullmatch(name):
+        return "ranges come after select, as in: select 1-3 in.pdf, or else after their INFILE"
+    if name in ("landscape", "portrait", "quer"):
+        return "a sheet on its side is named by one word: --sheet a4-landscape"
+    if "," in name:
+        return "files, and lists, are separated as in: one.pdf 1-3,5 two.pdf out.pdf"
+    return "INFILE and OUTFILE come last"
 
 
 def held(name: str, first: bytes, stream: IO[bytes]) -> IO[bytes]:
