@@ -28,7 +28,7 @@ _impose_options_of() {
 }
 
 # The options that impose-pdf has besides.
-_impose_options_of_pdfs='--bleed --box --each --over --stamp --suffix --text --under'
+_impose_options_of_pdfs='--bleed --box --each --each-right --over --password --stamp --suffix --text --under'
 
 # The values of an option, if some can be offered; its status is 1 for one that takes none.
 _impose_values_of() {
@@ -47,7 +47,7 @@ _impose_values_of() {
         --numbers-from) echo '1 2 3' ;;
         --creep) echo '.5mm 1mm 2mm' ;;
         --signature) echo 'auto 4 8 12 16 20 24 28 32' ;;
-        --pages | --preview | --each | --under | --over) ;;
+        --pages | --preview | --each | --under | --over | --password) ;;
         --stamp) echo 'DRAFT COPY' ;;
         --text) echo 'foot: head: outer-foot: inner-foot: centre:' ;;
         --box) echo 'art bleed crop media trim' ;;
@@ -99,6 +99,9 @@ _impose() {
     elif [ -z "$is_behind" ] && [ "$before" = --each ]; then
         compopt -o filenames 2>/dev/null
         COMPREPLY=($(compgen -d -- "$cur"))
+    elif [ -z "$is_behind" ] && [ "$before" = --password ]; then
+        compopt -o filenames 2>/dev/null
+        COMPREPLY=($(compgen -f -- "$cur"))
     elif [ -z "$is_behind" ] && values=$(_impose_values_of "$before"); then
         # The name of a paper goes on after a hyphen.
         [ "$values" != "$_impose_papers" ] || [ "${cur%%-*}" = "$cur" ] || values=${values// /-landscape }-landscape

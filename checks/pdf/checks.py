@@ -25,7 +25,7 @@ TELLS = {"--help", "--version", "help"}
 # What draws fields that their PDF leaves to its readers.
 OF_FIELDS = {("Helvetica", "Type 1"), ("ZapfDingbats", "Type 1")}
 # With these, what is on sheets, or how large it is, isn't what impose alone would have of the pages.
-NOT_AS_THEY_ARE = "--box", "--bleed", "--text", "--stamp", "--under", "--over"
+NOT_AS_THEY_ARE = "--box", "--bleed", "--text", "--stamp", "--under", "--over", "--each-right", "--password"
 Check = Callable[["Output", str, list[str]], Iterator[str]]
 CHECKS: dict[str, Check] = {}
 
@@ -96,7 +96,7 @@ class Output:
         """The sheets that are pages themselves: each alone, where and as large as it is by itself, and there once."""
         if not self.case.inputs or any(self.case.documents[name].image for name, _ in self.case.inputs):
             return set(range(len(self.pdf.pages))) if self.case.words[0] == "select" else set()
-        if any(word.startswith(NOT_AS_THEY_ARE) for word in self.case.words):
+        if any(word.startswith(NOT_AS_THEY_ARE) or re.match(r"\w+=[\d_]", word) for word in self.case.words):
             return set()
         names = [name for name, _ in self.case.inputs]
         row = [(name, page) for name, source in zip(names, self.sources) for page in source.taken]

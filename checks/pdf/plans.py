@@ -64,13 +64,9 @@ def document(sizes: list[Size]) -> bytes:
     return "\n".join([*lines, "%%EOF", ""]).encode()
 
 
-OWN = {
-    "--replace": 0,
-    "--each": 1,
-    "--suffix": 1,
-    "--box": 1,
-    "--bleed": 1,
-}  # options that impose doesn't have, and how many words follow each
+VALUED = "--each", "--suffix", "--box", "--bleed", "--text", "--stamp", "--under", "--over", "--password"
+# Options that impose does not have, and how many words follow each.
+OWN = {"--replace": 0, "--each-right": 0, **dict.fromkeys(VALUED, 1)}
 
 
 def for_impose(words: list[str]) -> Iterator[str]:

@@ -45,8 +45,9 @@ def told() -> list[str]:
 
 
 def is_typed(line: str) -> bool:
-    """Whether a shell has to read a line, or it makes several PDFs."""
-    return bool(set("|;&<>*") & set(line)) or bool({"--suffix", "--text", "--stamp", "--under"} & set(line.split()))
+    """Whether a shell has to read a line, or there is more on its sheets than impose says."""
+    is_dressed = re.search(r"--(suffix|text|stamp|under|each-right|turn \w+=)|\.pdf [\d,-]*blank", line)
+    return bool(set("|;&<>*") & set(line)) or is_dressed is not None
 
 
 def cases() -> list[Case]:

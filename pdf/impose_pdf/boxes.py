@@ -61,15 +61,16 @@ class Boxing:
 
     def let_out(self, sheet: Sheet, shapes: list[Shape]) -> None:
         """Lets the pages of a sheet print beyond their edges: to half the way to the next page, or the sheet's edge."""
-        places = [bounds((0, 0, *placed.paper), placed.matrix) for placed in sheet.placed]
+        places = [clipped(placed) for placed in sheet.placed]
         for k, (placed, shape) in enumerate(zip(sheet.placed, shapes)):
             room = self.room(places[k], places[:k] + places[k + 1 :], sheet.paper)
             left, bottom, right, top = places[k]
             whole = left - room[0], bottom - room[1], right + room[2], top + room[3]
             seen = common(bounds(whole, inverse(placed.matrix)), bounds(shape.drawn, shape.matrix))
             if seen:
-                width, height = placed.paper
-                placed.beyond = max(0, -seen[0]), max(0, -seen[1]), max(0, seen[2] - width), max(0, seen[3] - height)
+                (width, height), old = placed.paper, placed.beyond
+                new = -seen[0], -seen[1], seen[2] - width, seen[3] - height
+                placed.beyond = max(old[0], new[0]), max(old[1], new[1]), max(old[2], new[2]), max(old[3], new[3])
 
     def room(self, own: Box, others: list[Box], paper: tuple[float, float]) -> Box:
         """How far a page may print beyond its left, lower, right and upper edge."""

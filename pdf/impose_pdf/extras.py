@@ -1,8 +1,11 @@
 """What is asked for that impose doesn't do: it computes sheets, and these words say more of what is on them."""
 
+from impose_pdf import rows
 from impose_pdf.boxes import Boxing, give_boxes
+from impose_pdf.document import Source
 from impose_pdf.making import Making
-from impose_pdf.plan import Sheet
+from impose_pdf.passwords import read_password
+from impose_pdf.plan import Sheet, Size
 from impose_pdf.words import Request
 
 OF_STAMPS = "--text", "--stamp", "--under", "--over"
@@ -13,6 +16,8 @@ class Extras:
 
     def __init__(self, request: Request):
         self.request, self.boxing, self.stamps = request, Boxing(request), None
+        self.turns = rows.Turns(request.own.get("--turn", []))
+        read_password(request)
         if any(option in request.own for option in OF_STAMPS):
             from impose_pdf.stamps import Stamps
 
@@ -28,13 +33,25 @@ class Extras:
         """Options of impose that are needed besides."""
         return self.stamps.more if self.stamps else []
 
+    def row(self, parts: list[list[tuple[Source, int]]]) -> list[tuple[Source, int]]:
+        """The pages of INFILEs."""
+        row = rows.laid(self.request, parts)
+        self.turns.find(len(row))
+        return row
+
+    def sizes(self, sizes: list[Size]) -> list[Size]:
+        """The sizes of pages as they lie."""
+        return [self.turns.size(k, size) for k, size in enumerate(sizes)]
+
     def dress(self, making: Making, sheets: list[Sheet]) -> None:
         """Gives sheets what is asked for."""
         if self.stamps:
             self.stamps.put(making, sheets)
         for sheet in sheets:
+            pages = [making.row[placed.page] for placed in sheet.placed]
+            for placed, (source, k) in zip(sheet.placed, pages):
+                self.turns.turn(placed, source.shapes[k].size)
             if self.boxing.bleed:
-                placed = (making.row[placed.page] for placed in sheet.placed)
-                self.boxing.let_out(sheet, [source.shapes[k] for source, k in placed])
+                self.boxing.let_out(sheet, [source.shapes[k] for source, k in pages])
             if "cut" in self.request.options.get("--marks", "").split(","):
                 give_boxes(sheet, self.request.command == "poster")

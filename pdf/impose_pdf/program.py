@@ -5,7 +5,6 @@ import resource
 import shutil
 import signal
 import subprocess
-import traceback
 import warnings
 from collections.abc import Callable
 from contextlib import suppress
@@ -79,17 +78,9 @@ def status_of(work: Callable[[], None]) -> int:
         say(said.told(f"{name}{cause_of(error)}"))
         return 3
     except Exception as error:  # a fault of this program
-        say(own_fault(error))
+        say(said.own_fault(error))
         return 3
     return 0
-
-
-def own_fault(error: Exception) -> str:
-    """What is said of a fault of this program: where it is, and all of the way there if that is asked for."""
-    last = traceback.extract_tb(error.__traceback__)[-1]
-    place = f"{type(error).__name__}: {error} (line {last.lineno} of {os.path.basename(last.filename)})"
-    ask = f"please report it, with what it says after {said.TRACE}=1"
-    return said.way_to(error) + said.told(f"a fault of impose-pdf itself, {place}; {ask}")
 
 
 def open_more() -> None:
@@ -131,7 +122,8 @@ def impose_each(request: Request, program: str) -> None:
 
 def extras_of(request: Request) -> "Extras | None":
     """What is asked for that impose doesn't do, if there is anything."""
-    if not request.own and "cut" not in request.options.get("--marks", ""):
+    has_blanks = any("blank" in ranges for _, ranges in request.infiles)
+    if not (request.own or has_blanks or "cut" in request.options.get("--marks", "")):
         return None
     from impose_pdf.extras import Extras
 
@@ -187,12 +179,15 @@ def impose(request: Request, program: str) -> None:
     outfile = None if request.looks else Outfile(request.outfile)
     try:
         opened = {name: Source(name, choose) for name in dict.fromkeys(name for name, _ in request.infiles)}
-        row = [(opened[name], k) for name, ranges in request.infiles for k in opened[name].taken(ranges)]
+        parts = [[(opened[name], k) for k in opened[name].taken(ranges)] for name, ranges in request.infiles]
+        row = extras.row(parts) if extras else [page for part in parts for page in part]
     except Refusal:
         look_at_words(request, program)
         raise
     OPENED.update(opened)
     sizes = [source.size(k) for source, k in row]
+    if extras:
+        sizes = extras.sizes(sizes)
     of_first = [size for size, (source, _) in zip(sizes, row) if source is row[0][0]]
     imposer = Imposer(program, request, sizes, usual(of_first))
     if outfile is None:

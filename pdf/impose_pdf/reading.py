@@ -19,6 +19,7 @@ MOST_OF_IMAGE = 1 << 30  # bytes, which are read into memory
 IN_MEMORY = 1 << 24  # bytes of it that need no temporary file
 MOST_TOLD = 300  # signs of what qpdf says
 PART = 1 << 16  # bytes that are read at once
+PASSWORDS: list[bytes] = []  # that may open INFILEs
 FAILED: list[tuple[str, OSError]] = []  # INFILEs that couldn't be read to their ends
 # What files are that are no PDFs, by their first bytes, and what to do about them.
 OTHERS = (
@@ -141,15 +142,20 @@ def image(name: str, stream: IO[bytes]) -> Pdf:
 
 
 def unlocked(name: str, stream: IO[bytes]) -> Pdf:
-    """A PDF that opens without a password, and may be printed."""
-    try:
-        pdf = Pdf.open(stream, inherit_page_attributes=False)
-    except PasswordError:
-        cure = f"qpdf --decrypt --password=WORD {shown(name)} plain.pdf"
-        raise refusal(1, f"{shown(name)} opens with its password only; take that off first, as by {cure}") from None
-    if pdf.is_encrypted and not (pdf.allow.print_lowres or pdf.allow.print_highres):
-        raise refusal(1, f"{shown(name)} is encrypted, and its owner doesn't allow it to be printed")
-    return pdf
+    """A PDF that opens without a password, or with one that is given, and may be printed."""
+    why = "opens with its password only; give it by --password FILE"
+    for password in (b"", *PASSWORDS):
+        stream.seek(0)
+        try:
+            pdf = Pdf.open(stream, password=password, inherit_page_attributes=False)
+        except PasswordError:
+            continue
+        is_owner = bool(password) and pdf.owner_password_matched
+        if pdf.is_encrypted and not (pdf.allow.print_lowres or pdf.allow.print_highres) and not is_owner:
+            why = "is encrypted, and its owner doesn't allow it to be printed"
+        else:
+            return pdf
+    raise refusal(1, f"{shown(name)} {why}{'; another password was given' * bool(PASSWORDS)}")
 
 
 def cause(error: object) -> str:

@@ -9,6 +9,9 @@ Options that impose doesn't have:
   --stamp WORDS   words across each page
   --under FILE    the first page of this PDF is under each page
   --over FILE     the first page of this PDF is over each page
+  --each-right    each INFILE begins on a right-hand page, after a blank one if need be
+  --turn SIDE=RANGES  these pages alone are turned, as left=5,7-9
+  --password FILE the first line of this file opens INFILEs; - is standard input
   --each FOLDER   each INFILE has its own OUTFILE, in this folder
   --suffix WORD   each INFILE has its own OUTFILE, with this added to its name
 """
@@ -21,8 +24,8 @@ Usage: impose-pdf COMMAND [OPTIONS] INFILE [RANGES].. OUTFILE
 COMMAND and its OPTIONS are those of impose: impose --help, impose-pdf booklet --help.
 Files come after them, OUTFILE last; - is standard input, and standard output.
 The pages of several INFILEs follow one another, as those of one document. RANGES after an
-INFILE are the pages that are taken of it, as 7, 3-9, 9-3, 5- or _1 (the last), with commas
-between them. A JPEG or a PNG is a page too.
+INFILE are the pages that are taken of it, as 7, 3-9, 9-3, 5-, _1 (the last) or blank, with
+commas between them. A JPEG or a PNG is a page too.
 
 Pages are placed as they are: text, fonts, links and outlines, layers, attachments stay.
 With --plan or --preview no sheets are made: OUTFILE stays as it was, and may be

@@ -14,16 +14,9 @@ WITH_VALUE = {
     *("--border", "--creep", "--gap", "--margin", "--marks", "--numbers", "--numbers-from", "--order", "--overlap"),
     *("--pages", "--paper", "--preview", "--scale", "--sheet", "--signature", "--skip", "--trim", "--turn", "--turned"),
 }
-OWN = {
-    "--bleed",
-    "--box",
-    "--each",
-    "--over",
-    "--stamp",
-    "--suffix",
-    "--text",
-    "--under",
-}  # options with a value that impose doesn't have
+OWN = {  # options with a value that impose doesn't have
+    *("--bleed", "--box", "--each", "--over", "--password", "--stamp", "--suffix", "--text", "--under"),
+}
 LOOKS = ("--plan", "--preview", "--print-spec")
 LETTERS = {"p": "--paper", "q": "--quiet", "h": "--help", "V": "--version"}
 
@@ -32,7 +25,9 @@ QUOTED = "\\'"  # with a meaning of their own between the quotes of $'..'
 OPTION = re.compile("-[^0-9.]")  # the beginning of a word that is no value; one below zero is for impose to refuse
 TRACE = "IMPOSE_PDF_TRACE"  # the variable by which faults show where they are
 PAGE = "_?[0-9]{1,9}"
-RANGES = re.compile(f"{PAGE}(-({PAGE})?)?(,{PAGE}(-({PAGE})?)?)*")
+ITEM = f"({PAGE}(-({PAGE})?)?|blank)"
+RANGES = re.compile(f"{ITEM}(,{ITEM})*")
+BLANK = -1  # a page of RANGES that is none
 
 
 class Refusal(Exception):
@@ -62,6 +57,14 @@ def way_to(error: Exception) -> str:
     """The lines of the program on the way to a failure, if they are asked for."""
     lines = "".join(traceback.format_exception(error)).splitlines() if os.environ.get(TRACE) else []
     return "".join(f"{plain(line)}\n" for line in lines)
+
+
+def own_fault(error: Exception) -> str:
+    """What is said of a fault of this program: where it is, and all of the way there if that is asked for."""
+    last = traceback.extract_tb(error.__traceback__)[-1]
+    place = f"{type(error).__name__}: {error} (line {last.lineno} of {os.path.basename(last.filename)})"
+    ask = f"please report it, with what it says after {TRACE}=1"
+    return way_to(error) + told(f"a fault of impose-pdf itself, {place}; {ask}")
 
 
 @dataclass
@@ -120,6 +123,8 @@ def read(words: list[str]) -> Request:
             operands.append(word)
         elif word == "--replace":
             request.replaces = True
+        elif word == "--each-right":
+            request.own[word] = [""]
         else:
             name, value, is_open = option_of(word)
             kept = [word]
@@ -128,7 +133,7 @@ def read(words: list[str]) -> Request:
                 if OPTION.match(value) and (name != "--suffix" or value.startswith("--")):
                     raise refusal(2, f"{shown(word)} lacks its value")
                 kept.append(value)
-            if name in OWN:
+            if name in OWN or name == "--turn" and "=" in value:
                 request.own.setdefault(name, []).append(value)
                 continue
             request.words += kept
@@ -162,8 +167,6 @@ def name_files(request: Request, names: list[str]) -> None:
     for name in names:
         if files and not files[-1][1] and RANGES.fullmatch(name):
             files[-1] = files[-1][0], name
-        elif files and "blank" in name and RANGES.fullmatch(name.replace("blank", "1")):
-            raise refusal(2, f"RANGES have no blank pages; --pages {name} has; ./{name} names a file")
         else:
             files.append((name, ""))
     if request.is_each:
@@ -180,6 +183,9 @@ def pages_of(ranges: str, count: int, name: str) -> list[int]:
     """The pages, from 0, that RANGES choose among so many of a file."""
     chosen: list[int] = []
     for item in ranges.split(",") if ranges else ():
+        if item == "blank":
+            chosen.append(BLANK)
+            continue
         first, dash, last = item.partition("-")
         begin = place(first, count)
         end = place(last, count) if last else count if dash else begin
