@@ -1,0 +1,2 @@
+# fish completion for impose-pdf.
+source (status dirname)/impose.fish
