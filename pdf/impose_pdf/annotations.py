@@ -7,7 +7,7 @@ from typing import Any
 from pikepdf import Array, Dictionary, String
 
 from impose_pdf.links import Ways
-from impose_pdf.pages import Box, array, bounds, box_of, common, drop, keys_of, moved, nearest, numbers
+from impose_pdf.pages import Box, array, bounds, box_of, common, drop, got, keys_of, moved, nearest, numbers
 from impose_pdf.plan import Matrix
 
 LOST = {"/Rect", "/P", "/Parent", "/Popup", "/StructParent", "/AA", "/AP", "/AS", "/Dest", "/A", "/QuadPoints"}
@@ -41,7 +41,7 @@ class Links:
         if key not in self.known or not annotation.is_indirect:
             box = box_of(annotation.get("/Rect"))
             found = self.ways.lead_holder(annotation) if box else None
-            corners = numbers(annotation.get("/QuadPoints")) if found else []
+            corners = numbers(got(annotation, "/QuadPoints")) if found else []
             are_right = len(corners) % 8 == 0 and len(corners) <= MOST_CORNERS
             self.known[key] = Link(annotation, box, corners if are_right else [], *found) if box and found else None
         return self.known[key]
@@ -103,5 +103,5 @@ class Held:
 
 def owner_of(page: Any) -> Any:
     """What holds the annotations of a page, perhaps for others too: their array, or the page."""
-    held = page.get("/Annots")
+    held = got(page, "/Annots")
     return held if isinstance(held, Array) and held.is_indirect else page

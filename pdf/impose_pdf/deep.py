@@ -3,7 +3,6 @@
 import resource
 import threading
 from collections.abc import Callable, Iterator
-from concurrent.futures import ThreadPoolExecutor
 from contextlib import suppress
 from typing import TypeVar
 
@@ -25,6 +24,8 @@ def sizes() -> Iterator[int]:
 
 def deeply(work: Callable[[], Result]) -> Result:
     """What work gives, on a large stack if there can be one. Signals end the program meanwhile as ever."""
+    from concurrent.futures import ThreadPoolExecutor  # which few runs need
+
     for size in sizes():
         threading.stack_size(size)
         try:

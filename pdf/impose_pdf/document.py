@@ -11,7 +11,6 @@ from impose_pdf.faults import of_source
 from impose_pdf.forms import Forms, pictures_of
 from impose_pdf.labels import Labels
 from impose_pdf.links import Ways
-from impose_pdf.looks import Looks
 from impose_pdf.losses import Losses
 from impose_pdf.pages import Box, Choice, bounds, common, leaves, number_of, shape_of, then
 from impose_pdf.plan import Matrix, Placed, Size
@@ -48,7 +47,7 @@ class Source:
         self.pages = list(leaves(self.pdf))
         self.counted = number_of(tree.get("/Count"), 0) if isinstance(tree, Dictionary) else 0
         self.shapes = [shape_of(page, entries, self.choose) for page, entries in self.pages]
-        self.looks = Looks(self.pdf)
+        self.looks: Any = None  # of its annotations, if there are any but links
 
     def taken(self, ranges: str) -> list[int]:
         """The pages that RANGES choose."""
@@ -90,14 +89,23 @@ class Source:
         """The form of a page, in the PDF that is made."""
         if k not in self.put:
             page, entries = self.pages[k]
-            self.looks.give(page)
             shape, resources, held = self.shapes[k], entries.get("/Resources"), self.annotations(k)
+            if held.others and not held.is_shared:
+                self.give_looks(page, held.others)
             self.losses.look_at(page, *(([], []) if held.is_shared else (held.links, held.others)))
             turn = tuple((part > 0) - (part < 0) for part in shape.matrix[:4])
             if turn not in held.over:
                 held.over[turn] = self.forms.over(notes.drawn(held.others, shape.matrix), resources)
             self.put[k] = self.ways.brought(self.forms.of(k, page, resources, shape, held.over[turn]))
         return self.put[k]
+
+    def give_looks(self, page: Any, others: list[Any]) -> None:
+        """Gives looks to annotations of a page that need them. What draws them is loaded for these alone."""
+        if self.looks is None:
+            from impose_pdf.looks import Looks
+
+            self.looks = Looks(self.pdf)
+        self.looks.give(page, others)
 
     def held_by(self, k: int) -> set[tuple["Source", tuple[int, int]]]:
         """A page, and what holds its annotations, by their numbers."""
@@ -147,7 +155,8 @@ class Source:
         lines = damage(shown(self.name), self.found)
         if self.counted > len(self.pages):
             lines += told(f"{shown(self.name)} counts {self.counted:.0f} pages, and {len(self.pages)} can be found")
-        return lines + self.looks.warning(shown(self.name))
+        lines += self.looks.warning(shown(self.name)) if self.looks else ""
+        return lines
 
 
 def damage(which: str, found: list[Any]) -> str:

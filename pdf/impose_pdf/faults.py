@@ -21,8 +21,13 @@ def blaming(names: list[str], *kinds: type[Exception]) -> Iterator[None]:
     try:
         yield
     except kinds as error:
-        why = f"{', '.join(map(shown, names))} can't be put on sheets: {cause(error)}"
-        raise Refusal(1, way_to(error) + told(why)) from None
+        raise blamed(names, error) from None
+
+
+def blamed(names: list[str], error: Exception) -> Refusal:
+    """The refusal of INFILEs in which is what can't be worked on."""
+    why = f"{', '.join(map(shown, names))} can't be put on sheets: {cause(error)}"
+    return Refusal(1, way_to(error) + told(why))
 
 
 def of_source(method: Method) -> Method:
@@ -30,7 +35,9 @@ def of_source(method: Method) -> Method:
 
     @wraps(method)
     def named(self: Any, *words: Any) -> Any:
-        with blaming([self.name], *OF_OBJECTS):
+        try:
             return method(self, *words)
+        except OF_OBJECTS as error:
+            raise blamed([self.name], error) from None
 
     return cast(Method, named)

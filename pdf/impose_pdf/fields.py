@@ -6,10 +6,10 @@ from typing import Any
 from pikepdf import Array, Dictionary, Name, Pdf, Stream, String
 
 from impose_pdf.fonts import Fonts
+from impose_pdf.notes import DEEPEST, entry_of
 from impose_pdf.pages import FARTHEST, array, box_of, items_of, name_of, number_of, numbers, numerals
 from impose_pdf.texts import LEADING, Setting, Style, Text, plain
 
-DEEPEST = 100  # of fields below fields
 LONGEST = 1000  # letters: what names a font, a size and a colour
 FEW = 16
 MOST_LINES = MOST_CELLS = 1000
@@ -17,15 +17,6 @@ IN_LINES, PASSWORD, RADIO, PUSHED, OPENED, IN_CELLS = 1 << 12, 1 << 13, 1 << 15,
 CHOSEN = ".6 .757 .855 rg"  # below a chosen line
 OPERATORS = {1: ("g", "G"), 3: ("rg", "RG"), 4: ("k", "K")}
 TURNED = {90: (0, 1, -1, 0, 0, 0), 180: (-1, 0, 0, -1, 0, 0), 270: (0, -1, 1, 0, 0, 0)}
-
-
-def entry_of(field: Any, key: str) -> Any:
-    """An entry of a field, or of the nearest one above it that has one."""
-    for _ in range(DEEPEST):
-        if key in field or not isinstance(above := field.get("/Parent"), Dictionary):
-            break
-        field = above
-    return field.get(key)
 
 
 def text_of(value: Any) -> str:

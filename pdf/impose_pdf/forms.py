@@ -6,7 +6,7 @@ from typing import Any
 from pikepdf import Array, Dictionary, Name, Pdf, Stream, parse_content_stream
 
 from impose_pdf.contents import UNDECODABLE, Joining, is_longer
-from impose_pdf.pages import UPRIGHT, Box, Shape, array, bounds, box_of, keys_of, name_of, numbers, numerals, then
+from impose_pdf.pages import UPRIGHT, Box, Shape, array, bounds, box_of, got, keys_of, name_of, numbers, numerals, then
 from impose_pdf.plan import Matrix
 from impose_pdf.words import refusal
 
@@ -17,8 +17,9 @@ Note = tuple[Any, Matrix, Any]  # a form, its place on the page, and the layer t
 def streams_of(page: Any) -> list[Any]:
     """The streams of a page's contents."""
     contents = page.get("/Contents")
-    parts = list(contents) if isinstance(contents, Array) else [contents]
-    return [part for part in parts if isinstance(part, Stream)]
+    if isinstance(contents, Stream):
+        return [contents]
+    return [part for part in contents if isinstance(part, Stream)] if isinstance(contents, Array) else []
 
 
 def isolated(group: Any) -> Any:
@@ -30,7 +31,7 @@ def isolated(group: Any) -> Any:
 
 def pictures_of(resources: Any) -> set[tuple[int, int]]:
     """The objects by which pages may share forms and images among their resources."""
-    pictures = resources.get("/XObject") if isinstance(resources, Dictionary) else None
+    pictures = got(resources, "/XObject") if isinstance(resources, Dictionary) else None
     held = (resources, pictures) if isinstance(pictures, Dictionary) else ()
     return {one.objgen for one in held if one.is_indirect}
 
@@ -98,7 +99,7 @@ class Forms:
 
     def group(self, page: Any) -> Any:
         """The group of a page, isolated, or None. Pages may share it."""
-        found = page.get("/Group")
+        found = got(page, "/Group")
         if not isinstance(found, Dictionary):
             return None
         key = found.objgen
@@ -108,7 +109,7 @@ class Forms:
 
     def leave_out(self, forms: list[Any]) -> None:
         """Takes from the resources of forms, and of those that they draw, what only pages draw that aren't shown."""
-        while forms:
+        while forms and self.unshown:
             form = forms.pop()
             if pictures_of(form.get("/Resources")) & self.unshown and (drawn := drawn_by(form)) is not None:
                 own = {key: form.Resources[key] for key in keys_of(form.Resources)}

@@ -55,18 +55,24 @@ def numeral(style: str, value: int) -> str:
     return made.upper() if style in ("/A", "/R") else made
 
 
-def text_of(span: Any, further: int) -> str:
-    """The label of a page so far from the first of its span, or nothing."""
+def parts_of(span: Any) -> tuple[str, str, int] | None:
+    """What labels of a span have before their numbers, the style of these, and the first; None if they aren't used."""
     if not isinstance(span, Dictionary):
-        return ""
+        return None
     before, first = span.get("/P"), int(max(1, number_of(span.get("/St"), 1)))
     try:
         made = str(before) if isinstance(before, String) else ""
     except UnicodeDecodeError:
+        return None
+    return (made, name_of(span.get("/S")), first) if len(made) <= LONGEST else None
+
+
+def text_of(parts: tuple[str, str, int] | None, further: int) -> str:
+    """The label of a page so far from the first of its span, or nothing."""
+    if parts is None:
         return ""
-    if len(made) > LONGEST:
-        return ""
-    made += numeral(name_of(span.get("/S")), first + further)
+    before, style, first = parts
+    made = before + numeral(style, first + further)
     return made if len(made) <= LONGEST else ""
 
 
@@ -75,10 +81,11 @@ class Labels:
 
     def __init__(self, pdf: Pdf, count: int):
         self.spans = spans_of(pdf.Root.get("/PageLabels"))
-        self.texts, first = list[str](), 0
+        self.texts, first, parts = list[str](), 0, None
         for k in range(count):
-            first = k if k in self.spans else first
-            self.texts.append(text_of(self.spans.get(first), k - first) or str(k + 1))
+            if k in self.spans:
+                first, parts = k, parts_of(self.spans[k])
+            self.texts.append(text_of(parts, k - first) or str(k + 1))
 
     def is_next(self, k: int, last: int) -> bool:
         """Whether a page goes on with the numbers of another."""

@@ -14,6 +14,7 @@ from impose_pdf.pages import (
     are_new,
     bounds,
     drop,
+    got,
     keys_of,
     moved,
     name_of,
@@ -53,7 +54,7 @@ def in_turn(action: Any) -> Iterator[Any]:
                 return
         if isinstance(each, Dictionary) and are_new(seen, each):
             yield each
-            after = each.get("/Next")
+            after = got(each, "/Next")
             left.append(map(after.__getitem__, range(len(after))) if isinstance(after, Array) else iter([after]))
 
 
@@ -192,7 +193,7 @@ class Ways:
 
     def lead_holder(self, holder: Any) -> tuple[str, Any] | None:
         """The entry by which a link or an outline item leads to a sheet, and where; or None."""
-        if (dest := holder.get("/Dest")) is not None:
+        if (dest := got(holder, "/Dest")) is not None:
             entry, way = "/Dest", self.lead(dest)
         else:
             entry, way = "/A", self.once(self.lead_action, holder.get("/A"))

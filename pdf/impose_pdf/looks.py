@@ -66,16 +66,15 @@ class Looks:
         self.pdf, self.fonts, self.left = pdf, Fonts(pdf), MOST_OF_ALL
         form = pdf.Root.get("/AcroForm")
         self.form = form if isinstance(form, Dictionary) else Dictionary()
-        self.seen: set[tuple[int, int]] = set()  # pages, arrays and annotations
+        self.seen: set[tuple[int, int]] = set()  # pages and annotations
         self.showing: dict[tuple[int, int], bool] = {}  # looks: whether they show text
         self.faults: dict[str, list[str]] = {}  # the names of what isn't drawn as it should be
 
-    def give(self, page: Any) -> None:
-        """Gives looks to the annotations of a page that need them."""
-        notes = page.get("/Annots")
-        if isinstance(notes, Array) and self.is_new(page) and self.is_new(notes):
+    def give(self, page: Any, notes: list[Any]) -> None:
+        """Gives looks to those annotations of a page that need them."""
+        if self.is_new(page):
             for note in notes:
-                if isinstance(note, Dictionary) and is_printed(note) and self.is_new(note):
+                if is_printed(note) and self.is_new(note):
                     self.give_one(note)
 
     def is_new(self, thing: Any) -> bool:

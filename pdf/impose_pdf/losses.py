@@ -6,8 +6,7 @@ from typing import Any
 from pikepdf import Array, Dictionary, Name, String
 
 from impose_pdf import notes
-from impose_pdf.fields import entry_of
-from impose_pdf.pages import name_of
+from impose_pdf.pages import keys_of, name_of
 
 SIGNATURE, FIELD, UNPRINTED, TEXT, FILE, PLAYED = (
     *("a signature", "a form field (drawn as it is)", "a note that doesn't print", "the text of a note"),
@@ -34,6 +33,7 @@ EVENTS = (
     *("/E", "/X", "/D", "/U", "/Fo", "/Bl", "/PO", "/PC", "/PV", "/PI"),  # of annotations
     *("/K", "/F", "/V", "/C", "/O", "/WC", "/WS", "/DS", "/WP", "/DP"),  # of fields, pages and documents
 )
+OF_PAGES = {"/A", "/AA", "/OpenAction", "/Trans", "/Dur", "/Thumb"}  # of which something isn't kept
 LONGEST = 100  # actions after one another that are looked at
 
 
@@ -104,9 +104,11 @@ class Losses:
     def look_at(self, page: Any, links: list[Any], others: list[Any]) -> None:
         """Counts what isn't kept of a page that is drawn on a sheet, with these links and other annotations."""
         acting = [link for link in links if "/AA" in link]  # their own actions are looked at as they are led
-        self.found[SCRIPTS] += sum(map(has_script, [page, *acting, *others]))
-        self.found[TRANSITIONS] += is_shown_anew(page)
-        self.found[THUMBNAILS] += "/Thumb" in page
+        if not OF_PAGES.isdisjoint(keys_of(page)):
+            acting.append(page)
+            self.found[TRANSITIONS] += is_shown_anew(page)
+            self.found[THUMBNAILS] += "/Thumb" in page
+        self.found[SCRIPTS] += sum(map(has_script, [*acting, *others]))
         for note in others:
             kind = name_of(note.get("/Subtype"))
             if kind == "/Widget":
@@ -126,7 +128,7 @@ class Losses:
         """Counts the field of a place where it is shown, once."""
         above = note.get("/Parent")
         field = above if "/T" not in note and isinstance(above, Dictionary) else note
-        is_signed = is_signature(entry_of(note, "/V"))
+        is_signed = is_signature(notes.entry_of(note, "/V"))
         self.found[FIELD] += field.objgen not in self.fields and not is_signed
         if field.is_indirect:
             self.fields.add(field.objgen)

@@ -6,7 +6,7 @@ from typing import Any
 
 from pikepdf import Array, Dictionary, Name, String
 
-from impose_pdf import claims, digits, outlines
+from impose_pdf import digits, outlines
 from impose_pdf.document import Source
 from impose_pdf.labels import label
 from impose_pdf.losses import TAGS
@@ -71,22 +71,26 @@ class Making:
         )
         if self.whole.is_tagged:
             del self.sources[0].losses.found[TAGS]
-        lost = claims.settle(self.pdf, pages, len(self.sources + self.others) == 1, self.whole.is_tagged)
-        self.sources[0].losses.add_claims(lost)
+        self.settle_claims(pages)
         for source in self.sources:
             source.losses.add_scripts(source.ways.scripts)
             source.keep_warnings()
 
+    def settle_claims(self, pages: list[Any]) -> None:
+        """Takes away claims that don't hold of the sheets. Few PDFs have claims or XMP."""
+        if "/Metadata" in self.pdf.Root or any(key.startswith(("/GTS_", "/ISO_")) for key in keys_of(self.pdf.docinfo)):
+            from impose_pdf import claims
+
+            lost = claims.settle(self.pdf, pages, len(self.sources + self.others) == 1, self.whole.is_tagged)
+            self.sources[0].losses.add_claims(lost)
+
     def kept(self, sheets: list[Sheet]) -> set[int]:
         """The sheets that are pages themselves, each of which is on no other sheet, and shares no annotations."""
-        places = [list(self.placed(sheet)) for sheet in sheets]
-        uses = Counter(thing for place in places for source, k, _ in place for thing in source.held_by(k))
-        found = set()
-        for at, (sheet, place) in enumerate(zip(sheets, places)):
-            for source, k, _ in place[: len(place) == 1]:
-                if is_page(sheet, source, k) and all(uses[thing] == 1 for thing in source.held_by(k)):
-                    found.add(at)
-        return found
+        alone = {at: self.row[sheet.placed[0].page] for at, sheet in enumerate(sheets) if len(sheet.placed) == 1}
+        found = {at: place for at, place in alone.items() if is_page(sheets[at], *place)}
+        places = [place for sheet in sheets for place in self.placed(sheet)] if found else []
+        uses = Counter(thing for source, k, _ in places for thing in source.held_by(k))
+        return {at for at, (source, k) in found.items() if all(uses[thing] == 1 for thing in source.held_by(k))}
 
     def kept_page(self, sheet: Sheet) -> Any:
         """The page that is a sheet."""

@@ -6,15 +6,16 @@ from typing import Any
 from pikepdf import Array, Dictionary, Name, Stream
 
 from impose_pdf.forms import Note
-from impose_pdf.pages import UPRIGHT, bounds, box_of, name_of, number_of, numbers, then
+from impose_pdf.pages import UPRIGHT, bounds, box_of, got, name_of, number_of, numbers, then
 from impose_pdf.plan import Matrix
 
 HIDDEN, PRINTED, NOT_TURNED = 2, 4, 16  # flags
+DEEPEST = 100  # of fields below fields
 
 
 def split(page: Any) -> tuple[list[Any], list[Any]]:
     """The links among the annotations of a page, and what may be drawn: the others, and links that have a look."""
-    found = page.get("/Annots")
+    found = got(page, "/Annots")
     all_notes = [note for note in found if isinstance(note, Dictionary)] if isinstance(found, Array) else []
     notes = [note for note in all_notes if note.get("/Type") != Name.Page]
     kinds = [name_of(note.get("/Subtype")) for note in notes]
@@ -51,6 +52,15 @@ def turned_back(x: float, y: float, page: Matrix) -> Matrix:
     unit = hypot(page[0], page[1])
     cos, sin = page[0] / unit, -page[1] / unit
     return cos, sin, -sin, cos, x - cos * x + sin * y, y - sin * x - cos * y
+
+
+def entry_of(field: Any, key: str) -> Any:
+    """An entry of a field, or of the nearest one above it that has one."""
+    for _ in range(DEEPEST):
+        if key in field or not isinstance(above := field.get("/Parent"), Dictionary):
+            break
+        field = above
+    return field.get(key)
 
 
 def flags_of(note: Any) -> int:

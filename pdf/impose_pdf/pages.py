@@ -2,6 +2,7 @@
 
 from collections.abc import Callable, Iterable, Iterator
 from dataclasses import dataclass
+from functools import lru_cache
 from math import isfinite
 from typing import Any
 
@@ -13,6 +14,7 @@ Box = tuple[float, float, float, float]
 INHERITED = ("/Resources", "/MediaBox", "/CropBox", "/Rotate")
 LETTER: Box = (0, 0, 612, 792)
 UPRIGHT: Matrix = (1, 0, 0, 1, 0, 0)
+MOST_KNOWN = 1000  # numbers that are written again, as those of pages that are alike
 FARTHEST = 1e9  # points: beyond all sheets, and within what readers count
 
 
@@ -46,14 +48,21 @@ def nearest(x: float, y: float, box: Box) -> tuple[float, float]:
     return max(box[0], min(box[2], x)), max(box[1], min(box[3], y))
 
 
+@lru_cache(MOST_KNOWN)
 def numerals(*values: float) -> str:
     """Numbers as PDF has them."""
     return " ".join(f"{value:.9f}".rstrip("0").rstrip(".") if value % 1 else str(int(value)) for value in values)
 
 
+@lru_cache(MOST_KNOWN)
+def text_of(*values: float) -> bytes:
+    """The text of an array of numbers."""
+    return f"[{numerals(*(round(value, 6) for value in values))}]".encode()
+
+
 def array(*values: float) -> Object:
     """Numbers as an array; parsing them is ten times as fast as giving them one by one."""
-    return Object.parse(f"[{numerals(*(round(value, 6) for value in values))}]".encode())
+    return Object.parse(text_of(*values))
 
 
 def numbers(values: Any) -> list[float]:
@@ -100,8 +109,16 @@ def items_of(value: Any) -> list[Any]:
     return list(value) if isinstance(value, Array) else [value]
 
 
-def keys_of(values: Any) -> Iterator[str]:
+def keys_of(values: Any) -> list[str]:
     """The keys of a dictionary, without those that aren't in UTF-8, which pikepdf can't tell."""
+    try:
+        return sorted(values.keys())
+    except UnicodeDecodeError:
+        return list(keys_in_turn(values))
+
+
+def keys_in_turn(values: Any) -> Iterator[str]:
+    """The same, one by one, which takes ten times as long."""
     keys = iter(values.as_dict())
     while True:
         try:
@@ -112,11 +129,15 @@ def keys_of(values: Any) -> Iterator[str]:
             return
 
 
+def got(holder: Any, key: str) -> Any:
+    """An entry of a dictionary, or None. Where there is none, `get` takes five times as long."""
+    return holder[key] if key in holder else None
+
+
 def drop(holder: Any, keys: Iterable[str]) -> None:
     """Takes entries away from a dictionary that has them."""
-    for key in keys:
-        if key in holder:
-            del holder[key]
+    for key in set(keys).intersection(keys_of(holder)):
+        del holder[key]
 
 
 def are_new(seen: set[tuple[int, int]], *things: Any) -> bool:
@@ -134,8 +155,10 @@ def leaves(pdf: Pdf) -> Iterator[tuple[Any, dict[str, Any]]]:
         node, above = left.pop()
         if not isinstance(node, Dictionary):
             continue
-        entries = {**above, **{key: node[key] for key in INHERITED if key in node}}
-        kids, is_page = node.get("/Kids"), node.get("/Type") == Name.Page
+        own = set(keys_of(node))
+        entries = {**above, **{key: node[key] for key in INHERITED if key in own}}
+        kids = node["/Kids"] if "/Kids" in own else None
+        is_page = kids is not None and node.get("/Type") == Name.Page
         if isinstance(kids, Array) and not is_page:
             if are_new(seen, node, kids):
                 if isinstance(held := entries.get("/Resources"), Dictionary) and not held.is_indirect:
@@ -167,7 +190,7 @@ def shape_of(page: Any, entries: dict[str, Any], choose: Choice | None = None) -
     box = box if box[0] < box[2] and box[1] < box[3] else media
     box, drawn = choose(page, media, box) if choose else (box, box)
     left, bottom, right, top = box
-    turn, unit = number_of(entries.get("/Rotate"), 0) % 360, number_of(page.get("/UserUnit"), 1)
+    turn, unit = number_of(entries.get("/Rotate"), 0) % 360, number_of(got(page, "/UserUnit"), 1)
     turned: dict[float, Matrix] = {
         90: (0, -1, 1, 0, -bottom, right),
         180: (-1, 0, 0, -1, right, top),
