@@ -28,7 +28,7 @@ _impose_options_of() {
 }
 
 # The options that impose-pdf has besides.
-_impose_options_of_pdfs='--bleed --box --each --each-right --over --password --stamp --suffix --text --under'
+_impose_options_of_pdfs='--bleed --box --crop --each --each-right --over --password --stamp --suffix --text --under'
 
 # The values of an option, if some can be offered; its status is 1 for one that takes none.
 _impose_values_of() {

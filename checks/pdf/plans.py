@@ -66,7 +66,7 @@ def document(sizes: list[Size]) -> bytes:
 
 VALUED = "--each", "--suffix", "--box", "--bleed", "--text", "--stamp", "--under", "--over", "--password"
 # Options that impose does not have, and how many words follow each.
-OWN = {"--replace": 0, "--each-right": 0, **dict.fromkeys(VALUED, 1)}
+OWN = {"--replace": 0, "--each-right": 0, "--crop": 0, **dict.fromkeys(VALUED, 1)}
 
 
 def for_impose(words: list[str]) -> Iterator[str]:

@@ -41,12 +41,13 @@ def told() -> list[str]:
         text = (ROOT / name).read_text().replace("\\-", "-")
         found += [line.replace("\\|", "|") for line in re.findall(r"`(impose-pdf (?:[^`\n]|\\\|)*\.pdf[^`\n]*)`", text)]
         found += re.findall(r"^(impose-pdf [^#\n]*?\.pdf[^#\n]*?)(?: +#.*)?$", text, flags=re.M)
-    return list(dict.fromkeys(html.unescape(line.strip()) for line in found))
+    # examples/recipes makes the folder in which `*.pdf` are found.
+    return list(dict.fromkeys(html.unescape(line.strip()) for line in found if "*.pdf" not in line))
 
 
 def is_typed(line: str) -> bool:
     """Whether a shell has to read a line, or there is more on its sheets than impose says."""
-    is_dressed = re.search(r"--(suffix|text|stamp|under|each-right|turn \w+=)|\.pdf [\d,-]*blank", line)
+    is_dressed = re.search(r"--(crop|suffix|text|stamp|under|each-right|turn \w+=)|\.pdf [\d,-]*blank", line)
     return bool(set("|;&<>*") & set(line)) or is_dressed is not None
 
 

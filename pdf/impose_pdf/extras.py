@@ -2,6 +2,7 @@
 
 from impose_pdf import rows
 from impose_pdf.boxes import Boxing, give_boxes
+from impose_pdf.cropping import Cropping
 from impose_pdf.document import Source
 from impose_pdf.making import Making
 from impose_pdf.passwords import read_password
@@ -16,6 +17,7 @@ class Extras:
 
     def __init__(self, request: Request):
         self.request, self.boxing, self.stamps = request, Boxing(request), None
+        self.cropping = Cropping(request) if "--crop" in request.own else None
         self.turns = rows.Turns(request.own.get("--turn", []))
         read_password(request)
         if any(option in request.own for option in OF_STAMPS):
@@ -26,7 +28,7 @@ class Extras:
     @property
     def draws(self) -> bool:
         """Whether no page is a sheet as it is."""
-        return self.boxing.draws or self.stamps is not None
+        return self.boxing.draws or self.stamps is not None or self.cropping is not None
 
     @property
     def more(self) -> list[str]:
@@ -36,6 +38,8 @@ class Extras:
     def row(self, parts: list[list[tuple[Source, int]]]) -> list[tuple[Source, int]]:
         """The pages of INFILEs."""
         row = rows.laid(self.request, parts)
+        if self.cropping:
+            self.cropping.crop(row)
         self.turns.find(len(row))
         return row
 

@@ -17,6 +17,8 @@ WITH_VALUE = {
 OWN = {  # options with a value that impose doesn't have
     *("--bleed", "--box", "--each", "--over", "--password", "--stamp", "--suffix", "--text", "--under"),
 }
+OWN_ALONE = {"--crop", "--each-right"}  # and without one, but perhaps after an equals sign
+CROP = re.compile("same|(same,)?[0-9.]+[a-z]*")  # what may follow --crop
 LOOKS = ("--plan", "--preview", "--print-spec")
 LETTERS = {"p": "--paper", "q": "--quiet", "h": "--help", "V": "--version"}
 
@@ -114,6 +116,7 @@ def by_bytes(sign: str) -> str:
 
 def read(words: list[str]) -> Request:
     """The request that a command line makes. Words that are wrong for impose are left to it."""
+    words = with_crop(words)
     request, rest = Request(words[0]), iter(words[1:])
     operands: list[str] = []
     for word in rest:
@@ -123,8 +126,6 @@ def read(words: list[str]) -> Request:
             operands.append(word)
         elif word == "--replace":
             request.replaces = True
-        elif word == "--each-right":
-            request.own[word] = [""]
         else:
             name, value, is_open = option_of(word)
             kept = [word]
@@ -133,7 +134,7 @@ def read(words: list[str]) -> Request:
                 if OPTION.match(value) and (name != "--suffix" or value.startswith("--")):
                     raise refusal(2, f"{shown(word)} lacks its value")
                 kept.append(value)
-            if name in OWN or name == "--turn" and "=" in value:
+            if name in OWN | OWN_ALONE or name == "--turn" and "=" in value:
                 request.own.setdefault(name, []).append(value)
                 continue
             request.words += kept
@@ -146,6 +147,18 @@ def read(words: list[str]) -> Request:
         request.words += ["--", operands.pop(0)] if operands[0].startswith("-") else [operands.pop(0)]
     name_files(request, operands)
     return request
+
+
+def with_crop(words: list[str]) -> list[str]:
+    """Words with what follows --crop in one word with it."""
+    made, is_open = list[str](), True
+    for word in words:
+        if is_open and made and made[-1] == "--crop" and CROP.fullmatch(word):
+            made[-1] += f"={word}"
+        else:
+            made.append(word)
+        is_open = is_open and word != "--"
+    return made
 
 
 def option_of(word: str) -> tuple[str, str, bool]:
