@@ -94,7 +94,15 @@ set -l of_pdfs \
     "box|every|art bleed crop media trim|which box of a page is placed" \
     "bleed|every|3mm 5mm .125in|print this much around the TrimBox" \
     "each|every|(__fish_complete_directories)|give each file its own PDF of sheets, in this folder" \
-    "suffix|every|-booklet -sheets|give each file its own PDF of sheets, with this added to its name"
+    "suffix|every|-booklet -sheets|give each file its own PDF of sheets, with this added to its name" \
+    "text|every|foot: head: outer-foot: inner-foot: centre:|print words at this place of each page" \
+    "stamp|every|DRAFT COPY|print words across each page" \
+    "under|every|(__impose_files pdf)|put the first page of this PDF under each page" \
+    "over|every|(__impose_files pdf)|put the first page of this PDF over each page" \
+    "password|every|(__impose_files txt)|open files with the password in the first line of this one"
+set -l of_pdfs_alone \
+    "crop|every|take what is drawn on a page as the page" \
+    "each-right|every|begin each file on a right-hand page"
 set -l plain \
     "unguarded|every|leave the document's own operators as they are" \
     "replace|every|replace a document by another program" \
@@ -121,7 +129,7 @@ for program in impose impose-pdf
     set -l options $valued
     if test $program = impose-pdf
         set endings 'pdf|jpe?g|png'
-        set -a options $of_pdfs
+        set -a options $of_pdfs $of_pdfs_alone
     end
     complete -c $program -f
     complete -c $program -n '__impose_at 0' -s V -l version -d 'print the version'
