@@ -60,6 +60,15 @@ function __impose_files
     set -q found[1]; and printf '%s\n' $found; or printf '%s\n' $all
 end
 
+# The names of papers, which go on after a hyphen.
+function __impose_paper
+    if string match -q '*-*' -- (commandline -ct | string replace -r '^--?\w+=?' '')
+        printf '%s-landscape\n' $__impose_papers
+    else
+        printf '%s\n' $__impose_papers
+    end
+end
+
 set -l laid nup booklet cards stack
 set -l numbered $laid notes select
 set -l looked $laid zine notes poster select
@@ -70,9 +79,9 @@ set -l lengths 2mm 5mm 1cm
 
 # NAME COMMANDS VALUES DESCRIPTION: an option with a value, for these commands, which are in a list of words or in its name.
 set -l valued \
-    "paper|every|$__impose_papers|the paper of the pages" \
+    "paper|every|(__impose_paper)|the paper of the pages" \
     "border|every|.5pt 1pt .5mm|a border round each page" \
-    "sheet|sheeted|$__impose_papers|the paper of the sheets" \
+    "sheet|sheeted|(__impose_paper)|the paper of the sheets" \
     "preview|every|(__impose_files svg)|draw the sheets, and impose nothing" \
     "turn|looked|left right half wide|turn pages before they are placed" \
     "pages|rows||these pages, such as 3-9,12" \
@@ -141,7 +150,7 @@ for program in impose impose-pdf
     complete -c $program -n '__impose_at 1 poster' -a 'auto 2x2 2x3 3x2 3x3 4x4'
     complete -c $program -n __impose_at_file -a "(__impose_files '$endings')"
     complete -c $program -n "__impose_of $every" -s q -l quiet -d 'print no report'
-    complete -c $program -n "__impose_of $every" -s p -xa "$__impose_papers" -d 'the paper of the pages'
+    complete -c $program -n "__impose_of $every" -s p -xa '(__impose_paper)' -d 'the paper of the pages'
     for option in $options $plain
         set -l parts (string split '|' -- $option)
         # A word of the second part is a list's name, or a command.
