@@ -1,6 +1,6 @@
--- What is reported of a request in place of carrying it out: the plan of its sheets, or their picture.
+-- What is reported of a request in place of carrying it out: the plan of its sheets, or a drawing of them.
 use Rattle.std.specs.Prelude.{ℕ, List}
-use Rattle.row_runs.specs.Looks.{IsPictureText, IsPlanText}
+use Rattle.row_runs.specs.Looks.{HavePlan, IsPlanText}
 use Rattle.row_runs.specs.declared.run.RowJob.{RowJob}
 use Rattle.impose_cli.specs.RowTasks.{IsJobOf, IsRowTask}
 use Rattle.impose_cli.specs.declared.look.Overview.{Overview}
@@ -12,10 +12,10 @@ use Rattle.impose_cli.specs.declared.row_task.RowTask.{RowTask}
 abbrev pub most_listed : ℕ
 most_listed = 40
 
--- the text reports on the sheets that the run of this job would impose
+-- the text is the plan of the sheets that the run of this job would impose; of a drawing only that there are such sheets
 abbrev pub IsOverviewText : Overview → RowJob → (text : List ℕ) → Type 0
 IsOverviewText Plan job text = IsPlanText job most_listed text
-IsOverviewText Picture job text = IsPictureText job most_listed text
+IsOverviewText Picture job text = HavePlan job
 
 abbrev pub IsTaskText : ImposeRequest → RowTask → Overview → (text : List ℕ) → Type 0
 IsTaskText r t look text = (job : RowJob) × IsJobOf r t job × IsOverviewText look job text

@@ -1,30 +1,6 @@
--- Sheets that are drawn in part, and one more text of those that are numbered.
-use Rattle.std.proofs.Common.{ℕ, zero, suc, List, ◌+◌, ◌-◌, ◌≤◌, ◌<◌, ◌++◌, ◌≡◌, Bool, true, false, ap, sym, refl, ◌∙◌, length, take, arith, append_assoc, append-nil}
-use Rattle.std.specs.Prelude.{nat_le, if◌then◌else◌}
-use Rattle.std.proofs.lemmas.Bool.Decides.{nat_tests}
-use Rattle.rules.specs.Made.{MadeSheet}
+-- One more text of those that are numbered.
+use Rattle.std.proofs.Common.{ℕ, zero, suc, List, ◌+◌, ◌-◌, ◌≤◌, ◌++◌, ◌≡◌, ap, sym, ◌∙◌, arith, append_assoc, append-nil}
 use Rattle.preview.specs.Naming.{each}
-use Rattle.preview.specs.Drawing.{first_drawn, left_out, drawn_sheets}
-use Rattle.preview.specs.declared.guides.Guide.{Guide}
-use Rattle.preview.specs.declared.naming.Sides.{Sides}
-use Rattle.preview.proofs.Chains.{joined}
-
--- the second of two texts, by a test
-that_one : (t : Bool) (x y : List ℕ) → t ≡ false → y ≡ (if t then x else y)
-that_one true x y e = cc
-that_one false x y e = refl
-
--- ---- the first sheets are drawn
-pub some_drawn : (sides : Sides) (guides : List Guide) (all : List MadeSheet) (count most more : ℕ) (o one two : List ℕ) → count ≡ length all → most < count → more ≡ count - most
-    → one ≡ o ++ first_drawn sides guides most (take most all) → two ≡ one ++ left_out most more → two ≡ o ++ drawn_sheets sides guides most all
-some_drawn sides guides all count most more o one two is lt gap first second =
-    let n = length all in
-    let many : nat_le n most ≡ false = grind (arith, nat_tests, is, lt) in
-    joined o (first_drawn sides guides most (take most all)) (left_out most more) one two first second
-    ∙ ap (λ k. o ++ (first_drawn sides guides most (take most all) ++ left_out most k)) (gap ∙ ap (λ k. k - most) is)
-    ∙ ap (λ t. o ++ t) (that_one (nat_le n most) (first_drawn sides guides n all) (first_drawn sides guides most (take most all) ++ left_out most (n - most)) many)
-
--- ---- numbered texts
 
 -- one more
 more : (text : ℕ → List ℕ) (first n : ℕ) → each text first n ++ text (first + n) ≡ each text first (suc n)

@@ -1,5 +1,5 @@
--- Sheets as they are listed and drawn, worked out.
-use Rattle.std.proofs.Common.{◌≡◌, List, [], ◌∷◌, true, false, map, refl}
+-- Sheets as they are listed, worked out.
+use Rattle.std.proofs.Common.{◌≡◌, List, [], ◌∷◌, true, false, refl}
 use Rattle.std.specs.Prelude.{codes, pos}
 use Rattle.std.specs.Fmt.{digits}
 use Rattle.rules.specs.Papers.{Paper, Pt, points}
@@ -14,8 +14,6 @@ use Rattle.preview.specs.declared.naming.Sides.TheVariants.{Both}
 use Rattle.preview.specs.declared.reading.Places.TheVariants.{Cells}
 use Rattle.preview.specs.declared.reading.Reading.{Reading}
 use Rattle.preview.specs.Listing.{cells_text, plan_text, tile_name}
-use Rattle.preview.specs.Drawing.{slot_picture, square_at}
-use Rattle.preview.specs.Naming.{side_name}
 
 abbrev a4 : Paper
 a4 = points 595 842
@@ -40,11 +38,6 @@ small = record { paper = points 10 20; slots = Placed 0 lower a4 ∷ [] }
 -- two pages side by side, on leaves
 abbrev leaves : Reading
 leaves = record { sides = Both Short; places = Cells (beside true) plain_order }
-
--- the first sheet is the front of a leaf, and the second its back
-front_and_back : map (side_name (Both Short)) (0 ∷ 1 ∷ []) ≡ codes "leaf 1 front" ∷ codes "leaf 1 back" ∷ []
-unfolding digits
-front_and_back = refl
 
 -- the third sheet is a front without a back; the second has one page, and no other place
 listed : plan_text leaves 40 (side ∷ small ∷ side ∷ []) ≡ codes "leaf 1  front  8 | blank    back  1 | -\nleaf 2  front  8 | blank\nsheets 3, leaves 2, blanks 2\nprint on both sides, flip on the short edge\npages of 595 x 842 pt on sheets of 595 x 842 pt, scale 0.706650831\npages of 595 x 842 pt on sheets of 10 x 20 pt, scale 0.706650831\n"
@@ -76,14 +69,3 @@ on_its_side = refl
 fifth : tile_name six 10 ≡ codes ", column 2, row 2"
 unfolding digits
 fifth = refl
-
--- ---- pictures
-
-drawn : slot_picture (Placed 7 lower a4) ≡ codes "<g transform='matrix(0 0.706650831 -0.706650831 0 595 0.27137)'><rect class='page' width='595' height='842'/><g transform='matrix(1 0 0 -1 0 842)'><svg width='595' height='842' viewBox='0 0 100 100' preserveAspectRatio='xMidYMin'><path d='M50 3 57 15H43Z'/><text x='50' y='62'>8</text></svg></g></g>\n"
-unfolding digits
-drawn = refl
-
--- the sixth sheet is the second one of the second row
-sixth : square_at 5 ≡ codes "<g transform='translate(240 280)'>"
-unfolding digits
-sixth = refl

@@ -1,10 +1,9 @@
 -- Texts of things that are numbered: one more of them; and sheets, read one by one.
 use Rattle.std.proofs.Common.{ℕ, zero, suc, List, [], ◌∷◌, Some, ◌+◌, ◌<◌, ◌++◌, ◌≡◌, ap, sym, refl, ◌∙◌, length, take, arith, append_assoc, append-nil}
-use Rattle.std.specs.Prelude.{slice_get, map, flat_map}
+use Rattle.std.specs.Prelude.{slice_get}
 use Rattle.std.specs.List.{fold, sum_by}
 use Rattle.std.proofs.lemmas.List.Sums.{fold_more, sum_by_more}
 use Rattle.std.proofs.lemmas.Option.{same_Some, none-some, slice_get_within, get_or_from_slice_get}
-use Rattle.rules.specs.Papers.{Paper}
 use Rattle.rules.specs.Made.{MadeSheet}
 use Rattle.sheet_plan.specs.OfSheets.{slots_at}
 use Rattle.preview.specs.Naming.{numbered}
@@ -31,33 +30,13 @@ one_more text front old new j i k xs x at place before step =
     ∙ append_assoc front (numbered text j (take i xs)) (text k x)
     ∙ ap (λ t. front ++ t) (ap (λ n. numbered text j (take i xs) ++ text n x) place ∙ more text j i xs x at ∙ ap (λ n. numbered text j (take n xs)) next)
 
--- one more text of a list
-pub flat_more : {X : Type 0} (text : X → List ℕ) (front old new : List ℕ) (i : ℕ) (xs : List X) (x : X) → slice_get xs i ≡ Some x
-    → old ≡ front ++ flat_map text (take i xs) → new ≡ old ++ text x → new ≡ front ++ flat_map text (take (i + 1) xs)
-flat_more text front old new i xs x at before step =
-    let next : suc i ≡ i + 1 = omega arith in
-    step ∙ ap (λ t. t ++ text x) before ∙ append_assoc front (flat_map text (take i xs)) (text x)
-    ∙ ap (λ t. front ++ t) (flat text i xs x at ∙ ap (λ n. flat_map text (take n xs)) next)
-  where
-    flat : {X : Type 0} (text : X → List ℕ) (i : ℕ) (xs : List X) (x : X) → slice_get xs i ≡ Some x
-        → flat_map text (take i xs) ++ text x ≡ flat_map text (take (suc i) xs)
-    flat text i [] x at = absurd (none-some x at)
-    flat text zero (y ∷ xs) x at = ap text (sym (same_Some y x at)) ∙ sym (append-nil (text y))
-    flat text (suc i) (y ∷ xs) x at = append_assoc (text y) (flat_map text (take i xs)) (text x) ∙ ap (λ t. text y ++ t) (flat text i xs x at)
-
 -- ---- sheets
 pub there : {X : Type 0} (xs : List X) (k : ℕ) → k < length xs → (x : X) × (slice_get xs k ≡ Some x)
 there [] k h = absurd (omega arith)
 there (x ∷ xs) zero h = (x, refl)
 there (x ∷ xs) (suc k) h = there xs k (omega arith)
 
--- the paper and the slots of a sheet
-pub paper_is : (all : List MadeSheet) (s : ℕ) (it : MadeSheet) (paper : Paper) → slice_get (map (λ (sheet : MadeSheet). sheet.paper) all) s ≡ Some paper → slice_get all s ≡ Some it
-    → paper ≡ it.paper
-paper_is [] s it paper read at = absurd (none-some it at)
-paper_is (x ∷ all) zero it paper read at = sym (same_Some x.paper paper read) ∙ ap (λ (sheet : MadeSheet). sheet.paper) (same_Some x it at)
-paper_is (x ∷ all) (suc s) it paper read at = paper_is all s it paper read at
-
+-- the slots of a sheet
 pub slots_are : (all : List MadeSheet) (s : ℕ) (it : MadeSheet) → slice_get all s ≡ Some it → slots_at all s ≡ it.slots
 slots_are [] s it at = absurd (none-some it at)
 slots_are (x ∷ all) zero it at = ap (λ (sheet : MadeSheet). sheet.slots) (same_Some x it at)

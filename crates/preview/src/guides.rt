@@ -1,7 +1,4 @@
 //! Guides: lines that are drawn on sheets.
-ghost use Rattle.std.specs.Prelude.{◌≡◌, ◌++◌, OnOk};
-ghost use Rattle.preview.specs.Guides.{guide_picture, guides_picture, kind_name as name_of_kind};
-
 use lengths::{Grains, print_points};
 use std::alloc::AllocError;
 
@@ -23,37 +20,25 @@ pub struct Guide {
 }
 
 /// Appends the lines of all guides.
-pub(crate) fn append_guides(guides: &[Guide], out: &mut Vec<u8>) -> Result<(), AllocError>
-    ensures { OnOk result (out.new.items ≡ out.old.items ++ guides_picture guides.now) }
-{
+pub(crate) fn append_guides(guides: &[Guide], out: &mut Vec<u8>) -> Result<(), AllocError> {
     for guide in guides {
-        append_guide(guide, out)?;
+        out.extend_from_slice(b"<line class='")?;
+        out.extend_from_slice(kind_name(guide.kind))?;
+        out.extend_from_slice(b"' x1='")?;
+        print_points(guide.start.0, out)?;
+        out.extend_from_slice(b"' y1='")?;
+        print_points(guide.start.1, out)?;
+        out.extend_from_slice(b"' x2='")?;
+        print_points(guide.end.0, out)?;
+        out.extend_from_slice(b"' y2='")?;
+        print_points(guide.end.1, out)?;
+        out.extend_from_slice(b"'/>\n")?;
     }
     Ok(())
 }
 
-fn append_guide(guide: &Guide, out: &mut Vec<u8>) -> Result<(), AllocError>
-    ensures { OnOk result (out.new.items ≡ out.old.items ++ guide_picture guide.now) }
-{
-    out.extend_from_slice(b"<line class='")?;
-    out.extend_from_slice(kind_name(guide.kind))?;
-    out.extend_from_slice(b"' x1='")?;
-    print_points(guide.start.0, out)?;
-    out.extend_from_slice(b"' y1='")?;
-    print_points(guide.start.1, out)?;
-    out.extend_from_slice(b"' x2='")?;
-    print_points(guide.end.0, out)?;
-    out.extend_from_slice(b"' y2='")?;
-    print_points(guide.end.1, out)?;
-    out.extend_from_slice(b"'/>")?;
-    out.extend_from_slice(b"\n")?;
-    Ok(())
-}
-
 /// The name of the style for guides of this kind.
-fn kind_name(kind: GuideKind) -> &'static [u8]
-    ensures { result.now ≡ name_of_kind kind }
-{
+fn kind_name(kind: GuideKind) -> &'static [u8] {
     match kind {
         GuideKind::Margin => b"margin",
         GuideKind::Fold => b"fold",

@@ -1,6 +1,6 @@
-//! The numbers and names of sheets.
+//! The sides, numbers and sizes of sheets.
 ghost use Rattle.std.specs.Prelude.{◌≡◌, ◌<◌, ◌++◌, OnErr, OnOk, IfOk, decimal, length, vec_len, vec_capacity, ◌+◌};
-ghost use Rattle.preview.specs.Naming.{face_text, side_name, size_in_points};
+ghost use Rattle.preview.specs.Naming.{size_in_points};
 
 use itoa::Buffer;
 use lengths::{Paper, print_points};
@@ -28,36 +28,6 @@ pub(crate) fn number_of_sheets(sheets: &MadeSheets) -> Result<u32, AllocError>
     ensures many { OnErr result (u32.MAX < length sheets.now) }
 {
     u32::try_from(sheets.len()).map_err(|_| AllocError)
-}
-
-/// Appends the name of this sheet (counted from 0): the number of the sheet or, if sheets are printed on both sides, the number of its leaf and the
-/// side. The name counts sheets and leaves from 1.
-pub(crate) fn append_sheet_name(
-    sides: Sides,
-    sheet: u32,
-    out: &mut Vec<u8>,
-) -> Result<(), AllocError>
-    ensures { OnOk result (out.new.items ≡ out.old.items ++ side_name sides sheet) }
-{
-    match sides {
-        Sides::One => {
-            out.extend_from_slice(b"sheet ")?;
-            append_number(u64::from(sheet) + 1, out)?;
-        }
-        Sides::Both { .. } => {
-            out.extend_from_slice(b"leaf ")?;
-            append_number(u64::from(sheet / 2) + 1, out)?;
-            out.extend_from_slice(face_of(sheet))?;
-        }
-    }
-    Ok(())
-}
-
-/// ` front` for a sheet with an even number, counted from 0, and ` back` for any other sheet.
-fn face_of(sheet: u32) -> &'static [u8]
-    ensures { result.now ≡ face_text sheet }
-{
-    if sheet % 2 == 0 { b" front" } else { b" back" }
 }
 
 pub(crate) fn append_number(number: u64, out: &mut Vec<u8>) -> Result<(), AllocError>

@@ -1,6 +1,6 @@
--- Worked examples: the marks and the lines of layings, how many leaves a signature has, and how many pages a document.
+-- Worked examples: the marks of layings, how many leaves a signature has, and how many pages a document.
 use Rattle.std.proofs.Common.{◌≡◌, [], ◌∷◌, false, true, map, refl}
-use Rattle.std.specs.Prelude.{codes, pos, ◌*◌, ℕ, ℤ, List, None, Some}
+use Rattle.std.specs.Prelude.{codes, pos, ℕ, ℤ, List, None, Some}
 use Rattle.std.specs.Fmt.{digits}
 use Rattle.rules.specs.Papers.{Paper, points}
 use Rattle.rules.specs.Specification.{Turn, Upright, Left, Half}
@@ -17,13 +17,9 @@ use Rattle.row_sheets.specs.Shapes.{filling}
 use Rattle.row_sheets.specs.declared.poster.Poster.{Poster}
 use Rattle.dressing.specs.Drawn.{stroke_line}
 use Rattle.dressing.specs.declared.strokes.Marks.{Marks}
-use Rattle.preview.specs.declared.guides.Guide.{Guide}
-use Rattle.preview.specs.declared.guides.GuideKind.{GuideKind}
-use Rattle.preview.specs.declared.guides.GuideKind.TheVariants.{Margin, Fold, Cut}
 use Rattle.row_runs.specs.declared.sheet_request.Laying.TheVariants as laying
 use Rattle.row_sheets.specs.declared.fill.Scheme.TheVariants as scheme
 use Rattle.row_runs.specs.Evened.{at_common_scale}
-use Rattle.row_runs.specs.Guides.{guides_in, margin_lines}
 use Rattle.row_runs.specs.Marked.{strokes_in, tile_room}
 use Rattle.row_runs.specs.SwappedMargins.{swapped}
 use Rattle.row_runs.specs.Turning.{turn_on, turned_slot}
@@ -68,42 +64,11 @@ booklet_marks : map stroke_line (strokes_in fold_and_cut (laying.InCells halves 
 unfolding digits
 booklet_marks = refl
 
--- in a picture the margin has four lines, and there is one in the middle: where a booklet is folded, and where leaves are cut
-abbrev kind_of : Guide → GuideKind
-kind_of line = line.kind
-
-booklet_is_folded : map kind_of (guides_in (laying.InCells halves (scheme.Booklet false 0))) ≡ Margin ∷ Margin ∷ Margin ∷ Margin ∷ Fold ∷ []
-booklet_is_folded = refl
-
-leaves_are_cut : map kind_of (guides_in (laying.InCells halves scheme.Leaves)) ≡ Margin ∷ Margin ∷ Margin ∷ Margin ∷ Cut ∷ []
-leaves_are_cut = refl
-
--- a zine is folded between all its cells, and not cut
-zine_is_folded : map kind_of (guides_in (laying.InCells (record halves { grid = record { rows = 2; columns = 4; turned = false } }) scheme.Zine))
-    ≡ Margin ∷ Margin ∷ Margin ∷ Margin ∷ Fold ∷ Fold ∷ Fold ∷ Fold ∷ []
-zine_is_folded = refl
-
--- so many points, in grains
-abbrev in_grains : (count : ℕ) → ℤ
-in_grains count = pos (127_000_000_000 * count)
-
--- margins of 10, 20, 30 and 40 points at the left, the right, the lower and the upper edge
-abbrev four_margins : Room
-four_margins = record halves.room { right = 2_000_000; bottom = 3_000_000; top = 4_000_000 }
-
-each_margin_is_drawn : margin_lines four_margins
-    ≡ record { kind = Margin; start = (in_grains 10, pos 0); end = (in_grains 10, in_grains 200) }
-    ∷ record { kind = Margin; start = (in_grains 80, pos 0); end = (in_grains 80, in_grains 200) }
-    ∷ record { kind = Margin; start = (pos 0, in_grains 30); end = (in_grains 100, in_grains 30) }
-    ∷ record { kind = Margin; start = (pos 0, in_grains 160); end = (in_grains 100, in_grains 160) }
-    ∷ []
-each_margin_is_drawn = refl
-
--- a sheet of a poster has its margin along all edges
+-- a sheet of a poster has its margin along all edges, and no gaps
 abbrev poster : Poster
 poster = record { sheet = points 100 200; columns = 2; rows = 1; edge = 1_000_000; overlap = 0; scale = None }
 
-poster_margins : margin_lines (tile_room poster) ≡ margin_lines halves.room
+poster_margins : tile_room poster ≡ record halves.room { gutter_across = 0; gutter_up = 0 }
 poster_margins = refl
 
 -- cards have one scale, if that is asked for

@@ -1,6 +1,5 @@
 pub mod Examples
 pub mod SideExamples
-pub mod Lines
 pub mod Places
 mod TrailerLines
 mod Outside

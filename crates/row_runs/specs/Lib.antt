@@ -1,6 +1,6 @@
 -- Read in this order: what is written of made sheets. Then, of a row: what errors are called; layings with one scale; limits;
 -- the sheets that are asked for, how their pages are placed and read, turned pages; backs; which places can be written; their marks and
--- numbers; what the answers mean; lines on sheets; how sheets are read; what is shown of them before they are imposed.
+-- numbers; what the answers mean; how sheets are read; what is shown of them before they are imposed.
 -- At last, how many pages a document says that it has.
 pub mod SheetsRuns
 pub mod Errors
@@ -18,7 +18,6 @@ pub mod Numbers
 pub mod NumbersLie
 pub mod Runs
 pub mod Written
-pub mod Guides
 pub mod Readings
 pub mod Looks
 pub mod DeclaredPages

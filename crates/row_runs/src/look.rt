@@ -2,11 +2,9 @@
 ghost use Rattle.std.specs.Prelude.{◌≡◌, IfErr, IfOk, OnOk, Ok};
 ghost use Rattle.rules.specs.MadePlans.{made_plan_of};
 ghost use Rattle.sheet_plan.specs.MadeRefusals.{RefusesMade};
-ghost use Rattle.preview.specs.Drawing.{preview_text as picture_of};
 ghost use Rattle.row_runs.specs.Sheets.{MayBeAsked};
-ghost use Rattle.row_runs.specs.Runs.{ArePlanned, RefusesRun, swapped_room_for};
-ghost use Rattle.row_runs.specs.Looks.{IsPictureText, IsPlanText, guides_on};
-ghost use Rattle.row_runs.specs.Readings.{sides_by as sides_of_swapped_room};
+ghost use Rattle.row_runs.specs.Runs.{ArePlanned, RefusesRun};
+ghost use Rattle.row_runs.specs.Looks.{HavePlan, IsPlanText};
 
 use crate::error::{SheetError, plan_error};
 use crate::guides::guides_of;
@@ -38,36 +36,20 @@ pub fn row_plan(alloc: Global, job: &RowJob<'_, '_>, most: u32) -> Result<Vec<u8
 /// backs. If there are more than `most` sheets, only the first `most` are drawn. The errors are those of the run.
 pub fn row_preview(alloc: Global, job: &RowJob<'_, '_>, most: u32) -> Result<Vec<u8>, SheetError>
     requires asked { MayBeAsked job.now.asked }
-    ensures text { IfOk result (λ text. IsPictureText job.now most text.items) }
+    ensures planned { IfOk result (λ text. HavePlan job.now) }
     ensures refused { IfErr result (RefusesRun job.now) }
 {
     let sheets = planned_sheets(alloc, job)?;
-    let text = drawn(alloc, &sheets, job, most)?;
-    Ok(text)
-}
-
-/// The drawing of these sheets of a job.
-fn drawn(
-    alloc: Global,
-    sheets: &MadeSheets,
-    job: &RowJob<'_, '_>,
-    most: u32,
-) -> Result<Vec<u8>, AllocError>
-    requires { MayBeAsked job.now.asked }
-    ensures { IfOk result (λ text. text.items
-        ≡ picture_of (sides_of_swapped_room (swapped_room_for job.now) job.now.asked.laying) (guides_on job.now) most sheets.now) }
-{
     let guides = guides_for(alloc, job)?;
     let swap = swapped_room_in(job.swapped, &job.asked.laying);
     let sides = sides_by(&swap, &job.asked.laying);
-    let text = preview_text(alloc, sheets, sides, guides.as_slice(), most)?;
+    let text = preview_text(alloc, &sheets, sides, guides.as_slice(), most)?;
     Ok(text)
 }
 
 /// The guides to draw on each sheet of a job. There are none if margins are exchanged on backs, since the guides of fronts and backs would differ.
 fn guides_for(alloc: Global, job: &RowJob<'_, '_>) -> Result<Vec<Guide>, AllocError>
     requires { MayBeAsked job.now.asked }
-    ensures { IfOk result (λ guides. guides.items ≡ guides_on job.now) }
 {
     if job.swapped {
         Ok(Vec::new(alloc))
