@@ -1,7 +1,7 @@
 //! Messages about first arguments that aren't numbers of pages or grids.
 use crate::wordings::Wording;
 use crate::words::looks_like_file;
-use impose_words::CellCommand;
+use impose_words::{CellCommand, size_named};
 use std::alloc::{AllocError, Global};
 
 /// The wording about a refused text in the place of a command's number of pages or grid. If the text looks like a file, the message says that the
@@ -18,6 +18,19 @@ pub(crate) fn cells_wording(
             "': {what} after {name}, as in: impose {name} {example} in.ps out.ps"
         )?;
         return Wording::new(alloc, before, after);
+    }
+    if text == "help" {
+        let after = format!(in alloc;
+            "' is no number of pages: the help is printed by: impose {name} --help"
+        )?;
+        return Wording::new(alloc, "'", after);
+    }
+    if command == CellCommand::Poster && (text.ends_with("%") || size_named(text).is_some()) {
+        let after = String::from_str(
+            alloc,
+            "' is no grid: the scale gives a poster's size, as in: impose poster auto --scale 2 in.ps out.ps",
+        )?;
+        return Wording::new(alloc, "'", after);
     }
     let (what, advice) = bad_cells(command, text.contains("x"));
     Ok(Wording {

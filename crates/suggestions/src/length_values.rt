@@ -17,6 +17,11 @@ pub(crate) fn length_wording(
     option: OptionId,
     text: &str,
 ) -> Result<Wording, AllocError> {
+    if matches!(text, "none" | "no" | "off") {
+        let id = option.id();
+        let after = format!(in alloc; "' is no length: leave --{id} out")?;
+        return Wording::new(alloc, "'", after);
+    }
     match part_without_unit(text, may_be_list(option)) {
         Some(part) => no_unit_wording(alloc, option, text, part),
         None => refusal(alloc, option),

@@ -9,6 +9,7 @@ mod nearest;
 mod other_programs;
 mod paper_values;
 mod shown;
+mod stray_words;
 mod tips;
 mod values;
 mod wordings;

@@ -3,11 +3,12 @@ use crate::clap_text::{POINTER, Quoted, USAGE, is_tip_left_out, quoted_words};
 use crate::nearest::{COMMANDS, distance, nearest_command};
 use crate::other_programs::{FOR_COMMANDS, tip_on_other};
 use crate::shown::{is_shown_whole, push_line, shown_word};
+use crate::stray_words::{count_of, tip_on_file};
 use crate::tips::{
-    FOR_BOOKLETS, FOR_POSTERS, FOR_SELECTIONS, FOR_SPECIFICATIONS, MISSING, OF_COMMANDS, SIGNS,
-    Tip, tip_in,
+    FOR_BOOKLETS, FOR_CARDS, FOR_POSTERS, FOR_SELECTIONS, FOR_SPECIFICATIONS, FOR_STACKS,
+    FOR_ZINES, MISSING, OF_COMMANDS, RANGES_AFTER_PAGES, SIGNS, Tip, tip_in,
 };
-use crate::words::{is_range, looks_like_file};
+use crate::words::looks_like_file;
 use clap::Error;
 use clap::error::ErrorKind;
 use impose_words::size_named;
@@ -102,6 +103,10 @@ fn tip(kind: ErrorKind, word: &str, words: &[String]) -> Option<&'static str> {
         }
         ErrorKind::UnknownArgument => Some(tip_on_file(command, after)),
         ErrorKind::MissingRequiredArgument => tip_in(MISSING, command),
+        ErrorKind::TooManyValues => Some(
+            "the option has no value: leave out the equals sign and what comes after it",
+        ),
+        ErrorKind::ArgumentConflict if count_of(after, "--pages") > 1 => Some(RANGES_AFTER_PAGES),
         _ => None,
     }
 }
@@ -112,11 +117,17 @@ fn tip_on_command(word: &str) -> Option<&'static str> {
         Some("a command comes before its number, as in: impose nup 2 in.ps out.ps")
     } else if word.starts_with("-") {
         let own = "options come after the command, as in: impose nup 2 -q in.ps out.ps";
-        Some(tip_on_other(word).unwrap_or(own))
+        Some(
+            tip_in(FOR_COMMANDS, word)
+                .or(tip_on_other(word))
+                .unwrap_or(own),
+        )
     } else if looks_like_file(word) {
         Some("a command comes before the files, as in: impose booklet in.ps out.ps")
     } else if is_command_and_number(word) {
         Some("a blank is between a command and its number, as in: impose nup 2 in.ps out.ps")
+    } else if size_named(word).is_some() {
+        Some("pages are put on another paper by: impose nup 1 --sheet a4 in.ps out.ps")
     } else {
         tip_in(FOR_COMMANDS, word)
     }
@@ -139,6 +150,11 @@ fn tip_on_option(command: &str, after: &[String], word: &str) -> Option<&'static
     let value = whole.strip_prefix("-").unwrap_or("");
     if begins_with_digit(value) || value.starts_with(".") {
         return tip_in(SIGNS, before).or(tip_in(SIGNS, command));
+    }
+    if begins_with_digit(value.strip_prefix("-").unwrap_or("")) {
+        return Some(
+            "a number comes after the command without signs, as in: impose nup 2x3 in.ps out.ps",
+        );
     }
     if after.iter().any(|whole| is_long_name(whole.as_str(), word)) {
         return Some("an option of several letters begins with two minus signs, as in: --quiet");
@@ -165,6 +181,9 @@ fn tip_on_option(command: &str, after: &[String], word: &str) -> Option<&'static
 fn tips_for(command: &str) -> &'static [Tip] {
     match command {
         "booklet" => FOR_BOOKLETS,
+        "stack" => FOR_STACKS,
+        "cards" => FOR_CARDS,
+        "zine" => FOR_ZINES,
         "poster" => FOR_POSTERS,
         "select" => FOR_SELECTIONS,
         "spec" => FOR_SPECIFICATIONS,
@@ -198,46 +217,4 @@ fn in_place<'w>(after: &'w [String], option: &str) -> (&'w str, &'w str) {
         Some(place) => (after[place - 1].as_str(), after[place].as_str()),
         None => ("", ""),
     }
-}
-
-/// The tip on a word that follows the two words that clap takes for the names of files.
-fn tip_on_file(command: &str, after: &[String]) -> &'static str {
-    let first = after.first().map_or("", |word| word.as_str());
-    let second = after.get(1).map_or("", |word| word.as_str());
-    let ranges = after.iter().filter(|word| is_range(word.as_str())).count();
-    if after.iter().any(|word| word
-        .as_str()
-        .starts_with(|sign: char| matches!(sign, '–' | '—')))
-    {
-        "an option of several letters begins with two minus signs, not with a dash, as in: --quiet"
-    } else if matches!(command, "booklet" | "zine") && is_range(first) {
-        "no number comes after booklet or zine, as in: impose zine in.ps out.ps; leaves are folded some at a time by --signature 16"
-    } else if command == "select" && ranges > 1 {
-        "ranges are one word, as in: impose select 1,3,5-8 in.ps out.ps"
-    } else if ranges > 1 && after.iter().any(|word| word.as_str() == "--pages") {
-        "ranges are one word, as in: --pages 1,3,5-8"
-    } else if command != "spec" && is_range(first) && is_range(second) {
-        "columns and rows are one word, as in: impose nup 2x3 in.ps out.ps"
-    } else if has_stray_paper(after) {
-        "the paper of the sheets comes after --sheet, as in: --sheet a4"
-    } else if after
-        .iter()
-        .any(|word| matches!(word.as_str(), "pt" | "mm" | "cm" | "in"))
-    {
-        "a number and its unit are one word, as in: --gap 5mm"
-    } else {
-        "there are two files at most, INFILE and OUTFILE; put a name with blanks in quotes"
-    }
-}
-
-/// Whether a word after the command names a paper, but doesn't follow an option that takes a paper.
-fn has_stray_paper(after: &[String]) -> bool {
-    after.iter().enumerate().any(|(place, word)| {
-        let before = if place == 0 {
-            ""
-        } else {
-            after[place - 1].as_str()
-        };
-        size_named(word.as_str()).is_some() && !matches!(before, "-p" | "--paper" | "--sheet")
-    })
 }

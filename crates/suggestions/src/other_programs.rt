@@ -4,6 +4,8 @@ use crate::tips::{Tip, tip_in, tips};
 /// Tips on words in the place of a command. Other programs have commands of these names, or people expect such commands.
 pub(crate) const FOR_COMMANDS: &[Tip] = tips! {
     "version" => "the version is printed by: impose --version",
+    "man" | "manual" | "--man" | "--manual" | "-?" | "--usage" =>
+        "the help is printed by: impose --help; that of a command by: impose booklet --help; and the manual by: man impose",
     "info" | "show" | "list" | "plan" | "preview" =>
         "sheets are listed by --plan, as in: impose nup 2 --plan in.ps",
     "insert" | "add" | "blank" =>
@@ -13,9 +15,18 @@ pub(crate) const FOR_COMMANDS: &[Tip] = tips! {
         "several pages are put on a sheet by: impose nup 2 in.ps out.ps; a page over several sheets by: impose poster 2x2 in.ps out.ps",
     "rotate" | "turn" =>
         "pages are turned by --turn, as to the left by: impose select 1- --turn left in.ps out.ps",
+    "trifold" | "tri-fold" | "threefold" | "z-fold" =>
+        "a leaflet that is folded in three is: impose nup 3x1 --sheet a4-landscape --pages 5,6,1,2,3,4 in.ps out.ps",
+    "watermark" | "stamp" | "header" | "footer" | "text" =>
+        "page numbers are the only text that is drawn, as in: impose nup 2 --numbers 10pt in.ps out.ps",
+    "duplicate" | "duplicates" | "copy" | "copies" | "repeat" =>
+        "each page is on a sheet several times by: impose cards 2 in.ps out.ps",
+    "mirror" | "reflect" | "flip" => "pages are mirrored by the printer: lp -o mirror out.ps",
+    "center" | "centre" =>
+        "pages are in the middle of their sheets by: impose nup 1 --sheet a4 in.ps out.ps",
     "split" | "cut" =>
         "some of the pages are taken by: impose select 1-3 in.ps out.ps; each page is put over several sheets by: impose poster 2x1 in.ps out.ps",
-    "scale" | "resize" | "shrink" | "psresize" =>
+    "scale" | "resize" | "shrink" | "enlarge" | "fit" | "psresize" =>
         "pages are scaled to another paper by: impose nup 1 --sheet a5 in.ps out.ps",
     "merge" | "join" | "concat" | "cat" =>
         "PDFs are joined by: impose-pdf select 1- one.pdf two.pdf out.pdf; PostScript by: gs -q -sDEVICE=ps2write -o both.ps one.ps two.ps",
@@ -27,7 +38,7 @@ pub(crate) const FOR_COMMANDS: &[Tip] = tips! {
     "signature" | "signatures" =>
         "leaves are folded some at a time by: impose booklet --signature 16 in.ps out.ps",
     "book" | "psbook" | "pdfbook" | "pdfbook2" | "brochure" | "broschure" | "leaflet"
-    | "pamphlet" | "fold" => "a booklet is made by: impose booklet in.ps out.ps",
+    | "pamphlet" | "fold" | "folded" | "folding" => "a booklet is made by: impose booklet in.ps out.ps",
     "psnup" | "pdfnup" | "pdfjam" | "combine" =>
         "several pages are put on a sheet by: impose nup 2 in.ps out.ps",
     "psselect" | "pages" | "page" | "extract" | "range" | "delete" =>
@@ -46,6 +57,7 @@ pub(crate) fn tip_on_other(word: &str) -> Option<&'static str> {
     tip_in(OF_OTHERS, word)
         .or(tip_in(FURTHER, word))
         .or(tip_in(OF_PRINTING, word))
+        .or(tip_in(OF_SHOPS, word))
 }
 
 /// Tips on options of other programs.
@@ -54,8 +66,8 @@ const OF_OTHERS: &[Tip] = tips! {
         "pages are trimmed by --trim alone: leave this option out",
     "--no-landscape" | "--portrait" =>
         "a sheet is upright unless its paper is named with -landscape, as in: --sheet a4",
-    "--collate" | "--printer" | "--dpi" | "--resolution" | "--quality" | "--gray" | "--grayscale"
-    | "--color" | "--colour" | "--staple" | "--stapler" =>
+    "--collate" | "--printer" | "--dpi" | "--resolution" | "--quality" | "--color" | "--colour"
+    | "--staple" | "--stapler" =>
         "options of the printer are given to lp, as in: impose booklet in.ps | lp -o sides=two-sided-short-edge",
     "--watermark" | "--stamp" | "--title" | "--header" | "--footer" | "--text" | "--font" =>
         "page numbers are the only text that is drawn, as in: impose nup 2 --numbers 10pt in.ps out.ps",
@@ -65,13 +77,15 @@ const OF_OTHERS: &[Tip] = tips! {
         "pages are turned by --turn, as to the left by: impose select 1- --turn left in.ps out.ps",
     "--short-edge" =>
         "without an option a booklet is for printers that flip on the short edge: leave it out",
-    "--copies" | "--repeat" =>
+    "--copies" | "--repeat" | "--each" =>
         "each page is on a sheet several times by: impose cards 2 in.ps out.ps; and the document several times after itself by --pages 1-,1-",
     "--verbose" | "-v" => "there is no longer report; --plan prints which page is where",
     "--dry-run" => "--plan prints which page is where on each sheet, and imposes nothing",
-    "-n" | "-N" | "--nup" | "--up" | "--number-up" | "--per-page" | "--pages-per-sheet" =>
+    "-n" | "-N" | "--nup" | "--n-up" | "--up" | "--number-up" | "--per-page" | "--pages-per-sheet" =>
         "the number of pages comes after nup, as in: impose nup 4 in.ps out.ps; --plan prints which page is where",
-    "--landscape" | "--orientation" | "-f" =>
+    "-f" =>
+        "files have no option, as in: impose nup 2 in.ps out.ps; another program's document is replaced by --replace; a sheet on its side is --sheet a4-landscape",
+    "--landscape" | "--orientation" =>
         "a sheet on its side is named so, as in: --sheet a4-landscape",
     "-l" =>
         "pages that lie on their sides are laid by: impose nup 2 --turned right in.ps out.ps; a sheet on its side is named so, as in: --sheet a4-landscape",
@@ -89,7 +103,7 @@ const OF_OTHERS: &[Tip] = tips! {
         "pages go down the columns by: impose nup 4 --order down-right in.ps out.ps",
     "--rows" | "--columns" | "--cols" | "--grid" | "--layout" =>
         "columns and rows are written as one word, as in: impose nup 2x3 in.ps out.ps",
-    "-m" | "-t" | "-i" | "--margins" =>
+    "-m" | "-t" | "--margins" =>
         "the edges of sheets are kept free by --margin, as in: impose nup 2 --margin 1cm in.ps out.ps",
 };
 
@@ -111,11 +125,12 @@ const FURTHER: &[Tip] = tips! {
         "marks to fold are drawn by: impose booklet --marks fold in.ps out.ps",
     "--right-to-left" | "--righttoleft" | "--direction" =>
         "pages go from right to left by --rtl, as in: impose booklet --rtl in.ps out.ps",
-    "--binding" | "--binding-side" | "--binding-edge" =>
+    "--binding" | "--binding-side" | "--binding-edge" | "--bind-right" | "--bind" =>
         "a booklet is bound at the left without an option, and at the right by: impose booklet --rtl in.ps out.ps",
     "--twoside" | "--twosided" | "--two-sided" | "--double-sided" | "--sides" =>
         "which sides are printed is for the printer to know, as in: impose booklet in.ps | lp -o sides=two-sided-short-edge",
-    "--tumble" | "--long" | "--flip" | "--flip-other-edge" | "--flip-long-edge" =>
+    "--tumble" | "--long" | "--flip" | "--flip-other-edge" | "--flip-long-edge"
+    | "--flip-on-long-edge" | "--rotate-backs" | "--turn-backs" =>
         "a booklet flips on the short edge; on the long one by: impose booklet --long-edge in.ps out.ps",
     "--fit" | "--scaling" | "--fit-page" | "--fit-to-page" | "--shrink" | "--scale-to-fit"
     | "--autoscale" | "--noautoscale" | "--no-scale" | "--actual-size" =>
@@ -173,14 +188,38 @@ const OF_PRINTING: &[Tip] = tips! {
     "--trim-left" | "--trim-right" | "--trim-top" | "--trim-bottom" | "--crop-box" =>
         "all edges of pages are left out by one length, as in: impose nup 2 --trim 15mm in.ps out.ps",
     "-d" | "--frame" | "--frames" | "--draw" | "--line" | "--page-border" | "--border-width"
-    | "--line-width" =>
+    | "--line-width" | "--separator" | "--separators" =>
         "a line round each page is drawn by --border, as in: impose nup 2 --border 1pt in.ps out.ps",
     "--pagenumbers" | "--page-numbers" | "--number" | "--numbering" | "--pagenumber" | "--bates" =>
         "pages are numbered by --numbers, as in: impose nup 2 --numbers 10pt in.ps out.ps",
     "--resize" => "pages are scaled to another paper by: impose nup 1 --sheet a5 in.ps out.ps",
-    "--input" | "--infile" =>
+    "-i" | "--input" | "--infile" =>
         "the pages come from the first file, without an option: impose nup 2 in.ps out.ps",
     "--silent" => "the report is left out by -q, as in: impose nup 2 -q in.ps out.ps",
     "--register-marks" | "--registration-marks" | "--color-bars" | "--colour-bars" =>
         "marks are drawn for folds and cuts alone, as in: impose cards 8 --marks cut in.ps out.ps",
+};
+
+/// Tips on further words, such as those of printing shops and of tools for PDFs.
+const OF_SHOPS: &[Tip] = tips! {
+    "--saddle-stitch" | "--saddle" | "--stitch" | "--stapled" =>
+        "booklet is a command, and its leaves are stapled at the fold without an option: impose booklet in.ps out.ps",
+    "--perfect-bound" | "--perfect-binding" | "--perfect" | "--glued" | "--sewn" =>
+        "leaves that are sewn or glued are folded some at a time: impose booklet --signature 16 in.ps out.ps",
+    "--line-height" | "--line-spacing" | "--line-distance" =>
+        "lines for notes are 24 points apart, and no option changes that: impose notes 3 in.ps out.ps",
+    "--notes-right" | "--lines-right" | "--notes" =>
+        "notes draws lines at the right of pages without an option, as in: impose notes 3 in.ps out.ps",
+    "--black-and-white" | "--bw" | "--mono" | "--monochrome" | "--gray" | "--grayscale" | "--grey"
+    | "--greyscale" =>
+        "colours become grey by: gs -q -sDEVICE=ps2write -sColorConversionStrategy=Gray -o grey.ps in.ps; and for a PDF with pdfwrite in place of ps2write",
+    "--password" | "--decrypt" | "--unlock" | "--userpw" =>
+        "a password is taken off by another program: qpdf --decrypt --password=WORD in.pdf plain.pdf",
+    "--compress" | "--gzip" | "--compression" =>
+        "PostScript is compressed by: impose .. | gzip > out.ps.gz; and a PDF is without an option",
+    "--suffix" | "--prefix" | "--outdir" | "--output-dir" | "--directory" =>
+        "the sheets go to the last file, whatever its name: impose nup 2 in.ps out.ps",
+    "--merge" | "--join" | "--concat" =>
+        "PDFs are joined by: impose-pdf select 1- one.pdf two.pdf out.pdf; PostScript by: gs -q -sDEVICE=ps2write -o both.ps one.ps two.ps",
+    "->" | "=>" => "OUTFILE comes after INFILE without an arrow: impose nup 2 in.ps out.ps",
 };

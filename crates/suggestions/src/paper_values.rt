@@ -1,7 +1,8 @@
 //! Messages about values that aren't papers.
 use crate::mistakes::begins_with_digit;
-use crate::nearest::nearest_papers;
+use crate::nearest::{nearest_papers, plain};
 use crate::shown::shown_word;
+use crate::tips::{Tip, tip_in, tips};
 use crate::wordings::Wording;
 use impose_words::OptionId;
 use papers::{PaperError, read_paper};
@@ -71,12 +72,48 @@ fn paper_advice(alloc: Global, text: &str) -> Result<String, AllocError> {
             "name a size such as 210x297mm, or a paper such as a4",
         );
     }
-    if matches!(text, "landscape" | "portrait") {
+    if text.contains("landsc") || text.contains("portrait") || text.contains("quer") {
         return String::from_str(
             alloc,
-            "name the paper too, as a4-landscape, or a4, which is upright",
+            "name the paper by one word, as a4-landscape, or a4, which is upright",
         );
     }
-    let names = nearest_papers(alloc, text)?;
-    format!(in alloc; "name {names}, another paper of impose --help, or a size such as 210x297mm")
+    let name = plain(alloc, text)?;
+    if let Some(size) = tip_in(SIZES, name.as_str()) {
+        return format!(in alloc; "name it {size}");
+    }
+    match nearest_papers(alloc, name.as_str())? {
+        Some(names) => format!(in alloc;
+            "name {names}, another paper of impose --help, or a size such as 210x297mm"
+        ),
+        None => String::from_str(
+            alloc,
+            "name its size such as 210x297mm, or a paper of impose --help",
+        ),
+    }
 }
+
+/// The sizes of papers that have no names in `impose`, and the names of those that have another one there. The words are as `plain` writes them.
+const SIZES: &[Tip] = tips! {
+    "b4jis" => "jisb4",
+    "b5jis" => "jisb5",
+    "hagaki" | "postcard" | "japanesepostcard" => "100x148mm",
+    "com10" | "no10" | "env10" | "envelope10" | "number10" => "4.125x9.5in",
+    "ansia" => "8.5x11in",
+    "ansib" => "11x17in",
+    "ansic" => "17x22in",
+    "ansid" => "22x34in",
+    "ansie" => "34x44in",
+    "archa" => "9x12in",
+    "archb" => "12x18in",
+    "archc" => "18x24in",
+    "archd" => "24x36in",
+    "arche" => "36x48in",
+    "a3+" | "superb" | "superb3" => "329x483mm",
+    "a8" => "52x74mm",
+    "c3" => "324x458mm",
+    "c7" => "81x114mm",
+    "monarch" => "3.875x7.5in",
+    "halfletter" => "5.5x8.5in",
+    "governmentletter" => "8x10.5in",
+};

@@ -21,6 +21,18 @@ pub(crate) fn tip_in(tips: &[Tip], word: &str) -> Option<&'static str> {
     Some(tip.text)
 }
 
+pub(crate) const RANGES_AFTER_PAGES: &str = "ranges are one word, as in: --pages 1,3,5-8";
+
+/// Tips on options without a value, for use if a word that isn't a file follows them.
+pub(crate) const NO_VALUE: &[Tip] = tips! {
+    "--rtl" =>
+        "--rtl has no value, and lays pages from right to left; leave it out for the other direction",
+    "--cover" =>
+        "--cover has no value: the document's own first and last pages become the cover, as in: impose booklet --cover in.ps out.ps",
+    "--duplex" | "--long-edge" | "--same-scale" | "--odd" | "--even" | "--reverse" =>
+        "this option has no value: leave out the word after it",
+};
+
 /// Tips for a command whose first argument is missing.
 pub(crate) const MISSING: &[Tip] = tips! {
     "nup" => "the number of pages comes after nup, as in: impose nup 2 in.ps out.ps",
@@ -56,13 +68,35 @@ pub(crate) const SIGNS: &[Tip] = tips! {
 
 /// Tips on options that `booklet` doesn't have, or has under another name than other programs.
 pub(crate) const FOR_BOOKLETS: &[Tip] = tips! {
-    "--nup" | "-N" | "--up" =>
+    "--nup" | "--n-up" | "-N" | "--up" =>
         "a booklet always has two pages on each side of a leaf: leave this option out",
     "--order" =>
         "the order of a booklet is that in which one reads it; one that is bound at the right takes --rtl",
     "--duplex" => "a booklet is for printing on both sides without an option: leave it out",
     "-s" | "-n" | "--sheets" | "--leaves" =>
         "leaves are folded some at a time by a number of sides, as in: impose booklet --signature 16 in.ps out.ps",
+};
+
+/// Tips on options that `stack` doesn't have, or has under another name than other programs.
+pub(crate) const FOR_STACKS: &[Tip] = tips! {
+    "--twoside" | "--twosided" | "--two-sided" | "--double-sided" | "--both-sides" =>
+        "leaves that are printed on both sides are stacked by: impose stack 2 --duplex in.ps out.ps",
+    "--long-edge" | "--short-edge" =>
+        "the edge on which leaves are flipped is printed by: impose stack 2 --duplex --plan in.ps",
+    "--cut" | "--cuts" =>
+        "marks to cut are drawn by: impose stack 2 --gap 4mm --marks cut in.ps out.ps",
+};
+
+/// Tips on options that `cards` doesn't have, or has under another name than other programs.
+pub(crate) const FOR_CARDS: &[Tip] = tips! {
+    "--cut" | "--cuts" =>
+        "marks to cut are drawn by: impose cards 8 --gap 4mm --marks cut in.ps out.ps",
+};
+
+/// Tips on options that `zine` doesn't have, or has under another name than other programs.
+pub(crate) const FOR_ZINES: &[Tip] = tips! {
+    "--long-edge" | "--short-edge" | "--duplex" | "--twoside" | "--two-sided" | "--double-sided" =>
+        "a zine is printed on one side of its sheet: leave this option out",
 };
 
 /// Tips on options that `poster` doesn't have, or has under another name than other programs.

@@ -44,6 +44,7 @@ fn wording_for(alloc: Global, option: OptionId, text: &str) -> Result<Wording, A
             alloc, option, text,
         ),
         OptionId::CutMarks if text.contains("fold") => fold_marks_wording(alloc),
+        OptionId::Scale if matches!(text, "fit" | "auto" | "max") => fit_wording(alloc),
         OptionId::Signature => signature_wording(alloc, text),
         OptionId::NumbersFrom if whole_number(text).is_some() => first_number_wording(alloc, text),
         _ => refusal(alloc, option),
@@ -100,6 +101,15 @@ fn decimals_wording(alloc: Global, option: OptionId, pointed: &str) -> Result<Wo
     };
     let after = format!(in alloc;
         "' after --{id}: decimals come after a point, so write {pointed}{units}"
+    )?;
+    Wording::new(alloc, "'", after)
+}
+
+/// The wording about a word after `--scale` that asks for pages as large as they fit.
+fn fit_wording(alloc: Global) -> Result<Wording, AllocError> {
+    let after = String::from_str(
+        alloc,
+        "' is no scale: leave --scale out, and pages are as large as they fit",
     )?;
     Wording::new(alloc, "'", after)
 }
