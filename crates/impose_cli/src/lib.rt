@@ -17,7 +17,7 @@ mod taken;
 
 pub use guard::RoomyText;
 pub use impose_messages::{
-    Claims, Compression, Done, Findings, Finished, ImposeFault, PaperOrigin, Scales, command_text,
+    Claims, Done, FileKind, Findings, Finished, ImposeFault, PaperOrigin, Scales, command_text,
     empty_report, fault_status, fault_text, text_of_fault, text_said, words_text,
 };
 pub use impose_words::{

@@ -80,6 +80,16 @@ impl Context<'_> {
         format!(in self.alloc; "{name}{text}")
     }
 
+    /// Whether the name of INFILE is that of a document of an office program, such as `in.docx`.
+    pub(crate) fn is_office_file(&self) -> bool {
+        let name = self.infile.unwrap_or("");
+        [
+            ".docx", ".xlsx", ".pptx", ".odt", ".ods", ".odp", ".odg", ".epub",
+        ]
+        .iter()
+        .any(|ending| name.ends_with(*ending))
+    }
+
     /// Whether INFILE is most likely the second of two page ranges after `select`.
     pub(crate) fn has_second_range(&self) -> bool {
         self.is_selection && is_range(self.infile.unwrap_or(""))

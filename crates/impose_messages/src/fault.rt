@@ -9,13 +9,20 @@ use std::alloc::AllocError;
 use std::io;
 use std::io::ErrorKind;
 
-/// The compression of a file, recognised by the file's first bytes.
+/// A kind of files that aren't documents, recognised by a file's first bytes.
 #[derive(Clone, Copy)]
-pub enum Compression {
+pub enum FileKind {
     Gzip,
     Bzip2,
     Xz,
+    /// A zip archive. Documents of office programs are such archives.
     Zip,
+    Png,
+    Jpeg,
+    Tiff,
+    Dvi,
+    /// A text in angle brackets, such as HTML or an SVG.
+    Markup,
 }
 
 /// The reason why `impose` writes no output, or only part of it.
@@ -56,8 +63,8 @@ pub enum ImposeFault {
     NoInput,
     /// The input is a PDF.
     Pdf,
-    /// The input is compressed.
-    Compressed(Compression),
+    /// The input is a file of this kind, which isn't a document.
+    OtherFile(FileKind),
     /// The input is an EPS file in DOS format, in which binary data comes before the PostScript.
     DosEps,
     /// The input is an EPS file without `%%Page:` comments.

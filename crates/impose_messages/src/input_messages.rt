@@ -1,7 +1,7 @@
 //! Messages about inputs and outputs that aren't what they should be.
 
 use crate::context::{Context, OUT_OF_MEMORY};
-use crate::fault::Compression;
+use crate::fault::FileKind;
 use dsc::DscError;
 use std::alloc::AllocError;
 use std::io;
@@ -31,19 +31,27 @@ pub(crate) const TOO_LONG: &str = " is longer than 1,073,741,824 bytes; split it
 const RANGES_ARE_ONE_WORD: &str =
     "; ranges are one word, as in: impose select 1,3,5-8 in.ps out.ps";
 
-/// The message about a compressed input.
-pub(crate) fn compressed_text(
-    context: &Context<'_>,
-    compression: Compression,
-) -> Result<String, AllocError> {
-    let name = context.input_name()?;
-    let command = match compression {
-        Compression::Gzip => "zcat in.ps.gz",
-        Compression::Bzip2 => "bzcat in.ps.bz2",
-        Compression::Xz => "xzcat in.ps.xz",
-        Compression::Zip => "unzip -p in.zip",
+/// The message about a file of another kind.
+pub(crate) fn other_file_text(context: &Context<'_>, kind: FileKind) -> Result<String, AllocError> {
+    let advice = match kind {
+        FileKind::Gzip => "is compressed, not PostScript; use: zcat in.ps.gz | impose .. -",
+        FileKind::Bzip2 => "is compressed, not PostScript; use: bzcat in.ps.bz2 | impose .. -",
+        FileKind::Xz => "is compressed, not PostScript; use: xzcat in.ps.xz | impose .. -",
+        FileKind::Zip if context.is_office_file() =>
+            "is a document of an office program: save it as a PDF, and use: impose-pdf .. in.pdf out.pdf",
+        FileKind::Zip =>
+            "is compressed, not PostScript; use: unzip -p in.zip | impose .. -; or save an office document as a PDF for impose-pdf",
+        FileKind::Png | FileKind::Jpeg =>
+            "is a picture, not PostScript; use: impose-pdf .. in.png out.pdf",
+        FileKind::Tiff =>
+            "is a picture, not PostScript; use: tiff2pdf -o in.pdf in.tif, and impose-pdf .. in.pdf out.pdf",
+        FileKind::Dvi =>
+            "is a DVI by TeX, not PostScript; use: dvips -o in.ps in.dvi, and impose .. in.ps out.ps",
+        FileKind::Markup =>
+            "is HTML, an SVG or the like, not PostScript: print it into a PDF by a browser, and use: impose-pdf .. in.pdf out.pdf",
     };
-    format!(in context.alloc; "{name} is compressed, not PostScript; use: {command} | impose .. -")
+    let name = context.input_name()?;
+    format!(in context.alloc; "{name} {advice}")
 }
 
 /// The message about an input that couldn't be opened or read. If INFILE is most likely a second page range, the message says that ranges are one

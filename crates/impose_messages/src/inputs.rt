@@ -1,13 +1,13 @@
 //! Faults for inputs that aren't documents.
 ghost use Rattle.std.specs.Prelude.{◌≡◌};
-ghost use Rattle.impose_messages.specs.Inputs.{is_eps as eps, refused_document as document_fault, of_other_input, of_unpacked, packing_of as packed_by};
+ghost use Rattle.impose_messages.specs.Inputs.{drawn_kind as drawn_by, is_eps as eps, refused_document as document_fault, of_other_input, of_unpacked, packed_kind as packed_by};
 
-use crate::fault::{Compression, ImposeFault};
+use crate::fault::{FileKind, ImposeFault};
 use dsc::DscError;
 use imposer::RunError;
 
-/// The fault for an input that can't be read as a document. An empty input, a PDF, a compressed file, a printer's job and a UTF-16 text have faults
-/// of their own. So have an EPS file in DOS format, an EPS file without pages, and an input that is longer than a document may be. Any other `error`
+/// The fault for an input that can't be read as a document. An empty input, a PDF, a file of another kind, a printer's job and a UTF-16 text have
+/// faults of their own. So have an EPS file in DOS format, an EPS file without pages, and an input that is longer than a document may be. Any other `error`
 /// is reported as an error of the run.
 pub fn refused_document(error: DscError, input: &[u8]) -> ImposeFault
     ensures { result ≡ document_fault error input.now }
@@ -29,8 +29,8 @@ fn not_postscript(input: &[u8]) -> ImposeFault
     } else if input.starts_with(b"%PDF-") {
         ImposeFault::Pdf
     } else {
-        match packing_of(input) {
-            Some(packing) => ImposeFault::Compressed(packing),
+        match packed_kind(input) {
+            Some(kind) => ImposeFault::OtherFile(kind),
             None => unpacked_fault(input),
         }
     }
@@ -47,7 +47,10 @@ fn unpacked_fault(input: &[u8]) -> ImposeFault
     } else if input.starts_with(b"\xff\xfe") || input.starts_with(b"\xfe\xff") {
         ImposeFault::Utf16
     } else {
-        ImposeFault::Run(RunError::Document(DscError::NotPostScript))
+        match drawn_kind(input) {
+            Some(kind) => ImposeFault::OtherFile(kind),
+            None => ImposeFault::Run(RunError::Document(DscError::NotPostScript)),
+        }
     }
 }
 
@@ -61,18 +64,37 @@ fn is_eps(input: &[u8]) -> bool
         || input.starts_with(b"%!PS-Adobe-3.1 EPSF-")
 }
 
-/// The compression of an input, recognised by its first bytes. `None` if no compression has these bytes.
-fn packing_of(input: &[u8]) -> Option<Compression>
+/// The kind of a compressed input. `None` if its first bytes are those of no compression.
+fn packed_kind(input: &[u8]) -> Option<FileKind>
     ensures { result ≡ packed_by input.now }
 {
     if input.starts_with(b"\x1f\x8b") {
-        Some(Compression::Gzip)
+        Some(FileKind::Gzip)
     } else if input.starts_with(b"BZh") {
-        Some(Compression::Bzip2)
+        Some(FileKind::Bzip2)
     } else if input.starts_with(b"\xfd7zXZ\0") {
-        Some(Compression::Xz)
+        Some(FileKind::Xz)
     } else if input.starts_with(b"PK\x03\x04") {
-        Some(Compression::Zip)
+        Some(FileKind::Zip)
+    } else {
+        None
+    }
+}
+
+/// The kind of an input that is a picture, or a text that another program draws. `None` if its first bytes are those of no such file.
+fn drawn_kind(input: &[u8]) -> Option<FileKind>
+    ensures { result ≡ drawn_by input.now }
+{
+    if input.starts_with(b"\x89PNG") {
+        Some(FileKind::Png)
+    } else if input.starts_with(b"\xff\xd8\xff") {
+        Some(FileKind::Jpeg)
+    } else if input.starts_with(b"II*\0") || input.starts_with(b"MM\0*") {
+        Some(FileKind::Tiff)
+    } else if input.starts_with(b"\xf7\x02") {
+        Some(FileKind::Dvi)
+    } else if input.starts_with(b"<") {
+        Some(FileKind::Markup)
     } else {
         None
     }

@@ -29,7 +29,7 @@ pub(crate) fn layout_text(
         ArrangementError::ScaleOutOfRange =>
             "the pages would be too small or too large on the sheet: name other papers by --paper and --sheet",
         ArrangementError::ScaleTooLarge =>
-            "pages of this scale are larger than their cells: take a smaller scale, or smaller margins (0.01 mm for an exact fit)",
+            "pages of this scale are larger than their cells: take a smaller scale (.7 is 70 %), or smaller margins (0.01 mm for an exact fit)",
         ArrangementError::CreepOverFold =>
             "there is no room at the fold for leaves to creep so far: take a smaller --creep or a larger --gap",
         ArrangementError::NoMemory => OUT_OF_MEMORY,

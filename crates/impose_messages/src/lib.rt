@@ -17,7 +17,7 @@ mod scales;
 mod shown;
 mod statuses;
 
-pub use fault::{Compression, ImposeFault};
+pub use fault::{FileKind, ImposeFault};
 pub use finished::{Claims, Dependence, Done, Findings, Finished, PaperOrigin};
 pub use inputs::refused_document;
 pub use messages::{command_text, fault_text};

@@ -3,7 +3,7 @@
 use crate::context::{Context, OUT_OF_MEMORY};
 use crate::fault::ImposeFault;
 use crate::input_messages::{
-    DOS_EPS, EPS, JOB_LANGUAGE, NO_INPUT, PDF, TOO_LONG, UTF_16, compressed_text, document_text,
+    DOS_EPS, EPS, JOB_LANGUAGE, NO_INPUT, PDF, TOO_LONG, UTF_16, document_text, other_file_text,
     over_document_text, over_input_text, read_text,
 };
 use crate::layout_messages::{layout_text, plan_message, poster_message, sheets_message};
@@ -50,7 +50,7 @@ pub fn fault_text(
         ImposeFault::Run(error) => run_text(context, error),
         ImposeFault::NoInput => context.on_input(NO_INPUT),
         ImposeFault::Pdf => context.on_input(PDF),
-        ImposeFault::Compressed(compression) => compressed_text(context, *compression),
+        ImposeFault::OtherFile(kind) => other_file_text(context, *kind),
         ImposeFault::DosEps => context.on_input(DOS_EPS),
         ImposeFault::Eps => context.on_input(EPS),
         ImposeFault::Utf16 => context.on_input(UTF_16),

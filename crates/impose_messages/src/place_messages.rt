@@ -64,6 +64,8 @@ fn no_range_text(context: &Context<'_>, place: usize) -> Result<String, AllocErr
     let advice = match ranges {
         "all" => "all pages are 1-",
         "odd" | "even" => "every second page of 1- is taken by --odd or --even",
+        _ if ranges.contains("!") => "pages are left out by naming the others, as 1-2,4-",
+        _ if ranges.contains("end") => "5- goes to the last page",
         _ => "write them as 7, 3-9, 5-, _1 (the last) or blank, with commas between them",
     };
     let message = format!(in context.alloc; "page ranges: no range at byte {place}; {advice}")?;

@@ -29,7 +29,7 @@ pub fn fault_status(fault: &ImposeFault) -> u8
         ImposeFault::Layout(_) | ImposeFault::Poster(_) | ImposeFault::Row(_) => 1,
         ImposeFault::NoSuchPage { .. } | ImposeFault::OutOfReach | ImposeFault::Sheets(_) => 1,
         ImposeFault::NoSpecification | ImposeFault::NoInput => 1,
-        ImposeFault::Pdf | ImposeFault::Compressed(_) | ImposeFault::DosEps => 1,
+        ImposeFault::Pdf | ImposeFault::OtherFile(_) | ImposeFault::DosEps => 1,
         ImposeFault::Eps => 1,
         ImposeFault::Utf16 | ImposeFault::JobLanguage | ImposeFault::TooLong => 1,
     }
