@@ -155,6 +155,11 @@ class Source:
         lines = damage(shown(self.name), self.found)
         if self.counted > len(self.pages):
             lines += told(f"{shown(self.name)} counts {self.counted:.0f} pages, and {len(self.pages)} can be found")
+        return lines
+
+    def lost(self) -> str:
+        """The lines on what isn't kept, and on what isn't drawn as it should be, or nothing."""
+        lines = self.losses.line(shown(self.name))
         lines += self.looks.warning(shown(self.name)) if self.looks else ""
         return lines
 

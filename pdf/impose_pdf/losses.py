@@ -6,6 +6,7 @@ from typing import Any
 from pikepdf import Array, Dictionary, Name, String
 
 from impose_pdf import notes
+from impose_pdf.annotations import MOST_SHARED
 from impose_pdf.pages import keys_of, name_of
 
 SIGNATURE, FIELD, UNPRINTED, TEXT, FILE, PLAYED = (
@@ -16,6 +17,7 @@ TAGS, XFA, SCRIPTS, THREADS, TRANSITIONS, THUMBNAILS, DIRECTION, ENCRYPTION = (
     *("tags", "the XFA form", "scripts", "article threads", "page transitions", "thumbnails", "the reading direction"),
     "the encryption",
 )
+SHARED = f"links that pages share, after the first {MOST_SHARED:,}"
 CLAIMS = {name: f"the claim to be {name}" for name in ("PDF/A", "PDF/UA", "PDF/X", "PDF/VT", "PDF/E")}
 # The kinds in the order in which they are said, and several of each.
 SEVERAL = {
@@ -26,7 +28,7 @@ SEVERAL = {
     FILE: "{} attachments of notes",
     PLAYED: "{} films, sounds or 3D views",
     **{claim: claim for claim in CLAIMS.values()},
-    **{kind: kind for kind in (TAGS, XFA, SCRIPTS, THREADS, TRANSITIONS, THUMBNAILS, DIRECTION, ENCRYPTION)},
+    **{kind: kind for kind in (TAGS, XFA, SCRIPTS, THREADS, TRANSITIONS, THUMBNAILS, DIRECTION, ENCRYPTION, SHARED)},
 }
 ARE_PLAYED = {"/Movie", "/Screen", "/Sound", "/RichMedia", "/3D"}
 EVENTS = (
@@ -123,6 +125,10 @@ class Losses:
     def add_scripts(self, count: int) -> None:
         """Counts the scripts that links and outlines lead to."""
         self.found[SCRIPTS] += count
+
+    def add_links(self, shared: int) -> None:
+        """Notes whether pages share more links than are kept."""
+        self.found[SHARED] += shared > MOST_SHARED
 
     def count_field(self, note: Any) -> None:
         """Counts the field of a place where it is shown, once."""

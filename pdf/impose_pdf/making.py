@@ -74,6 +74,7 @@ class Making:
         self.settle_claims(pages)
         for source in self.sources:
             source.losses.add_scripts(source.ways.scripts)
+            source.losses.add_links(source.links.shared)
             source.keep_warnings()
 
     def settle_claims(self, pages: list[Any]) -> None:

@@ -208,7 +208,7 @@ def impose(request: Request, program: str) -> None:
             outfile.write(making.pdf)
         if "--quiet" not in request.options:
             say(outfile.warning())
-            say("".join(source.losses.line(shown(name)) for name, source in opened.items()))
+            say("".join(source.lost() for source in opened.values()))
     say(warnings_of(list(opened.values())))
     all_pages = sum(len(source.pages) for source in opened.values())
     say(reported(report, len(set(sizes)) == 1, len(set(row)), all_pages))
