@@ -12,6 +12,7 @@ from pathlib import Path
 from typing import Any
 
 from pikepdf import Dictionary, Name, Pdf, Stream
+from PIL import Image
 
 from . import pictures, plans, reading, wanted
 from .cases import Run, contents, ran
@@ -96,7 +97,10 @@ class Output:
         """The sheets that are pages themselves: each alone, where and as large as it is by itself, and there once."""
         if not self.case.inputs or any(self.case.documents[name].image for name, _ in self.case.inputs):
             return set(range(len(self.pdf.pages))) if self.case.words[0] == "select" else set()
-        if any(word.startswith(NOT_AS_THEY_ARE) or re.match(r"\w+=[\d_]", word) for word in self.case.words):
+        if any(
+            word.startswith(NOT_AS_THEY_ARE) or re.match(r"\w+=[\d_]|(.*,)?(registration|bars|slug)\b", word)
+            for word in self.case.words
+        ):
             return set()
         names = [name for name, _ in self.case.inputs]
         row = [(name, page) for name, source in zip(names, self.sources) for page in source.taken]
@@ -396,6 +400,26 @@ def _point(output: Output, rest: str, below: list[str]) -> Iterator[str]:
         seen = output.pictures[int(sheet) - 1].at(float(x), float(y))
         if not all(abs(a - b) <= 3 for a, b in zip(seen, wants)):
             yield f"sheet {sheet} at {x} {y} is {seen}, wanted {wants}"
+
+
+@check("plates")
+def _plates(output: Output, rest: str, below: list[str]) -> Iterator[str]:
+    """`plates SHEET X Y CYAN MAGENTA YELLOW BLACK`: inks of Ghostscript at a point of the paper, in percent."""
+    folder = output.run.folder.parent / "plates"
+    folder.mkdir(exist_ok=True)
+    words = ["gs", "-q", "-dSAFER", "-dBATCH", "-dNOPAUSE", "-r72", "-sDEVICE=tiffsep", f"-o{folder}/%d.tif"]
+    subprocess.run([*words, str(output.path)], capture_output=True, timeout=120)
+    for line in [rest] * bool(rest) + below:
+        sheet, x, y, *wants = line.split()
+        found = []
+        for ink in ("Cyan", "Magenta", "Yellow", "Black"):
+            with Image.open(folder / f"{sheet}({ink}).tif") as plate:
+                across, up = float(x), float(y)
+                if output.turns[int(sheet) - 1] == 90:
+                    across, up = up, plate.height - across
+                seen = plate.convert("L").getpixel((int(across), int(plate.height - up)))
+            found.append(str(round(100 - int(seen) / 2.55)))
+        yield from differs(f"inks at {x} {y}", found, wants)
 
 
 # What is kept.

@@ -20,6 +20,11 @@ class Extras:
         self.cropping = Cropping(request) if "--crop" in request.own else None
         self.turns = rows.Turns(request.own.get("--turn", []))
         read_password(request)
+        self.marks = None
+        if "--marks" in request.own or "--marks" in request.options:
+            from impose_pdf.marks import Marks
+
+            self.marks = Marks(request)
         if any(option in request.own for option in OF_STAMPS):
             from impose_pdf.stamps import Stamps
 
@@ -28,7 +33,8 @@ class Extras:
     @property
     def draws(self) -> bool:
         """Whether no page is a sheet as it is."""
-        return self.boxing.draws or self.stamps is not None or self.cropping is not None
+        is_marked = self.marks is not None and bool(self.marks.own)
+        return self.boxing.draws or is_marked or self.stamps is not None or self.cropping is not None
 
     @property
     def more(self) -> list[str]:
@@ -59,3 +65,5 @@ class Extras:
                 self.boxing.let_out(sheet, [source.shapes[k] for source, k in pages])
             if "cut" in self.request.options.get("--marks", "").split(","):
                 give_boxes(sheet, self.request.command == "poster")
+        if self.marks:
+            self.marks.put(making, sheets)

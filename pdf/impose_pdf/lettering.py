@@ -14,13 +14,14 @@ MOST_NAMED = 20  # letters
 class Lettering:
     """The font of all words, which lies in OUTFILE."""
 
-    def __init__(self, pdf: Pdf, words: set[str]):
+    def __init__(self, pdf: Pdf, words: set[str], name: str = "/Words"):
+        self.name = name
         letters = sorted(set("".join(words)))
         self.font = Borrowed(pdf, letters)
         if truetype.font() is None:
-            raise refusal(3, "--text and --stamp need a font: install fonts-liberation or fonts-dejavu-core")
+            raise refusal(3, "words on pages need a font: install fonts-liberation or fonts-dejavu-core")
         if lacking := [letter for letter in letters if letter not in self.font.codes][:MOST_NAMED]:
-            raise refusal(2, f"--text and --stamp: the font has no letter {' '.join(map(plain, lacking))}")
+            raise refusal(2, f"words on pages: the font has no letter {' '.join(map(plain, lacking))}")
 
     def width(self, words: str) -> float:
         """The width of words, in sizes."""
@@ -30,4 +31,4 @@ class Lettering:
         """What shows words."""
         codes = "".join(f"{self.font.codes[letter]:04x}" for letter in words)
         place = numerals(way[0], way[1], -way[1], way[0], *at)
-        return f"BT /Words {numerals(size)} Tf {place} Tm <{codes}> Tj ET"
+        return f"BT {self.name} {numerals(size)} Tf {place} Tm <{codes}> Tj ET"

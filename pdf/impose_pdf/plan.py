@@ -60,6 +60,7 @@ class Sheet:
     unit: int = 1
     boxes: dict[str, tuple[float, float, float, float]] = field(default_factory=dict)  # in which it is cut
     over: str = ""  # what is drawn over everything, in points
+    ink: str = "0 G"  # of its lines
 
 
 def read(text: str) -> list[Sheet]:

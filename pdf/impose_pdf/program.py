@@ -123,7 +123,7 @@ def impose_each(request: Request, program: str) -> None:
 def extras_of(request: Request) -> "Extras | None":
     """What is asked for that impose doesn't do, if there is anything."""
     has_blanks = any("blank" in ranges for _, ranges in request.infiles)
-    if not (request.own or has_blanks or "cut" in request.options.get("--marks", "")):
+    if not (request.own or has_blanks or "--marks" in request.options):
         return None
     from impose_pdf.extras import Extras
 

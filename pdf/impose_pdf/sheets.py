@@ -26,7 +26,7 @@ def drawing(sheet: Sheet) -> bytes:
             lines.append(f"q {numerals(pen)} w {numerals(*corners[:2])} m {path} l s Q")
         lines.append(f"{placed.under}/P{placed.page} Do {placed.over}Q")
     if sheet.strokes:
-        lines.append(f"q 0 G {numerals(0.25 / sheet.unit)} w")
+        lines.append(f"q {sheet.ink} {numerals(0.25 / sheet.unit)} w")
         lines += [f"{numerals(*stroke[:2])} m {numerals(*stroke[2:])} l S" for stroke in sheet.strokes]
         lines.append("Q")
     lines += [written(number) for number in sheet.numbers]

@@ -30,4 +30,4 @@ def scaled(sheet: Sheet, unit: int) -> Sheet:
     strokes = [tuple(value / unit for value in stroke) for stroke in sheet.strokes]
     pages, numbers = list(map(placed, sheet.placed)), list(map(number, sheet.numbers))
     boxes = {key: (*smaller(box[:2]), *smaller(box[2:])) for key, box in sheet.boxes.items()}
-    return Sheet(smaller(sheet.paper), pages, strokes, numbers, unit, boxes, sheet.over)
+    return Sheet(smaller(sheet.paper), pages, strokes, numbers, unit, boxes, sheet.over, sheet.ink)

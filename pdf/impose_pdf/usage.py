@@ -4,6 +4,7 @@ OPTIONS = """\
 Options that impose doesn't have:
   --box BOX       which box of a page is placed: crop, trim, bleed, media or art
   --bleed LENGTH  the TrimBox of a page is placed, and what is around it printed so far
+  --marks MARKS   also registration, bars (of colour) and slug (file, sheet, side), in the margins
   --crop [same,][MARGIN]  pages are what is drawn, with a margin; same: all have one box
   --text WHERE:WORDS  words at the foot, head, outer-foot, inner-foot or centre of each
                   cell; {page}, {pages}, {label}, {sheet}, {file}, {date} are filled in

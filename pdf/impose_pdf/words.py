@@ -18,6 +18,7 @@ OWN = {  # options with a value that impose doesn't have
     *("--bleed", "--box", "--each", "--over", "--password", "--stamp", "--suffix", "--text", "--under"),
 }
 OWN_ALONE = {"--crop", "--each-right"}  # and without one, but perhaps after an equals sign
+OWN_MARKS = ("registration", "bars", "slug")
 CROP = re.compile("same|(same,)?[0-9.]+[a-z]*")  # what may follow --crop
 LOOKS = ("--plan", "--preview", "--print-spec")
 LETTERS = {"p": "--paper", "q": "--quiet", "h": "--help", "V": "--version"}
@@ -134,6 +135,11 @@ def read(words: list[str]) -> Request:
                 if OPTION.match(value) and (name != "--suffix" or value.startswith("--")):
                     raise refusal(2, f"{shown(word)} lacks its value")
                 kept.append(value)
+            if name == "--marks" and (own := [mark for mark in value.split(",") if mark in OWN_MARKS]):
+                value = ",".join(mark for mark in value.split(",") if mark not in OWN_MARKS)
+                request.own[name], kept = own, [f"--marks={value}"]
+                if not value:
+                    continue
             if name in OWN | OWN_ALONE or name == "--turn" and "=" in value:
                 request.own.setdefault(name, []).append(value)
                 continue
