@@ -77,7 +77,7 @@ set -l sheeted $rows
 set -l every $sheeted select
 set -l lengths 2mm 5mm 1cm
 
-# NAME COMMANDS VALUES DESCRIPTION: an option with a value, for these commands, which are in a list of words or in its name.
+# NAME|COMMANDS|VALUES|DESCRIPTION of each option with a value. COMMANDS are commands, and names of the lists above.
 set -l valued \
     "paper|every|(__impose_paper)|the paper of the pages" \
     "border|every|.5pt 1pt .5mm|a border round each page" \
@@ -153,7 +153,6 @@ for program in impose impose-pdf
     complete -c $program -n "__impose_of $every" -s p -xa '(__impose_paper)' -d 'the paper of the pages'
     for option in $options $plain
         set -l parts (string split '|' -- $option)
-        # A word of the second part is a list's name, or a command.
         set -l of
         for word in (string split ' ' -- $parts[2])
             set -q $word; and set -a of $$word; or set -a of $word
