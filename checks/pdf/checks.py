@@ -26,7 +26,18 @@ TELLS = {"--help", "--version", "help"}
 # What draws fields that their PDF leaves to its readers.
 OF_FIELDS = {("Helvetica", "Type 1"), ("ZapfDingbats", "Type 1")}
 # With these, what is on sheets, or how large it is, isn't what impose alone would have of the pages.
-NOT_AS_THEY_ARE = "--box", "--bleed", "--text", "--stamp", "--under", "--over", "--each-right", "--password", "--crop"
+NOT_AS_THEY_ARE = (
+    "--box",
+    "--bleed",
+    "--text",
+    "--stamp",
+    "--under",
+    "--over",
+    "--each-right",
+    "--password",
+    "--crop",
+    "unbooklet",
+)
 Check = Callable[["Output", str, list[str]], Iterator[str]]
 CHECKS: dict[str, Check] = {}
 

@@ -47,7 +47,9 @@ def told() -> list[str]:
 
 def is_typed(line: str) -> bool:
     """Whether a shell has to read a line, or there is more on its sheets than impose says."""
-    is_dressed = re.search(r"--(crop|suffix|text|stamp|under|each-right|turn \w+=)|,slug|\.pdf [\d,-]*blank", line)
+    is_dressed = re.search(
+        r"--(crop|suffix|text|stamp|under|each-right|turn \w+=)|,slug|unbooklet|\.pdf [\d,-]*blank", line
+    )
     return bool(set("|;&<>*") & set(line)) or is_dressed is not None
 
 

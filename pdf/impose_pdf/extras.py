@@ -1,6 +1,6 @@
 """What is asked for that impose doesn't do: it computes sheets, and these words say more of what is on them."""
 
-from impose_pdf import rows
+from impose_pdf import rows, unbooklet
 from impose_pdf.boxes import Boxing, give_boxes
 from impose_pdf.cropping import Cropping
 from impose_pdf.document import Source
@@ -18,6 +18,7 @@ class Extras:
     def __init__(self, request: Request):
         self.request, self.boxing, self.stamps = request, Boxing(request), None
         self.cropping = Cropping(request) if "--crop" in request.own else None
+        self.is_unbooklet = "--unbooklet" in request.own
         self.turns = rows.Turns(request.own.get("--turn", []))
         read_password(request)
         self.marks = None
@@ -51,10 +52,16 @@ class Extras:
 
     def sizes(self, sizes: list[Size]) -> list[Size]:
         """The sizes of pages as they lie."""
-        return [self.turns.size(k, size) for k, size in enumerate(sizes)]
+        sizes = [self.turns.size(k, size) for k, size in enumerate(sizes)]
+        if self.is_unbooklet:
+            unbooklet.ask(self.request, sizes)
+        return sizes
 
     def dress(self, making: Making, sheets: list[Sheet]) -> None:
         """Gives sheets what is asked for."""
+        if self.is_unbooklet:
+            making.has_labels = False
+            sheets[:] = unbooklet.in_order(sheets)
         if self.stamps:
             self.stamps.put(making, sheets)
         for sheet in sheets:

@@ -32,6 +32,7 @@ class Making:
 
     def __init__(self, row: list[tuple[Source, int]], draws: bool = False):
         self.draws = draws  # something on pages that isn't theirs, or a part of them
+        self.has_labels = True
         self.others = list[Source]()  # PDFs of which something is on sheets, but no pages
         self.added = dict[str, dict[str, Any]]()  # resources of sheets
         self.row, self.sources, self.pdf = row, list(dict.fromkeys(source for source, _ in row)), row[0][0].pdf
@@ -60,7 +61,7 @@ class Making:
         self.enter(
             {
                 "/Pages": tree,
-                "/PageLabels": Dictionary(Nums=Array(labels)),
+                "/PageLabels": Dictionary(Nums=Array(labels)) if self.has_labels else None,
                 "/ViewerPreferences": preferences(self.pdf.Root.get("/ViewerPreferences"), flip),
                 "/Outlines": self.outlines(),
                 "/Names": self.names(),

@@ -12,6 +12,7 @@ from typing import TYPE_CHECKING
 
 from impose_pdf import words as said
 from impose_pdf.deep import deeply
+from impose_pdf.early import plainer
 from impose_pdf.plan import Imposer, cannot_run, usual
 from impose_pdf.usage import USAGE
 from impose_pdf.wording import as_ours, help_of, reported
@@ -96,6 +97,7 @@ def run(words: list[str], here: str) -> None:
         raise Refusal(2, USAGE)
     if words[0] in ("-h", "--help") or words == ["help"]:
         return put(USAGE.encode())
+    words = plainer(words)
     request = said.read(words)
     if words[0] in ("help", "-V", "--version") or "--help" in request.options:
         return put(helped(words, imposer(here)))

@@ -22,8 +22,10 @@ Puts the pages of PDFs on sheets of paper, and writes a PDF of the sheets
 
 Usage: impose-pdf COMMAND [OPTIONS] INFILE [RANGES].. OUTFILE
        impose-pdf COMMAND [OPTIONS] --each FOLDER INFILE [RANGES]..
+       impose-pdf unbooklet [OPTIONS] INFILE OUTFILE
 
 COMMAND and its OPTIONS are those of impose: impose --help, impose-pdf booklet --help.
+unbooklet makes the sides of a booklet, as 8|1 and 2|7, single pages in their order again.
 Files come after them, OUTFILE last; - is standard input, and standard output.
 The pages of several INFILEs follow one another, as those of one document. RANGES after an
 INFILE are the pages that are taken of it, as 7, 3-9, 9-3, 5-, _1 (the last) or blank, with

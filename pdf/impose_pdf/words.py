@@ -17,9 +17,8 @@ WITH_VALUE = {
 OWN = {  # options with a value that impose doesn't have
     *("--bleed", "--box", "--each", "--over", "--password", "--stamp", "--suffix", "--text", "--under"),
 }
-OWN_ALONE = {"--crop", "--each-right"}  # and without one, but perhaps after an equals sign
+OWN_ALONE = {"--crop", "--each-right", "--unbooklet"}  # and without one, but perhaps after an equals sign
 OWN_MARKS = ("registration", "bars", "slug")
-CROP = re.compile("same|(same,)?[0-9.]+[a-z]*")  # what may follow --crop
 LOOKS = ("--plan", "--preview", "--print-spec")
 LETTERS = {"p": "--paper", "q": "--quiet", "h": "--help", "V": "--version"}
 
@@ -117,7 +116,6 @@ def by_bytes(sign: str) -> str:
 
 def read(words: list[str]) -> Request:
     """The request that a command line makes. Words that are wrong for impose are left to it."""
-    words = with_crop(words)
     request, rest = Request(words[0]), iter(words[1:])
     operands: list[str] = []
     for word in rest:
@@ -153,18 +151,6 @@ def read(words: list[str]) -> Request:
         request.words += ["--", operands.pop(0)] if operands[0].startswith("-") else [operands.pop(0)]
     name_files(request, operands)
     return request
-
-
-def with_crop(words: list[str]) -> list[str]:
-    """Words with what follows --crop in one word with it."""
-    made, is_open = list[str](), True
-    for word in words:
-        if is_open and made and made[-1] == "--crop" and CROP.fullmatch(word):
-            made[-1] += f"={word}"
-        else:
-            made.append(word)
-        is_open = is_open and word != "--"
-    return made
 
 
 def option_of(word: str) -> tuple[str, str, bool]:
