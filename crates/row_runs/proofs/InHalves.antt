@@ -14,8 +14,8 @@ use Rattle.layouts.specs.Cells.{kept_length, size}
 use Rattle.layouts.specs.Laws.{LiesInCell}
 use Rattle.layouts.specs.Placed.{IsOfPage, Room, fine, stands}
 use Rattle.layouts.proofs.InGrid.{on_sheet, sides_are}
-use Rattle.row_sheets.specs.Creep.{AreHalves, creep_on, creeping, creeping_sheets, creeping_slot, in_half, moved_up, up_to_fold}
-use Rattle.row_sheets.specs.Filled.{Filling, SlotIsInside, grid_entry, is_turned}
+use Rattle.row_sheets.specs.Creep.{AreHalves, creep_on, creeping, creeping_sheets, creeping_slot, moved_up, up_to_fold}
+use Rattle.row_sheets.specs.Filled.{Filling, SlotIsInside, grid_entry, in_half, is_turned}
 use Rattle.row_sheets.specs.Halves.{creeping_half, crept_room, is_before_fold, side_turn}
 use Rattle.row_sheets.specs.Standing.{AllFitOnLeaves, EntryCreeps, EntryFits, StandsInRoom, fold_on}
 use Rattle.row_sheets.proofs.Halves.{slot_lies}

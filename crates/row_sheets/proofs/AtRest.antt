@@ -15,9 +15,9 @@ use Rattle.layouts.specs.declared.setting.Setting.{Setting}
 use Rattle.layouts.specs.Refusals.{error_unless}
 use Rattle.layouts.specs.Placed.{Room}
 use Rattle.layouts.specs.Fitted.{why_not_fitted}
-use Rattle.row_sheets.specs.Filled.{Filling, grid_entry, is_turned, slot_on}
+use Rattle.row_sheets.specs.Filled.{Filling, grid_entry, in_half, is_turned, slot_on}
 use Rattle.row_sheets.specs.Shapes.{first_refused, why_no_place}
-use Rattle.row_sheets.specs.Creep.{AreHalves, NoCreepIsPlain, creep_on, creeping, creeping_slot, first_over_fold, in_half, is_before_fold, moved_up, up_to_fold, why_no_half, why_not_creeping}
+use Rattle.row_sheets.specs.Creep.{AreHalves, NoCreepIsPlain, creep_on, creeping, creeping_slot, first_over_fold, is_before_fold, moved_up, up_to_fold, why_no_half, why_not_creeping}
 use Rattle.row_sheets.proofs.Creeping.{halves, of_halves}
 use Rattle.row_sheets.proofs.Filling.{sheet, same_map}
 use Rattle.row_sheets.proofs.Refused.{same_fault}

@@ -1,15 +1,11 @@
 -- Pages on leaves that creep stay within reach, as long as there is room at the fold.
-use Rattle.std.proofs.Common.{arith, ◌≡◌, ℕ, suc, zero, ◌+◌, ◌*◌, ◌<◌, ◌≤◌, Bool, true, false, Option, None, [], ◌∷◌, sym, ap, subst, ◌∙◌}
-use Rattle.std.specs.Prelude.{ℤ, pos, neg_ℤ, ◌+ℤ◌, ◌-ℤ◌, ◌*ℤ◌, nat_abs, nat_lt, map}
-use Rattle.std.specs.List.{range_with_len}
+use Rattle.std.proofs.Common.{arith, ◌≡◌, ℕ, suc, zero, ◌+◌, ◌*◌, ◌<◌, ◌≤◌, Bool, true, false, Option, None, sym, ap, subst, ◌∙◌}
+use Rattle.std.specs.Prelude.{ℤ, pos, neg_ℤ, ◌+ℤ◌, ◌-ℤ◌, ◌*ℤ◌, nat_abs, nat_lt}
 use Rattle.std.proofs.lemmas.Bool.{leb-true, ltb-true}
 use Rattle.std.proofs.lemmas.Int.{ints}
 use Rattle.rules.specs.Numbers.{greatest_number}
 use Rattle.rules.specs.Papers.{Paper}
 use Rattle.rules.specs.Specification.{Item}
-use Rattle.rules.specs.Signatures.{entry_of}
-use Rattle.rules.specs.Made.{MadeSlot}
-use Rattle.rules.specs.Rows.{Row}
 use Rattle.layouts.specs.declared.setting.Setting.{Setting}
 use Rattle.layouts.specs.Placed.{Room}
 use Rattle.layouts.specs.Cells.{Along, along_height, cell, trimmed_side, size, slack, trimmed, whole_parts}
@@ -20,9 +16,8 @@ use Rattle.layouts.proofs.OnSide.{HasCell, shown, from_start}
 use Rattle.layouts.proofs.InGrid.{fits, both_true}
 use Rattle.layouts.proofs.Folds.{kept_little}
 use Rattle.layouts.proofs.Fitting.{has_scale}
-use Rattle.row_sheets.specs.Creep.{in_half, up_to_fold, moved_up, may_creep, creeping, creeping_slot, AreHalves}
-use Rattle.row_sheets.specs.Standing.{EntryCreeps}
-use Rattle.row_sheets.specs.Filled.{Filling}
+use Rattle.row_sheets.specs.Creep.{up_to_fold, moved_up, may_creep, creeping, AreHalves}
+use Rattle.row_sheets.specs.Filled.{in_half}
 
 -- ---- a page on its half
 
@@ -137,22 +132,3 @@ pub reached_there : (t : Setting) (page : Paper) (by_half : Bool) (k creep : ℕ
 reached_there t page by_half k creep by item halved less scale may f g =
     subst (λ b. nat_abs (item.y.number +ℤ (pos 10_000 *ℤ b)) ≤ greatest_number) (sym f)
     (subst (λ i. nat_abs (i.y.number +ℤ (pos 10_000 *ℤ up_to_fold t.order.right_to_left by_half k creep)) ≤ greatest_number) (sym g) (reached t page by_half k creep halved less scale may))
-
--- the two slots of a side
-pub both_slots : (f : ℕ → MadeSlot) (one other : MadeSlot) → one ≡ f 0 → other ≡ f 1 → one ∷ other ∷ [] ≡ map f (range_with_len 0 2)
-both_slots f one other e e' = ap (λ x. x ∷ other ∷ []) e ∙ ap (λ x. f 0 ∷ x ∷ []) e'
-
--- an entry that is found step by step
-pub entry_is : (f : Filling) (row : Row) (half half' : Bool) (k by by' place place' : ℕ) (entry : Option ℕ) (slot : MadeSlot) → slot ≡ creeping_slot f half k by entry → half ≡ half' → by ≡ by' → entry ≡ entry_of row place → place ≡ place'
-    → slot ≡ creeping_slot f half' k by' (entry_of row place')
-entry_is f row half half' k by by' place place' entry slot is h b e at =
-    is ∙ (ap (λ x. creeping_slot f x k by entry) h ∙ (ap (λ n. creeping_slot f half' k n entry) b ∙ ap (creeping_slot f half' k by') (e ∙ ap (entry_of row) at)))
-
-pub entry_creeps : (f : Filling) (row : Row) (by by' place place' : ℕ) (entry : Option ℕ) → EntryCreeps f by entry → by ≡ by' → entry ≡ entry_of row place → place ≡ place' → EntryCreeps f by' (entry_of row place')
-entry_creeps f row by by' place place' entry has b e at = subst (EntryCreeps f by') (e ∙ ap (entry_of row) at) (subst (λ n. EntryCreeps f n entry) b has)
-
--- what holds of the two slots of a side
-pub both_creep : (P : ℕ → Type 0) → P 0 → P 1 → (k : ℕ) → k < 2 → P k
-both_creep P p q zero less = p
-both_creep P p q (suc zero) less = q
-both_creep P p q (suc (suc k)) less = absurd (omega (arith, less))

@@ -8,9 +8,8 @@ use Rattle.layouts.specs.Cells.{whole_parts}
 use Rattle.layouts.specs.Fitted.{why_not_fitted, HaveOneFold}
 use Rattle.layouts.specs.Laws.{IsPaper, LiesBefore, LiesBehind}
 use Rattle.layouts.proofs.Fitting.{one_fold}
-use Rattle.row_sheets.specs.Filled.{Filling, slot_on, HavePlaces, SlotLiesBefore, SlotLiesBehind, BookletFolds}
+use Rattle.row_sheets.specs.Filled.{Filling, in_half, slot_on, HavePlaces, SlotLiesBefore, SlotLiesBehind, BookletFolds}
 use Rattle.row_sheets.specs.Filled.{FilledIsInside, FilledIsApart, SidesAreInside, SidesAreApart, BookletKeepsFold}
-use Rattle.row_sheets.specs.Creep.{in_half}
 use Rattle.row_sheets.specs.Standing.{EntryFits}
 use Rattle.row_sheets.proofs.OnSheets.{not_turned, slot_inside, slots_apart}
 

@@ -13,9 +13,10 @@ use Rattle.layouts.specs.Cells.{size}
 use Rattle.layouts.specs.declared.setting.Setting.{Setting}
 use Rattle.row_sheets.specs.Filled.{Filling, behind_in, grid_entry, zine_place}
 use Rattle.row_sheets.specs.Creep.{creep_on}
-use Rattle.row_sheets.specs.Shapes.{cell_on, is_folded, is_two_sided, place_by, sheet_count}
-use Rattle.row_sheets.specs.declared.fill.CellKind.{CellKind}
-use Rattle.row_sheets.specs.declared.fill.CellKind.TheVariants as kind
+use Rattle.row_sheets.specs.Schemes.{EntryFitsBy, FitBy}
+use Rattle.row_sheets.specs.Shapes.{cell_count, cell_on, place_by, sheet_count}
+use Rattle.row_sheets.specs.declared.fill.Scheme.{Scheme}
+use Rattle.row_sheets.specs.declared.fill.Scheme.TheVariants as scheme
 use Rattle.row_sheets.specs.Standing.{AllEntriesFit, AllFitOnLeaves, EntryCreeps, EntryFits}
 use Rattle.row_sheets.proofs.Behind.{behind_is_mirror, behind_twice}
 
@@ -73,40 +74,9 @@ zine_cell (suc (suc (suc (suc (suc (suc zero)))))) within = (5, omega arith, ref
 zine_cell (suc (suc (suc (suc (suc (suc (suc zero))))))) within = (6, omega arith, refl)
 zine_cell (suc (suc (suc (suc (suc (suc (suc (suc j)))))))) within = absurd (omega (arith, within))
 
-pub cells_fit : (way : CellKind) (f : Filling) (cells sheets : ℕ) (row : Row) → 0 < cells → sheets ≡ sheet_count way cells (length row) → (is_two_sided way ≡ true → cells ≡ size f.setting.grid)
-    → (is_folded way ≡ true → cells ≡ 8) → ((s c : ℕ) → s < sheets → c < cells → EntryFits f (entry_of row (place_by way f.setting sheets cells s c))) → AllEntriesFit f row
-cells_fit kind.Grid f cells sheets row some many all folded fits = each_entry f row (λ i less.
-    let at = in_blocks i (length row) cells sheets less (covering cells sheets row some many) in
-    subst (λ k. EntryFits f (entry_of row k)) at.is (fits (i / cells) (i % cells) at.block at.place))
-cells_fit kind.Cards f cells sheets row some many all folded fits = each_entry f row (λ i less.
-    let same : sheets ≡ length row = many in
-    fits i 0 (omega (arith, less, same)) some)
-cells_fit kind.Stack f cells sheets row some many all folded fits = each_entry f row (λ i less.
-    let enough = covering cells sheets row some many in
-    let at = in_blocks i (length row) sheets cells less (omega (arith, enough, mul_comm sheets cells)) in
-    subst (λ k. EntryFits f (entry_of row k)) at.is (fits (i % sheets) (i / sheets) at.place at.block))
-cells_fit kind.Leaves f cells sheets row some many all folded fits = each_entry f row (λ i less.
-    let t = f.setting in
-    let leaves = blocks (2 * cells) (length row) in
-    let covered : length row ≤ leaves * (2 * cells) = blocks_cover (2 * cells) (length row) (omega (arith, some)) in
-    let enough : length row ≤ cells * sheets = subst (λ n. length row ≤ n) (turned_over leaves cells ∙ ap (λ s. cells * s) (sym many)) covered in
-    let at = in_blocks i (length row) sheets cells less enough in
-    let k = i / sheets in
-    let s = i % sheets in
-    let c = cell_on t s k in
-    let both = on_both t k (subst (λ n. k < n) (all refl) at.block) (s % 2 == 0) in
-    let within : c < cells = subst (λ n. c < n) (sym (all refl)) both.0 in
-    let is : cell_on t s c * sheets + s ≡ i = ap (λ j. j * sheets + s) both.1 ∙ at.is in
-    subst (λ j. EntryFits f (entry_of row j)) is (fits s c at.place within))
-cells_fit kind.Zine f cells sheets row some many all folded fits = each_entry f row (λ i less.
-    let at = in_blocks i (length row) cells sheets less (covering cells sheets row some many) in
-    let c = zine_cell (i % cells) (subst (λ n. i % cells < n) (folded refl) at.place) in
-    subst (λ k. EntryFits f (entry_of row k)) (ap (λ j. i / cells * cells + j) c.2 ∙ at.is)
-    (fits (i / cells) c.0 at.block (subst (λ n. c.0 < n) (sym (folded refl)) c.1)))
-
 -- ---- leaves that creep
 
-pub creeping_fit : (f : Filling) (creep leaves sheets : ℕ) (row : Row) → sheets ≡ blocks 2 (length row)
+creeping_fit : (f : Filling) (creep leaves sheets : ℕ) (row : Row) → sheets ≡ blocks 2 (length row)
     → ((s k : ℕ) → s < sheets → k < 2 → EntryCreeps f (creep_on creep leaves s) (grid_entry 2 row s k)) → AllFitOnLeaves f creep leaves row
 creeping_fit f creep leaves sheets row many fits s k in_k = elim (cases_lt s sheets) [
   | inl less ↦ fits s k less in_k
@@ -114,3 +84,38 @@ creeping_fit f creep leaves sheets row many fits s k in_k = elim (cases_lt s she
       let enough : length row ≤ blocks 2 (length row) * 2 = blocks_cover 2 (length row) (omega arith) in
       subst (EntryCreeps f (creep_on creep leaves s)) (sym (past_end row (s * 2 + k) (omega (arith, past, enough, many)))) tt
 ]
+
+-- ---- all of them
+
+pub cells_fit : (how : Scheme) (f : Filling) (leaves cells sheets : ℕ) (row : Row) → 0 < cells → cells ≡ cell_count how f.setting → sheets ≡ sheet_count how cells (length row)
+    → ((s c : ℕ) → s < sheets → c < cells → EntryFitsBy how f leaves s (entry_of row (place_by how f.setting sheets cells s c))) → FitBy how f leaves row
+cells_fit (scheme.Grid given) f leaves cells sheets row some all many fits = each_entry f row (λ i less.
+    let at = in_blocks i (length row) cells sheets less (covering cells sheets row some many) in
+    subst (λ k. EntryFits f (entry_of row k)) at.is (fits (i / cells) (i % cells) at.block at.place))
+cells_fit (scheme.Cards given) f leaves cells sheets row some all many fits = each_entry f row (λ i less.
+    let same : sheets ≡ length row = many in
+    fits i 0 (omega (arith, less, same)) some)
+cells_fit (scheme.Stack given) f leaves cells sheets row some all many fits = each_entry f row (λ i less.
+    let enough = covering cells sheets row some many in
+    let at = in_blocks i (length row) sheets cells less (omega (arith, enough, mul_comm sheets cells)) in
+    subst (λ k. EntryFits f (entry_of row k)) at.is (fits (i % sheets) (i / sheets) at.place at.block))
+cells_fit scheme.Leaves f leaves cells sheets row some all many fits = each_entry f row (λ i less.
+    let t = f.setting in
+    let sewn = blocks (2 * cells) (length row) in
+    let covered : length row ≤ sewn * (2 * cells) = blocks_cover (2 * cells) (length row) (omega (arith, some)) in
+    let enough : length row ≤ cells * sheets = subst (λ n. length row ≤ n) (turned_over sewn cells ∙ ap (λ s. cells * s) (sym many)) covered in
+    let at = in_blocks i (length row) sheets cells less enough in
+    let k = i / sheets in
+    let s = i % sheets in
+    let c = cell_on t s k in
+    let both = on_both t k (subst (λ n. k < n) all at.block) (s % 2 == 0) in
+    let within : c < cells = subst (λ n. c < n) (sym all) both.0 in
+    let is : cell_on t s c * sheets + s ≡ i = ap (λ j. j * sheets + s) both.1 ∙ at.is in
+    subst (λ j. EntryFits f (entry_of row j)) is (fits s c at.place within))
+cells_fit scheme.Zine f leaves cells sheets row some all many fits = each_entry f row (λ i less.
+    let at = in_blocks i (length row) cells sheets less (covering cells sheets row some many) in
+    let c = zine_cell (i % cells) (subst (λ n. i % cells < n) all at.place) in
+    subst (λ k. EntryFits f (entry_of row k)) (ap (λ j. i / cells * cells + j) c.2 ∙ at.is)
+    (fits (i / cells) c.0 at.block (subst (λ n. c.0 < n) (sym all) c.1)))
+cells_fit (scheme.Booklet turned_backs creep) f leaves cells sheets row some all many fits =
+    creeping_fit f creep leaves sheets row (many ∙ ap (λ n. blocks n (length row)) all) (λ s k in_s in_two. fits s k in_s (subst (λ n. k < n) (sym all) in_two))

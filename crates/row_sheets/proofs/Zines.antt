@@ -23,15 +23,18 @@ use Rattle.layouts.proofs.Apart.{other_way}
 use Rattle.layouts.proofs.Fitting.{in_cell, one_of_many, scale_of_many, stands_back}
 use Rattle.layouts.proofs.InCell.{grid_in_cell}
 use Rattle.layouts.proofs.InGrid.{fits}
-use Rattle.row_sheets.specs.declared.fill.CellKind.{CellKind}
-use Rattle.row_sheets.specs.declared.fill.CellKind.TheVariants as kind
+use Rattle.row_sheets.specs.declared.fill.Scheme.{Scheme}
+use Rattle.row_sheets.specs.declared.fill.Scheme.TheVariants as scheme
+use Rattle.row_sheets.specs.declared.fill.Shape.{Shape}
 use Rattle.row_sheets.specs.Filled.{Filling, SlotIsInside, SlotsAreApart, grid_entry, slot_on, zine_entry, zine_slot}
-use Rattle.row_sheets.specs.Shapes.{filled_by, is_folded}
+use Rattle.row_sheets.specs.Schemes.{CellFits, MayBeFilled, StandBy, shaped, sheets_by_scheme}
+use Rattle.row_sheets.specs.Shapes.{cell_count, sheet_count}
 use Rattle.row_sheets.specs.Stacked.{shown_at}
 use Rattle.row_sheets.specs.Bound.{shown_in}
-use Rattle.row_sheets.specs.Standing.{AllStand, EntryFits, StandsInRoom}
-use Rattle.row_sheets.specs.Zine.{AreZineCells, ZineIsRead, closer, kept_by, read_folded, zine_grid}
+use Rattle.row_sheets.specs.Standing.{AllStand, EntryFits, LeavesStand, StandsInRoom}
+use Rattle.row_sheets.specs.Zine.{AreZineCells, ZineIsRead, closer, read_folded, zine_grid}
 use Rattle.row_sheets.proofs.Filling.{sheet}
+use Rattle.row_sheets.proofs.OnLeaves.{leaves_stand}
 use Rattle.row_sheets.proofs.OnSheets.{each_of, each_two_of, filled_stand, not_turned, slot_inside, slots_apart}
 use Rattle.row_sheets.proofs.Runs.{grid_runs_on}
 use Rattle.row_sheets.proofs.Stacking.{shown_is}
@@ -202,7 +205,10 @@ inside_by false f c entry cells in_c has =
 -- ---- all sheets
 
 zines_stand : (f : Filling) (sheets cells : ℕ) (entry : (s c : ℕ) → Option ℕ) → AreZineCells f.setting → cells ≡ 8 → ((s c : ℕ) → s < sheets → c < cells → EntryFits f (entry s c))
-    → AllStand (closer f.setting.room) (filled_by kind.Zine f sheets cells entry)
+    → AllStand (closer f.setting.room) (map (λ s. record {
+      paper = f.setting.room.paper;
+      slots = map (λ c. zine_slot f c (entry s c)) (range_with_len 0 cells);
+    }) (range_with_len 0 sheets))
 zines_stand f sheets cells entry zine all fits =
     each_of (StandsInRoom (closer f.setting.room)) (λ s. record {
       paper = f.setting.room.paper;
@@ -215,10 +221,32 @@ zines_stand f sheets cells entry zine all fits =
           (λ c d in_c in_d differ. apart_by (nat_lt c 4) (nat_lt d 4) f c d (entry s c) (entry s d) zine (omega (arith, in_c, all)) (omega (arith, in_d, all)) differ refl refl (fits s c less in_c) (fits s d less in_d));
     })
 
-pub stand_by : (way : CellKind) (f : Filling) (sheets cells : ℕ) (entry : (s c : ℕ) → Option ℕ) → cells ≤ size f.setting.grid → (is_folded way ≡ true → AreZineCells f.setting × (cells ≡ 8))
-    → ((s c : ℕ) → s < sheets → c < cells → EntryFits f (entry s c)) → AllStand (kept_by way f.setting.room) (filled_by way f sheets cells entry)
-stand_by kind.Grid f sheets cells entry enough folded fits = filled_stand f sheets cells entry enough fits
-stand_by kind.Cards f sheets cells entry enough folded fits = filled_stand f sheets cells entry enough fits
-stand_by kind.Stack f sheets cells entry enough folded fits = filled_stand f sheets cells entry enough fits
-stand_by kind.Leaves f sheets cells entry enough folded fits = filled_stand f sheets cells entry enough fits
-stand_by kind.Zine f sheets cells entry enough folded fits = let zine = folded refl in zines_stand f sheets cells entry zine.0 zine.1 fits
+-- ---- sheets of a shape
+
+pub stand_by : (how : Scheme) (f : Filling) (row : Row) (leaves sheets cells n : ℕ) → MayBeFilled how f.setting → cells ≡ cell_count how f.setting
+    → (let h : Shape = record { scheme = how; leaves = leaves; sheets = sheets; cells = cells } in
+    ((s c : ℕ) → s < n → c < cells → CellFits h f row s c) → StandBy how f.setting (shaped h f row n))
+stand_by (scheme.Grid some) f row leaves sheets cells n may all fits = let most = may.1 in filled_stand f n cells _ (omega (arith, most, all)) fits
+stand_by (scheme.Cards some) f row leaves sheets cells n may all fits = let most = may.1 in filled_stand f n cells _ (omega (arith, most, all)) fits
+stand_by (scheme.Stack some) f row leaves sheets cells n may all fits = let most = may.1 in filled_stand f n cells _ (omega (arith, most, all)) fits
+stand_by scheme.Leaves f row leaves sheets cells n may all fits = filled_stand f n cells _ (omega (arith, all)) fits
+stand_by (scheme.Booklet turned_backs creep) f row leaves sheets cells n may all fits =
+    subst (λ k. LeavesStand f.setting turned_backs creep (shaped (record { scheme = scheme.Booklet turned_backs creep; leaves = leaves; sheets = sheets; cells = k }) f row n)) (sym all)
+    (leaves_stand f turned_backs creep leaves n row may (λ s k less in_two. fits s k less (subst (λ m. k < m) (sym all) in_two)))
+stand_by scheme.Zine f row leaves sheets cells n may all fits = zines_stand f n cells _ may all fits
+
+shaped_plainly : (how : Scheme) (f : Filling) (row : Row) (leaves : ℕ) → (let cells = cell_count how f.setting in let sheets = sheet_count how cells (length row) in
+    shaped (record { scheme = how; leaves = leaves; sheets = sheets; cells = cells }) f row sheets ≡ sheets_by_scheme how f leaves row)
+shaped_plainly (scheme.Grid some) f row leaves = refl
+shaped_plainly (scheme.Cards some) f row leaves = refl
+shaped_plainly (scheme.Stack some) f row leaves = refl
+shaped_plainly scheme.Leaves f row leaves = refl
+shaped_plainly (scheme.Booklet turned_backs creep) f row leaves = refl
+shaped_plainly scheme.Zine f row leaves = refl
+
+pub shaped_so : (how : Scheme) (f : Filling) (row : Row) (leaves sheets cells : ℕ) → cells ≡ cell_count how f.setting → sheets ≡ sheet_count how cells (length row)
+    → shaped (record { scheme = how; leaves = leaves; sheets = sheets; cells = cells }) f row sheets ≡ sheets_by_scheme how f leaves row
+shaped_so how f row leaves sheets cells all many =
+    ap (λ n. shaped (record { scheme = how; leaves = leaves; sheets = n; cells = cells }) f row n) many
+    ∙ (ap (λ k. shaped (record { scheme = how; leaves = leaves; sheets = sheet_count how k (length row); cells = k }) f row (sheet_count how k (length row))) all
+    ∙ shaped_plainly how f row leaves)

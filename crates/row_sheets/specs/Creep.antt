@@ -9,7 +9,7 @@ use Rattle.rules.specs.Specification.{Item}
 use Rattle.rules.specs.Placement.{Point}
 use Rattle.rules.specs.Sheets.{blocks}
 use Rattle.rules.specs.Signatures.{entry_of}
-use Rattle.rules.specs.Made.{MadeSlot, Blank, Placed, MadeSheet}
+use Rattle.rules.specs.Made.{MadeSlot, MadeSheet}
 use Rattle.rules.specs.Rows.{Row}
 use Rattle.layouts.specs.declared.error.ArrangementError.{ArrangementError}
 use Rattle.layouts.specs.declared.error.ArrangementError.TheVariants as why
@@ -18,9 +18,9 @@ use Rattle.layouts.specs.Placed.{IsEven, Room, fine, stands, IsOfPage}
 use Rattle.layouts.specs.Cells.{item_in_cell, slack_x, whole_parts}
 use Rattle.layouts.specs.Grids.{beside, leaf_order}
 use Rattle.layouts.specs.Laws.{IsPaper, HasPlace}
-use Rattle.layouts.specs.Refusals.{IsArrangementFault, error_unless}
-use Rattle.layouts.specs.Fitted.{fitted, fitted_back, scale_on, why_not_fitted}
-use Rattle.row_sheets.specs.Filled.{Filling, booklet_sheets, is_turned, grid_entry}
+use Rattle.layouts.specs.Refusals.{error_unless}
+use Rattle.layouts.specs.Fitted.{scale_on, why_not_fitted}
+use Rattle.row_sheets.specs.Filled.{Filling, booklet_sheets, grid_entry, in_half, is_turned, placed}
 use Rattle.row_sheets.specs.FirstFault.{first_fault}
 use Rattle.row_sheets.specs.Shapes.{first_refused}
 
@@ -104,18 +104,13 @@ abbrev pub up_to_fold : (right_to_left by_half : Bool) → (k creep : ℕ) → �
 up_to_fold right_to_left false k creep = to_fold right_to_left k creep
 up_to_fold right_to_left true k creep = neg_ℤ (to_fold right_to_left k creep)
 
--- a page of this paper in half k of a leaf that doesn't creep, and of one that creeps so far
-abbrev pub in_half : Setting → (by_half : Bool) → (page : Paper) → (k : ℕ) → Item
-in_half t by_half page k = if by_half then fitted_back t page k else fitted t page k
-
+-- a page of this paper in half k of a leaf that creeps so far
 abbrev pub creeping : Setting → (by_half : Bool) → (page : Paper) → (k creep : ℕ) → Item
 creeping t by_half page k creep = moved_up (up_to_fold t.order.right_to_left by_half k creep) (in_half t by_half page k)
 
 -- an entry of a row there
 abbrev pub creeping_slot : Filling → (by_half : Bool) → (k creep : ℕ) → Option ℕ → MadeSlot
-creeping_slot f by_half k creep None = Blank
-creeping_slot f by_half k creep (Some page) =
-    let paper = f.paper_of page in Placed page (creeping f.setting by_half paper k creep) paper
+creeping_slot f by_half k creep entry = placed f (λ page. creeping f.setting by_half page k creep) entry
 
 -- sides of leaves that creep, in signatures of `leaves` leaves
 abbrev pub creeping_sides : Filling → (turned_backs : Bool) → (creep leaves sheets : ℕ) → Row → List MadeSheet
@@ -151,10 +146,6 @@ why_no_half f creep (Some page) = why_not_creeping f.setting (f.paper_of page) c
 abbrev pub first_over_fold : Filling → (creep leaves : ℕ) → Row → Option ArrangementError
 first_over_fold f creep leaves row =
     first_fault (λ i. why_no_half f (creep_on creep leaves (i / 2)) (entry_of row i)) (length row)
-
--- a creeping booklet is refused for its first reason, and for memory only if there is none
-abbrev pub IsRefusedCreeping : Filling → (creep leaves : ℕ) → Row → ArrangementError → Type 0
-IsRefusedCreeping f creep leaves row e = IsArrangementFault (first_over_fold f creep leaves row) e
 
 -- leaves that don't creep are those of `booklet_sheets`, and the same page of theirs is refused: a law
 abbrev pub NoCreepIsPlain : Type 0

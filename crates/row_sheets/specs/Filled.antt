@@ -6,6 +6,7 @@ use Rattle.std.specs.List.{range_with_len}
 use Rattle.rules.specs.Papers.{Paper}
 use Rattle.rules.specs.Sheets.{blocks}
 use Rattle.rules.specs.Signatures.{entry_of}
+use Rattle.rules.specs.Specification.{Item}
 use Rattle.rules.specs.Made.{MadeSlot, Blank, Placed, MadeSheet}
 use Rattle.rules.specs.Rows.{Row}
 use Rattle.layouts.specs.declared.arrangement.Binding.{Binding}
@@ -24,20 +25,21 @@ pub record Filling : Type 0 where
   pub setting : Setting
   pub paper_of : (page : ℕ) → Paper
 
--- an entry of a row in cell c
+-- an entry of a row, whose page lies as one of its paper does
+abbrev pub placed : Filling → (item : Paper → Item) → Option ℕ → MadeSlot
+placed f item None = Blank
+placed f item (Some page) = let paper = f.paper_of page in Placed page (item paper) paper
+
+-- in cell c
 abbrev pub slot_in_cell : Filling → (c : ℕ) → Option ℕ → MadeSlot
-slot_in_cell f c None = Blank
-slot_in_cell f c (Some page) = let paper = f.paper_of page in Placed page (fitted f.setting paper c) paper
+slot_in_cell f c entry = placed f (λ page. fitted f.setting page c) entry
 
--- as it lies if the whole sheet is turned by half
-abbrev pub back_slot_in : Filling → (c : ℕ) → Option ℕ → MadeSlot
-back_slot_in f c None = Blank
-back_slot_in f c (Some page) = let paper = f.paper_of page in Placed page (fitted_back f.setting paper c) paper
+-- a page of this paper in a cell of a sheet that is turned by half, or isn't, and an entry there
+abbrev pub in_half : Setting → (by_half : Bool) → (page : Paper) → (c : ℕ) → Item
+in_half t by_half page c = if by_half then fitted_back t page c else fitted t page c
 
--- on a sheet that is turned by half, or isn't
 abbrev pub slot_on : Filling → (by_half : Bool) → (c : ℕ) → Option ℕ → MadeSlot
-slot_on f false c entry = slot_in_cell f c entry
-slot_on f true c entry = back_slot_in f c entry
+slot_on f by_half c entry = placed f (λ page. in_half f.setting by_half page c) entry
 
 -- sheets are fronts and backs in turn, from a front on; if backs are turned, each of them is turned by half
 -- (RULES, 14.1)

@@ -4,6 +4,7 @@ use Rattle.std.specs.Prelude.{◌≡◌, ⊤, ℕ, ◌-◌, ◌*◌, ◌+◌, �
 use Rattle.std.specs.Prelude.{All, AllPairs, Option, Some, None, slice_index_or}
 use Rattle.rules.specs.Papers.{Paper}
 use Rattle.rules.specs.Signatures.{entry_of}
+use Rattle.rules.specs.Specification.{Item}
 use Rattle.rules.specs.Made.{MadeSlot, Blank, Placed, MadeSheet}
 use Rattle.rules.specs.Rows.{Row}
 use Rattle.layouts.specs.declared.setting.Setting.{Setting}
@@ -12,7 +13,7 @@ use Rattle.layouts.specs.Cells.{size, whole_parts, run_in}
 use Rattle.layouts.specs.Fitted.{IsFitted, fitted, why_not_fitted}
 use Rattle.layouts.specs.Laws.{IsPaper, ComesInRun, ComesInRunBefore}
 use Rattle.row_sheets.specs.Filled.{Filling, SlotIsInside, SlotsAreApart, filled, grid_entry, is_turned}
-use Rattle.row_sheets.specs.Creep.{StaysBefore, StaysBehind, creep_on, creeping, why_not_creeping}
+use Rattle.row_sheets.specs.Creep.{StaysBefore, StaysBehind, creep_on, why_not_creeping}
 
 -- ---- in cells
 
@@ -82,24 +83,22 @@ pub record FitsOnLeaf (t : Setting) (page : Paper) (creep : ℕ) : Type 0 where
   pub page_is : IsPaper page
   pub fits : why_not_creeping t page creep ≡ None
 
+-- this holds of the paper of an entry, if it has a page
+abbrev pub IfPage : Filling → (Holds : Paper → Type 0) → (entry : Option ℕ) → Type 0
+IfPage f Holds None = ⊤
+IfPage f Holds (Some page) = Holds (f.paper_of page)
+
+-- a slot is blank, or has a page of a paper of which this holds, which lies as one of its paper does
+abbrev pub IsSlotFor : (Holds : Paper → Type 0) → (item : Paper → Item) → MadeSlot → Type 0
+IsSlotFor Holds item Blank = ⊤
+IsSlotFor Holds item (Placed page it paper) = Holds paper × (it ≡ item paper)
+
 -- an entry of a row has its place
 abbrev pub EntryFits : Filling → (entry : Option ℕ) → Type 0
-EntryFits f None = ⊤
-EntryFits f (Some page) = FitsIn f.setting (f.paper_of page)
+EntryFits f entry = IfPage f (λ page. FitsIn f.setting page) entry
 
 abbrev pub EntryCreeps : Filling → (creep : ℕ) → (entry : Option ℕ) → Type 0
-EntryCreeps f creep None = ⊤
-EntryCreeps f creep (Some page) = FitsOnLeaf f.setting (f.paper_of page) creep
-
--- a slot has what pages of its paper have in a cell, or is blank
-abbrev pub IsOfCell : Setting → (c : ℕ) → MadeSlot → Type 0
-IsOfCell t c Blank = ⊤
-IsOfCell t c (Placed page item paper) = FitsIn t paper × (item ≡ fitted t paper c)
-
--- a slot has a page in half k of a creeping leaf
-abbrev pub IsOfHalf : Setting → (by_half : Bool) → (k creep : ℕ) → MadeSlot → Type 0
-IsOfHalf t by_half k creep Blank = ⊤
-IsOfHalf t by_half k creep (Placed page item paper) = FitsOnLeaf t paper creep × (item ≡ creeping t by_half paper k creep)
+EntryCreeps f creep entry = IfPage f (λ page. FitsOnLeaf f.setting page creep) entry
 
 -- each page of a row has its place: nothing had to be refused
 abbrev pub AllEntriesFit : Filling → Row → Type 0

@@ -13,8 +13,6 @@ use Rattle.layouts.specs.Fitted.{IsFitted, fitted}
 use Rattle.layouts.specs.Laws.{IsHalfTurnOf, IsInCell, cell_at}
 use Rattle.layouts.specs.Grids.{leaf_order}
 use Rattle.layouts.specs.declared.setting.Setting.{Setting}
-use Rattle.row_sheets.specs.declared.fill.CellKind.{CellKind}
-use Rattle.row_sheets.specs.declared.fill.CellKind.TheVariants as kind
 use Rattle.row_sheets.specs.Filled.{Filling, zine_sheets}
 use Rattle.row_sheets.specs.Stacked.{shown_at}
 use Rattle.row_sheets.specs.Standing.{AllEntriesFit}
@@ -75,11 +73,6 @@ pub record AreZineCells (t : Setting) : Type 0 where
 -- the gaps that a zine keeps: less by 10^-5 of a point, as its first row is rounded as the second, but turned by half
 abbrev pub closer : Room → Room
 closer room = record room { gutter_across = room.gutter_across - 1; gutter_up = room.gutter_up - 1 }
-
--- what is kept free on sheets whose cells are filled so
-abbrev pub kept_by : CellKind → Room → Room
-kept_by kind.Zine room = closer room
-kept_by other room = room
 
 -- ---- where its pages lie
 

@@ -23,6 +23,7 @@ pub fn check_cells(
 ) -> Result<(), ArrangementError>
     requires { 0 < size setting.now.grid }
     ensures fits { OnOk result ((i : ℕ) → EntryFits (filling setting.now papers.now) (entry_of row.now i)) }
+    ensures possible { OnOk result (first_refused (filling setting.now papers.now) row.now ≡ None) }
     ensures refused { IfErr result (λ error. first_refused (filling setting.now papers.now) row.now ≡ Some error) }
 {
     for entry in row {

@@ -1,23 +1,17 @@
 //! Sheets whose cells are filled with the entries of a row.
-ghost use Rattle.std.specs.Prelude.{◌≡◌, ◌<◌, ◌≤◌, ◌*◌, ◌-◌, IfOk, IfErr, IfSome, OnOk, Some, false, length, map, slice_get, true, ℕ};
+ghost use Rattle.std.specs.Prelude.{◌≡◌, ◌<◌, ◌≤◌, IfOk, IfErr, IfSome, None, OnOk, Some, length, map, slice_get, ℕ};
 ghost use Rattle.std.specs.List.{range_with_len};
 ghost use Rattle.rules.specs.Sheets.{blocks};
-ghost use Rattle.layouts.specs.Cells.{size};
-ghost use Rattle.layouts.specs.declared.error.ArrangementError.TheVariants as why;
 ghost use Rattle.rules.specs.Made.{Placed};
+ghost use Rattle.layouts.specs.Refusals.{IsArrangementFault};
 ghost use Rattle.pagespec.specs.Items.{item_of};
 ghost use Rattle.sheet_plan.specs.OfSheets.{placed_of, slot_of, slots_at};
-ghost use Rattle.row_sheets.specs.Filled.{behind_in, slot_in_cell as slot_of_cell, back_slot_in as back_slot_of_cell};
-ghost use Rattle.row_sheets.specs.Filled.{zine_place as place_in_zine};
-ghost use Rattle.row_sheets.specs.Schemes.{FitBy, MayBeFilled, StandBy, sheets_by_scheme, why_not_in};
-ghost use Rattle.layouts.specs.Refusals.{IsArrangementFault};
-ghost use Rattle.row_sheets.specs.Shapes.{filling, is_folded, is_two_sided, sheets_by, sheet_count, shape_place as place_of, cell_on};
-ghost use Rattle.row_sheets.specs.Shapes.{entry_in_cell, filled_by, cell_slot as slot_made_by, IsRefusedFor};
-ghost use Rattle.row_sheets.specs.Standing.{AllEntriesFit, AllStand, EntryFits, IsOfCell};
-ghost use Rattle.row_sheets.specs.Zine.{AreZineCells, closer, kept_by};
+ghost use Rattle.row_sheets.specs.Filled.{behind_in, zine_place as place_in_zine};
+ghost use Rattle.row_sheets.specs.Schemes.{CellFits, EntryFitsBy, FitBy, FitsBy, IsOfCell, LieAlike, MayBeFilled, StandBy, item_by, shaped, sheets_by_scheme, slot_by, why_not_in};
+ghost use Rattle.row_sheets.specs.Shapes.{cell_count, cell_on, entry_in_cell, filling, shape_place as place_of, sheet_count};
 
-use super::checked::check_cells;
-use super::creep::{Creep, booklet_sheets};
+use super::checked::{check_cells, check_halves};
+use super::creep::{Creep, creep_on, creeping_item, half_item, is_half_turned, leaf_before};
 use super::selecting::paper_or;
 use layouts::{ArrangementError, FillOrder, Setting, read_sides};
 use lengths::Paper;
@@ -48,20 +42,11 @@ pub enum Scheme {
     Zine,
 }
 
-/// The ways in which a row fills the cells of sheets.
-#[derive(Clone, Copy, Debug, PartialEq, Eq)]
-enum CellKind {
-    Grid,
-    Cards,
-    Stack,
-    Leaves,
-    Zine,
-}
-
-/// The kind of the sheets, their number, and the number of cells on each.
-#[derive(Clone, Copy, Debug, PartialEq, Eq)]
+/// The scheme of sheets, the number of leaves in a signature, the number of sheets, and the number of cells on each.
+#[derive(Clone, Copy)]
 struct Shape {
-    kind: CellKind,
+    scheme: Scheme,
+    leaves: u32,
     sheets: u32,
     cells: u32,
 }
@@ -95,82 +80,83 @@ pub fn fill_row(
         papers,
         row,
     };
-    match scheme {
-        Scheme::Grid { cells } => filling.fill(alloc, CellKind::Grid, *cells),
-        Scheme::Cards { cells } => filling.fill(alloc, CellKind::Cards, *cells),
-        Scheme::Stack { cells } => filling.fill(alloc, CellKind::Stack, *cells),
-        Scheme::Leaves => match u32::try_from(setting.grid.size()) {
-            Ok(cells) => filling.fill(alloc, CellKind::Leaves, cells),
-            Err(_) => Err(filling.first_refusal()),
-        },
-        Scheme::Booklet {
-            turned_backs,
-            creep,
-        } => {
-            let creep = Creep {
-                innermost: *creep,
-                leaves,
-            };
-            booklet_sheets(alloc, setting, papers, *turned_backs, creep, row)
-        }
-        Scheme::Zine => filling.fill(alloc, CellKind::Zine, 8),
+    match filling.fill(alloc, *scheme, leaves) {
+        Ok(made) => Ok(made),
+        Err(_) => Err(filling.first_refusal(*scheme, leaves)),
     }
 }
 
 impl RowFilling<'_> {
-    /// The sheets of this kind with this number of cells each, filled with the row. Fails with the error of the first page that can't be placed, or
-    /// else with `NoMemory`.
+    /// The sheets of the row. Fails if a page can't be placed, or if memory is refused.
     fn fill(
         &self,
         alloc: Global,
-        kind: CellKind,
-        cells: u32,
+        scheme: Scheme,
+        leaves: u32,
     ) -> Result<MadeSheets, ArrangementError>
-        requires some { 0 < cells }
-        requires cells { cells ≤ size self.now.setting.now.grid }
-        requires all { is_two_sided kind ≡ true → cells ≡ size self.now.setting.now.grid }
-        requires folded { is_folded kind ≡ true → AreZineCells self.now.setting.now × (cells ≡ 8) }
-        ensures made { IfOk result (λ made. made ≡ sheets_by kind (filling self.now.setting.now self.now.papers.now) cells self.now.row.now) }
-        ensures stands { IfOk result (AllStand (kept_by kind self.now.setting.now.room)) }
-        ensures fits { OnOk result (AllEntriesFit (filling self.now.setting.now self.now.papers.now) self.now.row.now) }
-        ensures refused { IfErr result (IsRefusedFor (filling self.now.setting.now self.now.papers.now) self.now.row.now) }
+        requires { MayBeFilled scheme self.now.setting.now }
+        ensures made { IfOk result (λ made. made
+            ≡ sheets_by_scheme scheme (filling self.now.setting.now self.now.papers.now) leaves self.now.row.now) }
+        ensures stands { IfOk result (StandBy scheme self.now.setting.now) }
+        ensures fits { OnOk result (FitBy scheme (filling self.now.setting.now self.now.papers.now) leaves self.now.row.now) }
     {
-        let sheets = match sheets_for(kind, cells, self.row) {
-            Ok(sheets) => sheets,
-            Err(_) => return Err(self.first_refusal()),
-        };
+        let cells = cells_on(scheme, self.setting)?;
+        let sheets = sheets_for(scheme, cells, self.row)?;
         let shape = Shape {
-            kind,
+            scheme,
+            leaves,
             sheets,
             cells,
         };
-        match self.filled(alloc, shape) {
-            Ok(made) => Ok(made),
-            Err(_) => Err(self.first_refusal()),
-        }
+        let made = self.filled(alloc, shape)?;
+        Ok(made)
     }
 
-    /// The reason why the cells can't be filled: the fault of the first page in the row that can't be placed, or a lack of memory if all pages can be
+    /// The reason why the sheets can't be made: the fault of the first page in the row that can't be placed, or a lack of memory if all pages can be
     /// placed.
-    fn first_refusal(&self) -> ArrangementError
-        requires { 0 < size self.now.setting.now.grid }
-        ensures { IsRefusedFor (filling self.now.setting.now self.now.papers.now) self.now.row.now result }
+    fn first_refusal(&self, scheme: Scheme, leaves: u32) -> ArrangementError
+        requires { MayBeFilled scheme self.now.setting.now }
+        ensures { IsArrangementFault (why_not_in scheme (filling self.now.setting.now self.now.papers.now) leaves self.now.row.now) result }
     {
-        match check_cells(self.setting, self.papers, self.row) {
+        match self.check(scheme, leaves) {
             Ok(()) => ArrangementError::NoMemory,
             Err(error) => error,
         }
     }
 
+    /// Checks that each page of the row can be placed. Fails with the error of the first page that can't be placed.
+    fn check(&self, scheme: Scheme, leaves: u32) -> Result<(), ArrangementError>
+        requires { MayBeFilled scheme self.now.setting.now }
+        ensures fits { OnOk result (why_not_in scheme (filling self.now.setting.now self.now.papers.now) leaves self.now.row.now ≡ None) }
+        ensures refused { IfErr result (λ error.
+            why_not_in scheme (filling self.now.setting.now self.now.papers.now) leaves self.now.row.now ≡ Some error) }
+    {
+        // For the prover: this call says that the grid has cells.
+        let _ = self.setting.grid.size();
+        match scheme {
+            Scheme::Booklet { creep, .. } => {
+                let creep = Creep {
+                    innermost: creep,
+                    leaves,
+                };
+                check_halves(self.setting, self.papers, creep, self.row)
+            }
+            Scheme::Grid { .. } | Scheme::Cards { .. } | Scheme::Stack { .. } => {
+                check_cells(self.setting, self.papers, self.row)
+            }
+            Scheme::Leaves | Scheme::Zine => check_cells(self.setting, self.papers, self.row),
+        }
+    }
+
     /// The sheets of this shape, filled with the row. Fails if a page can't be placed, or if memory is refused.
     fn filled(&self, alloc: Global, shape: Shape) -> Result<MadeSheets, ArrangementError>
-        requires cells { shape.cells ≤ size self.now.setting.now.grid }
-        requires folded { is_folded shape.kind ≡ true → AreZineCells self.now.setting.now × (shape.cells ≡ 8) }
-        ensures made { IfOk result (λ made. made ≡ filled_by shape.kind (filling self.now.setting.now self.now.papers.now) shape.sheets
-            shape.cells (entry_in_cell shape self.now.setting.now self.now.row.now)) }
-        ensures stands { IfOk result (AllStand (kept_by shape.kind self.now.setting.now.room)) }
+        requires may_be { MayBeFilled shape.scheme self.now.setting.now }
+        requires cells { shape.cells ≡ cell_count shape.scheme self.now.setting.now }
+        ensures made { IfOk result (λ made. made
+            ≡ shaped shape (filling self.now.setting.now self.now.papers.now) self.now.row.now shape.sheets) }
+        ensures stands { IfOk result (StandBy shape.scheme self.now.setting.now) }
         ensures fits { OnOk result ((s c : ℕ) → s < shape.sheets → c < shape.cells
-            → EntryFits (filling self.now.setting.now self.now.papers.now) (entry_in_cell shape self.now.setting.now self.now.row.now s c)) }
+            → CellFits shape (filling self.now.setting.now self.now.papers.now) self.now.row.now s c) }
     {
         let setting = self.setting;
         let mut made = MadeSheets::new(alloc);
@@ -190,76 +176,124 @@ impl RowFilling<'_> {
         made: &MadeSheets,
         shape: Shape,
     ) -> Result<(), ArrangementError>
-        requires cells { shape.cells ≤ size self.now.setting.now.grid }
-        requires folded { is_folded shape.kind ≡ true → AreZineCells self.now.setting.now × (shape.cells ≡ 8) }
+        requires may_be { MayBeFilled shape.scheme self.now.setting.now }
+        requires cells { shape.cells ≡ cell_count shape.scheme self.now.setting.now }
         requires more { length made.now < shape.sheets }
-        requires made { made.now ≡ filled_by shape.kind (filling self.now.setting.now self.now.papers.now) (length made.now) shape.cells
-            (entry_in_cell shape self.now.setting.now self.now.row.now) }
+        requires made { made.now ≡ shaped shape (filling self.now.setting.now self.now.papers.now) self.now.row.now (length made.now) }
         requires fits { (s c : ℕ) → s < length made.now → c < shape.cells
-            → EntryFits (filling self.now.setting.now self.now.papers.now) (entry_in_cell shape self.now.setting.now self.now.row.now s c) }
+            → CellFits shape (filling self.now.setting.now self.now.papers.now) self.now.row.now s c }
         ensures made { OnOk result (map slot_of slots.new.items
-            ≡ map (λ c. slot_made_by shape.kind (filling self.now.setting.now self.now.papers.now) c
+            ≡ map (λ c. slot_by shape.scheme (filling self.now.setting.now self.now.papers.now) shape.leaves (length made.now) c
             (entry_in_cell shape self.now.setting.now self.now.row.now (length made.now) c))
             (range_with_len 0 shape.cells)) }
         ensures fits { OnOk result ((c : ℕ) → c < shape.cells
-            → EntryFits (filling self.now.setting.now self.now.papers.now)
-            (entry_in_cell shape self.now.setting.now self.now.row.now (length made.now) c)) }
+            → CellFits shape (filling self.now.setting.now self.now.papers.now) self.now.row.now (length made.now) c) }
     {
         let s = made.len() as u32;
         slots.clear();
         for c in 0..shape.cells {
             let entry = entry_at(self.row, place(shape, self.setting, s, c));
-            let before = placed_before(made, s, c);
-            let slot = self.slot(shape.kind, before, entry, c)?;
+            let before = placed_before(made, shape, s, c);
+            let slot = self.slot(shape, before, entry, s, c)?;
             slots.push(slot).map_err(|_| ArrangementError::NoMemory)?;
         }
         Ok(())
     }
 
-    /// The slot for an entry of the row, in a cell of a sheet of this kind. If `before`, the page in this cell of the previous sheet, has the same
-    /// paper, its item is used again, which saves computing one. Pages in the first row of a zine are rotated by 180 degrees. Fails if the page can't
-    /// be placed.
+    /// The slot for an entry of the row, in a cell of sheet `s`. If `before`, a page that lies in the same way, has the same paper, its item is used
+    /// again, which saves computing one. Fails if the page can't be placed.
     fn slot(
         &self,
-        kind: CellKind,
+        shape: Shape,
         before: Option<PlacedSlot<'_>>,
         entry: Option<u32>,
+        s: u32,
         cell: u32,
     ) -> Result<MadeSlot, ArrangementError>
-        requires cell { cell < size self.now.setting.now.grid }
-        requires folded { is_folded kind ≡ true → AreZineCells self.now.setting.now × (cell < 8) }
-        requires before { is_folded kind ≡ false → IsOfCell self.now.setting.now cell (placed_of before) }
-        ensures made { IfOk result (λ slot. slot_of slot ≡ slot_made_by kind (filling self.now.setting.now self.now.papers.now) cell entry) }
-        ensures fits { OnOk result (EntryFits (filling self.now.setting.now self.now.papers.now) entry) }
+        requires may_be { MayBeFilled shape.scheme self.now.setting.now }
+        requires cell { cell < cell_count shape.scheme self.now.setting.now }
+        requires before { IsOfCell shape.scheme self.now.setting.now shape.leaves s cell (placed_of before) }
+        ensures made { IfOk result (λ slot. slot_of slot
+            ≡ slot_by shape.scheme (filling self.now.setting.now self.now.papers.now) shape.leaves s cell entry) }
+        ensures fits { OnOk result
+            (EntryFitsBy shape.scheme (filling self.now.setting.now self.now.papers.now) shape.leaves s entry) }
     {
         let Some(page) = entry else {
             return Ok(MadeSlot::Blank);
         };
         let setting = self.setting;
         let paper = paper_or(self.papers, page, &setting.room.paper);
-        let item = match kind {
-            CellKind::Zine if cell < 4 => setting.back_item(&paper, 7 - cell)?,
-            CellKind::Zine => setting.item(&paper, cell)?,
-            _ => match same_item(before, &paper) {
-                Some(item) => item,
-                None => setting.item(&paper, cell)?,
-            },
+        let item = match same_item(before, &paper) {
+            Some(item) => item,
+            None => item_for(shape, setting, &paper, s, cell)?,
         };
         Ok(MadeSlot::Placed { page, item, paper })
     }
 }
 
-/// The number of sheets that the row takes. The error is `NoMemory` if the number would be 2^32 or more.
-fn sheets_for(kind: CellKind, cells: u32, row: &[Option<u32>]) -> Result<u32, ArrangementError>
-    requires { 0 < cells }
-    ensures value { IfOk result (λ n. n ≡ sheet_count kind cells (length row.now)) }
-    ensures refused { IfErr result (λ error. error ≡ ArrangementError.NoMemory) }
-    ensures many { IfErr result (λ error. u32.MAX < sheet_count kind cells (length row.now)) }
+/// The item that places a page of this paper in a cell of sheet `s`. In the first row of a zine it is rotated by 180 degrees. Fails if the page can't
+/// be placed there.
+fn item_for(
+    shape: Shape,
+    setting: &Setting,
+    paper: &Paper,
+    s: u32,
+    cell: u32,
+) -> Result<Item, ArrangementError>
+    requires may_be { MayBeFilled shape.scheme setting.now }
+    requires cell { cell < cell_count shape.scheme setting.now }
+    ensures made { IfOk result (λ item. item_of item ≡ item_by shape.scheme setting.now shape.leaves s cell paper.now) }
+    ensures fits { OnOk result (FitsBy shape.scheme setting.now shape.leaves s paper.now) }
 {
-    match kind {
-        CellKind::Grid | CellKind::Stack | CellKind::Zine => blocks_of(row, u64::from(cells)),
-        CellKind::Cards => blocks_of(row, 1),
-        CellKind::Leaves => {
+    match shape.scheme {
+        Scheme::Booklet {
+            turned_backs,
+            creep,
+        } => {
+            let creep = Creep {
+                innermost: creep,
+                leaves: shape.leaves,
+            };
+            let by_half = is_half_turned(turned_backs, s);
+            creeping_item(setting, paper, by_half, creep_on(creep, u64::from(s)), cell)
+        }
+        Scheme::Zine if cell < 4 => half_item(setting, paper, true, 7 - cell),
+        Scheme::Zine => half_item(setting, paper, false, cell),
+        Scheme::Grid { .. } | Scheme::Cards { .. } | Scheme::Stack { .. } | Scheme::Leaves => {
+            half_item(setting, paper, false, cell)
+        }
+    }
+}
+
+/// The number of cells on each sheet. The error is `NoMemory` if the number would be 2^32 or more.
+fn cells_on(scheme: Scheme, setting: &Setting) -> Result<u32, ArrangementError>
+    requires { MayBeFilled scheme setting.now }
+    ensures value { IfOk result (λ cells. cells ≡ cell_count scheme setting.now) }
+    ensures some { IfOk result (λ cells. 0 < cells) }
+{
+    match scheme {
+        Scheme::Grid { cells } | Scheme::Cards { cells } | Scheme::Stack { cells } => Ok(cells),
+        Scheme::Leaves => {
+            u32::try_from(setting.grid.size()).map_err(|_| ArrangementError::NoMemory)
+        }
+        Scheme::Booklet { .. } => Ok(2),
+        Scheme::Zine => Ok(8),
+    }
+}
+
+/// The number of sheets that the row takes. The error is `NoMemory` if the number would be 2^32 or more.
+fn sheets_for(scheme: Scheme, cells: u32, row: &[Option<u32>]) -> Result<u32, ArrangementError>
+    requires { 0 < cells }
+    ensures value { IfOk result (λ n. n ≡ sheet_count scheme cells (length row.now)) }
+    ensures refused { IfErr result (λ error. error ≡ ArrangementError.NoMemory) }
+    ensures many { IfErr result (λ error. u32.MAX < sheet_count scheme cells (length row.now)) }
+{
+    match scheme {
+        Scheme::Grid { .. } | Scheme::Stack { .. } | Scheme::Booklet { .. } | Scheme::Zine => {
+            blocks_of(row, u64::from(cells))
+        }
+        Scheme::Cards { .. } => blocks_of(row, 1),
+        Scheme::Leaves => {
             let leaves = blocks_of(row, 2 * u64::from(cells))?;
             leaves.checked_mul(2).ok_or(ArrangementError::NoMemory)
         }
@@ -267,7 +301,7 @@ fn sheets_for(kind: CellKind, cells: u32, row: &[Option<u32>]) -> Result<u32, Ar
 }
 
 /// The number of blocks of `entries` entries that a row takes. The error is `NoMemory` if the number would be 2^32 or more.
-pub(crate) fn blocks_of(row: &[Option<u32>], entries: u64) -> Result<u32, ArrangementError>
+fn blocks_of(row: &[Option<u32>], entries: u64) -> Result<u32, ArrangementError>
     requires { 0 < entries }
     ensures value { IfOk result (λ n. n ≡ blocks entries (length row.now)) }
     ensures refused { IfErr result (λ error. error ≡ ArrangementError.NoMemory) }
@@ -277,20 +311,37 @@ pub(crate) fn blocks_of(row: &[Option<u32>], entries: u64) -> Result<u32, Arrang
     u32::try_from(blocks).map_err(|_| ArrangementError::NoMemory)
 }
 
-/// The page in this cell of the previous sheet. None if there is no previous sheet, or if the cell is blank.
-fn placed_before(made: &MadeSheets, s: u32, cell: u32) -> Option<PlacedSlot<'_>>
+/// The page in this cell of the last sheet before `s` whose pages lie in the same way. `None` if there is no such sheet, or if the cell is blank.
+fn placed_before(made: &MadeSheets, shape: Shape, s: u32, cell: u32) -> Option<PlacedSlot<'_>>
     requires sheet { s ≤ length made.now }
-    requires cell { 0 < s → cell < length (slots_at made.now (s - 1)) }
-    ensures { IfSome result (λ placed. (0 < s) × (slice_get (slots_at made.now (s - 1)) cell ≡ Some (placed_of result))) }
+    requires cell { (before : ℕ) → before < s → cell < length (slots_at made.now before) }
+    ensures { IfSome result (λ placed. (before : ℕ) × (before < s) × LieAlike shape.scheme shape.leaves before s
+        × (slice_get (slots_at made.now before) cell ≡ Some (placed_of result))) }
 {
-    if s == 0 {
-        return None;
+    let before = sheet_before(shape, s)?;
+    made.placed(before, cell)
+}
+
+/// The sheet before `s` whose pages lie in the same way: the previous one or, in a booklet, the same side of the previous leaf if that creeps by the
+/// same distance. `None` if there is no such sheet.
+fn sheet_before(shape: Shape, s: u32) -> Option<u32>
+    ensures { IfSome result (λ before. (before < s) × LieAlike shape.scheme shape.leaves before s) }
+{
+    match shape.scheme {
+        Scheme::Booklet { creep, .. } => leaf_before(
+            Creep {
+                innermost: creep,
+                leaves: shape.leaves,
+            },
+            s,
+        ),
+        Scheme::Grid { .. } | Scheme::Cards { .. } | Scheme::Stack { .. } => s.checked_sub(1),
+        Scheme::Leaves | Scheme::Zine => s.checked_sub(1),
     }
-    made.placed(s - 1, cell)
 }
 
 /// The item of the page `before`, if that page has this paper. None otherwise.
-pub(crate) fn same_item(before: Option<PlacedSlot<'_>>, paper: &Paper) -> Option<Item>
+fn same_item(before: Option<PlacedSlot<'_>>, paper: &Paper) -> Option<Item>
     ensures { IfSome result (λ item. (page : ℕ) × (placed_of before.entry ≡ Placed page (item_of item) paper.now)) }
 {
     let placed = before?;
@@ -306,13 +357,14 @@ fn place(shape: Shape, setting: &Setting, s: u32, c: u32) -> u128
     ensures { result ≡ place_of shape setting.now s c }
 {
     let (sheet, cell) = (u128::from(s), u128::from(c));
-    match shape.kind {
-        CellKind::Grid => sheet * u128::from(shape.cells) + cell,
-        CellKind::Cards => sheet,
-        CellKind::Stack => cell * u128::from(shape.sheets) + sheet,
-        CellKind::Leaves => u128::from(cell_on_side(setting, s, c)) * u128::from(shape.sheets)
+    match shape.scheme {
+        Scheme::Grid { .. } => sheet * u128::from(shape.cells) + cell,
+        Scheme::Cards { .. } => sheet,
+        Scheme::Stack { .. } => cell * u128::from(shape.sheets) + sheet,
+        Scheme::Leaves => u128::from(cell_on_side(setting, s, c)) * u128::from(shape.sheets)
             + sheet,
-        CellKind::Zine => sheet * u128::from(shape.cells) + zine_place(cell),
+        Scheme::Booklet { .. } => sheet * 2 + cell,
+        Scheme::Zine => sheet * u128::from(shape.cells) + zine_place(cell),
     }
 }
 
