@@ -4,16 +4,11 @@ use Rattle.std.specs.Prelude.{codes, pos}
 use Rattle.std.specs.Fmt.{digits}
 use Rattle.rules.specs.Papers.{Paper, Pt, points}
 use Rattle.rules.specs.Specification.{Item, Left}
-use Rattle.rules.specs.Made.{MadeSheet, MadeSlot, Blank, Placed}
+use Rattle.rules.specs.Made.{MadeSlot, Placed}
 use Rattle.layouts.specs.Cells.{Grid}
-use Rattle.layouts.specs.Grids.{beside, plain_order}
 use Rattle.layouts.specs.declared.arrangement.FillOrder.TheVariants.{Rows, Columns}
 use Rattle.layouts.specs.declared.arrangement.Turned.TheVariants as sideways
-use Rattle.preview.specs.declared.naming.Edge.TheVariants.{Short}
-use Rattle.preview.specs.declared.naming.Sides.TheVariants.{Both}
-use Rattle.preview.specs.declared.reading.Places.TheVariants.{Cells}
-use Rattle.preview.specs.declared.reading.Reading.{Reading}
-use Rattle.preview.specs.Listing.{cells_text, plan_text, tile_name}
+use Rattle.preview.specs.Listing.{cells_text}
 
 abbrev a4 : Paper
 a4 = points 595 842
@@ -28,21 +23,6 @@ lower = record {
   x = record { number = pos 595_000_000_000; unit = Pt };
   y = record { number = pos 271_370_000; unit = Pt };
 }
-
-abbrev side : MadeSheet
-side = record { paper = a4; slots = Placed 7 lower a4 ∷ Blank ∷ [] }
-
-abbrev small : MadeSheet
-small = record { paper = points 10 20; slots = Placed 0 lower a4 ∷ [] }
-
--- two pages side by side, on leaves
-abbrev leaves : Reading
-leaves = record { sides = Both Short; places = Cells (beside true) plain_order }
-
--- the third sheet is a front without a back; the second has one page, and no other place
-listed : plan_text leaves 40 (side ∷ small ∷ side ∷ []) ≡ codes "leaf 1  front  8 | blank    back  1 | -\nleaf 2  front  8 | blank\nsheets 3, leaves 2, blanks 2\nprint on both sides, flip on the short edge\npages of 595 x 842 pt on sheets of 595 x 842 pt, scale 0.706650831\npages of 595 x 842 pt on sheets of 10 x 20 pt, scale 0.706650831\n"
-unfolding digits
-listed = refl
 
 -- ---- five places in the six cells of three columns and two rows
 
@@ -64,8 +44,3 @@ in_columns = refl
 on_its_side : cells_text five (record { run = Rows; right_to_left = false; turned = sideways.Left }) six ≡ codes "5 | 3 | 1 / - | 4 | 2"
 unfolding digits
 on_its_side = refl
-
--- the eleventh sheet is the fifth tile of the second page
-fifth : tile_name six 10 ≡ codes ", column 2, row 2"
-unfolding digits
-fifth = refl

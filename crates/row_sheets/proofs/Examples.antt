@@ -3,18 +3,15 @@ use Rattle.std.proofs.Common.{◌≡◌, refl}
 use Rattle.std.specs.Prelude.{ℕ, ◌+◌, ◌*◌, ℤ, pos, false, map, [], ◌∷◌, Option, Some, None}
 use Rattle.std.specs.List.{range_with_len}
 use Rattle.layouts.specs.declared.arrangement.FillOrder.TheVariants.{Rows, Columns}
-use Rattle.rules.specs.Rows.{all_pages}
 use Rattle.layouts.specs.Grids.{leaf_order}
 use Rattle.layouts.specs.Placed.{bare}
 use Rattle.layouts.specs.declared.setting.Setting.{Setting}
 use Rattle.rules.specs.Made.{MadeSlot, Blank, Placed}
-use Rattle.row_sheets.specs.Filled.{Filling, cell_behind, card_entry, zine_place, zine_slot}
+use Rattle.row_sheets.specs.Filled.{Filling, cell_behind, zine_slot}
 use Rattle.row_sheets.specs.Zine.{in_hand, zine_grid}
 use Rattle.row_sheets.specs.Creep.{creep_of}
-use Rattle.row_sheets.specs.Posters.{tiles_length}
 use Rattle.rules.specs.Papers.{points}
 use Rattle.rules.specs.Specification.{Turn, Half, Upright}
-use Rattle.std.specs.Prelude.{nat_abs}
 
 -- which cell is behind one, if cells are filled row by row
 abbrev behind_cell : (rows columns cell : ℕ) → ℕ
@@ -27,23 +24,12 @@ behind_rows = refl
 behind_columns : map (cell_behind Columns 2 3) (range_with_len 0 6) ≡ 4 ∷ 5 ∷ 2 ∷ 3 ∷ 0 ∷ 1 ∷ []
 behind_columns = refl
 
-card : map (card_entry (all_pages 3) 1) (range_with_len 0 4) ≡ Some 1 ∷ Some 1 ∷ Some 1 ∷ Some 1 ∷ []
-card = refl
-
 -- five leaves that creep by 3 mm in all, rounded down to whole 10^-5 pt
 creep : map (creep_of 850_393 5) (range_with_len 0 5) ≡ 0 ∷ 212_598 ∷ 425_196 ∷ 637_794 ∷ 850_393 ∷ []
 creep = refl
 
 one_leaf : creep_of 850_393 1 0 ≡ 0
 one_leaf = refl
-
--- three tiles of 595 pt with margins of 10 pt that overlap by 20 pt
-three_tiles : tiles_length (nat_abs (points 595 842).width) 1_000_000 2_000_000 3 ≡ 168_500_000
-three_tiles = refl
-
--- from the left, the upper row of a zine has the pages 5, 4, 3 and 2, the lower one 6, 7, 8 and 1
-zine : map (λ c. zine_place c + 1) (range_with_len 0 8) ≡ 5 ∷ 4 ∷ 3 ∷ 2 ∷ 6 ∷ 7 ∷ 8 ∷ 1 ∷ []
-zine = refl
 
 -- folded and cut, one reads from the right of the lower row to that of the upper one, along that, and along the lower one
 zine_in_hand : map (λ p. p.row * 4 + p.column) in_hand ≡ 7 ∷ 3 ∷ 2 ∷ 1 ∷ 0 ∷ 4 ∷ 5 ∷ 6 ∷ []
