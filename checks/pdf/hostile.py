@@ -140,3 +140,13 @@ def long_contents(pdf: Pdf, count: int) -> None:
         page.obj.Resources = held
     data = first.Contents.read_bytes() + b"0 g " * 1_000_000 * count
     first.Contents = pdf.make_stream(zlib.compress(data), Filter=Name.FlateDecode)
+
+
+@kind
+def threes(pdf: Pdf, count: int) -> None:
+    """A link has three actions after its own, each of these three others after it, and so on so many times."""
+    action = Dictionary(S=Name.URI, URI=String("http://example.org/"))
+    after = [pdf.make_indirect(Dictionary(action)) for _ in range(3)]
+    for _ in range(count - 1):
+        after = [pdf.make_indirect(Dictionary({**action, "/Next": Array(after)})) for _ in range(3)]
+    pdf.pages[0].obj.Annots = Array([linked_to(pdf, {"A": Dictionary({**action, "/Next": Array(after)})})])
