@@ -114,7 +114,7 @@ def keys_of(values: Any) -> list[str]:
     try:
         return sorted(values.keys())
     except UnicodeDecodeError:
-        return list(keys_in_turn(values))
+        return [key for key in keys_in_turn(values) if key in values]  # others are null
 
 
 def keys_in_turn(values: Any) -> Iterator[str]:
