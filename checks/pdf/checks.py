@@ -14,7 +14,7 @@ from typing import Any
 from pikepdf import Dictionary, Name, Pdf, Stream
 from PIL import Image
 
-from . import pictures, plans, reading, wanted
+from . import growth, pictures, plans, reading, wanted
 from .cases import Run, contents, ran
 from .making import NAMESPACES, Made
 from .plans import Sheet
@@ -258,6 +258,14 @@ def _costs(output: Output, rest: str, _: list[str]) -> Iterator[str]:
     for found, most, unit in zip(output.run.cost, rest.split(), ("s", "MB")):
         if found > float(most):
             yield f"{found:.1f} {unit}"
+
+
+@check("linear")
+def _linear(output: Output, _rest: str, _below: list[str]) -> Iterator[str]:
+    """Calls of functions grow as the hostile parts of the documents do."""
+    found = growth.growth(output.run)
+    if not 1.8 < found < 2.5:
+        yield f"a step that is twice as large has {found:.2f} times as many calls"
 
 
 @check("absent")

@@ -150,3 +150,32 @@ def threes(pdf: Pdf, count: int) -> None:
     for _ in range(count - 1):
         after = [pdf.make_indirect(Dictionary({**action, "/Next": Array(after)})) for _ in range(3)]
     pdf.pages[0].obj.Annots = Array([linked_to(pdf, {"A": Dictionary({**action, "/Next": Array(after)})})])
+
+
+@kind
+def outlines(pdf: Pdf, count: int) -> None:
+    """So many outline items, one after another, which lead to the first page."""
+    root = pdf.make_indirect(Dictionary(Type=Name.Outlines))
+    dest = Array([pdf.pages[0].obj, Name.Fit])
+    made = [pdf.make_indirect(Dictionary(Title=String(f"n{k}"), Parent=root, Dest=dest)) for k in range(count)]
+    for before, after in zip(made, made[1:]):
+        before.Next, after.Prev = after, before
+    root.First, root.Last, root.Count = made[0], made[-1], count
+    pdf.Root.Outlines = root
+
+
+@kind
+def repeated(pdf: Pdf, count: int) -> None:
+    """The first page stands so many times in the page tree, and no other does."""
+    pdf.Root.Pages.Kids = Array([pdf.pages[0].obj] * count)
+    pdf.Root.Pages.Count = count
+
+
+@kind
+def depth(pdf: Pdf, count: int) -> None:
+    """So many nodes are above the first page, one above another, and no other page is there."""
+    kid, top = pdf.pages[0].obj, pdf.Root.Pages
+    for _ in range(count):
+        node = pdf.make_indirect(Dictionary(Type=Name.Pages, Count=1, Kids=Array([kid])))
+        kid.Parent, kid = node, node
+    top.Kids, top.Count, kid.Parent = Array([kid]), 1, top
