@@ -337,7 +337,7 @@ def numbered(output: Output) -> Iterator[str]:
     """Numbers stand within half of their size of the middle that is wanted."""
     if not any(sheet.numbers for sheet in output.sheets):
         return
-    ran = subprocess.run(["pdftotext", "-bbox", output.path, "-"], capture_output=True, text=True, timeout=60)
+    ran = subprocess.run(["pdftotext", "-bbox", output.path, "-"], capture_output=True, text=True, timeout=300)
     word = re.compile(r'<word xMin="([\d.-]+)" yMin="([\d.-]+)" xMax="([\d.-]+)" yMax="([\d.-]+)">(\d+)</word>')
     for at, (sheet, text) in enumerate(zip(output.sheets, ran.stdout.split("<page ")[1:]), 1):
         turn, (width, height) = output.turns[at - 1], sheet.paper
@@ -654,7 +654,7 @@ def _xmp(output: Output, _rest: str, below: list[str]) -> Iterator[str]:
 @check("embedded")
 def _embedded(output: Output, _rest: str, _below: list[str]) -> Iterator[str]:
     """All fonts are in OUTFILE, but Helvetica, of which the words of pages are."""
-    ran = subprocess.run(["pdffonts", output.path], capture_output=True, text=True, timeout=60)
+    ran = subprocess.run(["pdffonts", output.path], capture_output=True, text=True, timeout=300)
     fonts = [line for line in ran.stdout.split("\n")[2:] if line and line[:10] != "Helvetica "]
     yield from (f"{line} isn't embedded" for line in fonts if line.split()[-5] != "yes")
     if not fonts:

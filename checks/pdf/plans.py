@@ -82,7 +82,7 @@ def for_impose(words: list[str]) -> Iterator[str]:
 def run(impose: str, words: list[str], sizes: list[Size]) -> subprocess.CompletedProcess[bytes]:
     """impose with these words, over such a document."""
     words = list(for_impose(words))
-    return subprocess.run([impose, *words, "-", "-"], input=document(sizes), capture_output=True, timeout=60)
+    return subprocess.run([impose, *words, "-", "-"], input=document(sizes), capture_output=True, timeout=300)
 
 
 NUMBER = r"(-?[\d.]+)"

@@ -230,7 +230,7 @@ def words(path: Path) -> list[Counter[str]]:
 def places(path: Path, page: int, word: str) -> list[tuple[float, ...]]:
     """Where a page that isn't turned has a word: left, bottom, right and top of each."""
     words = ["pdftotext", "-bbox", "-f", str(page), "-l", str(page), str(path), "-"]
-    text = subprocess.run(words, capture_output=True, text=True, timeout=60).stdout
+    text = subprocess.run(words, capture_output=True, text=True, timeout=300).stdout
     size = re.search(r'<page width="[\d.]+" height="([\d.]+)"', text)
     height = float(size[1]) if size else 0
     found = re.findall(r'<word xMin="([\d.-]+)" yMin="([\d.-]+)" xMax="([\d.-]+)" yMax="([\d.-]+)">(.*)</word>', text)
@@ -248,14 +248,14 @@ def all_words(path: Path) -> Counter[str]:
 
 def fonts(path: Path) -> set[tuple[str, str]]:
     """Name and kind of each font, as pdffonts finds them."""
-    ran = subprocess.run(["pdffonts", path], capture_output=True, timeout=60, text=True, errors="replace")
+    ran = subprocess.run(["pdffonts", path], capture_output=True, timeout=300, text=True, errors="replace")
     lines = ran.stdout.split("\n")[2:]
     return {(line[:37].strip(), line[37:55].strip()) for line in lines if line.strip()}
 
 
 def complaint(path: Path) -> str:
     """What qpdf --check finds wrong; nothing if it is right."""
-    ran = subprocess.run(["qpdf", "--check", path], capture_output=True, timeout=60, text=True, errors="replace")
+    ran = subprocess.run(["qpdf", "--check", path], capture_output=True, timeout=300, text=True, errors="replace")
     wrong = re.findall(r"WARNING.*|ERROR.*|.*: error.*", ran.stdout + ran.stderr)
     return "; ".join(wrong) or ("" if ran.returncode == 0 else f"status {ran.returncode}")
 

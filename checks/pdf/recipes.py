@@ -98,7 +98,7 @@ def typed(case: Case, programs: Programs, folder: Path) -> list[str]:
     env = {**os.environ, "PATH": f"{tools}:{os.environ['PATH']}", "IMPOSE": str(programs.impose), "PAPERSIZE": "a4"}
     before = set(folder.glob("*"))
     words = ["bash", "-c", "set -o pipefail; " + case.command]
-    run = subprocess.run(words, cwd=folder, env=env, capture_output=True, text=True, timeout=120)
+    run = subprocess.run(words, cwd=folder, env=env, capture_output=True, text=True, timeout=300)
     made = [path for path in folder.glob("*") if path not in before]
     faults = [f"status {run.returncode}: {run.stderr[-200:]}"] * (run.returncode != 0) + ["nothing is made"] * (
         not made
