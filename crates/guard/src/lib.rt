@@ -9,5 +9,5 @@ mod setup;
 mod text;
 
 pub use roomy_text::RoomyText;
-pub use setup::places_pages;
+pub use setup::{ends_setup, next_token, places_pages};
 pub use text::{guarded, put_guard, put_guard_before};

@@ -123,8 +123,8 @@ fn is_move(token: &[u8]) -> bool
                 || (token == b"concat".as_slice() || token == b"setmatrix".as_slice())))
 }
 
-/// Whether this is the comment of a page, or one that begins data.
-fn ends_setup(token: &[u8]) -> bool
+/// Whether this token is the comment of a page, or one that begins data.
+pub fn ends_setup(token: &[u8]) -> bool
     ensures { result ≡ meaning.ends_setup token.now }
 {
     comment_value(token, b"%%Page", b"%%Page:").is_some()
@@ -134,7 +134,7 @@ fn ends_setup(token: &[u8]) -> bool
 
 /// The first token or comment of a text, and the text after it. A byte of white space counts as a token. None if the
 /// text is empty.
-fn next_token(text: &[u8]) -> Option<(&[u8], &[u8])>
+pub fn next_token(text: &[u8]) -> Option<(&[u8], &[u8])>
     ensures next { MatchOption result (meaning.tokens text.now ≡ [])
         (λ p. meaning.tokens text.now ≡ p.0.now ∷ meaning.tokens p.1.now) }
     ensures shorter { IfSome result (λ p. length p.1.now + 1 ≤ length text.now) }
