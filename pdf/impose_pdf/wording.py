@@ -40,6 +40,7 @@ def reported(report: str, is_one_size: bool, taken: int, pages: int) -> str:
     """impose's report, without what is of the stub alone, whose pages are those that RANGES take."""
     report = re.sub(r", bytes \d+", "", report)
     if taken < pages:
-        report = re.sub(r"^impose: pages \d+(?=,)", f"impose: pages {taken}", report)
-        report = re.sub(r"^(impose: pages \d+)( of \d+)?", rf"\1 of {pages}", report)
+        leaves = r"(?:\d+ lea\w+ of paper, [^;]*; )?"
+        report = re.sub(rf"^(impose: {leaves}pages )\d+(?=,)", rf"\g<1>{taken}", report)
+        report = re.sub(rf"^(impose: {leaves}pages \d+)( of \d+)?", rf"\1 of {pages}", report)
     return report.replace(", by its %%DocumentMedia", "" if is_one_size else ", as most are")

@@ -38,7 +38,7 @@ use Rattle.impose_cli.specs.Endings.{BreaksOff, Comes, Edge, HasFirst, Holds, Is
 use Rattle.world.specs.declared.rest.Rest.{Rest}
 use Rattle.world.specs.declared.rest.Rest.TheVariants.{Output, World}
 use Rattle.impose_messages.specs.declared.finished.Findings.{Findings}
-use Rattle.impose_messages.specs.declared.scales.Scales.{Scales}
+use Rattle.impose_messages.specs.declared.finished.SheetFacts.{SheetFacts}
 use Rattle.impose_messages.specs.declared.fault.ImposeFault.{ImposeFault}
 use Rattle.impose_messages.specs.declared.fault.ImposeFault.TheVariants as fault
 use Rattle.impose_messages.specs.declared.finished.Done.{Done}
@@ -63,14 +63,14 @@ comes_as R R' W W' name reports_outputs (Err f) world rest written refused wrote
 ]
 
 -- and of what is reported
-pub comes_reported : {V O : Type 0} (R R' : ImposeFault → Type 0) (W : (old new : Option (List ℕ)) → Report → Type 0) (W' : (old new : Option (List ℕ)) → Done → Type 0) (findings : Findings) (scales : Option Scales) (name : Option (List ℕ)) (reports_outputs : Edge V O)
+pub comes_reported : {V O : Type 0} (R R' : ImposeFault → Type 0) (W : (old new : Option (List ℕ)) → Report → Type 0) (W' : (old new : Option (List ℕ)) → Done → Type 0) (findings : Findings) (sheets : SheetFacts) (name : Option (List ℕ)) (reports_outputs : Edge V O)
     (outcome : Result Report ImposeFault) (world : V) (rest : Rest V O) (written : Option (List ℕ))
-    → ((f : ImposeFault) → R f → R' f) → ((old new : Option (List ℕ)) (report : Report) → W old new report → W' old new (done.Imposed (record { report = report; scales = scales; findings = findings })))
-    → Comes R W name reports_outputs outcome world rest written → Comes R' W' name reports_outputs (reported_by findings scales outcome) world rest written
-comes_reported R R' W W' findings scales name reports_outputs (Ok report) world rest written refused wrote h = (wrote _ _ report h.0, h.1)
-comes_reported R R' W W' findings scales name reports_outputs (Err f) world rest written refused wrote h = elim h [
+    → ((f : ImposeFault) → R f → R' f) → ((old new : Option (List ℕ)) (report : Report) → W old new report → W' old new (done.Imposed (record { report = report; sheets = sheets; findings = findings })))
+    → Comes R W name reports_outputs outcome world rest written → Comes R' W' name reports_outputs (reported_by findings sheets outcome) world rest written
+comes_reported R R' W W' findings sheets name reports_outputs (Ok report) world rest written refused wrote h = (wrote _ _ report h.0, h.1)
+comes_reported R R' W W' findings sheets name reports_outputs (Err f) world rest written refused wrote h = elim h [
   | inl stopped ↦ inl (refused f stopped.0, stopped.1)
-  | inr some ↦ inr (some.0, done.Imposed (record { report = some.1; scales = scales; findings = findings }), wrote _ _ some.1 some.2, some.3)
+  | inr some ↦ inr (some.0, done.Imposed (record { report = some.1; sheets = sheets; findings = findings }), wrote _ _ some.1 some.2, some.3)
 ]
 
 -- ---- made sheets

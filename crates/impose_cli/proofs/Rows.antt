@@ -30,7 +30,7 @@ use Rattle.dsc.specs.declared.parts.Parts.{Parts}
 use Rattle.impose_messages.specs.declared.finished.PaperOrigin.{PaperOrigin}
 use Rattle.impose_cli.specs.Claims.{AreClaimsOf}
 use Rattle.impose_messages.specs.declared.finished.Findings.{Findings}
-use Rattle.impose_messages.specs.declared.scales.Scales.{Scales}
+use Rattle.impose_messages.specs.declared.finished.SheetFacts.{SheetFacts}
 use Rattle.impose_cli.specs.Tasks.{HasPageCount, page_paper_found}
 use Rattle.impose_cli.specs.Refusals.{HasGoodName, RefusesDocument, RefusesFor, RefusesNamed, RefusesOptions, RefusesRowLayout, RefusesRowTask}
 use Rattle.impose_cli.specs.Reaches.{reach_in}
@@ -230,9 +230,9 @@ refused_found r input f h = elim h [
   | inr spent ↦ let us = spent.1.0 in refused_after r input (row_paper r input us) f (us, spent.1.1, refl) (inl (inl spent.2))
 ]
 
-pub finishes_row : (r : ImposeRequest) (input : List ℕ) (t : RowTask) (scales : Option Scales) (old new : Option (List ℕ)) (report : Report) → IsRowTask r input t → ImposesTask r t scales old new report
-    → FinishesRow r input old new (record { report = report; scales = scales; findings = t.findings })
-finishes_row r input t scales old new report is h = record {
+pub finishes_row : (r : ImposeRequest) (input : List ℕ) (t : RowTask) (sheets : SheetFacts) (old new : Option (List ℕ)) (report : Report) → IsRowTask r input t → ImposesTask r t sheets old new report
+    → FinishesRow r input old new (record { report = report; sheets = sheets; findings = t.findings })
+finishes_row r input t sheets old new report is h = record {
   task = t;
   is_task = is;
   findings = refl;
@@ -248,18 +248,18 @@ row_stops r input reports_outputs f outcome world rest written is none why =
     comes_refused (RefusesRowRun r input) (IsImposed r input) _ reports_outputs f outcome world rest written is none (inl why)
 
 -- what comes of its run comes of the request
-pub row_runs : {V O : Type 0} (r : ImposeRequest) (input : List ℕ) (t : RowTask) (scales : Option Scales) (reports_outputs : Edge V O) (outcome : Result Done ImposeFault) (left : Result Report ImposeFault) (world : V) (rest : Rest V O) (written : Option (List ℕ))
-    → IsRowTask r input t → outcome ≡ reported_by t.findings scales left
-    → Comes (RefusesRowTaskRun r t) (ImposesTask r t scales) (option_map string_bytes r.outfile) reports_outputs left world rest written → RunsRequest r input reports_outputs outcome world rest written
-row_runs r input t scales reports_outputs outcome left world rest written is reports h =
+pub row_runs : {V O : Type 0} (r : ImposeRequest) (input : List ℕ) (t : RowTask) (sheets : SheetFacts) (reports_outputs : Edge V O) (outcome : Result Done ImposeFault) (left : Result Report ImposeFault) (world : V) (rest : Rest V O) (written : Option (List ℕ))
+    → IsRowTask r input t → outcome ≡ reported_by t.findings sheets left
+    → Comes (RefusesRowTaskRun r t) (ImposesTask r t sheets) (option_map string_bytes r.outfile) reports_outputs left world rest written → RunsRequest r input reports_outputs outcome world rest written
+row_runs r input t sheets reports_outputs outcome left world rest written is reports h =
     subst (λ o. RunsRequest r input reports_outputs o world rest written) (sym reports)
-    (comes_reported (RefusesRowTaskRun r t) (RefusesRowRun r input) (ImposesTask r t scales) (IsImposed r input) t.findings scales (option_map string_bytes r.outfile) reports_outputs left world rest written
+    (comes_reported (RefusesRowTaskRun r t) (RefusesRowRun r input) (ImposesTask r t sheets) (IsImposed r input) t.findings sheets (option_map string_bytes r.outfile) reports_outputs left world rest written
     (λ f why. inr (record { task = t; is_task = is; refused = why }))
-    (λ old new report done. finishes_row r input t scales old new report is done) h)
+    (λ old new report done. finishes_row r input t sheets old new report is done) h)
 
 -- what comes of its job comes of a task
-pub task_comes : {V O : Type 0} (r : ImposeRequest) (t : RowTask) (job : RowJob) (scales : Option Scales) (name other : Option (List ℕ)) (reports_outputs : Edge V O) (outcome : Result Report ImposeFault) (world : V) (rest : Rest V O) (written : Option (List ℕ))
-    → Comes (RefusesRowJob job) (Imposes job scales) name reports_outputs outcome world rest written → name ≡ other → IsJobOf r t job → Comes (RefusesRowTaskRun r t) (ImposesTask r t scales) other reports_outputs outcome world rest written
-task_comes r t job scales name other reports_outputs outcome world rest written h named is =
-    subst (λ n. Comes (RefusesRowTaskRun r t) (ImposesTask r t scales) n reports_outputs outcome world rest written) named
-    (comes_as (RefusesRowJob job) (RefusesRowTaskRun r t) (Imposes job scales) (ImposesTask r t scales) name reports_outputs outcome world rest written (λ f why. inr (job, is, why)) (λ old new report done. (job, is, done)) h)
+pub task_comes : {V O : Type 0} (r : ImposeRequest) (t : RowTask) (job : RowJob) (sheets : SheetFacts) (name other : Option (List ℕ)) (reports_outputs : Edge V O) (outcome : Result Report ImposeFault) (world : V) (rest : Rest V O) (written : Option (List ℕ))
+    → Comes (RefusesRowJob job) (Imposes job sheets) name reports_outputs outcome world rest written → name ≡ other → IsJobOf r t job → Comes (RefusesRowTaskRun r t) (ImposesTask r t sheets) other reports_outputs outcome world rest written
+task_comes r t job sheets name other reports_outputs outcome world rest written h named is =
+    subst (λ n. Comes (RefusesRowTaskRun r t) (ImposesTask r t sheets) n reports_outputs outcome world rest written) named
+    (comes_as (RefusesRowJob job) (RefusesRowTaskRun r t) (Imposes job sheets) (ImposesTask r t sheets) name reports_outputs outcome world rest written (λ f why. inr (job, is, why)) (λ old new report done. (job, is, done)) h)

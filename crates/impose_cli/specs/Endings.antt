@@ -30,7 +30,7 @@ use Rattle.impose_messages.specs.declared.fault.ImposeFault.TheVariants as fault
 use Rattle.impose_messages.specs.declared.finished.Done.{Done}
 use Rattle.impose_messages.specs.declared.finished.Done.TheVariants as done
 use Rattle.impose_messages.specs.declared.finished.Findings.{Findings}
-use Rattle.impose_messages.specs.declared.scales.Scales.{Scales}
+use Rattle.impose_messages.specs.declared.finished.SheetFacts.{SheetFacts}
 
 -- ---- what is written
 
@@ -143,10 +143,10 @@ pub record RefusesInRow (r : ImposeRequest) (input : List ℕ) (f : ImposeFault)
 abbrev pub RefusesRowRun : ImposeRequest → (input : List ℕ) → ImposeFault → Type 0
 RefusesRowRun r input f = RefusesRowTask r input f ⊎ RefusesInRow r input f
 
--- the outcome of a run, with the scales of its pages and what the request found before it; a fault stays as it is
-abbrev pub reported_by : Findings → Option Scales → Result Report ImposeFault → Result Done ImposeFault
-reported_by findings scales (Ok report) = Ok (done.Imposed (record { report = report; scales = scales; findings = findings }))
-reported_by findings scales (Err f) = Err f
+-- the outcome of a run, with what is told of its sheets and what the request found before it; a fault stays as it is
+abbrev pub reported_by : Findings → SheetFacts → Result Report ImposeFault → Result Done ImposeFault
+reported_by findings sheets (Ok report) = Ok (done.Imposed (record { report = report; sheets = sheets; findings = findings }))
+reported_by findings sheets (Err f) = Err f
 
 abbrev pub IsImposed : ImposeRequest → (input : List ℕ) → (old new : Option (List ℕ)) → Done → Type 0
 IsImposed r input old new (done.Imposed finished) = FinishesRow r input old new finished

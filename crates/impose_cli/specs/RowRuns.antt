@@ -9,9 +9,10 @@ use Rattle.sheet_plan.specs.Places.{born_complete}
 use Rattle.dressing.specs.Numbered.{Drawn}
 use Rattle.imposer.specs.declared.outcome.Report.{Report}
 use Rattle.impose_messages.specs.Scales.{scales_of}
-use Rattle.impose_messages.specs.declared.scales.Scales.{Scales}
+use Rattle.impose_messages.specs.declared.finished.SheetFacts.{SheetFacts}
 use Rattle.row_runs.specs.SheetsRuns.{reporting_output}
-use Rattle.row_runs.specs.Runs.{ArePlanned, border_on, drawn_of, output_on}
+use Rattle.row_runs.specs.Readings.{sides_by}
+use Rattle.row_runs.specs.Runs.{ArePlanned, border_on, drawn_of, output_on, swapped_room_for}
 use Rattle.row_runs.specs.declared.run.RowJob.{RowJob}
 
 -- the numbers of a report
@@ -24,10 +25,11 @@ pub record ReportsOn (border : Option Border) (drawn : Drawn) (all : List MadeSh
   pub byte_count : report.bytes ≡ length (reporting_output border drawn all us)
 
 -- exactly the output of the sheets that are asked for was appended, and the report has its numbers; the scales are those of the pages on
--- these sheets. StandAsLaid says how pages lie before they are moved and turned
-pub record Imposes (j : RowJob) (scales : Option Scales) (old new : Option (List ℕ)) (done : Report) : Type 0 where
+-- these sheets, which are printed on these sides. StandAsLaid says how pages lie before they are moved and turned
+pub record Imposes (j : RowJob) (sheets : SheetFacts) (old new : Option (List ℕ)) (done : Report) : Type 0 where
   pub made : List MadeSheet
   pub planned : ArePlanned j made
   pub written : Appends old new (output_on j made)
   pub report : ReportsOn (border_on j) (drawn_of j) made j.document.now done
-  pub scaled : scales ≡ scales_of made
+  pub scaled : sheets.scales ≡ scales_of made
+  pub sides : sheets.sides ≡ sides_by (swapped_room_for j) j.asked.laying

@@ -60,7 +60,7 @@ use Rattle.impose_messages.specs.declared.finished.Findings.{Findings}
 use Rattle.impose_messages.specs.declared.finished.Finished.{Finished}
 use Rattle.impose_messages.specs.declared.finished.PaperOrigin.{PaperOrigin}
 use Rattle.impose_messages.specs.declared.finished.PaperOrigin.TheVariants.{FirstPage}
-use Rattle.impose_messages.specs.declared.scales.Scales.{Scales}
+use Rattle.impose_messages.specs.declared.finished.SheetFacts.{SheetFacts}
 use Rattle.impose_cli.specs.declared.laying.RowLaying.{RowLaying}
 use Rattle.impose_cli.specs.declared.laying.RowLaying.TheVariants as row
 use Rattle.impose_cli.specs.declared.row_task.RowTask.{RowTask}
@@ -337,8 +337,8 @@ pub record IsJobOf (r : ImposeRequest) (t : RowTask) (job : RowJob) : Type 0 whe
   pub marks : job.marks ≡ r.marks
   pub swapped : job.swapped ≡ swaps_margins r.layout r.spacing
 
-abbrev pub ImposesTask : ImposeRequest → RowTask → Option Scales → (old new : Option (List ℕ)) → Report → Type 0
-ImposesTask r t scales old new report = (job : RowJob) × IsJobOf r t job × Imposes job scales old new report
+abbrev pub ImposesTask : ImposeRequest → RowTask → SheetFacts → (old new : Option (List ℕ)) → Report → Type 0
+ImposesTask r t sheets old new report = (job : RowJob) × IsJobOf r t job × Imposes job sheets old new report
 
 -- The request was carried out for this document: exactly the output was appended of the sheets on which its layout lays
 -- its row, with the lines by which they report their papers and the marks that it asks for.
@@ -348,4 +348,4 @@ pub record FinishesRow (r : ImposeRequest) (input : List ℕ) (old new : Option 
   pub findings : done.findings ≡ task.findings
   pub job : RowJob
   pub is_job : IsJobOf r task job
-  pub imposes : Imposes job done.scales old new done.report
+  pub imposes : Imposes job done.sheets old new done.report

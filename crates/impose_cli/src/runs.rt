@@ -20,9 +20,10 @@ use crate::row_task::{RowTask, asked_fault_of, row_task};
 use command_words::name_of;
 use dsc::{Document, Parts};
 use guard::RoomyText;
-use impose_messages::{Done, Findings, Finished, ImposeFault, Scales};
+use impose_messages::{Done, Findings, Finished, ImposeFault, Scales, SheetFacts};
 use impose_words::ImposeRequest;
 use imposer::{Job, NoListener, Open, Report, RunError, Sink, Workers, run_plan};
+use preview::Sides;
 use row_runs::{RowJob, SheetRequest, plan_error};
 use sheet_plan::Plan;
 use std::alloc::Global;
@@ -36,6 +37,12 @@ use world::{Asked, Before, Buffered, Fate, Late, Output, Refused, Rest, World};
 const WORKERS: Workers = Workers {
     preparers: 1,
     imposers: 1,
+};
+
+/// The facts about sheets that aren't made.
+const NO_FACTS: SheetFacts = SheetFacts {
+    scales: None,
+    sides: Sides::One,
 };
 
 /// Imposes a document as a request asks. Faults are found in this order: a fault of the document, a fault of the layout, a fault of the run. The
@@ -55,14 +62,14 @@ pub(crate) fn run_on_document<R: Threads + Wait + Sync, W: World>(
         Ok(found) => found,
         Err(fault) => return refused_before(fault, world),
     };
-    let (attempt, scales) = impose_task(rt, alloc, request, &task, parts, world);
+    let (attempt, sheets) = impose_task(rt, alloc, request, &task, parts, world);
     Attempt {
-        outcome: reported(attempt.outcome, scales, task.findings),
+        outcome: reported(attempt.outcome, sheets, task.findings),
         rest: attempt.rest,
     }
 }
 
-/// Imposes the task of a row. `parts` says where the pages and the trailer of the task's text begin. Returns the scales of the pages too.
+/// Imposes the task of a row. `parts` says where the pages and the trailer of the task's text begin. Returns facts about the sheets too.
 fn impose_task<R: Threads + Wait + Sync, W: World>(
     rt: &R,
     alloc: Global,
@@ -70,7 +77,7 @@ fn impose_task<R: Threads + Wait + Sync, W: World>(
     task: &RowTask,
     parts: Parts,
     world: W,
-) -> (Attempt<W, Report>, Option<Scales>)
+) -> (Attempt<W, Report>, SheetFacts)
     requires countable { (W.seen world).failures < u64.MAX }
     requires laid { MayBeLaidSo task.now.laying }
     requires options { HasOptions request.now }
@@ -83,7 +90,7 @@ fn impose_task<R: Threads + Wait + Sync, W: World>(
         Ok(document) => document,
         Err(error) => {
             let fault = ImposeFault::Run(RunError::from(error));
-            return (refused_before(fault, world), None);
+            return (refused_before(fault, world), NO_FACTS);
         }
     };
     // Written out as in look.rt: with a function that makes the job for both, the prover isn't told which modules hold the types of its fields.
@@ -104,15 +111,15 @@ fn impose_task<R: Threads + Wait + Sync, W: World>(
     impose_job(rt, alloc, &job, name_of(&request.outfile), world)
 }
 
-/// Imposes the row of a job, and writes the sheets to the file of this name, or to standard output if there is no name. Returns the scales of the
-/// pages too.
+/// Imposes the row of a job, and writes the sheets to the file of this name, or to standard output if there is no name. Returns facts about the
+/// sheets too.
 fn impose_job<R: Threads + Wait + Sync, W: World>(
     rt: &R,
     alloc: Global,
     job: &RowJob<'_, '_>,
     name: Option<&str>,
     world: W,
-) -> (Attempt<W, Report>, Option<Scales>)
+) -> (Attempt<W, Report>, SheetFacts)
     requires countable { (W.seen world).failures < u64.MAX }
     requires asked { MayBeAsked job.now.asked }
     requires border { IsTrue (is_border job.now.border) }
@@ -122,33 +129,37 @@ fn impose_job<R: Threads + Wait + Sync, W: World>(
     let pages = job.document.pages();
     let (sheets, dress) = match job.lay(alloc) {
         Ok(laid) => laid,
-        Err(error) => return (refused_before(asked_fault_of(error, pages), world), None),
+        Err(error) => return (refused_before(asked_fault_of(error, pages), world), NO_FACTS),
     };
     let plan = match Plan::of_sheets(alloc, pages, &sheets) {
         Ok(plan) => plan,
         Err(error) => {
             let fault = asked_fault_of(plan_error(error), pages);
-            return (refused_before(fault, world), None);
+            return (refused_before(fault, world), NO_FACTS);
         }
     };
     let count = plan.sheets();
     let scales = Scales::of(&sheets, count);
+    let facts = SheetFacts {
+        scales,
+        sides: job.sides(),
+    };
     let made = Job::made(&plan, job.document, &sheets, job.border, job.inset, &dress);
     let attempt = write_job(rt, alloc, &made, name, world);
-    (attempt, scales)
+    (attempt, facts)
 }
 
-/// The outcome of a run. If the run finished, the report gets the scales of the pages, and the facts that were found before. A fault stays as it is.
+/// The outcome of a run. If the run finished, the report gets the facts about its sheets, and those that were found before. A fault stays as it is.
 fn reported(
     outcome: Result<Report, ImposeFault>,
-    scales: Option<Scales>,
+    sheets: SheetFacts,
     findings: Findings,
 ) -> Result<Done, ImposeFault>
-    ensures { result ≡ reported_by findings scales outcome }
+    ensures { result ≡ reported_by findings sheets outcome }
 {
     outcome.map(|report| Done::Imposed(Finished {
         report,
-        scales,
+        sheets,
         findings,
     }))
 }

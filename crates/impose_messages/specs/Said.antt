@@ -15,6 +15,10 @@ use Rattle.rules.specs.Numbers.{points_text, scale_text}
 use Rattle.rules.specs.Papers.{Paper}
 use Rattle.layouts.specs.Grids.{cells_per_sheet, is_same}
 use Rattle.layouts.specs.Placed.{Room}
+use Rattle.preview.specs.Listing.{edge_name}
+use Rattle.preview.specs.declared.naming.Edge.{Edge}
+use Rattle.preview.specs.declared.naming.Sides.{Sides}
+use Rattle.preview.specs.declared.naming.Sides.TheVariants.{Both, One}
 use Rattle.papers.specs.declared.media.Comment.TheVariants as comment
 use Rattle.papers.specs.declared.boxes.Edges.{Edges}
 use Rattle.papers.specs.declared.cuts.Cut.{Cut}
@@ -28,9 +32,7 @@ use Rattle.impose_messages.specs.declared.finished.Done.{Done}
 use Rattle.impose_messages.specs.declared.finished.Done.TheVariants as done
 use Rattle.impose_words.specs.Choices.{is_all_pages}
 use Rattle.impose_words.specs.declared.request.ImposeRequest.{ImposeRequest}
-use Rattle.impose_words.specs.Spacings.{swaps_margins}
 use Rattle.impose_words.specs.SheetPapers.{sheet_paper_for}
-use Rattle.impose_words.specs.declared.request.Spacing.{Spacing}
 use Rattle.impose_words.specs.declared.request.Layout.{Layout}
 use Rattle.impose_words.specs.declared.request.Layout.TheVariants as layout
 use Rattle.impose_messages.specs.declared.finished.Dependence.{Dependence}
@@ -74,28 +76,28 @@ blank_count r report = if is_all_pages r.choice then places_per_sheet r.layout *
 abbrev pub blanks_text : (blanks : ℕ) → List ℕ
 blanks_text blanks = if blanks == 0 then [] else codes ", blanks " ++ decimal blanks
 
--- the sheets are sides of leaves of paper
-abbrev pub prints_leaves : Layout → Spacing → Bool
-prints_leaves (layout.Booklet signing long_edge) s = true
-prints_leaves (layout.Stack cells duplex) s = duplex
-prints_leaves other s = swaps_margins other s
-
 -- so many of something: a text of its own for one, or else the number with these texts before and after it
 abbrev pub count_text : (count : ℕ) → (one before after : List ℕ) → List ℕ
 count_text count one before after = if count == 1 then one else before ++ (decimal count ++ after)
 
-abbrev pub leaf_count_text : (leaves : ℕ) → List ℕ
-leaf_count_text leaves = count_text leaves (codes " (1 leaf)") (codes " (") (codes " leaves)")
+-- on which edge the printer flips leaves of paper
+abbrev pub flip_text : Edge → List ℕ
+flip_text flip = codes ", flip on the " ++ (edge_name flip ++ codes " edge; ")
+
+-- how many leaves of paper so many sheets are, if they are printed on both sides
+abbrev pub leaves_text : Sides → (sheets : ℕ) → List ℕ
+leaves_text One sheets = []
+leaves_text (Both flip) sheets =
+    count_text ((sheets + 1) / 2) (codes "1 leaf of paper") (codes "") (codes " leaves of paper") ++ flip_text flip
 
 -- how many pages there are, with how many of them are taken before it if not all are
 abbrev pub page_count_text : (taken pages : ℕ) → List ℕ
 page_count_text taken pages = if taken == pages then decimal pages else decimal taken ++ (codes " of " ++ decimal pages)
 
--- how many pages, sheets and bytes there are; after the pages the blanks, and after the sheets the leaves
+-- how many pages, sheets and bytes there are, and after the pages the blanks
 abbrev pub counts_text : (taken : ℕ) → Report → ImposeRequest → List ℕ
 counts_text taken report r = codes "pages " ++ (page_count_text taken report.pages ++ (blanks_text (blank_count r report)
-    ++ (codes ", sheets " ++ (decimal report.sheets ++ ((if prints_leaves r.layout r.spacing then leaf_count_text ((report.sheets + 1) / 2) else [])
-    ++ (codes ", bytes " ++ decimal report.bytes))))))
+    ++ (codes ", sheets " ++ (decimal report.sheets ++ (codes ", bytes " ++ decimal report.bytes)))))
 
 -- the size of the sheets
 abbrev pub sheet_text : (sheet : Paper) → List ℕ
@@ -117,12 +119,12 @@ scales_line (layout.Spec specs signing) scales = []
 scales_line other None = []
 scales_line other (Some s) = range_text s.least s.greatest
 
--- the report: the counts, the size of the pages' paper with where it was found, that of the sheets, and the scale (RULES, 17)
+-- the report: the leaves, the counts, the size of the pages' paper with where it was found, that of the sheets, and the scale (RULES, 17)
 abbrev pub report_text : Finished → ImposeRequest → List ℕ
 report_text finished r = let f = finished.findings in
-    counts_text f.taken finished.report r ++ (codes "; pages of " ++ (paper_size_text f.page_paper
-    ++ (codes " pt, " ++ (origin_text f.origin ++ (sheets_text (sheet_paper_for r.layout r.sheet_paper f.page_paper) f.page_paper
-    ++ scales_line r.layout finished.scales)))))
+    leaves_text finished.sheets.sides finished.report.sheets ++ (counts_text f.taken finished.report r
+    ++ (codes "; pages of " ++ (paper_size_text f.page_paper ++ (codes " pt, " ++ (origin_text f.origin
+    ++ (sheets_text (sheet_paper_for r.layout r.sheet_paper f.page_paper) f.page_paper ++ scales_line r.layout finished.sheets.scales))))))
 
 -- a byte of a name as it is shown: what isn't a printable one of ASCII is a question mark
 abbrev pub shown_byte : ℕ → ℕ

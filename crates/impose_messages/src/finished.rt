@@ -4,6 +4,7 @@ use crate::shown::ShownName;
 use imposer::Report;
 use lengths::Paper;
 use papers::{Comment, Cut, Reach};
+use preview::Sides;
 
 /// Where the pages' paper is taken from.
 #[derive(Clone, Copy)]
@@ -63,13 +64,21 @@ pub struct Findings {
     pub claims: Claims,
 }
 
+/// Facts about the sheets of a run.
+#[derive(Clone, Copy)]
+pub struct SheetFacts {
+    /// The scales of the pages. `None` if no page is placed.
+    pub scales: Option<Scales>,
+    /// The sides on which the sheets are printed.
+    pub sides: Sides,
+}
+
 /// A request whose sheets have been written.
 #[derive(Drop)]
 pub struct Finished {
     /// The counts of its run.
     pub report: Report,
-    /// The scales of the pages. `None` if no page is placed.
-    pub scales: Option<Scales>,
+    pub sheets: SheetFacts,
     pub findings: Findings,
 }
 

@@ -1,7 +1,8 @@
 //! The report on a finished run, and its parts.
-ghost use Rattle.std.specs.Prelude.{OnOk, ◌≡◌, ◌+◌, ◌/◌, ◌++◌, if◌then◌else◌, [], decimal};
-ghost use Rattle.impose_messages.specs.Said.{prints_leaves as are_sides_of, pages_after_message, blank_count as blanks_in, blanks_text, count_text, counts_text};
-ghost use Rattle.impose_messages.specs.Said.{corners_text, cut_message, cut_pages_text, cut_size_text, dependence_effect as effect_of, dependence_message, edges_text, leaf_count_text};
+ghost use Rattle.std.specs.Prelude.{OnOk, ◌≡◌, ◌+◌, ◌++◌, decimal};
+ghost use Rattle.preview.specs.Listing.{edge_name as name_of_edge};
+ghost use Rattle.impose_messages.specs.Said.{pages_after_message, blank_count as blanks_in, blanks_text, count_text, counts_text, flip_text, leaves_text};
+ghost use Rattle.impose_messages.specs.Said.{corners_text, cut_message, cut_pages_text, cut_size_text, dependence_effect as effect_of, dependence_message, edges_text};
 ghost use Rattle.impose_messages.specs.Said.{origin_text as text_of_origin, others_text, places_per_sheet as places_in, reach_message, report_text};
 ghost use Rattle.impose_messages.specs.Said.{range_text, scales_line};
 ghost use Rattle.impose_messages.specs.Said.{sheet_text, sheets_text, sides_text, page_count_text, paper_size_text, some_pages_text, claim_advice as advice_of_claim, claim_message, unknown_message};
@@ -15,10 +16,11 @@ use itoa::Buffer;
 use layouts::is_of_size;
 use lengths::{Grains, Number, Paper, print_points, print_scale};
 use papers::{Comment, Cut, Edges, Reach};
+use preview::{Edge, Sides};
 use std::alloc::AllocError;
 
-/// Appends the report: the counts, the size of the pages' paper, where that paper is taken from, the size of the sheets if it differs from that of
-/// the pages' paper, and the scale of the pages unless they keep their size. Both sizes are those before any turn.
+/// Appends the report: the leaves of paper, the counts, the size of the pages' paper, where that paper is taken from, the size of the sheets if it
+/// differs from that of the pages' paper, and the scale of the pages unless they keep their size. Both sizes are those before any turn.
 pub(crate) fn push_report(
     said: &mut Vec<u8>,
     done: &Finished,
@@ -27,6 +29,7 @@ pub(crate) fn push_report(
     ensures { OnOk result (said.new.items ≡ said.old.items ++ report_text done.now request.now) }
 {
     let found = &done.findings;
+    push_leaves(said, done.sheets.sides, done.report.sheets)?;
     push_counts(said, found.taken, &done.report, request)?;
     said.extend_from_slice(b"; pages of ")?;
     push_size(said, &found.page_paper)?;
@@ -34,7 +37,7 @@ pub(crate) fn push_report(
     said.extend_from_slice(origin_text(found.origin))?;
     let sheet_paper = request.sheet_paper_for(&found.page_paper);
     push_sheets(said, &sheet_paper, &found.page_paper)?;
-    push_scales(said, &request.layout, &done.scales)
+    push_scales(said, &request.layout, &done.sheets.scales)
 }
 
 /// Appends the scale of the pages, unless all pages keep their size. For pages of several scales, appends the least and the greatest one. A
@@ -91,8 +94,7 @@ fn push_sheet(said: &mut Vec<u8>, sheet: &Paper) -> Result<(), AllocError>
     said.extend_from_slice(b" pt")
 }
 
-/// Appends the numbers of pages, blanks, sheets, leaves and bytes. The number of blanks is left out if it is 0. The number of leaves is left out
-/// unless every two sheets are the front and the back of a leaf.
+/// Appends the numbers of pages, blanks, sheets and bytes. The number of blanks is left out if it is 0.
 fn push_counts(
     said: &mut Vec<u8>,
     taken: u32,
@@ -106,7 +108,6 @@ fn push_counts(
     push_blanks(said, blanks_of(request, report))?;
     said.extend_from_slice(b", sheets ")?;
     push_number(said, u128::from(report.sheets))?;
-    push_leaves(said, request, report.sheets)?;
     said.extend_from_slice(b", bytes ")?;
     push_number(said, u128::from(report.bytes))
 }
@@ -159,16 +160,43 @@ fn push_blanks(said: &mut Vec<u8>, blanks: u128) -> Result<(), AllocError>
     push_number(said, blanks)
 }
 
-/// Appends the number of leaves, if every two sheets are the front and the back of a leaf. A last sheet without a back counts as a leaf.
-fn push_leaves(said: &mut Vec<u8>, request: &ImposeRequest, sheets: u32) -> Result<(), AllocError>
-    ensures { OnOk result (said.new.items ≡ said.old.items ++ (if are_sides_of request.now.layout request.now.spacing
-        then leaf_count_text ((sheets + 1) / 2) else [])) }
+/// Appends the number of leaves of paper, and the edge on which the printer flips them, if every two sheets are the front and the back of a leaf. A
+/// last sheet without a back counts as a leaf.
+fn push_leaves(said: &mut Vec<u8>, sides: Sides, sheets: u32) -> Result<(), AllocError>
+    ensures { OnOk result (said.new.items ≡ said.old.items ++ leaves_text sides sheets) }
 {
-    if !prints_leaves(request) {
-        return Ok(());
+    match sides {
+        Sides::One => Ok(()),
+        Sides::Both { flip } => {
+            let leaves = (u64::from(sheets) + 1) / 2;
+            push_counted(
+                said,
+                u128::from(leaves),
+                b"1 leaf of paper",
+                b"",
+                b" leaves of paper",
+            )?;
+            push_flip(said, flip)
+        }
     }
-    let leaves = (u64::from(sheets) + 1) / 2;
-    push_counted(said, u128::from(leaves), b" (1 leaf)", b" (", b" leaves)")
+}
+
+/// Appends the edge on which the printer flips leaves.
+fn push_flip(said: &mut Vec<u8>, flip: Edge) -> Result<(), AllocError>
+    ensures { OnOk result (said.new.items ≡ said.old.items ++ flip_text flip) }
+{
+    said.extend_from_slice(b", flip on the ")?;
+    said.extend_from_slice(edge_name(flip))?;
+    said.extend_from_slice(b" edge; ")
+}
+
+fn edge_name(edge: Edge) -> &'static [u8]
+    ensures { result.now ≡ name_of_edge edge }
+{
+    match edge {
+        Edge::Short => b"short",
+        Edge::Long => b"long",
+    }
 }
 
 /// Appends a count: the text `one` if the count is 1, otherwise the number between the texts `before` and `after`.
@@ -188,19 +216,6 @@ fn push_counted(
             push_number(said, count)?;
             said.extend_from_slice(after)
         }
-    }
-}
-
-/// Whether every two sheets are the front and the back of a leaf.
-fn prints_leaves(request: &ImposeRequest) -> bool
-    ensures { result ≡ are_sides_of request.now.layout request.now.spacing }
-{
-    match &request.layout {
-        Layout::Booklet { .. } => true,
-        Layout::Stack { duplex, .. } => *duplex,
-        Layout::NUp(_) | Layout::Cards(_) | Layout::Notes { .. } => request.swaps_margins(),
-        Layout::Poster(_) | Layout::Zine | Layout::Selection => request.swaps_margins(),
-        Layout::Spec { .. } => request.swaps_margins(),
     }
 }
 

@@ -1,13 +1,15 @@
 //! A row of a document's pages that is laid on sheets.
-ghost use Rattle.std.specs.Prelude.{IfErr, IfOk};
+ghost use Rattle.std.specs.Prelude.{◌≡◌, IfErr, IfOk};
 ghost use Rattle.row_runs.specs.Sheets.{MayBeAsked};
 ghost use Rattle.row_runs.specs.SheetsRuns.{IsDressOf};
-ghost use Rattle.row_runs.specs.Runs.{AreTurned, RefusesRun, drawn_of};
+ghost use Rattle.row_runs.specs.Readings.{sides_by as sides_of_swapped_room};
+ghost use Rattle.row_runs.specs.Runs.{AreTurned, RefusesRun, drawn_of, swapped_room_for};
 
 use crate::error::SheetError;
 use crate::marked::strokes_of;
 use crate::numbered::numbers_on;
 use crate::reaching::check_reach;
+use crate::reading::sides_by;
 use crate::sheet_request::{SheetRequest, make_sheets};
 use crate::swapped_margins::swapped_room_in;
 use crate::turning::turned_sheets;
@@ -15,6 +17,7 @@ use dressing::{Marks, dress_of};
 use dsc::Document;
 use lengths::{Grains, Paper};
 use pagespec::Turn;
+use preview::Sides;
 use sheet_plan::MadeSheets;
 use sheet_text::SheetDress;
 use std::alloc::Global;
@@ -62,5 +65,15 @@ impl<'j, 'd> RowJob<'j, 'd> {
         let turned = turned_sheets(alloc, self.turns, &swap, sheets)?;
         let dress = dress_of(alloc, &turned, strokes.as_slice(), numbers)?;
         Ok((turned, dress))
+    }
+
+    /// The sides on which the sheets are printed.
+    pub fn sides(&self) -> Sides
+        ensures { result ≡ sides_of_swapped_room (swapped_room_for self.now) self.now.asked.laying }
+    {
+        sides_by(
+            &swapped_room_in(self.swapped, &self.asked.laying),
+            &self.asked.laying,
+        )
     }
 }

@@ -16,7 +16,7 @@ use Rattle.impose_cli.proofs.runs.impose_job.Goals as goal
 
 pub returns-in-Err : goal.returns-in-Err
 returns-in-Err g c =
-    comes_refused (RefusesRowJob c.args.job.now) (Imposes c.args.job.now None) _ (edge_of_world (g.W.World.reports_outputs c.args.world) g.W.World.seen g.W.Output.Output.seen) c.asked_fault_of.result
+    comes_refused (RefusesRowJob c.args.job.now) (Imposes c.args.job.now _) _ (edge_of_world (g.W.World.reports_outputs c.args.world) g.W.World.seen g.W.Output.Output.seen) c.asked_fault_of.result
     c.refused_before.result.outcome c.args.world c.refused_before.result.rest (shown g.W.Output.Output.seen c.refused_before.result.rest) c.refused_before.ensures.outcome c.refused_before.ensures.rest
     (c.in-Err.error, rw c.pages-pages.ensures.count at c.asked_fault_of.ensures, c.in-Err.ensures.refused)
 
@@ -27,7 +27,7 @@ returns-in-Err-of_sheets g c =
     let error = c.in-Err-of_sheets.error in
     let count = c.pages-pages.ensures.count in
     let attempt = c.refused_before-in-Err-of_sheets in
-    comes_refused (RefusesRowJob job) (Imposes job None) _ (edge_of_world (g.W.World.reports_outputs c.args.world) g.W.World.seen g.W.Output.Output.seen) c.asked_fault_of-fault.result
+    comes_refused (RefusesRowJob job) (Imposes job _) _ (edge_of_world (g.W.World.reports_outputs c.args.world) g.W.World.seen g.W.Output.Output.seen) c.asked_fault_of-fault.result
     attempt.result.outcome c.args.world attempt.result.rest (shown g.W.Output.Output.seen attempt.result.rest) attempt.ensures.outcome attempt.ensures.rest (
       of_made_plan error,
       c.asked_fault_of-fault.ensures ∙ ap₂ of_asked count c.plan_error.ensures,
@@ -43,7 +43,7 @@ returns g c =
     let sheets = c.in-Ok.laid.0 in
     let planned = c.in-Ok-of_sheets.ensures in
     let count = c.pages-pages.ensures.count in
-    made_comes (RefusesRowJob job) (Imposes job c.of-scales.result) c.made-made.result c.in-Ok-of_sheets.plan c.pages-pages.result (border_on job) (dress_in c.in-Ok.laid.1) (drawn_of job) sheets job.document.now
+    made_comes (RefusesRowJob job) (Imposes job _) c.made-made.result c.in-Ok-of_sheets.plan c.pages-pages.result (border_on job) (dress_in c.in-Ok.laid.1) (drawn_of job) sheets job.document.now
     (option_map (λ n. n.now) c.args.name) (edge_of_world (g.W.World.reports_outputs c.args.world) g.W.World.seen g.W.Output.Output.seen) c.write_job-attempt.result.outcome c.args.world c.write_job-attempt.result.rest (shown g.W.Output.Output.seen c.write_job-attempt.result.rest)
     (ap (λ (j : JobView). j.plan) c.made-made.ensures.value) planned.planned planned.layout count c.made-made.ensures.output c.in-Ok.ensures.dressed
     (λ old new report wrote told. record {
@@ -52,4 +52,5 @@ returns g c =
       written = wrote;
       report = told;
       scaled = c.of-scales.ensures;
+      sides = c.sides.ensures;
     }) c.write_job-attempt.ensures

@@ -10,7 +10,7 @@ use Rattle.impose_cli.proofs.runs.impose_task.Goals as goal
 pub returns-in-Err : goal.returns-in-Err
 returns-in-Err g c =
     let why : IsDocumentRefused c.args.task.now.text.items c.in-Err.error = rw c.as_slice.ensures.value at c.in-Err.ensures.answer in
-    comes_refused (RefusesRowTaskRun c.args.request.now c.args.task.now) (ImposesTask c.args.request.now c.args.task.now None) _ (edge_of_world (g.W.World.reports_outputs c.args.world) g.W.World.seen g.W.Output.Output.seen) (fault.Run c.from.result)
+    comes_refused (RefusesRowTaskRun c.args.request.now c.args.task.now) (ImposesTask c.args.request.now c.args.task.now _) _ (edge_of_world (g.W.World.reports_outputs c.args.world) g.W.World.seen g.W.Output.Output.seen) (fault.Run c.from.result)
     c.refused_before.result.outcome c.args.world c.refused_before.result.rest (shown g.W.Output.Output.seen c.refused_before.result.rest) c.refused_before.ensures.outcome c.refused_before.ensures.rest
     (inl (c.in-Err.error, ap fault.Run c.from.ensures, why))
 
