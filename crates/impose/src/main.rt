@@ -41,7 +41,7 @@ fn main(rt: HostRuntime) -> ExitCode {
         };
         return end_with(&rt, fault);
     }
-    let (text, status) = said(rt.alloc(), report, ended, words.as_slice());
+    let (text, status) = said(rt.alloc(), report, ended, paper_size, words.as_slice());
     ExitCode::from(report_line(&mut rt.stderr(), text.as_slice(), status))
 }
 
@@ -51,11 +51,13 @@ fn said<W: World>(
     alloc: Global,
     report: Vec<u8>,
     ended: Ended<W>,
+    paper_size: &[u8],
     words: &[String],
 ) -> (Vec<u8>, u8)
     requires { report.items ≡ [] }
 {
-    let text = text_said(alloc, report, &ended.outcome, ended.request.as_ref(), words);
+    let request = ended.request.as_ref();
+    let text = text_said(alloc, report, &ended.outcome, request, paper_size, words);
     (text, ended.status())
 }
 

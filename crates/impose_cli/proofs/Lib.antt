@@ -4,6 +4,11 @@ pub mod InCells
 pub mod Counted
 pub mod Coming
 pub mod Rows
+mod SomePages
+mod LooseOnes
+mod DrawnAgain
+mod FirstFound
+mod PlacedEdges
 pub mod Looking
 pub mod Again
 pub mod Examples

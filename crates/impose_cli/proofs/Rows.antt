@@ -34,7 +34,7 @@ use Rattle.impose_messages.specs.declared.finished.SheetFacts.{SheetFacts}
 use Rattle.impose_cli.specs.Tasks.{HasPageCount, page_paper_found}
 use Rattle.impose_cli.specs.Refusals.{HasGoodName, RefusesDocument, RefusesFor, RefusesNamed, RefusesOptions, RefusesRowLayout, RefusesRowTask}
 use Rattle.impose_cli.specs.Reaches.{reach_in}
-use Rattle.impose_cli.specs.RowTasks.{ArePapersOf, FindsForRow, cut_in, papers_in, papers_to_place, row_paper, text_for, why_no_row, FinishesRow, ImposesTask, IsJobOf, IsRowPaper, IsRowTask, HasTurns, IsLaidBy, IsLaidSo, IsLayingOf, LaysBy, LaysSo, TakesNamed, cells_paper, counted_among, counted_in, first_paper, guarded_in, has_cuts_apart, paper_turned, turns_in, laying_in, own_in, paper_for, row_papers, sheet_paper_in}
+use Rattle.impose_cli.specs.RowTasks.{ArePapersOf, FindsForRow, cut_in, loose_in, papers_in, papers_to_place, row_paper, text_for, why_no_row, FinishesRow, ImposesTask, IsJobOf, IsRowPaper, IsRowTask, HasTurns, IsLaidBy, IsLaidSo, IsLayingOf, LaysBy, LaysSo, TakesNamed, cells_paper, counted_among, counted_for, counted_in, counted_origin, first_paper, guarded_in, has_cuts_apart, paper_turned, turns_in, laying_in, own_in, paper_for, row_papers, sheet_paper_in}
 use Rattle.impose_cli.specs.Taken.{row_in, row_or_none, taken_below, taken_in}
 use Rattle.row_runs.specs.declared.sheet_request.Laying.{Laying}
 use Rattle.row_runs.specs.declared.sheet_request.Laying.TheVariants as laying
@@ -125,6 +125,16 @@ is_counted r us row own taken found one own_is row_is taken_is found_is one_is =
     let first = found_is ∙ ap (paper_for r.layout (page_paper_found r.page_paper r.default_paper (bytes_of us))) papers in
     one_is ∙ ap₂ (λ (t : List Paper) (f : Paper × PaperOrigin). counted_among r.layout t f.0) papers first
 
+-- and where it was found
+pub is_found : (r : ImposeRequest) (us : List NestedUnit) (row : Row) (own taken : List Paper) (found : Paper × PaperOrigin) (one : Paper) (origin : PaperOrigin) → own ≡ own_in r (bytes_of us) us → row ≡ row_in r us → taken ≡ row_papers row own
+    → found ≡ paper_for r.layout (page_paper_found r.page_paper r.default_paper (bytes_of us)) taken → one ≡ counted_among r.layout taken found.0 → origin ≡ counted_origin found.0 one found.1
+    → (one, origin) ≡ row_paper r (bytes_of us) us
+is_found r us row own taken found one origin own_is row_is taken_is found_is one_is origin_is =
+    let papers : taken ≡ row_papers (row_in r us) (own_in r (bytes_of us) us) = taken_is ∙ ap₂ row_papers row_is own_is in
+    let first = found_is ∙ ap (paper_for r.layout (page_paper_found r.page_paper r.default_paper (bytes_of us))) papers in
+    ap₂ (λ (p : Paper) (o : PaperOrigin). (p, o)) one_is (origin_is ∙ ap (λ (p : Paper). counted_origin found.0 p found.1) one_is)
+    ∙ ap₂ (counted_for r.layout) papers first
+
 -- the paper for which they are made is that of the request's row
 pub row_paper_of : (r : ImposeRequest) (input : List ℕ) (f : Findings) → FindsForRow r input f → IsRowPaper r input (f.page_paper, f.origin)
 row_paper_of r input f is = (is.units, is.document, is.page_paper)
@@ -132,19 +142,20 @@ row_paper_of r input f is = (is.units, is.document, is.page_paper)
 pub has_turns : (r : ImposeRequest) (input : List ℕ) (us : List NestedUnit) (turns : List Turn) → document_of input ≡ Ok us → turns ≡ turns_in r (bytes_of us) us → HasTurns r input turns
 has_turns r input us turns read e = (us, read, e ∙ ap (λ t. turns_in r t us) (whole input us read))
 
-pub finds_for_row : (r : ImposeRequest) (input : List ℕ) (us : List NestedUnit) (f : Findings) → document_of input ≡ Ok us → (f.page_paper, f.origin) ≡ row_paper r (bytes_of us) us → f.cut ≡ cut_in r (bytes_of us) us
-    → f.reach ≡ reach_in (has_cuts_apart r.layout) r (counted_in r (bytes_of us) us) (bytes_of us) us → f.after_trailer ≡ pages_after us → f.taken ≡ taken_in r us → AreClaimsOf r (bytes_of us) f.claims
+pub finds_for_row : (r : ImposeRequest) (input : List ℕ) (us : List NestedUnit) (f : Findings) → document_of input ≡ Ok us → (f.page_paper, f.origin) ≡ row_paper r (bytes_of us) us → f.cut ≡ cut_in r (bytes_of us) us → f.loose ≡ loose_in r (bytes_of us) us
+    → f.reach ≡ reach_in (has_cuts_apart r.layout) r (counted_in r (bytes_of us) us) (bytes_of us) us → f.after_trailer ≡ pages_after us → f.taken ≡ taken_in r us → AreClaimsOf r (bytes_of us) us f.claims
     → FindsForRow r input f
-finds_for_row r input us f read paper cut reach after_trailer taken claims = let same = whole input us read in
+finds_for_row r input us f read paper cut loose reach after_trailer taken claims = let same = whole input us read in
     record {
       units = us;
       document = read;
       page_paper = paper ∙ ap (λ t. row_paper r t us) same;
       cut = cut ∙ ap (λ t. cut_in r t us) same;
+      loose = loose ∙ ap (λ t. loose_in r t us) same;
       reach = reach ∙ ap (λ t. reach_in (has_cuts_apart r.layout) r (counted_in r t us) t us) same;
       after_trailer = after_trailer;
       taken = taken;
-      claims = subst (λ t. AreClaimsOf r t f.claims) same claims;
+      claims = subst (λ t. AreClaimsOf r t us f.claims) same claims;
     }
 
 -- a document's own parts serve for it, and are those of its text

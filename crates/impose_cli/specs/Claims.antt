@@ -1,9 +1,12 @@
 -- What a document says of itself, as far as it is reported: how many pages it has, a paper by a name that isn't known
--- (DSC 2.1, %%DocumentPaperSizes), and why its pages depend on the text before them (DSC 3.0, %%Creator; its setup).
-use Rattle.std.specs.Prelude.{◌≡◌, ◌||◌, ℕ, Bool, true, false, if◌then◌else◌, List, Option, Some, None, codes, option_and_then, option_map}
+-- (DSC 2.1, %%DocumentPaperSizes), why its pages depend on the text before them (DSC 3.0, %%Creator; its setup; fonts), and
+-- whether copies are lost.
+use Rattle.std.specs.Prelude.{◌≡◌, ◌||◌, ◌-◌, ℕ, Bool, true, false, not, if◌then◌else◌, List, [], Option, Some, None, codes, length, nat_eq, option_and_then, option_map, slice_index_or}
+use Rattle.std.specs.List.{ends_with, list_any, starts_with}
 use Rattle.std.specs.Option.{option_or}
 use Rattle.std.specs.Str.{bytes_eq}
 use Rattle.rules.specs.Papers.{Paper}
+use Rattle.rules.specs.Parts.{NestedUnit, pages}
 use Rattle.dsc.specs.Fields.{fields_in}
 use Rattle.guard.specs.Setups.{places_pages}
 use Rattle.papers.specs.Comments.{first_name}
@@ -14,17 +17,19 @@ use Rattle.impose_words.specs.declared.request.ImposeRequest.{ImposeRequest}
 use Rattle.impose_messages.specs.Said.{shown_name}
 use Rattle.impose_messages.specs.declared.finished.Claims.{Claims}
 use Rattle.impose_messages.specs.declared.finished.Dependence.{Dependence}
-use Rattle.impose_messages.specs.declared.finished.Dependence.TheVariants.{Hp2xx, Plplot, Setup, Xcircuit}
+use Rattle.impose_messages.specs.declared.finished.Dependence.TheVariants.{Antiword, Font, Hp2xx, Plplot, Setup, Xcircuit}
 use Rattle.row_runs.specs.DeclaredPages.{declared_page_count}
+use Rattle.impose_cli.specs.Copies.{loses_copies}
+use Rattle.impose_cli.specs.Fonts.{borrows_font}
 
--- a comment names papers or media
+-- a comment names papers or media, or the setup asks for a paper
 abbrev pub is_name : Comment → Bool
 is_name DocumentMedia = true
 is_name DocumentPaperSizes = true
 is_name BoundingBox = false
-is_name Setup = false
+is_name Setup = true
 
--- a paper was found by a name
+-- a paper was found by a name, or in the setup
 abbrev pub is_by_name : Option (Paper × Comment) → Bool
 is_by_name None = false
 is_by_name (Some found) = is_name found.1
@@ -47,13 +52,30 @@ unknown_paper None usual text = unknown_name usual text
 abbrev pub creator_named : (name : List ℕ) → Option Dependence
 creator_named name = if bytes_eq name (codes "hp2xx") then Some Hp2xx
     else if bytes_eq name (codes "Xcircuit") || bytes_eq name (codes "XCircuit") then Some Xcircuit
-    else if bytes_eq name (codes "PLplot") then Some Plplot else None
+    else if bytes_eq name (codes "PLplot") then Some Plplot
+    else if bytes_eq name (codes "antiword") then Some Antiword else None
 
--- the one that a document names first as its creator
+-- another program has drawn the document again: pdftops says so, and keeps the name of the first
+abbrev pub is_drawn_again : List (List ℕ) → Bool
+is_drawn_again header = list_any (λ content. starts_with nat_eq content (codes "%Produced by")) header
+
+-- the one that a document names first as its creator, if its pages are still those
 abbrev pub creator_of : (text : List ℕ) → Option Dependence
-creator_of text = option_and_then creator_named (option_and_then first_name (comment_value (codes "%%Creator") (header text)))
+creator_of text = if is_drawn_again (header text) then None
+    else option_and_then creator_named (option_and_then first_name (comment_value (codes "%%Creator") (header text)))
 
-pub record AreClaimsOf (r : ImposeRequest) (input : List ℕ) (claims : Claims) : Type 0 where
+-- why a document's pages depend on the text before them, if this is known of their fonts
+abbrev pub dependence_by : (text : List ℕ) → (is_font_borrowed : Bool) → Option Dependence
+dependence_by text is_font_borrowed = option_or (creator_of text)
+    (option_or (if places_pages text then Some Setup else None) (if is_font_borrowed then Some Font else None))
+
+-- something follows the last page: the text doesn't end with it
+abbrev pub is_ended : (text : List ℕ) → List NestedUnit → Bool
+is_ended text us = not (ends_with nat_eq text (slice_index_or (pages us) (length (pages us) - 1) []))
+
+pub record AreClaimsOf (r : ImposeRequest) (input : List ℕ) (us : List NestedUnit) (claims : Claims) : Type 0 where
   pub pages : claims.pages ≡ declared_page_count input
+  pub is_ended : claims.is_ended ≡ is_ended input us
   pub unknown : claims.unknown ≡ option_map shown_name (unknown_paper r.page_paper r.default_paper input)
-  pub dependence : claims.dependence ≡ option_or (creator_of input) (if places_pages input then Some Setup else None)
+  pub dependence : claims.dependence ≡ dependence_by input (borrows_font us)
+  pub copies : claims.loses_copies ≡ loses_copies input

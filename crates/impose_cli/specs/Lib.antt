@@ -1,12 +1,17 @@
--- Read in this order: what a document's error makes of a request, which of its pages are taken, and the row that it asks for; what a run on a row writes; what a request comes to with a
--- document, and what is refused; what its run leaves; what a look shows; what is printed; what is checked unread; laws; the
--- fronts of files; the whole program, and what its success means.
+-- Read in this order: fonts that pages borrow, copies that are lost, and what a document says of itself; which of its pages are taken, and the row
+-- that a request asks for; what a document's error makes of a request; what a run on a row writes; what a request comes to with a document, and
+-- what is refused; what its run leaves; what a look shows; what is printed; what is checked unread; laws; the fronts of files; the whole
+-- program, and what its success means.
+pub mod Fonts
+pub mod Copies
 pub mod Claims
 pub mod Taken
 pub mod RowsAsked
 pub mod Reaches
+pub mod Loose
 pub mod Faults
 pub mod Tasks
+pub mod Lying
 pub mod RowRuns
 pub mod RowTasks
 pub mod Refusals

@@ -1,5 +1,5 @@
 -- What is imposed of a row of pages, and how: a request for a document, if its layout lays rows on sheets.
-use Rattle.std.specs.Prelude.{◌≡◌, ⊤, string_bytes, ℕ, ◌+◌, Bool, true, false, ◌&&◌, if◌then◌else◌, List, [], ◌∷◌, length, Option, Some, None, Result, Ok, Err, IfSome, option_map, option_and_then, map, slice_get, ◌||◌, not}
+use Rattle.std.specs.Prelude.{◌≡◌, ⊤, string_bytes, ℕ, ◌+◌, Bool, true, false, ◌&&◌, if◌then◌else◌, List, [], ◌∷◌, length, Option, Some, None, Result, Ok, Err, IfSome, is_some, option_map, option_and_then, map, slice_get, ◌||◌, not}
 use Rattle.std.specs.Ordering.{int_eq}
 use Rattle.rules.specs.Admissible.{Takes, most_slots}
 use Rattle.rules.specs.Papers.{Paper}
@@ -12,7 +12,7 @@ use Rattle.row_sheets.specs.RowSheets.{selected_sheet}
 use Rattle.rows.specs.Printed.{asked_by}
 use Rattle.rows.specs.Sewing.{MayBeSewn}
 use Rattle.layouts.specs.Fitted.{binding_setting_of, setting_of}
-use Rattle.layouts.specs.Grids.{cells_per_sheet, rounded_down, rounded_up}
+use Rattle.layouts.specs.Grids.{cells_per_sheet, is_same, rounded_down, rounded_up}
 use Rattle.layouts.specs.Refusals.{error_unless, is_length, why_not_arranged, why_not_bound}
 use Rattle.layouts.specs.declared.arrangement.Cells.{Cells}
 use Rattle.layouts.specs.declared.arrangement.Cells.TheVariants.{AtLeast, Exactly}
@@ -23,6 +23,8 @@ use Rattle.paper_names.specs.Names.{paper_named}
 use Rattle.papers.specs.Own.{papers_of_each_page}
 use Rattle.papers.specs.AsOne.{merge_near_sizes, first_instead_of, kinds, most_kinds, kind_paper}
 use Rattle.papers.specs.Cuts.{cut_of}
+use Rattle.papers.specs.Reach.{page_boxes}
+use Rattle.papers.specs.declared.boxes.Edges.{Edges}
 use Rattle.papers.specs.declared.cuts.Cut.{Cut}
 use Rattle.impose_cli.specs.RowRuns.{Imposes}
 use Rattle.row_runs.specs.Sheets.{MayBeLaid}
@@ -38,7 +40,8 @@ use Rattle.row_sheets.specs.declared.poster.Poster.{Poster}
 use Rattle.impose_words.specs.Spacings.{arrangement_in, binding_in, swaps_margins, notes_in, zine_in}
 use Rattle.impose_words.specs.declared.request.Spacing.{Spacing}
 use Rattle.impose_cli.specs.Claims.{AreClaimsOf}
-use Rattle.impose_cli.specs.Reaches.{reach_in}
+use Rattle.impose_cli.specs.Loose.{loose_on}
+use Rattle.impose_cli.specs.Reaches.{reach_in, reach_on}
 use Rattle.impose_cli.specs.RowsAsked.{row_asked, scheme_in, signing_in}
 use Rattle.impose_cli.specs.Taken.{row_in, taken_in, takes}
 use Rattle.pagespec.specs.Items.{turn_of}
@@ -59,7 +62,7 @@ use Rattle.impose_words.specs.declared.request.ImposeRequest.{ImposeRequest}
 use Rattle.impose_messages.specs.declared.finished.Findings.{Findings}
 use Rattle.impose_messages.specs.declared.finished.Finished.{Finished}
 use Rattle.impose_messages.specs.declared.finished.PaperOrigin.{PaperOrigin}
-use Rattle.impose_messages.specs.declared.finished.PaperOrigin.TheVariants.{FirstPage}
+use Rattle.impose_messages.specs.declared.finished.PaperOrigin.TheVariants.{Covering, FirstPage}
 use Rattle.impose_messages.specs.declared.finished.SheetFacts.{SheetFacts}
 use Rattle.impose_cli.specs.declared.laying.RowLaying.{RowLaying}
 use Rattle.impose_cli.specs.declared.laying.RowLaying.TheVariants as row
@@ -241,8 +244,12 @@ abbrev pub counted_among : Layout → (taken : List Paper) → Paper → Paper
 counted_among layout.Selection taken paper = kind_paper (kinds most_kinds taken) paper
 counted_among other taken paper = paper
 
+-- what it counts as may be larger than the paper that was found
+abbrev pub counted_origin : (found counted : Paper) → PaperOrigin → PaperOrigin
+counted_origin found counted origin = if is_same found counted then origin else Covering
+
 abbrev pub counted_for : Layout → (taken : List Paper) → Paper × PaperOrigin → Paper × PaperOrigin
-counted_for l taken found = (counted_among l taken found.0, found.1)
+counted_for l taken found = let counted = counted_among l taken found.0 in (counted, counted_origin found.0 counted found.1)
 
 -- the paper for which sheets and cells are made, and where it was found: the document's, if a page of the row has it or one
 -- near to it, and else that of the row's first page (RULES, 12.5)
@@ -298,6 +305,20 @@ cut_by_named (Some named) row input us = cut_on row named (papers_of_each_page N
 abbrev pub cut_in : ImposeRequest → (input : List ℕ) → List NestedUnit → Option Cut
 cut_in r input us = cut_by_named (if has_cuts_apart r.layout then r.page_paper else None) (row_in r us) input us
 
+-- the cover of the pages that are taken, if the named paper is larger, and no page reaches beyond its own by its box
+abbrev pub loose_for : Row → (named : Paper) → (own : List Paper) → (boxes : List (Option Edges)) → Option Paper
+loose_for row named own boxes = if is_some (reach_on true row own own boxes) then None else loose_on named (row_papers row own)
+
+-- a page that names no paper has the named one
+abbrev pub loose_by_named : Option Paper → Row → (input : List ℕ) → List NestedUnit → Option Paper
+loose_by_named None row input us = None
+loose_by_named (Some named) row input us =
+    loose_for row named (papers_of_each_page None paper_named named input us) (page_boxes input us)
+
+-- RULES, 17
+abbrev pub loose_in : ImposeRequest → (input : List ℕ) → List NestedUnit → Option Paper
+loose_in r input us = loose_by_named (if has_cuts_apart r.layout then r.page_paper else None) (row_in r us) input us
+
 -- the document is accepted, and its pages have these papers
 abbrev pub ArePapersOf : ImposeRequest → (input : List ℕ) → (papers : List Paper) → Type 0
 ArePapersOf r input papers = (us : List NestedUnit) × (document_of input ≡ Ok us) × (papers ≡ papers_in r input us)
@@ -308,10 +329,11 @@ pub record FindsForRow (r : ImposeRequest) (input : List ℕ) (f : Findings) : T
   pub document : document_of input ≡ Ok units
   pub page_paper : (f.page_paper, f.origin) ≡ row_paper r input units
   pub cut : f.cut ≡ cut_in r input units
+  pub loose : f.loose ≡ loose_in r input units
   pub reach : f.reach ≡ reach_in (has_cuts_apart r.layout) r (counted_in r input units) input units
   pub after_trailer : f.after_trailer ≡ pages_after units
   pub taken : f.taken ≡ taken_in r units
-  pub claims : AreClaimsOf r input f.claims
+  pub claims : AreClaimsOf r input units f.claims
 
 -- the task is what the request asks for with this document
 pub record IsRowTask (r : ImposeRequest) (input : List ℕ) (t : RowTask) : Type 0 where

@@ -3,10 +3,14 @@
 
 mod attempt;
 mod claims;
+mod copies;
+mod fonts;
 mod fronts;
 pub mod laws;
 mod laying;
 mod look;
+mod loose;
+mod lying;
 mod precheck;
 mod printed;
 mod program;

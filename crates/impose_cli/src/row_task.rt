@@ -11,7 +11,7 @@ ghost use Rattle.impose_cli.specs.RowTasks.{guarded_in, first_paper as first_pap
 ghost use Rattle.impose_cli.specs.Claims.{AreClaimsOf};
 ghost use Rattle.impose_cli.specs.RowTasks.{ArePapersOf, FindsForRow, HasTurns, IsRowTask, counted_in};
 ghost use Rattle.impose_cli.specs.RowTasks.{has_cuts_apart as cuts_apart};
-ghost use Rattle.impose_cli.specs.RowTasks.{counted_among, cut_by_named, cut_in, cut_on, paper_for, paper_turned, papers_in as papers_found, papers_to_place, row_paper, turns_in, turns_of};
+ghost use Rattle.impose_cli.specs.RowTasks.{counted_among, counted_origin as origin_counted, cut_by_named, cut_in, cut_on, loose_by_named, loose_for, loose_in, paper_for, paper_turned, papers_in as papers_found, papers_to_place, row_paper, turns_in, turns_of};
 ghost use Rattle.impose_cli.specs.Reaches.{reach_in, reach_on, reported_own};
 ghost use Rattle.paper_names.specs.Names.{paper_named};
 ghost use Rattle.papers.specs.Own.{papers_of_each_page};
@@ -25,12 +25,14 @@ ghost use Rattle.dsc.specs.declared.parts.Parts.{Parts};
 
 use crate::claims::claims_of;
 use crate::laying::{RowLaying, check_options, laying_for, papers_for};
+use crate::loose::loose_on;
 use crate::reach::reach_of_row;
 use crate::taken::{papers_on_row, papers_taken, row_of_choice, taken_count};
 use dsc::{Document, Parts};
 use guard::RoomyText;
 use impose_messages::{Findings, ImposeFault, PaperOrigin, refused_document};
 use impose_words::{ImposeRequest, Layout, Turning};
+use layouts::is_of_size;
 use lengths::Paper;
 use pagespec::Turn;
 use papers::{Cut, Reach, cut_by, document_paper, first_instead_of, merge_near_sizes, page_papers};
@@ -128,12 +130,14 @@ fn pages_in(
         (found.findings.page_paper, found.findings.origin) ≡ row_paper request.now (bytes_of document.now) document.now) }
     ensures cut { IfOk result (λ found.
         found.findings.cut ≡ cut_in request.now (bytes_of document.now) document.now) }
+    ensures loose { IfOk result (λ found.
+        found.findings.loose ≡ loose_in request.now (bytes_of document.now) document.now) }
     ensures reach { IfOk result (λ found.
         found.findings.reach ≡ reach_in (cuts_apart request.now.layout) request.now (counted_in request.now (bytes_of document.now) document.now)
         (bytes_of document.now) document.now) }
     ensures after_trailer { IfOk result (λ found. found.findings.after_trailer ≡ pages_after document.now) }
     ensures taken { IfOk result (λ found. found.findings.taken ≡ taken_in request.now document.now) }
-    ensures claims { IfOk result (λ found. AreClaimsOf request.now (bytes_of document.now) found.findings.claims) }
+    ensures claims { IfOk result (λ found. AreClaimsOf request.now (bytes_of document.now) document.now found.findings.claims) }
     ensures row { IfOk result (λ found.
         found.row.items ≡ row_or_none (row_of (length found.papers.items) (choice_in request.now.choice) None)) }
 {
@@ -149,7 +153,7 @@ fn pages_in(
         taken.as_slice(),
         own.as_slice(),
     )?;
-    let (cut, reach) = cut_and_reach(
+    let (cut, loose, reach) = cut_and_reach(
         alloc,
         request,
         document,
@@ -165,12 +169,13 @@ fn pages_in(
         papers,
         findings: Findings {
             page_paper,
-            origin,
+            origin: counted_origin(origin, &found, &page_paper),
             cut,
+            loose,
             reach,
             after_trailer: document.pages_after_trailer(),
             taken: count,
-            claims: claims_of(request, document.text()),
+            claims: claims_of(request, document),
         },
     })
 }
@@ -244,6 +249,17 @@ fn counted_paper(
     }
 }
 
+/// Where a paper is taken from that counts as `counted`, if it is found at `origin`.
+fn counted_origin(origin: PaperOrigin, found: &Paper, counted: &Paper) -> PaperOrigin
+    ensures { result ≡ origin_counted found.now counted.now origin }
+{
+    if is_of_size(found, counted) {
+        origin
+    } else {
+        PaperOrigin::Covering
+    }
+}
+
 /// The papers by which pages are placed. In most layouts each page is placed by its own paper. In a selection, papers of nearly the same size count
 /// as one. A specification places all pages by the paper `one`.
 fn papers_placed(
@@ -270,8 +286,9 @@ fn papers_placed(
     }
 }
 
-/// The pages of the row that the paper of `--paper` cuts, and those that reach beyond `placed`, the papers by which pages are placed. `own` has the
-/// papers that the request finds for the document's pages. If a specification places the pages, those that are cut aren't reported separately.
+/// The pages of the row that the paper of `--paper` cuts, the smallest paper that covers the row's pages if `--paper` is larger, and the pages that
+/// reach beyond `placed`, the papers by which pages are placed. `own` has the papers that the request finds for the document's pages. If a specification
+/// places the pages, only the last are reported.
 fn cut_and_reach(
     alloc: Global,
     request: &ImposeRequest,
@@ -279,16 +296,19 @@ fn cut_and_reach(
     row: &[Option<u32>],
     placed: &[Paper],
     own: &[Paper],
-) -> Result<(Option<Cut>, Option<Reach>), AllocError>
+) -> Result<(Option<Cut>, Option<Paper>, Option<Reach>), AllocError>
     requires { own.now ≡ papers_of_each_page request.now.page_paper paper_named request.now.default_paper (bytes_of document.now) document.now }
     ensures cut { IfOk result (λ found. found.0 ≡ cut_by_named (if cuts_apart request.now.layout then request.now.page_paper else None)
         row.now (bytes_of document.now) document.now) }
-    ensures reach { IfOk result (λ found. found.1 ≡ reach_on (cuts_apart request.now.layout) row.now placed.now
+    ensures loose { IfOk result (λ found. found.1 ≡ loose_by_named (if cuts_apart request.now.layout then request.now.page_paper else None)
+        row.now (bytes_of document.now) document.now) }
+    ensures reach { IfOk result (λ found. found.2 ≡ reach_on (cuts_apart request.now.layout) row.now placed.now
         (reported_own request.now (bytes_of document.now) document.now) (page_boxes (bytes_of document.now) document.now)) }
 {
     let cut_apart = has_cuts_apart(&request.layout);
     match request.page_paper {
         None => Ok((
+            None,
             None,
             reach_of_row(alloc, document, row, placed, own, cut_apart)?,
         )),
@@ -296,8 +316,9 @@ fn cut_and_reach(
             // A page that names no paper counts as having the paper of `--paper`, which doesn't cut it.
             let reported = page_papers(alloc, document, None, &named)?;
             let cut = cut_if(alloc, cut_apart, row, reported.as_slice(), &named)?;
+            let loose = loose_if(alloc, document, cut_apart, row, reported.as_slice(), &named)?;
             let reach = reach_of_row(alloc, document, row, placed, reported.as_slice(), cut_apart)?;
-            Ok((cut, reach))
+            Ok((cut, loose, reach))
         }
     }
 }
@@ -317,6 +338,30 @@ fn cut_if(
     }
     let taken = papers_taken(alloc, row, own, named)?;
     Ok(cut_by(named, taken.as_slice()))
+}
+
+/// The smallest paper that covers the pages of the row, if the paper `named` is larger. `None` if it isn't asked for, or if a page reaches beyond its
+/// own paper by its box. `own` has the papers of the document's pages.
+fn loose_if(
+    alloc: Global,
+    document: &Document<'_>,
+    is_asked: bool,
+    row: &[Option<u32>],
+    own: &[Paper],
+    named: &Paper,
+) -> Result<Option<Paper>, AllocError>
+    ensures { IfOk result (λ loose. loose ≡ (if is_asked
+        then loose_for row.now named.now own.now (page_boxes (bytes_of document.now) document.now) else None)) }
+{
+    if !is_asked {
+        return Ok(None);
+    }
+    let beyond = reach_of_row(alloc, document, row, own, own, true)?;
+    if beyond.is_some() {
+        return Ok(None);
+    }
+    let taken = papers_on_row(alloc, row, own)?;
+    Ok(loose_on(named, taken.as_slice()))
 }
 
 /// Whether pages that the paper of `--paper` cuts are reported separately from those that reach beyond their papers.

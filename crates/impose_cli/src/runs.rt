@@ -1,5 +1,5 @@
 //! Runs of requests. An output is created only when nothing is left that could be refused.
-ghost use Rattle.std.specs.Prelude.{◌≡◌, ◌<◌, ◌⊎◌, [], IsTrue, MatchResult, None, Some, Ok, Err, option_map, string_bytes, true};
+ghost use Rattle.std.specs.Prelude.{◌≡◌, ◌<◌, ◌⊎◌, [], IsTrue, MatchResult, None, Some, Ok, Err, length, option_map, string_bytes, true};
 ghost use Rattle.std.specs.IoError.{error_kind};
 ghost use Rattle.std.specs.declared.io.ErrorKind.TheVariants.{OutOfMemory};
 ghost use Rattle.impose_messages.specs.Faults.{without_memory};
@@ -7,7 +7,7 @@ ghost use Rattle.sheet_text.specs.Jobs.{is_border};
 ghost use Rattle.imposer.specs.Outcomes.{AfterError, IsNoRefusal};
 ghost use Rattle.row_runs.specs.Sheets.{MayBeAsked};
 ghost use Rattle.dsc.specs.Serving.{Serve};
-ghost use Rattle.impose_cli.specs.RowRuns.{Imposes};
+ghost use Rattle.impose_cli.specs.RowRuns.{Imposes, lying_by};
 ghost use Rattle.impose_cli.specs.RowTasks.{HasOptions, ImposesTask, MayBeLaidSo};
 ghost use Rattle.impose_cli.specs.Endings.{Comes, RefusesRowJob, RefusesRowTaskRun, RunsRequest, edge_of_world, reported_by, shown};
 ghost use Rattle.impose_cli.specs.Endings.{BreaksOff, Holds, IsNotCreated, IsSaidOf, WritesJob};
@@ -16,16 +16,17 @@ ghost use Rattle.world.specs.declared.rest.Rest.TheVariants as rests;
 
 use crate::attempt::{Attempt, refused_before};
 use crate::laying::row_asked;
+use crate::lying::lying_among;
 use crate::row_task::{RowTask, asked_fault_of, row_task};
 use command_words::name_of;
 use dsc::{Document, Parts};
 use guard::RoomyText;
-use impose_messages::{Done, Findings, Finished, ImposeFault, Scales, SheetFacts};
+use impose_messages::{Done, Findings, Finished, ImposeFault, Lying, Scales, SheetFacts};
 use impose_words::ImposeRequest;
 use imposer::{Job, NoListener, Open, Report, RunError, Sink, Workers, run_plan};
 use preview::Sides;
-use row_runs::{RowJob, SheetRequest, plan_error};
-use sheet_plan::Plan;
+use row_runs::{Laying, RowJob, SheetRequest, plan_error};
+use sheet_plan::{MadeSheets, Plan};
 use std::alloc::Global;
 use std::io::ErrorKind;
 use std::marker::Brand;
@@ -43,6 +44,8 @@ const WORKERS: Workers = Workers {
 const NO_FACTS: SheetFacts = SheetFacts {
     scales: None,
     sides: Sides::One,
+    beside: None,
+    over: None,
 };
 
 /// Imposes a document as a request asks. Faults are found in this order: a fault of the document, a fault of the layout, a fault of the run. The
@@ -129,7 +132,10 @@ fn impose_job<R: Threads + Wait + Sync, W: World>(
     let pages = job.document.pages();
     let (sheets, dress) = match job.lay(alloc) {
         Ok(laid) => laid,
-        Err(error) => return (refused_before(asked_fault_of(error, pages), world), NO_FACTS),
+        Err(error) => return (
+            refused_before(asked_fault_of(error, pages), world),
+            NO_FACTS,
+        ),
     };
     let plan = match Plan::of_sheets(alloc, pages, &sheets) {
         Ok(plan) => plan,
@@ -143,10 +149,23 @@ fn impose_job<R: Threads + Wait + Sync, W: World>(
     let facts = SheetFacts {
         scales,
         sides: job.sides(),
+        beside: lying_if(job, &sheets, count, true),
+        over: lying_if(job, &sheets, count, false),
     };
     let made = Job::made(&plan, job.document, &sheets, job.border, job.inset, &dress);
     let attempt = write_job(rt, alloc, &made, name, world);
     (attempt, facts)
+}
+
+/// The first page that lies beside its sheet or, without `wholly`, partly beyond an edge. `None` unless a specification places the pages.
+fn lying_if(job: &RowJob<'_, '_>, sheets: &MadeSheets, count: u32, wholly: bool) -> Option<Lying>
+    requires { count ≡ length sheets.now }
+    ensures { result ≡ lying_by job.now.asked.laying wholly sheets.now }
+{
+    match &job.asked.laying {
+        Laying::BySpec { .. } => lying_among(sheets, count, wholly),
+        _ => None,
+    }
 }
 
 /// The outcome of a run. If the run finished, the report gets the facts about its sheets, and those that were found before. A fault stays as it is.

@@ -2,7 +2,7 @@
 -- messages of faults only one is here, and nothing of what is said of words that the command doesn't take.
 use Rattle.std.specs.Prelude.{⊤, ◌≡◌, ◌==◌, ◌⊎◌, ◌++◌, if◌then◌else◌, ℕ, List, [], Bool, true, false, Option, Some, None, Result, Ok, Err}
 use Rattle.std.specs.Prelude.{◌+◌, ◌-◌, ◌*◌, ◌/◌, ℤ, pos, int_le, codes, decimal, nat_abs, not, nat_le, nat_lt, ◌&&◌, string_bytes}
-use Rattle.std.specs.Prelude.{String, length, map, min, take}
+use Rattle.std.specs.Prelude.{String, is_some, length, map, min, take}
 use Rattle.std.specs.declared.alloc.Global.{Global}
 use Rattle.std.specs.Ordering.{int_eq}
 use Rattle.std.specs.IoError.{error_kind}
@@ -13,6 +13,7 @@ use Rattle.clap.specs.declared.error.Error.{Error as WordsError}
 use Rattle.rules.specs.Bytes.{line}
 use Rattle.rules.specs.Numbers.{points_text, scale_text}
 use Rattle.rules.specs.Papers.{Paper}
+use Rattle.paper_names.specs.Names.{paper_named}
 use Rattle.layouts.specs.Grids.{cells_per_sheet, is_same}
 use Rattle.layouts.specs.Placed.{Room}
 use Rattle.preview.specs.Listing.{edge_name}
@@ -36,8 +37,12 @@ use Rattle.impose_words.specs.SheetPapers.{sheet_paper_for}
 use Rattle.impose_words.specs.declared.request.Layout.{Layout}
 use Rattle.impose_words.specs.declared.request.Layout.TheVariants as layout
 use Rattle.impose_messages.specs.declared.finished.Dependence.{Dependence}
-use Rattle.impose_messages.specs.declared.finished.Dependence.TheVariants.{Hp2xx, Plplot, Setup, Xcircuit}
+use Rattle.impose_messages.specs.declared.finished.Dependence.TheVariants.{Antiword, Font, Hp2xx, Plplot, Setup, Xcircuit}
+use Rattle.impose_messages.specs.declared.finished.Claims.{Claims}
+use Rattle.impose_messages.specs.declared.finished.Findings.{Findings}
 use Rattle.impose_messages.specs.declared.finished.Finished.{Finished}
+use Rattle.impose_messages.specs.declared.finished.Lying.{Lying}
+use Rattle.impose_messages.specs.declared.finished.SheetFacts.{SheetFacts}
 use Rattle.impose_messages.specs.declared.scales.Scales.{Scales}
 use Rattle.impose_messages.specs.declared.finished.PaperOrigin.{PaperOrigin}
 use Rattle.impose_messages.specs.declared.finished.PaperOrigin.TheVariants as origin
@@ -53,6 +58,7 @@ origin_text (origin.ByComment comment.BoundingBox) = codes "by its %%BoundingBox
 origin_text (origin.ByComment comment.Setup) = codes "by its setup"
 origin_text origin.ByDefault = codes "the usual one here, as the document names none"
 origin_text origin.FirstPage = codes "that of the first page taken, as none has the document's"
+origin_text origin.Covering = codes "which covers pages of nearly one size"
 
 -- both sides of a paper, and how far something reaches, in points
 abbrev pub sides_text : (width height : ℤ) → List ℕ
@@ -147,6 +153,18 @@ abbrev pub unknown_text : (shown : Option (List ℕ)) → Option (List ℕ)
 unknown_text None = None
 unknown_text (Some shown) = Some (unknown_message shown)
 
+-- of a PAPERSIZE whose value is no paper
+abbrev pub home_message : (shown : List ℕ) → List ℕ
+home_message shown = codes "PAPERSIZE names an unknown paper, " ++ shown
+
+-- a value that no paper has as its name; an empty one names none (RULES, 12.1)
+abbrev pub names_unknown : (paper_size : List ℕ) → Bool
+names_unknown paper_size = not (length paper_size == 0) && not (is_some (paper_named paper_size))
+
+-- if it has one
+abbrev pub home_text : (paper_size : List ℕ) → Option (List ℕ)
+home_text paper_size = if names_unknown paper_size then Some (home_message (shown_name paper_size)) else None
+
 abbrev pub some_pages_text : (pages first last : ℕ) → List ℕ
 some_pages_text pages first last = decimal pages ++ (codes " pages from " ++ (decimal first ++ (codes " to " ++ decimal last)))
 
@@ -171,6 +189,16 @@ abbrev pub cut_text : Option Cut → (named : Paper) → Option (List ℕ)
 cut_text None named = None
 cut_text (Some cut) named = Some (cut_message cut named)
 
+-- of pages that are all smaller than the paper that is named for them: the least paper that covers them, and the named one
+abbrev pub loose_message : (cover named : Paper) → List ℕ
+loose_message cover named =
+    codes "--paper is larger than all pages: up to " ++ (paper_size_text cover ++ (codes " on " ++ paper_size_text named))
+
+-- if they are
+abbrev pub loose_text : Option Paper → (named : Paper) → Option (List ℕ)
+loose_text None named = None
+loose_text (Some cover) named = Some (loose_message cover named)
+
 -- how many more pages reach beyond their papers
 abbrev pub others_text : (pages : ℕ) → List ℕ
 others_text pages = if pages == 0 then []
@@ -194,6 +222,15 @@ abbrev pub reach_text : Option Reach → Option (List ℕ)
 reach_text None = None
 reach_text (Some reach) = Some (reach_message reach)
 
+-- of a page that isn't wholly on its sheet: how it lies, and both sizes
+abbrev pub lying_message : (how : List ℕ) → Lying → List ℕ
+lying_message how lying = codes "page " ++ (decimal (lying.page + 1) ++ (how ++ (corners_text lying.edges ++ (codes " on " ++ paper_size_text lying.sheet))))
+
+-- if there is one
+abbrev pub lying_text : (how : List ℕ) → Option Lying → Option (List ℕ)
+lying_text how None = None
+lying_text how (Some lying) = Some (lying_message how lying)
+
 -- of pages that follow the document's trailer
 abbrev pub pages_after_message : (pages : ℕ) → List ℕ
 pages_after_message pages = count_text pages (codes "1 page follows %%Trailer or %%EOF and is not imposed") (codes "")
@@ -203,43 +240,56 @@ pages_after_message pages = count_text pages (codes "1 page follows %%Trailer or
 abbrev pub pages_after_text : (pages : ℕ) → Option (List ℕ)
 pages_after_text pages = if pages == 0 then None else Some (pages_after_message pages)
 
--- pages are missing, or there are more than the document says
-abbrev pub claim_advice : (claimed found : ℕ) → List ℕ
-claim_advice claimed found = if nat_lt found claimed then codes ": is it complete?" else codes ": all are counted"
+-- pages may be missing, unless the document goes on after its last one; or there are more than it says
+abbrev pub claim_advice : (is_ended : Bool) → (claimed found : ℕ) → List ℕ
+claim_advice is_ended claimed found =
+    if nat_le claimed found then codes ": all are counted" else (if is_ended then [] else codes ": is it complete?")
 
 -- of a document that says another number of its pages than were found: both
-abbrev pub claim_message : (claimed found : ℕ) → List ℕ
-claim_message claimed found = codes "the document says "
+abbrev pub claim_message : (is_ended : Bool) → (claimed found : ℕ) → List ℕ
+claim_message is_ended claimed found = codes "the document says "
     ++ (count_text claimed (codes "1 page") (codes "") (codes " pages") ++ (codes ", "
-    ++ (count_text found (codes "1 was found") (codes "") (codes " were found") ++ claim_advice claimed found)))
+    ++ (count_text found (codes "1 was found") (codes "") (codes " were found") ++ claim_advice is_ended claimed found)))
 
 -- if it says one
-abbrev pub claim_text : (claimed : Option ℕ) → (found : ℕ) → Option (List ℕ)
-claim_text None found = None
-claim_text (Some claimed) found = if claimed == found then None else Some (claim_message claimed found)
+abbrev pub claim_text : (is_ended : Bool) → (claimed : Option ℕ) → (found : ℕ) → Option (List ℕ)
+claim_text is_ended None found = None
+claim_text is_ended (Some claimed) found = if claimed == found then None else Some (claim_message is_ended claimed found)
 
 -- of pages that depend on the text before them: why, and what becomes of the sheets
 abbrev pub dependence_effect : Dependence → List ℕ
 dependence_effect Hp2xx = codes "pages by hp2xx undo the setup, so that sheets print nothing"
 dependence_effect Xcircuit = codes "pages by Xcircuit use what earlier pages define, so that sheets may be missing"
 dependence_effect Plplot = codes "pages by PLplot undo the setup's scale, so that sheets are cut"
+dependence_effect Antiword = codes "pages by antiword go on with the font of the page before, so that text may be missing"
 dependence_effect Setup = codes "the setup scales, turns or moves pages, so that sheets may be wrong"
+dependence_effect Font = codes "a page shows text before it sets a font, so that text may be missing"
 
 -- and what to do
 abbrev pub dependence_message : Dependence → List ℕ
 dependence_message dependence = dependence_effect dependence ++ codes ": let Ghostscript draw the document first, by ps2pdf and pdftops"
 
--- one of so many pages depends on the text before it: of those by Xcircuit none but those after the first
+-- one of so many pages depends on the text before it: of those by Xcircuit and antiword none but those after the first
 abbrev pub depends : Dependence → (pages : ℕ) → Bool
 depends Hp2xx pages = true
 depends Xcircuit pages = not (pages == 1)
 depends Plplot pages = true
+depends Antiword pages = not (pages == 1)
 depends Setup pages = true
+depends Font pages = true
 
 -- if one does
 abbrev pub dependence_text : Option Dependence → (pages : ℕ) → Option (List ℕ)
 dependence_text None pages = None
 dependence_text (Some dependence) pages = if depends dependence pages then Some (dependence_message dependence) else None
+
+-- of copies for which the setup asks, and that aren't printed
+abbrev pub copies_message : List ℕ
+copies_message = codes "the setup asks for copies, which sheets don't have: print them with lp -n"
+
+-- if there are some
+abbrev pub copies_text : (loses_copies : Bool) → Option (List ℕ)
+copies_text loses_copies = if loses_copies then Some copies_message else None
 
 -- ---- the message of sheets without room for pages
 
@@ -296,14 +346,28 @@ AddsText Holds before after = (text : List ℕ) × Holds text × (after ≡ befo
 
 -- ---- all of it
 
--- Of a finished run seven lines are said, in this order: the report, then that the document names an unknown paper, that pages are
--- cut, that pages reach beyond their papers, that pages follow the trailer, that not as many were found as the document says, and
--- that pages depend on the text before them
-abbrev pub run_lines : Finished → ImposeRequest → List ℕ
-run_lines finished r = let f = finished.findings in
-    line_of (Some (report_text finished r)) ++ line_of (unknown_text f.claims.unknown)
-    ++ line_of (cut_text f.cut f.page_paper) ++ line_of (reach_text f.reach) ++ line_of (pages_after_text f.after_trailer)
-    ++ line_of (claim_text f.claims.pages finished.report.pages) ++ line_of (dependence_text f.claims.dependence finished.report.pages)
+-- of the papers of pages: that the document names an unknown one, that pages are cut, that the named paper is larger than all, and that
+-- pages reach beyond theirs
+abbrev pub paper_lines : Findings → List ℕ
+paper_lines f = line_of (unknown_text f.claims.unknown) ++ line_of (cut_text f.cut f.page_paper) ++ line_of (loose_text f.loose f.page_paper)
+    ++ line_of (reach_text f.reach)
+
+-- of pages that aren't wholly on their sheets: the first that lies beside its sheet, and the first over an edge
+abbrev pub lying_lines : SheetFacts → List ℕ
+lying_lines sheets = line_of (lying_text (codes " lies beside its sheet: ") sheets.beside) ++ line_of (lying_text (codes " is cut by its sheet: ") sheets.over)
+
+-- of what a document says of itself, of which so many pages were found: that it says another number, that pages depend on the text
+-- before them, and that copies are lost
+abbrev pub claim_lines : Claims → (found : ℕ) → List ℕ
+claim_lines claims found =
+    line_of (claim_text claims.is_ended claims.pages found) ++ line_of (dependence_text claims.dependence found) ++ line_of (copies_text claims.loses_copies)
+
+-- Of a finished run these lines are said: the report, then those on papers, and on pages that aren't wholly on their sheets, that pages
+-- follow the trailer, what the document says of itself, and that PAPERSIZE, which has this value, names an unknown paper
+abbrev pub run_lines : Finished → ImposeRequest → (paper_size : List ℕ) → List ℕ
+run_lines finished r paper_size = let f = finished.findings in
+    line_of (Some (report_text finished r)) ++ paper_lines f ++ lying_lines finished.sheets
+    ++ line_of (pages_after_text f.after_trailer) ++ claim_lines f.claims finished.report.pages ++ line_of (home_text paper_size)
 
 -- after what was said before at most one line comes, with some message
 abbrev pub AddsOne : (before after : List ℕ) → Type 0
@@ -311,12 +375,12 @@ AddsOne before after = AddsText (λ text. MaySay (λ message. ⊤) text) before 
 
 -- A quiet request says nothing. Of another all these lines are said, and then one on the name of the output, if it is named as
 -- something else than PostScript. Without memory for the lines there is nothing.
-abbrev pub SaysUnless : (quiet : Bool) → Finished → ImposeRequest → (text : List ℕ) → Type 0
-SaysUnless true finished r text = text ≡ []
-SaysUnless false finished r text = (text ≡ []) ⊎ AddsOne (run_lines finished r) text
+abbrev pub SaysUnless : (quiet : Bool) → Finished → ImposeRequest → (paper_size text : List ℕ) → Type 0
+SaysUnless true finished r paper_size text = text ≡ []
+SaysUnless false finished r paper_size text = (text ≡ []) ⊎ AddsOne (run_lines finished r paper_size) text
 
-abbrev pub SaysRun : Finished → ImposeRequest → (text : List ℕ) → Type 0
-SaysRun finished r text = SaysUnless r.is_quiet finished r text
+abbrev pub SaysRun : Finished → ImposeRequest → (paper_size text : List ℕ) → Type 0
+SaysRun finished r paper_size text = SaysUnless r.is_quiet finished r paper_size text
 
 -- of words that ask for help or for the version nothing is said
 abbrev pub SaysWords : WordsError → (text : List ℕ) → Type 0
@@ -342,9 +406,9 @@ SaysFault (fault.Command (command.Words error)) text = SaysWords error text
 SaysFault other text = SaysOneUnless (is_broken_pipe other) text
 
 -- what is said of how the program ended; of what was made in place of sheets nothing is
-abbrev pub SaysEnding : Result Done ImposeFault → Option ImposeRequest → (text : List ℕ) → Type 0
-SaysEnding (Ok (done.Imposed finished)) (Some r) text = SaysRun finished r text
-SaysEnding (Ok (done.Imposed finished)) None text = text ≡ []
-SaysEnding (Ok done.Printed) r text = text ≡ []
-SaysEnding (Ok done.Shown) r text = text ≡ []
-SaysEnding (Err f) r text = SaysFault f text
+abbrev pub SaysEnding : Result Done ImposeFault → Option ImposeRequest → (paper_size text : List ℕ) → Type 0
+SaysEnding (Ok (done.Imposed finished)) (Some r) paper_size text = SaysRun finished r paper_size text
+SaysEnding (Ok (done.Imposed finished)) None paper_size text = text ≡ []
+SaysEnding (Ok done.Printed) r paper_size text = text ≡ []
+SaysEnding (Ok done.Shown) r paper_size text = text ≡ []
+SaysEnding (Err f) r paper_size text = SaysFault f text

@@ -3,7 +3,7 @@ use crate::scales::Scales;
 use crate::shown::ShownName;
 use imposer::Report;
 use lengths::Paper;
-use papers::{Comment, Cut, Reach};
+use papers::{Comment, Cut, Edges, Reach};
 use preview::Sides;
 
 /// Where the pages' paper is taken from.
@@ -18,6 +18,8 @@ pub enum PaperOrigin {
     /// No imposed page has nearly the size of the paper found for the whole document. Sheets are therefore made for the paper of the first imposed
     /// page.
     FirstPage,
+    /// It covers the imposed pages that have nearly the size of the paper found, as a selection puts them on sheets of one paper.
+    Covering,
 }
 
 /// Why pages depend on the text before them, so that sheets may be wrong.
@@ -29,8 +31,12 @@ pub enum Dependence {
     Xcircuit,
     /// PLplot scales the first page in its setup, and each page undoes this scale.
     Plplot,
+    /// Pages by antiword go on with the font of the page before.
+    Antiword,
     /// The document's setup scales, turns or moves the pages.
     Setup,
+    /// The first page sets a font before it shows text, and another page doesn't.
+    Font,
 }
 
 /// Facts that a document's comments and its setup state, for the messages about the document.
@@ -38,11 +44,15 @@ pub enum Dependence {
 pub struct Claims {
     /// The number of pages that the document declares, if it declares one.
     pub pages: Option<usize>,
+    /// Whether the document goes on after its last page, with its trailer.
+    pub is_ended: bool,
     /// The name of the document's paper, as messages show it, if no paper of this name is known. `None` if the command line names a paper for the
     /// pages.
     pub unknown: Option<ShownName>,
     /// Why the pages depend on the text before them, if they are known to.
     pub dependence: Option<Dependence>,
+    /// Whether the setup asks for copies, but sheets are printed once.
+    pub loses_copies: bool,
 }
 
 /// Facts that a request finds in a document before sheets are made, for the report.
@@ -54,6 +64,8 @@ pub struct Findings {
     pub origin: PaperOrigin,
     /// The imposed pages that `--paper` cuts. If a specification places the pages, this is `None`, and `reach` includes the cut pages.
     pub cut: Option<Cut>,
+    /// The smallest paper that covers the imposed pages, if `--paper` is larger. It is `None` if a specification places the pages.
+    pub loose: Option<Paper>,
     /// The imposed pages that reach more than one point beyond the papers by which they are placed on sheets. `None` if no page does.
     pub reach: Option<Reach>,
     /// The number of pages after the document's trailer, which aren't imposed.
@@ -64,6 +76,17 @@ pub struct Findings {
     pub claims: Claims,
 }
 
+/// A page that isn't wholly on its sheet.
+#[derive(Clone, Copy)]
+pub struct Lying {
+    /// The page, counted from 0.
+    pub page: u32,
+    /// The edges of the page on its sheet.
+    pub edges: Edges,
+    /// The paper of the sheet.
+    pub sheet: Paper,
+}
+
 /// Facts about the sheets of a run.
 #[derive(Clone, Copy)]
 pub struct SheetFacts {
@@ -71,6 +94,10 @@ pub struct SheetFacts {
     pub scales: Option<Scales>,
     /// The sides on which the sheets are printed.
     pub sides: Sides,
+    /// The first page of which nothing is on its sheet. It is `None` unless a specification places the pages.
+    pub beside: Option<Lying>,
+    /// The first page that is partly on its sheet, and partly beyond an edge by more than a point. It is `None` unless a specification places the pages.
+    pub over: Option<Lying>,
 }
 
 /// A request whose sheets have been written.

@@ -18,7 +18,7 @@ mod shown;
 mod statuses;
 
 pub use fault::{FileKind, ImposeFault};
-pub use finished::{Claims, Dependence, Done, Findings, Finished, PaperOrigin, SheetFacts};
+pub use finished::{Claims, Dependence, Done, Findings, Finished, Lying, PaperOrigin, SheetFacts};
 pub use inputs::refused_document;
 pub use messages::{command_text, fault_text};
 pub use said::{empty_report, text_of_fault, text_said};

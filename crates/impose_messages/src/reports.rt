@@ -1,13 +1,13 @@
 //! The report on a finished run, and its parts.
 ghost use Rattle.std.specs.Prelude.{OnOk, ◌≡◌, ◌+◌, ◌++◌, decimal};
 ghost use Rattle.preview.specs.Listing.{edge_name as name_of_edge};
-ghost use Rattle.impose_messages.specs.Said.{pages_after_message, blank_count as blanks_in, blanks_text, count_text, counts_text, flip_text, leaves_text};
+ghost use Rattle.impose_messages.specs.Said.{pages_after_message, blank_count as blanks_in, blanks_text, copies_message, count_text, counts_text, flip_text, home_message, leaves_text, loose_message, lying_message};
 ghost use Rattle.impose_messages.specs.Said.{corners_text, cut_message, cut_pages_text, cut_size_text, dependence_effect as effect_of, dependence_message, edges_text};
 ghost use Rattle.impose_messages.specs.Said.{origin_text as text_of_origin, others_text, places_per_sheet as places_in, reach_message, report_text};
 ghost use Rattle.impose_messages.specs.Said.{range_text, scales_line};
 ghost use Rattle.impose_messages.specs.Said.{sheet_text, sheets_text, sides_text, page_count_text, paper_size_text, some_pages_text, claim_advice as advice_of_claim, claim_message, unknown_message};
 
-use crate::finished::{Dependence, Finished, PaperOrigin};
+use crate::finished::{Dependence, Finished, Lying, PaperOrigin};
 use crate::scales::Scales;
 use crate::shown::ShownName;
 use impose_words::{ImposeRequest, Layout};
@@ -242,6 +242,14 @@ pub(crate) fn push_unknown(said: &mut Vec<u8>, name: &ShownName) -> Result<(), A
     said.extend_from_slice(name.as_slice())
 }
 
+/// Appends the message that `PAPERSIZE` names an unknown paper.
+pub(crate) fn push_home(said: &mut Vec<u8>, name: &ShownName) -> Result<(), AllocError>
+    ensures { OnOk result (said.new.items ≡ said.old.items ++ home_message name.now) }
+{
+    said.extend_from_slice(b"PAPERSIZE names an unknown paper, ")?;
+    said.extend_from_slice(name.as_slice())
+}
+
 /// Appends the message about the pages that `--paper` cuts: their numbers, their size, and the size of the named paper.
 pub(crate) fn push_cut(said: &mut Vec<u8>, cut: &Cut, named: &Paper) -> Result<(), AllocError>
     ensures { OnOk result (said.new.items ≡ said.old.items ++ cut_message cut.now named.now) }
@@ -250,6 +258,16 @@ pub(crate) fn push_cut(said: &mut Vec<u8>, cut: &Cut, named: &Paper) -> Result<(
     push_cut_pages(said, cut)?;
     said.extend_from_slice(b": ")?;
     push_cut_size(said, cut)?;
+    said.extend_from_slice(b" on ")?;
+    push_size(said, named)
+}
+
+/// Appends the message that `--paper` is larger than all pages: `cover` is the smallest paper that covers them.
+pub(crate) fn push_loose(said: &mut Vec<u8>, cover: &Paper, named: &Paper) -> Result<(), AllocError>
+    ensures { OnOk result (said.new.items ≡ said.old.items ++ loose_message cover.now named.now) }
+{
+    said.extend_from_slice(b"--paper is larger than all pages: up to ")?;
+    push_size(said, cover)?;
     said.extend_from_slice(b" on ")?;
     push_size(said, named)
 }
@@ -358,6 +376,18 @@ fn push_others(said: &mut Vec<u8>, pages: usize) -> Result<(), AllocError>
     )
 }
 
+/// Appends the message about a page that isn't wholly on its sheet: `how` it lies, its edges, and the size of the sheet.
+pub(crate) fn push_lying(said: &mut Vec<u8>, how: &[u8], lying: &Lying) -> Result<(), AllocError>
+    ensures { OnOk result (said.new.items ≡ said.old.items ++ lying_message how.now lying.now) }
+{
+    said.extend_from_slice(b"page ")?;
+    push_number(said, u128::from(lying.page) + 1)?;
+    said.extend_from_slice(how)?;
+    push_corners(said, &lying.edges)?;
+    said.extend_from_slice(b" on ")?;
+    push_size(said, &lying.sheet)
+}
+
 /// Appends the message about the pages after the document's trailer, which aren't imposed.
 pub(crate) fn push_pages_after(said: &mut Vec<u8>, pages: usize) -> Result<(), AllocError>
     ensures { OnOk result (said.new.items ≡ said.old.items ++ pages_after_message pages) }
@@ -371,26 +401,33 @@ pub(crate) fn push_pages_after(said: &mut Vec<u8>, pages: usize) -> Result<(), A
     )
 }
 
-/// Appends the message that the document declares one number of pages and has another.
-pub(crate) fn push_claim(said: &mut Vec<u8>, claimed: usize, found: usize) -> Result<(), AllocError>
-    ensures { OnOk result (said.new.items ≡ said.old.items ++ claim_message claimed found) }
+/// Appends the message that the document declares one number of pages and has another. `is_ended` says whether it goes on after its last page.
+pub(crate) fn push_claim(
+    said: &mut Vec<u8>,
+    is_ended: bool,
+    claimed: usize,
+    found: usize,
+) -> Result<(), AllocError>
+    ensures { OnOk result (said.new.items ≡ said.old.items ++ claim_message is_ended claimed found) }
 {
     said.extend_from_slice(b"the document says ")?;
     push_counted(said, claimed as u128, b"1 page", b"", b" pages")?;
     said.extend_from_slice(b", ")?;
     push_counted(said, found as u128, b"1 was found", b"", b" were found")?;
-    said.extend_from_slice(claim_advice(claimed, found))
+    said.extend_from_slice(claim_advice(is_ended, claimed, found))
 }
 
-/// The end of the message about the declared number of pages. If fewer pages were found, it asks whether the document is complete. Otherwise it says
-/// that all pages are counted.
-fn claim_advice(claimed: usize, found: usize) -> &'static [u8]
-    ensures { result.now ≡ advice_of_claim claimed found }
+/// The end of the message about the declared number of pages. If fewer pages were found, and the document ends with them, it asks whether the document
+/// is complete. If more were found, it says that all pages are counted.
+fn claim_advice(is_ended: bool, claimed: usize, found: usize) -> &'static [u8]
+    ensures { result.now ≡ advice_of_claim is_ended claimed found }
 {
-    if found < claimed {
-        b": is it complete?"
-    } else {
+    if claimed <= found {
         b": all are counted"
+    } else if is_ended {
+        b""
+    } else {
+        b": is it complete?"
     }
 }
 
@@ -412,8 +449,21 @@ fn dependence_effect(dependence: Dependence) -> &'static [u8]
             b"pages by Xcircuit use what earlier pages define, so that sheets may be missing"
         }
         Dependence::Plplot => { b"pages by PLplot undo the setup's scale, so that sheets are cut" }
+        Dependence::Antiword => {
+            b"pages by antiword go on with the font of the page before, so that text may be missing"
+        }
         Dependence::Setup => b"the setup scales, turns or moves pages, so that sheets may be wrong",
+        Dependence::Font => b"a page shows text before it sets a font, so that text may be missing",
     }
+}
+
+/// Appends the message that copies for which the setup asks aren't printed.
+pub(crate) fn push_copies(said: &mut Vec<u8>) -> Result<(), AllocError>
+    ensures { OnOk result (said.new.items ≡ said.old.items ++ copies_message) }
+{
+    said.extend_from_slice(
+        b"the setup asks for copies, which sheets don't have: print them with lp -n",
+    )
 }
 
 /// Where the pages' paper is taken from, in words.
@@ -428,6 +478,7 @@ fn origin_text(origin: PaperOrigin) -> &'static [u8]
         PaperOrigin::ByComment(Comment::Setup) => b"by its setup",
         PaperOrigin::ByDefault => b"the usual one here, as the document names none",
         PaperOrigin::FirstPage => b"that of the first page taken, as none has the document's",
+        PaperOrigin::Covering => b"which covers pages of nearly one size",
     }
 }
 

@@ -28,20 +28,21 @@ pub fn empty_report(alloc: Global) -> Result<Vec<u8>, AllocError>
 /// If there is a fault, it is the message about the fault, unless the reader of the output has closed the output. Otherwise the text is empty; help
 /// and version go to standard output.
 ///
-/// `report` is an `empty_report`. A message for which memory is refused is left out.
+/// `report` is an `empty_report`, and `paper_size` the value of `PAPERSIZE`. A message for which memory is refused is left out.
 pub fn text_said(
     alloc: Global,
     report: Vec<u8>,
     outcome: &Result<Done, ImposeFault>,
     request: Option<&ImposeRequest>,
+    paper_size: &[u8],
     words: &[String],
 ) -> Vec<u8>
     requires empty { report.items ≡ [] }
-    ensures { SaysEnding outcome.now (option_map (λ r. r.now) request.entry) result.items }
+    ensures { SaysEnding outcome.now (option_map (λ r. r.now) request.entry) paper_size.now result.items }
 {
     match outcome {
         Ok(Done::Imposed(done)) => match request {
-            Some(request) => text_of_run(alloc, report, done, request),
+            Some(request) => text_of_run(alloc, report, done, request, paper_size),
             None => report,
         },
         Ok(Done::Printed) | Ok(Done::Shown) => report,
@@ -50,15 +51,21 @@ pub fn text_said(
 }
 
 /// The report on a finished run, with all its lines. It is empty if the request is quiet, or if memory is refused.
-fn text_of_run(alloc: Global, report: Vec<u8>, done: &Finished, request: &ImposeRequest) -> Vec<u8>
+fn text_of_run(
+    alloc: Global,
+    report: Vec<u8>,
+    done: &Finished,
+    request: &ImposeRequest,
+    paper_size: &[u8],
+) -> Vec<u8>
     requires empty { report.items ≡ [] }
-    ensures { SaysRun done.now request.now result.items }
+    ensures { SaysRun done.now request.now paper_size.now result.items }
 {
     let mut said = report;
     if request.is_quiet {
         return said;
     }
-    if push_lines(&mut said, done, request).is_err() {
+    if push_lines(&mut said, done, request, paper_size).is_err() {
         return Vec::new(alloc);
     }
     add_note(alloc, &mut said, name_of(&request.outfile).unwrap_or(""));

@@ -109,6 +109,7 @@ fn said_of<'w, R: Threads + Wait + Sync>(
         report,
         &ended.outcome,
         ended.request.as_ref(),
+        paper_size.as_bytes(),
         words.as_slice(),
     );
     // A list of sheets has no report. The message about a fault is missing only if memory runs out for it.

@@ -16,7 +16,7 @@ returns-clause-turns c = has_turns c.args.request.now c.args.input.now _ _ c.in-
 pub returns-clause-findings : goal.returns-clause-findings
 returns-clause-findings c =
     let found = c.in_ok-found.ensures in
-    finds_for_row c.args.request.now c.args.input.now _ _ c.in-Ok.ensures.answer found.paper found.cut found.reach found.after_trailer found.taken found.claims
+    finds_for_row c.args.request.now c.args.input.now _ _ c.in-Ok.ensures.answer found.paper found.cut found.loose found.reach found.after_trailer found.taken found.claims
 
 pub returns-clause-parts : goal.returns-clause-parts
 returns-clause-parts c = are_parts c.args.input.now _ _ c.in-Ok.ensures.answer c.into_parts.ensures.parts

@@ -1,4 +1,4 @@
-use Rattle.std.proofs.Common.{◌≡◌, ◌∙◌, None, Ok, ap, ap₂, length, option_map, subst}
+use Rattle.std.proofs.Common.{◌≡◌, ◌∙◌, Ok, ap, ap₂, length, option_map, subst}
 use Rattle.std.proofs.lemmas.List.{length-map}
 use Rattle.rules.specs.MadePlans.{made_plan_of}
 use Rattle.rules.specs.Sheets.{Plan}
@@ -53,4 +53,6 @@ returns g c =
       report = told;
       scaled = c.of-scales.ensures;
       sides = c.sides.ensures;
+      beside = c.lying_if.ensures;
+      over = c.lying_if-2.ensures;
     }) c.write_job-attempt.ensures

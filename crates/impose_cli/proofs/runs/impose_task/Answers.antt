@@ -1,4 +1,4 @@
-use Rattle.std.proofs.Common.{None, ap, inl, option_map, rules}
+use Rattle.std.proofs.Common.{ap, inl, option_map, rules}
 use Rattle.impose_messages.specs.declared.fault.ImposeFault.TheVariants as fault
 use Rattle.impose_cli.specs.Endings.{edge_of_world, RefusesRowTaskRun, shown}
 use Rattle.impose_cli.specs.Refusals.{IsDocumentRefused}

@@ -10,7 +10,7 @@ returns c =
     on_ok_weaker c.extend_from_slice-3.result
     (λ last.
     five c.args.said.now.items (codes "the document says ") (count_text c.args.claimed (codes "1 page") (codes "") (codes " pages")) (codes ", ")
-    (count_text c.args.found (codes "1 was found") (codes "") (codes " were found")) (claim_advice c.args.claimed c.args.found) _ _ _ _ _
+    (count_text c.args.found (codes "1 was found") (codes "") (codes " were found")) (claim_advice c.args.is_ended c.args.claimed c.args.found) _ _ _ _ _
     c.in_ok-extend_from_slice.ensures.items c.in_ok-push_counted.ensures c.in_ok-extend_from_slice-2.ensures.items c.in_ok-push_counted-2.ensures
     (last ∙ ap (λ (x : List ℕ). c.push_counted-2.new.said.items ++ x) c.claim_advice.ensures))
     (if_ok c.extend_from_slice-3.result _ _ _ c.extend_from_slice-3.ensures.items)

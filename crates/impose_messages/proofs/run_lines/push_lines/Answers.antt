@@ -1,7 +1,7 @@
 use Rattle.std.proofs.Common.{◌++◌, List, ℕ, Some}
 use Rattle.std.proofs.lemmas.Result.{on_ok_weaker}
 use Rattle.impose_messages.proofs.Pieces.{two}
-use Rattle.impose_messages.specs.Said.{claim_text, cut_text, dependence_text, line_of, pages_after_text, reach_text, report_text, unknown_text}
+use Rattle.impose_messages.specs.Said.{claim_lines, home_text, line_of, lying_lines, pages_after_text, paper_lines, report_text}
 use Rattle.impose_messages.proofs.run_lines.push_lines.Goals as goal
 
 pub returns : goal.returns
@@ -10,21 +10,18 @@ returns c =
     let done = c.args.done.now in
     let found = done.findings in
     let a : List ℕ = line_of (Some (report_text done c.args.request.now)) in
-    let b : List ℕ = a ++ line_of (unknown_text found.claims.unknown) in
-    let d : List ℕ = b ++ line_of (cut_text found.cut found.page_paper) in
-    let e : List ℕ = d ++ line_of (reach_text found.reach) in
-    let f : List ℕ = e ++ line_of (pages_after_text found.after_trailer) in
-    let g : List ℕ = f ++ line_of (claim_text found.claims.pages done.report.pages) in
-    on_ok_weaker c.push_dependence_line.result
-    (λ last. two old g (line_of (dependence_text found.claims.dependence done.report.pages)) _ _
-    (two old f (line_of (claim_text found.claims.pages done.report.pages)) _ _
-    (two old e (line_of (pages_after_text found.after_trailer)) _ _
-    (two old d (line_of (reach_text found.reach)) _ _
-    (two old b (line_of (cut_text found.cut found.page_paper)) _ _
-    (two old a (line_of (unknown_text found.claims.unknown)) _ _ c.in_ok-push_report_line.ensures c.in_ok-push_unknown_line.ensures)
-    c.in_ok-push_cut_line.ensures)
-    c.in_ok-push_reach_line.ensures)
+    let b : List ℕ = a ++ paper_lines found in
+    let d : List ℕ = b ++ lying_lines done.sheets in
+    let e : List ℕ = d ++ line_of (pages_after_text found.after_trailer) in
+    let f : List ℕ = e ++ claim_lines found.claims done.report.pages in
+    on_ok_weaker c.push_home_line.result
+    (λ last. two old f (line_of (home_text c.args.paper_size.now)) _ _
+    (two old e (claim_lines found.claims done.report.pages) _ _
+    (two old d (line_of (pages_after_text found.after_trailer)) _ _
+    (two old b (lying_lines done.sheets) _ _
+    (two old a (paper_lines found) _ _ c.in_ok-push_report_line.ensures c.in_ok-push_paper_lines.ensures)
+    c.in_ok-push_lying_lines.ensures)
     c.in_ok-push_pages_after_line.ensures)
-    c.in_ok-push_claim_line.ensures)
+    c.in_ok-push_claim_lines.ensures)
     last)
-    c.push_dependence_line.ensures
+    c.push_home_line.ensures
