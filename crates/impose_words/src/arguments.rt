@@ -24,7 +24,9 @@ Examples:
   impose poster 2x2 in.ps out.ps      each page over four sheets, to be glued together
   impose select 9-3,12- in.ps out.ps  pages 9 down to 3, then 12 to the last
   impose booklet --pages 3-14 in.ps out.ps
-  impose-pdf booklet in.pdf out.pdf   a booklet of a PDF";
+  impose-pdf booklet in.pdf out.pdf   a booklet of a PDF
+
+The options of a command: impose booklet --help. Page ranges, lengths, reports: man impose";
 
 /// An argument of a subcommand. Its texts are its name, the name of its value in the help, and its help. An option without a value lacks the second
 /// text. The name of an option is the text after `--`. The letter of a short form comes before these texts.
