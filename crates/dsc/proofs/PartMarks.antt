@@ -152,13 +152,6 @@ pub scanned : (most : ℕ) (text : List ℕ) (m : Marks) → scan_on most [] Non
     → (cut text ≡ Ok (or_none (cut text))) × (m.starts ≡ take most (starts_of (units_of text))) × (m.stop ≡ pages_end (units_of text))
 scanned most text m h = scanned-as most text m (cut text) h
 
-fault-as : (most : ℕ) (r : Result (List TextUnit) FaultyBlock) (e : FaultyBlock) → of_units (λ ps. marks_on most [] None 0 (nested_from 0 ps)) r ≡ Err e → r ≡ Err e
-fault-as most (Err d) e h = cc
-fault-as most (Ok ps) e h = cc
-
-pub fault_found : (most : ℕ) (text : List ℕ) (e : FaultyBlock) → scan_on most [] None 0 0 text ≡ Err e → cut text ≡ Err e
-fault_found most text e h = fault-as most (cut text) e h
-
 pub as-many : (at : ℕ) (us : List NestedUnit) → length (page_starts at us) ≡ length (split_pages us)
 as-many at [] = refl
 as-many at (u ∷ us) = by_test (begins_page u)

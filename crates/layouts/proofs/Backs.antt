@@ -1,17 +1,16 @@
 -- Pages on sheets that are turned by half.
 use Rattle.std.proofs.Common.{arith, ◌≡◌, inl, inr, ℕ, ◌+◌, Bool, true, false}
-use Rattle.std.specs.Prelude.{ℤ, pos, neg_ℤ, ◌≤ℤ◌, ◌+ℤ◌, ◌*ℤ◌, ◌-ℤ◌, nat_abs, if◌then◌else◌}
+use Rattle.std.specs.Prelude.{ℤ, pos, ◌≤ℤ◌, ◌+ℤ◌, ◌*ℤ◌, ◌-ℤ◌, nat_abs, if◌then◌else◌}
 use Rattle.std.proofs.lemmas.Int.{ints}
 use Rattle.rules.specs.Papers.{Paper}
 use Rattle.rules.specs.Specification.{Item, Upright, Left}
 use Rattle.rules.specs.Placement.{Point}
-use Rattle.layouts.specs.declared.arrangement.Order.{Order}
 use Rattle.layouts.specs.declared.arrangement.Turned.TheVariants as sideways
-use Rattle.layouts.specs.Placed.{IsEven, Room, stands, fine, IsLeftOf, AreApart}
+use Rattle.layouts.specs.Placed.{IsEven, Room, stands, fine, AreApart}
 use Rattle.layouts.specs.Cells.{half_turned, item_in_cell, back_in, to_right, to_top, whole_parts, row_of, column_of}
 use Rattle.layouts.specs.Grids.{beside}
 use Rattle.layouts.specs.Laws.{BackIsInside, BackIsHalfTurn, IsHalfTurnOf}
-use Rattle.layouts.proofs.Sides.{abs_neg, placed, LiesIn}
+use Rattle.layouts.proofs.Sides.{placed, LiesIn}
 use Rattle.layouts.proofs.InGrid.{in_whole, on_sheet}
 use Rattle.layouts.proofs.InOrder.{place_fits}
 
@@ -52,19 +51,6 @@ back_inside page room g o s n k is on even place within p of =
     on_sheet room back on
     (turned_back room front.x front.y back.x back.y even
     (in_whole page room g s k (row_of o g k) (column_of o g k) is place fit.0 fit.1 p of) (half.across p) (half.up p))
-
--- and as one holds it, the one back is left of the other if its front is
-
-same_order : (a b c d H : ℤ) (e : ℕ) → (a +ℤ fine e) ≤ℤ b → c ≡ H -ℤ a → d ≡ H -ℤ b → (neg_ℤ c +ℤ fine (nat_abs (neg_ℤ (pos e)))) ≤ℤ neg_ℤ d
-same_order a b c d H e h is is' = rw (abs_neg (pos e)) (omega (arith, ints, h, is, is'))
-
-pub back_left : (page : Paper) (room : Room) (o : Order) (s n k l : ℕ)
-    → IsLeftOf room sideways.Upright page (item_in_cell page room (beside true) o s k) page (item_in_cell page room (beside true) o s l)
-    → IsLeftOf room sideways.Upright page (back_in page room (beside true) o s n k) page (back_in page room (beside true) o s n l)
-back_left page room o s n k l h p q of of' =
-    let one = back_is_half_turn page room (beside true) o s n k in
-    let other = back_is_half_turn page room (beside true) o s n l in
-    same_order _ _ _ _ (pos 1_270_000_000_000_000 *ℤ pos (whole_parts (nat_abs room.paper.height))) room.gutter_up (h p q of of') (one.up p) (other.up q)
 
 -- two pages that are apart still are if the sheet is turned
 

@@ -1,6 +1,5 @@
 -- The head of a page, a line at a time.
-use Rattle.std.specs.Prelude.{if◌then◌else◌, codes, nat_eq}
-use Rattle.std.specs.List.{starts_with}
+use Rattle.std.specs.Prelude.{if◌then◌else◌}
 use Rattle.std.proofs.Common.{Bool, true, false, ◌≡◌, ℕ, zero, suc, ◌<◌, ◌≤◌, List, [], ◌∷◌, Option, Some, None, length, length-drop, drop, refl, sym, ap, arith, ◌∙◌}
 use Rattle.std.proofs.lemmas.Bool.{true≢false}
 use Rattle.rules.specs.Units.{content_of, is_comment, line_len}
@@ -43,10 +42,6 @@ head_ends name [] l ends = absurd (omega (arith, l))
 head_ends name (b ∷ bs) l ends =
     let rest = head (drop (line_len (b ∷ bs)) (b ∷ bs)) in
     ap (comment_value name) (head_step b bs ∙ ap (with_content (content_of (b ∷ bs)) rest) ends)
-
-pub begins : (text : List ℕ) → starts_with nat_eq text (codes "%") ≡ true → 0 < length text
-begins [] is = absurd (true≢false (sym is))
-begins (b ∷ bs) is = omega arith
 
 -- more lines than the text has bytes are never there
 enough : (k m : ℕ) (text : List ℕ) → length text ≤ k → length text ≤ m → head_of k text ≡ head_of m text

@@ -48,10 +48,6 @@ pub on_ok : {A E P Q : Type 0} (r : Result A E) → (P → Q) → OnOk r P → O
 on_ok (Ok v) h p = h p
 on_ok (Err e) h p = p
 
-still : (b : Bool) (f : Option (Option (Option Paper))) → f ≡ Some None → cond b (Some None) f ≡ Some None
-still true f is = refl
-still false f is = is
-
 told_in : (page text : List ℕ) → text ≡ drop (line_len page) page → medium_of_page (head text) ≡ medium_of_page (page_head page)
 told_in page text at = ap medium_of_page (sym (page_head_is page ∙ ap head (sym at)))
 

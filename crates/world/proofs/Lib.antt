@@ -1,5 +1,4 @@
 pub mod Reading
 pub mod Naming
 pub mod Examples
-pub mod Asking
 pub mod Lates

@@ -1,11 +1,11 @@
 -- Outputs that report a name and the bytes after it.
-use Rattle.std.proofs.Common.{◌≡◌, ◌∙◌, ℕ, ◌+◌, ◌-◌, ◌++◌, ◌==◌, ◌≤◌, min, List, [], ◌∷◌, Bool, true, false, Option, Some, None, Result, Ok, Err, ap, append-nil, append_assoc, arith, length, map, refl, subst, sym, take}
+use Rattle.std.proofs.Common.{◌≡◌, ◌∙◌, ℕ, ◌+◌, ◌-◌, ◌++◌, ◌==◌, ◌≤◌, min, List, [], ◌∷◌, Bool, true, false, Option, Some, None, Result, Ok, Err, ap, append-nil, append_assoc, arith, length, map, refl, sym, take}
 use Rattle.std.specs.Prelude.{if◌then◌else◌, is_some}
 use Rattle.std.specs.Io.KnownBytes.{Appends, Keeps, WriteAppends, append_known}
 use Rattle.std.proofs.lemmas.Bool.{false≢true, ne_eqb}
 use Rattle.std.proofs.lemmas.List.{length-append, length-take, take-take}
 use Rattle.std.proofs.Math.Seq.{take-append-add, take-append_seam}
-use Rattle.world.specs.Outputs.{IsFrontOf, reported_bytes, named, spelled, reported_if}
+use Rattle.world.specs.Outputs.{reported_bytes, named, spelled, reported_if}
 
 some_same : (xs ys : List ℕ) → Some xs ≡ Some ys → xs ≡ ys
 some_same xs ys e = cc
@@ -95,20 +95,6 @@ unnamed_kept (Some all) (Some xs) h = back_if (is_some (reported_bytes xs)) all 
 fits : (start part xs rest all : List ℕ) (n : ℕ) → length xs ≡ length start + n → all ≡ start ++ part → all ≡ xs ++ rest → xs ≡ start ++ take n part
 fits start part xs rest all n long began split =
     sym (take-append_seam xs rest) ∙ ap (take (length xs)) (sym split ∙ began) ∙ ap (λ k. take k (start ++ part)) long ∙ take-append-add start part n
-
--- an output from which some bytes are held back has a front of all
-pub front_kept : (all told out : Option (List ℕ)) (waiting : List ℕ) → Keeps all told → told ≡ append_known out waiting → IsFrontOf out all
-front_kept None told out waiting kept is = tt
-front_kept (Some all) told None waiting kept is = let none : Keeps (Some all) None = subst (Keeps (Some all)) is kept in absurd none
-front_kept (Some all) told (Some xs) waiting kept is =
-    let same : xs ++ waiting ≡ all = subst (Keeps (Some all)) is kept in (xs, waiting, refl, sym same)
-
--- and all of it, if none are
-pub whole_kept : (all told out : Option (List ℕ)) (waiting : List ℕ) → Keeps all told → told ≡ append_known out waiting → waiting ≡ [] → Keeps all out
-whole_kept None told out waiting kept is none = tt
-whole_kept (Some all) told None waiting kept is none = let bad : Keeps (Some all) None = subst (Keeps (Some all)) is kept in absurd bad
-whole_kept (Some all) told (Some xs) waiting kept is none =
-    let same : xs ++ waiting ≡ all = subst (Keeps (Some all)) is kept in sym (append-nil xs) ∙ ap (λ l. xs ++ l) (sym none) ∙ same
 
 split_if : (b : Bool) (xs all waiting : List ℕ) → Some all ≡ append_known (if b then Some xs else None) waiting → (b ≡ true) × (all ≡ xs ++ waiting)
 split_if true xs all waiting e = (refl, some_same all (xs ++ waiting) e)
