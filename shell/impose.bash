@@ -24,10 +24,12 @@ _impose_options_of() {
         poster) echo "--scale --overlap --margin --marks $row $looks $sheet $all" ;;
         select) echo "$numbers $parts $looks $all" ;;
         spec) echo "--signature --print-spec $row $shown $sheet $all" ;;
+        unbooklet) echo "--signature --rtl --scale --overlap --margin --marks --turn $row $sheet $all" ;;
     esac
 }
 
-# The options that impose-pdf has besides.
+# The command and the options that impose-pdf has besides.
+_impose_commands_of_pdfs='unbooklet'
 _impose_options_of_pdfs='--bleed --box --crop --each --each-right --over --password --stamp --suffix --text --under'
 
 # The values of an option, if some can be offered; its status is 1 for one that takes none.
@@ -40,9 +42,9 @@ _impose_values_of() {
         --skip) echo '1 2 3 4' ;;
         --order) echo 'right-down down-right left-down down-left' ;;
         --turned) echo 'left right' ;;
-        --turn) echo 'left right half wide' ;;
+        --turn) echo "left right half wide${of_pdfs:+ left= right= half=}" ;;
         --scale) echo '0.5 0.7 1' ;;
-        --marks) echo 'fold cut fold,cut' ;;
+        --marks) echo "fold cut fold,cut${of_pdfs:+ registration bars slug fold,cut,registration,bars,slug}" ;;
         --numbers) echo '8pt 10pt 12pt' ;;
         --numbers-from) echo '1 2 3' ;;
         --creep) echo '.5mm 1mm 2mm' ;;
@@ -67,27 +69,30 @@ _impose_files() {
 }
 
 _impose() {
-    local of_pdfs=''
+    local of_pdfs='' commands=$_impose_commands
     local cur=${COMP_WORDS[COMP_CWORD]} before=${COMP_WORDS[COMP_CWORD - 1]} command='' is_behind='' number=0 at word values
     local patterns=('*.[pP][sS]' '*.[eE][pP][sS]')
     if [ "${1##*/}" = impose-pdf ]; then
-        of_pdfs=$_impose_options_of_pdfs
+        of_pdfs=$_impose_options_of_pdfs commands+=" $_impose_commands_of_pdfs"
         patterns=('*.[pP][dD][fF]' '*.[jJ][pP][gG]' '*.[jJ][pP][eE][gG]' '*.[pP][nN][gG]')
     fi
     COMPREPLY=()
     # A specification with a colon comes as several words.
     [ "$before" != : ] && [ "$cur" != : ] || return 0
-    # `--paper=a4` comes as three words.
-    if [ "$cur" = = ]; then cur='' before=${COMP_WORDS[COMP_CWORD - 1]}
+    # `--paper=a4` comes as three words, as does `left=5`, after which nothing can be offered.
+    if [ "$cur" = = ]; then cur=''
     elif [ "$before" = = ] && [ "$COMP_CWORD" -gt 2 ]; then before=${COMP_WORDS[COMP_CWORD - 2]}
     fi
+    [ "${COMP_WORDS[COMP_CWORD]}" != = ] && [ "${COMP_WORDS[COMP_CWORD - 1]}" != = ] || [ "${before:0:1}" = - ] || return 0
     # The command, how many words are its own, and whether two dashes stand before the one that is typed.
     for ((at = 1; at < COMP_CWORD; at++)); do
         word=${COMP_WORDS[at]}
-        if [ "$word" = = ]; then at=$((at + 1))
+        if [ "$word" = = ] || [ "$word" = : ]; then at=$((at + 1))
         elif [ -z "$is_behind" ] && [ "$word" = -- ]; then is_behind=yes
         elif [ -z "$is_behind" ] && [ "${word:0:1}" = - ] && [ "$word" != - ]; then
-            ! _impose_values_of "$word" >/dev/null || [ "${COMP_WORDS[at + 1]}" = = ] || at=$((at + 1))
+            if [ "$word" = --crop ]; then [[ ! ${COMP_WORDS[at + 1]} =~ ^(same|[0-9.]) ]] || at=$((at + 1))
+            elif _impose_values_of "$word" >/dev/null; then [ "${COMP_WORDS[at + 1]}" = = ] || at=$((at + 1))
+            fi
         elif [ -z "$command" ]; then command=$word
         else number=$((number + 1))
         fi
@@ -102,17 +107,20 @@ _impose() {
     elif [ -z "$is_behind" ] && [ "$before" = --password ]; then
         compopt -o filenames 2>/dev/null
         COMPREPLY=($(compgen -f -- "$cur"))
+    elif [ -z "$is_behind" ] && [ "$before" = --crop ] && COMPREPLY=($(compgen -W 'same same,5mm 5mm' -- "$cur")); then
+        : # a margin, which may be left out
     elif [ -z "$is_behind" ] && values=$(_impose_values_of "$before"); then
         # The name of a paper goes on after a hyphen.
         [ "$values" != "$_impose_papers" ] || [ "${cur%%-*}" = "$cur" ] || values=${values// /-landscape }-landscape
         COMPREPLY=($(compgen -W "$values" -- "$cur"))
+        [[ ${COMPREPLY[0]-} != *[:=] ]] || compopt -o nospace 2>/dev/null
     elif [ -z "$is_behind" ] && [ "${cur:0:1}" = - ]; then
         COMPREPLY=($(compgen -W "$(_impose_options_of "$command") ${command:+$of_pdfs}" -- "$cur"))
     elif [ -z "$command" ]; then
-        COMPREPLY=($(compgen -W "$_impose_commands" -- "$cur"))
+        COMPREPLY=($(compgen -W "$commands" -- "$cur"))
     else
         case "$command:$number" in
-            help:0) COMPREPLY=($(compgen -W "$_impose_commands" -- "$cur")) ;;
+            help:0) COMPREPLY=($(compgen -W "$commands" -- "$cur")) ;;
             help:*) ;;
             nup:0 | cards:0 | stack:0) COMPREPLY=($(compgen -W '1 2 4 6 8 9 16 2x4' -- "$cur")) ;;
             notes:0) COMPREPLY=($(compgen -W '1 2 3 4' -- "$cur")) ;;

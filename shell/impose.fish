@@ -34,6 +34,11 @@ function __impose_at
     end
 end
 
+# Whether what was typed last takes a word that may also be left out.
+function __impose_after
+    test (commandline -opc)[-1] = $argv[1]
+end
+
 # Whether a file comes next.
 function __impose_at_file
     set -l words (__impose_words)
@@ -73,8 +78,9 @@ set -l laid nup booklet cards stack
 set -l numbered $laid notes select
 set -l looked $laid zine notes poster select
 set -l rows $laid zine notes poster spec
-set -l sheeted $rows
-set -l every $sheeted select
+set -l sheeted $rows unbooklet
+set -l shown $rows select
+set -l every $shown unbooklet
 set -l lengths 2mm 5mm 1cm
 
 # NAME|COMMANDS|VALUES|DESCRIPTION of each option with a value. COMMANDS are commands, and names of the lists above.
@@ -82,21 +88,21 @@ set -l valued \
     "paper|every|(__impose_paper)|the paper of the pages" \
     "border|every|.5pt 1pt .5mm|a border round each page" \
     "sheet|sheeted|(__impose_paper)|the paper of the sheets" \
-    "preview|every|(__impose_files svg)|draw the sheets, and impose nothing" \
-    "turn|looked|left right half wide|turn pages before they are placed" \
-    "pages|rows||these pages, such as 3-9,12" \
+    "preview|shown|(__impose_files svg)|draw the sheets, and impose nothing" \
+    "turn|looked unbooklet|left right half wide|turn pages before they are placed" \
+    "pages|sheeted||these pages, such as 3-9,12" \
     "numbers|numbered|8pt 10pt 12pt|the number of each page at its foot" \
     "numbers-from|numbered|1 2 3|the number of the first page" \
-    "margin|laid zine notes poster|$lengths|room along each edge of a sheet" \
+    "margin|laid zine notes poster unbooklet|$lengths|room along each edge of a sheet" \
     "gap|laid zine notes|$lengths|room between pages" \
     "trim|laid notes|$lengths|less of each page along its sides" \
-    "marks|laid poster|fold cut fold,cut|short lines where sheets are folded or cut" \
-    "scale|laid poster|0.5 0.7 1|the scale of the pages" \
+    "marks|laid poster unbooklet|fold cut fold,cut|short lines where sheets are folded or cut" \
+    "scale|laid poster unbooklet|0.5 0.7 1|the scale of the pages" \
     "skip|nup cards|1 2 3 4|leave cells of the first sheet empty that are used already" \
     "order|nup cards stack|right-down down-right left-down down-left|the order of the cells" \
     "turned|nup cards stack|left right|for pages whose text lies on its side" \
-    "overlap|poster|5mm 1cm 2cm|this length of the page on both of two sheets" \
-    "signature|booklet spec|auto 4 8 12 16 20 24 28 32|fold the leaves in signatures of this number of sides" \
+    "overlap|poster unbooklet|5mm 1cm 2cm|this length of the page on both of two sheets" \
+    "signature|booklet spec unbooklet|auto 4 8 12 16 20 24 28 32|fold the leaves in signatures of this number of sides" \
     "creep|booklet|.5mm 1mm 2mm|move pages of the innermost leaf towards the fold"
 # Those of impose-pdf alone.
 set -l of_pdfs \
@@ -118,8 +124,8 @@ set -l plain \
     "odd|every|of the chosen pages the first, the third and so on" \
     "even|every|of the chosen pages the second, the fourth and so on" \
     "reverse|every|the chosen pages in reverse order" \
-    "plan|every|print which page is where, and impose nothing" \
-    "rtl|laid zine|from right to left" \
+    "plan|shown|print which page is where, and impose nothing" \
+    "rtl|laid zine unbooklet|from right to left" \
     "same-scale|laid zine notes|all pages in the scale of the largest paper" \
     "long-edge|booklet|rotate the backs, for a printer that flips on the long edge" \
     "cover|booklet|keep the last page at the back, with the blanks before it" \
@@ -139,6 +145,12 @@ for program in impose impose-pdf
     if test $program = impose-pdf
         set endings 'pdf|jpe?g|png'
         set -a options $of_pdfs $of_pdfs_alone
+        complete -c $program -n '__impose_at 0' -a unbooklet -d 'the pages of a booklet, from its sides'
+        complete -c $program -n '__impose_at 1 help' -a unbooklet -d 'the pages of a booklet, from its sides'
+        complete -c $program -n '__impose_after --crop' -a 'same same,5mm 5mm'
+        complete -c $program -n "__impose_of $every" -l crop -a 'same same,5mm 5mm'
+        complete -c $program -n "__impose_of $looked unbooklet" -l turn -xa 'left= right= half='
+        complete -c $program -n "__impose_of $laid poster unbooklet" -l marks -xa 'registration bars slug fold,cut,registration,bars,slug'
     end
     complete -c $program -f
     complete -c $program -n '__impose_at 0' -s V -l version -d 'print the version'
