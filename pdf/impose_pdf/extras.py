@@ -7,9 +7,8 @@ from impose_pdf.document import Source
 from impose_pdf.making import Making
 from impose_pdf.passwords import read_password
 from impose_pdf.plan import Sheet, Size
+from impose_pdf.unbooklet import OF_STAMPS
 from impose_pdf.words import Request
-
-OF_STAMPS = "--text", "--stamp", "--under", "--over"
 
 
 class Extras:
@@ -61,7 +60,7 @@ class Extras:
         """Gives sheets what is asked for."""
         if self.is_unbooklet:
             making.has_labels = False
-            sheets[:] = unbooklet.in_order(sheets)
+            sheets[:] = unbooklet.in_order(self.request, sheets)
         if self.stamps:
             self.stamps.put(making, sheets)
         for sheet in sheets:

@@ -14,7 +14,7 @@ from impose_pdf import words as said
 from impose_pdf.deep import deeply
 from impose_pdf.early import plainer
 from impose_pdf.plan import Imposer, cannot_run, usual
-from impose_pdf.usage import USAGE
+from impose_pdf.usage import UNBOOKLET, USAGE
 from impose_pdf.wording import as_ours, help_of, reported
 from impose_pdf.words import WITH_WORD, Refusal, Request, cause_of, refusal, shown
 
@@ -99,6 +99,8 @@ def run(words: list[str], here: str) -> None:
         return put(USAGE.encode())
     words = plainer(words)
     request = said.read(words)
+    if words == ["help", "unbooklet"] or "--unbooklet" in request.own and "--help" in request.options:
+        return put(UNBOOKLET.encode())
     if words[0] in ("help", "-V", "--version") or "--help" in request.options:
         return put(helped(words, imposer(here)))
     if not request.infiles or not (request.outfile or request.looks or request.is_each):

@@ -17,7 +17,8 @@ WITH_VALUE = {
 OWN = {  # options with a value that impose doesn't have
     *("--bleed", "--box", "--each", "--over", "--password", "--stamp", "--suffix", "--text", "--under"),
 }
-OWN_ALONE = {"--crop", "--each-right", "--unbooklet"}  # and without one, but perhaps after an equals sign
+OWN_ALONE = {"--crop", "--each-right"}  # and without one, but perhaps after an equals sign
+OF_UNBOOKLET = {"--rtl", "--signature"}  # options of this command
 OWN_MARKS = ("registration", "bars", "slug")
 LOOKS = ("--plan", "--preview", "--print-spec")
 LETTERS = {"p": "--paper", "q": "--quiet", "h": "--help", "V": "--version"}
@@ -117,6 +118,8 @@ def by_bytes(sign: str) -> str:
 def read(words: list[str]) -> Request:
     """The request that a command line makes. Words that are wrong for impose are left to it."""
     request, rest = Request(words[0]), iter(words[1:])
+    if words[0] == "unbooklet":  # which a poster of two columns does
+        request, rest = Request("poster", own={"--unbooklet": []}), iter(["2x1", *words[1:]])
     operands: list[str] = []
     for word in rest:
         if word == "--":
@@ -141,8 +144,10 @@ def read(words: list[str]) -> Request:
             if name in OWN | OWN_ALONE or name == "--turn" and "=" in value:
                 request.own.setdefault(name, []).append(value)
                 continue
-            request.words += kept
             request.options[name] = value
+            if "--unbooklet" in request.own and name in OF_UNBOOKLET:
+                continue
+            request.words += kept
             if word.startswith("-q"):
                 request.options["--quiet"] = ""  # also in -qp a4
     request.lacks_word = request.command in WITH_WORD and not operands
