@@ -102,7 +102,7 @@ set -l valued \
     "order|nup cards stack|right-down down-right left-down down-left|the order of the cells" \
     "turned|nup cards stack|left right|for pages whose text lies on its side" \
     "overlap|poster unbooklet|5mm 1cm 2cm|this length of the page on both of two sheets" \
-    "signature|booklet spec unbooklet|auto 4 8 12 16 20 24 28 32|fold the leaves in signatures of this number of sides" \
+    "signature|booklet spec unbooklet|auto 4 8 12 16 20 24 28 32|fold the leaves in signatures of this many pages" \
     "creep|booklet|.5mm 1mm 2mm|move pages of the innermost leaf towards the fold"
 # Those of impose-pdf alone.
 set -l of_pdfs \
@@ -129,12 +129,12 @@ set -l plain \
     "same-scale|laid zine notes|all pages in the scale of the largest paper" \
     "long-edge|booklet|rotate the backs, for a printer that flips on the long edge" \
     "cover|booklet|keep the last page at the back, with the blanks before it" \
-    "duplex|stack|for sheets that are printed on both sides" \
+    "duplex|stack|for printing on both sides" \
     "print-spec|spec|print the specification, and impose nothing"
 set -g __impose_valued --(string replace -r '\|.*' '' -- $valued $of_pdfs)
 
 set -l commands 'nup\tseveral pages on each sheet' 'booklet\tto be printed on both sides, folded and stapled' \
-    'zine\teight pages on one side of a sheet, to be folded and cut' 'cards\teach page several times on a sheet, to be cut' \
+    'zine\teight pages on one sheet, to be folded and cut' 'cards\teach page several times on a sheet, to be cut' \
     'stack\tto be cut into piles that run on' 'notes\tpages with lines for notes beside them' 'poster\teach page over several sheets' \
     'select\tsome pages, in the order in which they are named' 'spec\tas a page specification of pstops places them' 'help\twhat there is'
 set -l listed "(printf '%b\n' $(string escape -- $commands | string join ' '))"

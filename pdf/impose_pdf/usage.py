@@ -29,7 +29,7 @@ Options:
 and those of: impose-pdf poster 2x1, with which each side is cut into halves
 """
 USAGE = f"""\
-Puts the pages of PDFs on sheets of paper, and writes a PDF of the sheets
+Puts the pages of PDFs on sheets to print, and writes a PDF of the sheets
 
 Usage: impose-pdf COMMAND [OPTIONS] INFILE [RANGES].. OUTFILE
        impose-pdf COMMAND [OPTIONS] --each FOLDER INFILE [RANGES]..

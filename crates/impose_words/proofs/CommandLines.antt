@@ -106,7 +106,7 @@ unfolding clap_on_literals impose number_at papers
 nup document output is_document is_output = makes _ _ _ _ (record { taken = refl; entered = refl }) refl (refl, refl) (refl, refl, refl, refl, refl, refl, refl) (refl, refl, refl) refl (record { page_paper_is = refl; sheet_paper_is = refl; border_is = refl; turn_is = refl }) refl refl (record { printed = refl; planned = refl; pictured = refl; is_picture = tt }) refl refl
     (ap Some (sym is_document)) (ap Some (sym is_output)) (ap (λ t. is_outfile (Some t)) is_output)
 
--- signatures of eight sides for a printer that flips on the long edge, the last page at the back, an inner margin, and pages from the third to the last but one
+-- signatures of eight pages for a printer that flips on the long edge, the last page at the back, an inner margin, and pages from the third to the last but one
 booklet : (ranges document : String Global) → string_bytes ranges ≡ codes "3-_2" → string_bytes document ≡ codes "in.ps"
     → Makes (codes "booklet" ∷ codes "--signature" ∷ codes "8" ∷ codes "--cover" ∷ codes "--long-edge" ∷ codes "--creep" ∷ codes "2pt" ∷ codes "--marks" ∷ codes "fold,cut" ∷ codes "--margin" ∷ codes "inner=1in,top=2in" ∷ codes "--pages" ∷ codes "3-_2" ∷ codes "in.ps" ∷ [])
     (record (plain (layout.Booklet (signing.OfSides 8) true)) {

@@ -11,7 +11,7 @@ use Rattle.rows.specs.declared.sewing.Signing.TheVariants.{OfSides, Auto}
 abbrev pub whole_number : List ℕ → Option ℕ
 whole_number text = if starts_with nat_eq text (codes "+") then None else u32_of text
 
--- a signature may have so many sides: each of its leaves has four (RULES, 11.3)
+-- a signature may have so many pages: each of its leaves has four (RULES, 11.3)
 abbrev pub are_sides : ℕ → Bool
 are_sides n = nat_le 4 n && nat_le n most_sides && (n % 4 == 0)
 
@@ -19,6 +19,6 @@ abbrev pub of_sides : Option ℕ → Option Signing
 of_sides None = None
 of_sides (Some n) = if are_sides n then Some (OfSides n) else None
 
--- `auto`, or a number of sides
+-- `auto`, or a number of pages
 abbrev pub signing_named : List ℕ → Option Signing
 signing_named text = if bytes_eq text (codes "auto") then Some Auto else of_sides (whole_number text)

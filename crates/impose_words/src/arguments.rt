@@ -12,12 +12,12 @@ use std::alloc::{AllocError, Global};
 const PAPERS_AND_EXAMPLES: &str = "Papers:
   a0, a1, a2, a3, a4, a5, a6, a7, b0, b1, b2, b3, b4, b5, b6, c4, c5, c6, dl, jisb4, jisb5, ra3, ra4, sra3,
   sra4, letter, legal, tabloid, ledger, statement, executive, folio, quarto, 10x14; or a size, such as
-  210x297mm or 8.5x11in; -landscape after any of them exchanges the sides
+  210x297mm or 8.5x11in; -landscape after any of them exchanges width and height
 
 Examples:
   impose nup 2 in.ps out.ps           two pages on each sheet
   impose booklet in.ps out.ps         print on both sides, fold, staple
-  impose zine in.ps out.ps            eight pages on one side of a sheet: fold, cut, fold
+  impose zine in.ps out.ps            eight pages on one sheet: fold, cut, fold
   impose cards 8 in.ps out.ps         each page eight times on a sheet
   impose stack 2 in.ps out.ps         cut the pile in two, and the pages run on
   impose notes 3 in.ps out.ps         three pages on a sheet, and lines for notes beside them
@@ -72,7 +72,7 @@ pub(crate) fn command<'a>(alloc: Global) -> Result<Command<'a>, AllocError>
 {
     let bare = Command::new(alloc, "impose")
         .version("1.0")
-        .about("Puts the pages of a PostScript document on sheets of paper")
+        .about("Puts the pages of a PostScript document on sheets to print")
         .after_help(PAPERS_AND_EXAMPLES)
         .subcommand_required(true)
         .arg_required_else_help(true);

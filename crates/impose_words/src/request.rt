@@ -23,7 +23,7 @@ pub enum Layout {
     /// The same page in each of these cells of a sheet.
     Cards(Cells),
     /// A page in each of these cells of a sheet. If the printed sheets are cut along the cells and the piles are laid on one another, the pages are
-    /// in order. With `duplex` the sheets are printed on both sides.
+    /// in order. With `duplex` they are for printing on both sides of leaves.
     Stack {
         cells: Cells,
         duplex: bool,
@@ -41,7 +41,7 @@ pub enum Layout {
         signing: Signing,
         long_edge: bool,
     },
-    /// Eight pages on one side of a sheet, to be folded thrice and cut once.
+    /// Eight pages on one sheet, to be folded thrice and cut once.
     Zine,
     /// Each page alone on a sheet of the page's own paper.
     Selection,

@@ -5,8 +5,7 @@ ghost use Rattle.impose_words.specs.Signatures.{signing_named as signing_by, who
 
 use rows::Signing;
 
-/// The signatures that this word names: `auto`, or the number of sides of each signature, a multiple of four from 4 to 1,000,000. `None` for another
-/// word.
+/// The signatures that this word names: `auto`, or how many pages each signature has, a multiple of four from 4 to 1,000,000. `None` for another word.
 pub fn signing_named(text: &str) -> Option<Signing>
     ensures { result ≡ signing_by text.now }
 {

@@ -33,7 +33,7 @@ pub(crate) const SUBCOMMANDS: [Subcommand; 9] = [
     },
     Subcommand {
         name: "zine",
-        about: "Eight pages on one side of a sheet, to be folded thrice and cut once",
+        about: "Eight pages on one sheet, to be folded thrice and cut once",
         groups: &[
             Group::Zine,
             Group::Turn,
@@ -169,7 +169,7 @@ const COPIES: [Argument; 1] = [Argument::Required(
 
 const DUPLEX: [Argument; 1] = [Argument::Flag(
     "duplex",
-    "Arrange the pages for sheets that are printed on both sides",
+    "Arrange the pages for printing on both sides",
 )];
 
 /// The options of `nup` that concern cells, apart from `--skip`. The sheets of `nup` have an edge at which they are bound.
@@ -205,8 +205,8 @@ const CELLS: [Argument; 11] = [
 const BOOKLET: [Argument; 13] = [
     Argument::Valued(
         "signature",
-        "SIDES",
-        "Fold the leaves in signatures of this number of sides, a multiple of four; auto makes signatures of at most eight leaves [default: one signature]",
+        "PAGES",
+        "Fold the leaves in signatures of this many pages, a multiple of four; auto makes signatures of at most eight leaves [default: one signature]",
     ),
     Argument::Valued(
         "creep",
@@ -299,8 +299,8 @@ const SPECS: [Argument; 2] = [
     ),
     Argument::Valued(
         "signature",
-        "SIDES",
-        "First order the pages for signatures of this number of sides, a multiple of four, or auto",
+        "PAGES",
+        "First order the pages for signatures of this many pages, a multiple of four, or auto",
     ),
 ];
 
@@ -350,20 +350,20 @@ const SAME_SCALE: Argument = Argument::Flag(
 const BOUND_MARGIN: Argument = Argument::Valued(
     "margin",
     "LENGTHS",
-    "Leave margins along the edges of a sheet: 5mm, SIDES,ENDS, TOP,RIGHT,BOTTOM,LEFT, left=2cm, or inner=2cm at the edge that is bound",
+    "Leave margins along the edges of a sheet: 5mm, X,Y, TOP,RIGHT,BOTTOM,LEFT, left=2cm, or inner=2cm at the edge that is bound",
 );
 
 const MARGIN: Argument = Argument::Valued(
     "margin",
     "LENGTHS",
-    "Leave margins along the edges of a sheet: 5mm, SIDES,ENDS, TOP,RIGHT,BOTTOM,LEFT or left=2cm",
+    "Leave margins along the edges of a sheet: 5mm, X,Y, TOP,RIGHT,BOTTOM,LEFT or left=2cm",
 );
 
 /// The option `--margin` for zines, whose margins are equal on opposite edges.
 const OPPOSITE_MARGIN: Argument = Argument::Valued(
     "margin",
     "LENGTHS",
-    "Leave margins along the edges of a sheet: 5mm or SIDES,ENDS",
+    "Leave margins along the edges of a sheet: 5mm or X,Y",
 );
 
 /// The option `--margin` for posters, whose margins are equal on all edges.

@@ -17,8 +17,10 @@ pub(crate) const FOR_COMMANDS: &[Tip] = tips! {
         "pages are turned by --turn, as to the left by: impose select 1- --turn left in.ps out.ps",
     "trifold" | "tri-fold" | "threefold" | "z-fold" =>
         "a leaflet that is folded in three is: impose nup 3x1 --sheet a4-landscape --pages 5,6,1,2,3,4 in.ps out.ps",
-    "watermark" | "stamp" | "header" | "footer" | "text" =>
-        "page numbers are the only text that is drawn, as in: impose nup 2 --numbers 10pt in.ps out.ps",
+    "watermark" | "stamp" =>
+        "words across each page of a PDF are drawn by: impose-pdf nup 2 --stamp DRAFT in.pdf out.pdf",
+    "header" | "footer" | "text" =>
+        "page numbers are drawn by: impose nup 2 --numbers 10pt in.ps out.ps; other words, on PDFs alone, by: impose-pdf nup 2 --text head:DRAFT in.pdf out.pdf",
     "duplicate" | "duplicates" | "copy" | "copies" | "repeat" =>
         "each page is on a sheet several times by: impose cards 2 in.ps out.ps",
     "mirror" | "reflect" | "flip" => "pages are mirrored by the printer: lp -o mirror out.ps",
@@ -69,8 +71,10 @@ const OF_OTHERS: &[Tip] = tips! {
     "--collate" | "--printer" | "--dpi" | "--resolution" | "--quality" | "--color" | "--colour"
     | "--staple" | "--stapler" =>
         "options of the printer are given to lp, as in: impose booklet in.ps | lp -o sides=two-sided-short-edge",
-    "--watermark" | "--stamp" | "--title" | "--header" | "--footer" | "--text" | "--font" =>
-        "page numbers are the only text that is drawn, as in: impose nup 2 --numbers 10pt in.ps out.ps",
+    "--watermark" | "--stamp" =>
+        "words across each page of a PDF are drawn by: impose-pdf nup 2 --stamp DRAFT in.pdf out.pdf",
+    "--title" | "--header" | "--footer" | "--text" | "--font" =>
+        "page numbers are drawn by: impose nup 2 --numbers 10pt in.ps out.ps; other words, on PDFs alone, by: impose-pdf nup 2 --text head:DRAFT in.pdf out.pdf",
     "--lines" => "notes draws lines without an option, as in: impose notes 3 in.ps out.ps",
     "--no-guard" | "--noguard" => "the guard is left out by --unguarded",
     "--rotate" | "--angle" | "--rotation" =>
@@ -178,7 +182,7 @@ const OF_PRINTING: &[Tip] = tips! {
     "--blank" | "--insert" | "--blank-pages" | "--blanks" =>
         "a blank page is named among the others, as in: --pages 1,blank,2-",
     "--sheets" | "--pages-per-signature" | "--signature-size" | "--leaves" | "--sheets-per-booklet" =>
-        "leaves are folded some at a time by a number of sides, as in: impose booklet --signature 16 in.ps out.ps",
+        "leaves are folded some at a time by a number of pages, as in: impose booklet --signature 16 in.ps out.ps",
     "--inner-margin" | "--outer-margin" | "--top-margin" | "--bottom-margin" | "--left-margin"
     | "--right-margin" | "--inner" | "--margin-left" | "--margin-right" | "--margin-top"
     | "--margin-bottom" | "--margin-inner" =>

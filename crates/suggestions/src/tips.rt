@@ -74,7 +74,7 @@ pub(crate) const FOR_BOOKLETS: &[Tip] = tips! {
         "the order of a booklet is that in which one reads it; one that is bound at the right takes --rtl",
     "--duplex" => "a booklet is for printing on both sides without an option: leave it out",
     "-s" | "-n" | "--sheets" | "--leaves" =>
-        "leaves are folded some at a time by a number of sides, as in: impose booklet --signature 16 in.ps out.ps",
+        "leaves are folded some at a time by a number of pages, as in: impose booklet --signature 16 in.ps out.ps",
 };
 
 /// Tips on options that `stack` doesn't have, or has under another name than other programs.
@@ -96,7 +96,7 @@ pub(crate) const FOR_CARDS: &[Tip] = tips! {
 /// Tips on options that `zine` doesn't have, or has under another name than other programs.
 pub(crate) const FOR_ZINES: &[Tip] = tips! {
     "--long-edge" | "--short-edge" | "--duplex" | "--twoside" | "--two-sided" | "--double-sided" =>
-        "a zine is printed on one side of its sheet: leave this option out",
+        "a zine is printed on one side of its leaf: leave this option out",
 };
 
 /// Tips on options that `poster` doesn't have, or has under another name than other programs.

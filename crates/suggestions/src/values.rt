@@ -138,15 +138,15 @@ fn fold_marks_wording(alloc: Global) -> Result<Wording, AllocError> {
     Wording::new(alloc, "only a booklet is folded, so --marks ", after)
 }
 
-/// The wording about a text that isn't the number of sides of a signature. For a number between 4 and 1,000,000 the message names the two nearest
+/// The wording about a text that isn't the number of pages in a signature. For a number between 4 and 1,000,000 the message names the two nearest
 /// multiples of four.
 fn signature_wording(alloc: Global, text: &str) -> Result<Wording, AllocError> {
     match whole_number(text) {
-        Some(sides) if 4 < sides && sides < 1_000_000 => {
-            let below = sides - sides % 4;
+        Some(pages) if 4 < pages && pages < 1_000_000 => {
+            let below = pages - pages % 4;
             let above = below + 4;
             let after = format!(in alloc;
-                " sides can't be folded: take a multiple of four, as {below} or {above}, or auto"
+                " pages can't be folded: take a multiple of four, as {below} or {above}, or auto"
             )?;
             Wording::new(alloc, "a signature of ", after)
         }

@@ -79,7 +79,7 @@ pub(crate) fn name_and_advice(option: OptionId) -> (&'static str, &'static str) 
 }
 
 const MARGIN_ADVICE: &str =
-    "give it as 5mm, SIDES,ENDS, TOP,RIGHT,BOTTOM,LEFT, left=2cm,top=1cm or inner=2cm; units are cm, mm, in and pt";
+    "give it as 5mm, X,Y, TOP,RIGHT,BOTTOM,LEFT, left=2cm,top=1cm or inner=2cm; units are cm, mm, in and pt";
 
 const FIRST_NUMBER_ADVICE: &str =
     "give a whole one without a sign, and the size too, as --numbers 10pt --numbers-from 3";
