@@ -8,8 +8,7 @@ import subprocess
 import tempfile
 from pathlib import Path
 
-from .cases import ROOT
-
+ROOT = Path(__file__).resolve().parent.parent.parent
 MOST_LINES = 220  # of a module
 FILES = ["pdf", "pdf/impose-pdf", "checks/pdf", "checks/impose-pdf"]
 # E203: black puts a space before the colon of a slice.
