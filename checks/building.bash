@@ -2,9 +2,13 @@
 
 # The memory for proofs, swap included, in GB.
 memory() {
-    awk -v group="$(cat /sys/fs/cgroup/memory.max 2>/dev/null || true)" '
+    awk -v group="$(cat /sys/fs/cgroup/memory.max 2>/dev/null || true)" -v space="$(ulimit -v)" '
         /^(MemTotal|SwapTotal):/ { all += $2 * 1024 }
-        END { if (group + 0 && group + 0 < all) all = group; printf "%.0f\n", all / 1e9 }' /proc/meminfo
+        END {
+            if (group + 0 && group + 0 < all) all = group
+            if (space + 0 && space * 1024 < all) all = space * 1024
+            printf "%.0f\n", all / 1e9
+        }' /proc/meminfo
 }
 
 # How many crates are proved at a time: one for each processor and each five gigabytes, and at least one.
