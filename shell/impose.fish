@@ -145,8 +145,8 @@ for program in impose impose-pdf
     if test $program = impose-pdf
         set endings 'pdf|jpe?g|png'
         set -a options $of_pdfs $of_pdfs_alone
-        complete -c $program -n '__impose_at 0' -a unbooklet -d 'the pages of a booklet, from its sides'
-        complete -c $program -n '__impose_at 1 help' -a unbooklet -d 'the pages of a booklet, from its sides'
+        complete -c $program -n '__impose_at 0' -a unbooklet -d 'the pages of a booklet, cut from its sheets'
+        complete -c $program -n '__impose_at 1 help' -a unbooklet -d 'the pages of a booklet, cut from its sheets'
         complete -c $program -n '__impose_after --crop' -a 'same same,5mm 5mm'
         complete -c $program -n "__impose_of $every" -l crop -a 'same same,5mm 5mm'
         complete -c $program -n "__impose_of $looked unbooklet" -l turn -xa 'left= right= half='

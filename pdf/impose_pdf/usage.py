@@ -18,15 +18,15 @@ Options that impose doesn't have:
   --suffix WORD   each INFILE has its own OUTFILE, with this added to its name
 """
 UNBOOKLET = """\
-Makes the sides of a booklet single pages again, in their order
+Cuts the sheets of a booklet into single pages, in their order
 
 Usage: impose-pdf unbooklet [OPTIONS] INFILE [RANGES].. OUTFILE
 
 Options:
   --signature N   the booklet has signatures of N pages each, or auto, as booklet makes them
   --rtl           it is bound at the right
-  --turn SIDE     its sides lie on their side: turn them left or right
-and those of: impose-pdf poster 2x1, with which each side is cut into halves
+  --turn SIDE     its sheets lie on their side: turn them left or right
+and those of: impose-pdf poster 2x1, with which each sheet is cut into halves
 """
 USAGE = f"""\
 Puts the pages of PDFs on sheets to print, and writes a PDF of the sheets
@@ -36,7 +36,7 @@ Usage: impose-pdf COMMAND [OPTIONS] INFILE [RANGES].. OUTFILE
        impose-pdf unbooklet [OPTIONS] INFILE OUTFILE
 
 COMMAND and its OPTIONS are those of impose: impose --help, impose-pdf booklet --help.
-unbooklet makes the sides of a booklet, as 8|1 and 2|7, single pages in their order again:
+unbooklet cuts the sheets of a booklet, as 8|1 and 2|7, into single pages in their order:
 impose-pdf unbooklet --help.
 Files come after them, OUTFILE last; - is standard input, and standard output.
 The pages of several INFILEs follow one another, as those of one document. RANGES after an
