@@ -1,17 +1,20 @@
 //! The `impose` program: reads a document and puts its pages on sheets, as the command line asks.
 #![tactic(auto)]
 
-ghost use Rattle.std.specs.Prelude.{◌≡◌, []};
+ghost use Rattle.std.specs.Prelude.{◌≡◌, ◌<◌, [], OnOk};
+ghost use Rattle.std.specs.Io.KnownBytes.{Appends};
+ghost use Rattle.impose_words.specs.Options.{options_json};
 
 use impose_cli::{
     Ended, ImposeFault, RequestFault, empty_report, fault_status, impose, text_of_fault, text_said,
 };
+use impose_words::{OptionTable, asks_for_options, options_text};
 use std::alloc::Global;
 use std::env;
 use std::env::Env;
 use std::io::ErrorKind;
 use std::process::ExitCode;
-use world::{Host, World, report_line};
+use world::{Host, Output, World, WriteOutput, report_line, write_and_flush};
 
 fn main(rt: HostRuntime) -> ExitCode {
     // Memory for the report is reserved before the run.
@@ -23,6 +26,13 @@ fn main(rt: HostRuntime) -> ExitCode {
         Ok(words) => words,
         Err(fault) => return end_with(&rt, ImposeFault::Command(fault)),
     };
+    if asks_for_options(words.as_slice()) {
+        let mut output = WriteOutput::new(rt.stdout());
+        return match print_options(rt.alloc(), &OptionTable::new(), &mut output) {
+            Ok(()) => ExitCode::SUCCESS,
+            Err(fault) => end_with(&rt, fault),
+        };
+    }
     let world = Host::new(&rt, rt.stdin(), rt.stdout(), rt.stderr());
     let paper_size = paper_size(&rt);
     let paper_size = paper_size.as_str().as_bytes();
@@ -43,6 +53,28 @@ fn main(rt: HostRuntime) -> ExitCode {
     }
     let (text, status) = said(rt.alloc(), report, ended, paper_size, words.as_slice());
     ExitCode::from(report_line(&mut rt.stderr(), text.as_slice(), status))
+}
+
+/// Prints the table of options.
+fn print_options<T: Output>(
+    alloc: Global,
+    table: &OptionTable,
+    output: &mut T,
+) -> Result<(), ImposeFault>
+    requires countable { (T.seen output.old).failures < u64.MAX }
+    ensures { OnOk result (Appends (T.seen output.old).bytes (T.seen output.new).bytes (options_json table.now)) }
+{
+    let text = match options_text(alloc, table) {
+        Ok(text) => text,
+        Err(_) => return Err(ImposeFault::no_memory()),
+    };
+    match write_and_flush(output, text.as_slice()) {
+        Ok(()) => Ok(()),
+        Err(broken) => Err(ImposeFault::Write {
+            written: broken.written as u64,
+            cause: output.cause(),
+        }),
+    }
 }
 
 /// The text that reports how the program ended, and its exit status. `ended` is taken by value, so that the output is closed before the text is

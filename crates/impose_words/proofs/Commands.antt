@@ -48,6 +48,7 @@ is_simple_row : (row : Argument) → (rule_in row).is_simple ≡ true
 is_simple_row (argument.Required id name help) = refl
 is_simple_row (argument.Positional id name help) = refl
 is_simple_row (argument.Valued id name help) = refl
+is_simple_row (argument.Chosen id name help choices) = refl
 is_simple_row (argument.LetteredValued letter id name help) = refl
 is_simple_row (argument.Flag id help) = refl
 is_simple_row (argument.LetteredFlag letter id help) = refl

@@ -169,9 +169,19 @@ abbrev pub rule_in : Argument → Rule
 rule_in (argument.Required id name help) = required_rule id.now
 rule_in (argument.Positional id name help) = positional_rule id.now
 rule_in (argument.Valued id name help) = option_rule id.now
+rule_in (argument.Chosen id name help choices) = option_rule id.now
 rule_in (argument.LetteredValued letter id name help) = lettered letter (option_rule id.now)
 rule_in (argument.Flag id help) = flag_rule id.now
 rule_in (argument.LetteredFlag letter id help) = lettered letter (flag_rule id.now)
+
+abbrev pub id_of : Argument → Text
+id_of (argument.Required id name help) = id.now
+id_of (argument.Positional id name help) = id.now
+id_of (argument.Valued id name help) = id.now
+id_of (argument.Chosen id name help choices) = id.now
+id_of (argument.LetteredValued letter id name help) = id.now
+id_of (argument.Flag id help) = id.now
+id_of (argument.LetteredFlag letter id help) = id.now
 
 abbrev pub with_row : App → Argument → App
 with_row app row = with_rule app (rule_in row)

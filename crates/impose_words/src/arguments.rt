@@ -2,7 +2,7 @@
 ghost use Rattle.std.specs.Prelude.{◌≡◌, IfOk};
 ghost use Rattle.std.specs.List.{fold};
 ghost use Rattle.clap.specs.Words.{app_of, rule_of};
-ghost use Rattle.impose_words.specs.Command.{app_in, flag_rule, impose, positional_rule, rule_in, with_app, with_row};
+ghost use Rattle.impose_words.specs.Command.{app_in, flag_rule, id_of, impose, positional_rule, rule_in, with_app, with_row};
 
 use crate::subcommands::{Group, SUBCOMMANDS, arguments_in};
 use clap::{Arg, ArgAction, Command};
@@ -26,10 +26,12 @@ Examples:
   impose booklet --pages 3-14 in.ps out.ps
   impose-pdf booklet in.pdf out.pdf   a booklet of a PDF
 
-The options of a command: impose booklet --help. Page ranges, lengths, reports: man impose";
+The options of a command: impose booklet --help. Page ranges, lengths, reports: man impose
+All options as JSON, for other programs: impose --options";
 
 /// An argument of a subcommand. Its texts are its name, the name of its value in the help, and its help. An option without a value lacks the second
-/// text. The name of an option is the text after `--`. The letter of a short form comes before these texts.
+/// text. The name of an option is the text after `--`. The letter of a short form comes before these texts, and the values of an option that takes
+/// only some come after them, with blanks between them.
 #[derive(Clone, Copy)]
 pub(crate) enum Argument {
     /// A required word.
@@ -38,20 +40,25 @@ pub(crate) enum Argument {
     Positional(&'static str, &'static str, &'static str),
     /// An option with a value.
     Valued(&'static str, &'static str, &'static str),
+    /// An option that takes one of a few values.
+    Chosen(&'static str, &'static str, &'static str, &'static str),
     /// An option with a value, and with a short form of one letter.
-    LetteredValued(char, &'static str, &'static str, &'static str),
+    LetteredValued(u8, &'static str, &'static str, &'static str),
     /// An option without a value.
     Flag(&'static str, &'static str),
     /// An option without a value, and with a short form of one letter.
-    LetteredFlag(char, &'static str, &'static str),
+    LetteredFlag(u8, &'static str, &'static str),
 }
 
 impl Argument {
     /// The name by which clap knows the argument.
-    fn id(self) -> &'static str {
+    pub(crate) fn id(self) -> &'static str
+        ensures { result.now ≡ id_of self }
+    {
         match self {
             Argument::Required(id, ..) | Argument::Positional(id, ..) => id,
-            Argument::Valued(id, ..) | Argument::LetteredValued(_, id, ..) => id,
+            Argument::Valued(id, ..) | Argument::Chosen(id, ..) => id,
+            Argument::LetteredValued(_, id, ..) => id,
             Argument::Flag(id, ..) | Argument::LetteredFlag(_, id, ..) => id,
         }
     }
@@ -127,12 +134,16 @@ fn arg_of<'a>(alloc: Global, argument: Argument) -> Arg<'a>
     match argument {
         Argument::Required(id, name, help) => positional(alloc, id, name, help).required(true),
         Argument::Positional(id, name, help) => positional(alloc, id, name, help),
-        Argument::Valued(id, name, help) => positional(alloc, id, name, help).long(id),
+        Argument::Valued(id, name, help) | Argument::Chosen(id, name, help, _) => {
+            positional(alloc, id, name, help).long(id)
+        }
         Argument::LetteredValued(letter, id, name, help) => {
-            positional(alloc, id, name, help).long(id).short(letter)
+            positional(alloc, id, name, help)
+                .long(id)
+                .short(char::from(letter))
         }
         Argument::Flag(id, help) => flag(alloc, id, help),
-        Argument::LetteredFlag(letter, id, help) => flag(alloc, id, help).short(letter),
+        Argument::LetteredFlag(letter, id, help) => flag(alloc, id, help).short(char::from(letter)),
     }
 }
 

@@ -230,10 +230,11 @@ const BOOKLET: [Argument; 13] = [
         "Leave a gap at the fold, half of it on each side",
     ),
     TRIM,
-    Argument::Valued(
+    Argument::Chosen(
         "marks",
         "MARKS",
         "Draw short lines at the fold (fold), where the margin is cut off (cut), or both (fold,cut)",
+        "fold cut fold,cut",
     ),
     NUMBERS,
     NUMBERS_FROM,
@@ -310,16 +311,18 @@ const COMMON: [Argument; 12] = [
     QUIET,
 ];
 
-const ORDER: Argument = Argument::Valued(
+const ORDER: Argument = Argument::Chosen(
     "order",
     "ORDER",
     "Fill the cells in this order: right-down, down-right, left-down or down-left [default: right-down]",
+    "right-down down-right left-down down-left",
 );
 
-const TURNED: Argument = Argument::Valued(
+const TURNED: Argument = Argument::Chosen(
     "turned",
     "SIDE",
     "For pages whose text lies on its side: the sheet is turned to the left or to the right to read it",
+    "left right",
 );
 
 const SCALE: Argument = Argument::Valued(
@@ -334,10 +337,11 @@ const CELL_GAP: Argument = Argument::Valued(
     "Leave a gap between pages, such as 5mm, or 5mm,1cm side by side and one above another",
 );
 
-const CUT_MARKS: Argument = Argument::Valued(
+const CUT_MARKS: Argument = Argument::Chosen(
     "marks",
     "MARKS",
     "Draw short lines where sheets are cut: cut",
+    "cut",
 );
 
 const RTL: Argument = Argument::Flag("rtl", "Fill the cells from right to left");
@@ -416,7 +420,7 @@ const OUTFILE: Argument = Argument::Positional(
 );
 
 const PAPER: Argument = Argument::LetteredValued(
-    'p',
+    b'p',
     "paper",
     "PAPER",
     "The paper of the pages, such as a4, a5-landscape or 210x297mm [default: the document's]",
@@ -449,12 +453,13 @@ const PRINT_SPEC: Argument = Argument::Flag(
     "Print the specification and a line of pstops for it, and impose nothing",
 );
 
-const QUIET: Argument = Argument::LetteredFlag('q', "quiet", "Print no report");
+const QUIET: Argument = Argument::LetteredFlag(b'q', "quiet", "Print no report");
 
-const TURN: [Argument; 1] = [Argument::Valued(
+const TURN: [Argument; 1] = [Argument::Chosen(
     "turn",
     "SIDE",
     "Turn each page before it is placed: left, right or half; or, with wide, only pages wider than high, to the left",
+    "left right half wide",
 )];
 
 /// The options that show the sheets in place of writing them.
