@@ -25,6 +25,7 @@ DOCUMENTS = {
     "spreads.pdf": ["page 842x595 times 6"],
     "mixed.pdf": ["page 595x842", "page 842x1191", "page 595x842"],
     "labels.pdf": ["page 189x72 times 30"],
+    "tags.pdf": ["page 180x108 times 21"],
     "cards.pdf": ["page 257.953x172.913 times 12"],
     "book.pdf": ["page 595x842 times 12"],
     "scan.pdf": ["page 595x842 times 4"],
