@@ -9,9 +9,9 @@ from impose_pdf import notes
 from impose_pdf.annotations import MOST_SHARED
 from impose_pdf.pages import keys_of, name_of
 
-SIGNATURE, FIELD, UNPRINTED, TEXT, FILE, PLAYED = (
+SIGNATURE, FIELD, UNPRINTED, TEXT, FILE, PLAYED, LINK = (
     *("a signature", "a form field (drawn as it is)", "a note that doesn't print", "the text of a note"),
-    *("an attachment of a note", "a film, sound or 3D view"),
+    *("an attachment of a note", "a film, sound or 3D view", "a link"),
 )
 TAGS, XFA, SCRIPTS, THREADS, TRANSITIONS, THUMBNAILS, DIRECTION, ENCRYPTION = (
     *("tags", "the XFA form", "scripts", "article threads", "page transitions", "thumbnails", "the reading direction"),
@@ -27,6 +27,7 @@ SEVERAL = {
     TEXT: "the texts of {} notes",
     FILE: "{} attachments of notes",
     PLAYED: "{} films, sounds or 3D views",
+    LINK: "{} links",
     **{claim: claim for claim in CLAIMS.values()},
     **{kind: kind for kind in (TAGS, XFA, SCRIPTS, THREADS, TRANSITIONS, THUMBNAILS, DIRECTION, ENCRYPTION, SHARED)},
 }

@@ -2,13 +2,16 @@
 
 import gc
 import os
+import signal
 import tempfile
-from collections.abc import Callable
+from collections.abc import Callable, Iterable
+from contextlib import suppress
 from dataclasses import replace
 from importlib import import_module
-from typing import IO
+from typing import IO, Any
 
 from impose_pdf.words import Request, refusal, shown, told
+from impose_pdf.writing import SIGNALS
 
 ENDINGS = (".pdf", ".png", ".jpg", ".jpeg")  # of INFILEs, in place of which OUTFILEs have .pdf
 LONGEST = 100  # signs of what is added to names
@@ -69,19 +72,24 @@ def check_names(requests: list[Request]) -> None:
 
 
 class Worker:
-    """A process that makes the sheets of one INFILE, and keeps what it says."""
+    """A process that makes the sheets of one INFILE, and keeps what it says. It comes among those that run."""
 
-    def __init__(self, request: Request, work: Callable[[Request], int]):
+    def __init__(self, request: Request, work: Callable[[Request], int], running: "dict[int, Worker]"):
         self.name, self.status = request.infiles[0][0], 0
         self.said: IO[bytes] = tempfile.TemporaryFile()
+        mask = signal.pthread_sigmask(signal.SIG_BLOCK, SIGNALS)  # a new process would lose what comes at once
         self.process = os.fork()
         if self.process == 0:
             status = 3
             try:
+                heed_signals(signal.SIG_DFL)
+                signal.pthread_sigmask(signal.SIG_SETMASK, mask)
                 os.dup2(self.said.fileno(), 2)
                 status = work(request)
             finally:
                 os._exit(status)
+        running[self.process] = self
+        signal.pthread_sigmask(signal.SIG_SETMASK, mask)
 
     def end(self, ended: int) -> None:
         """Keeps how it ended."""
@@ -98,6 +106,26 @@ class Worker:
         return "".join(f"{shown(self.name)}: {line}\n" for line in lines)
 
 
+def heed_signals(way: Any) -> None:
+    """Gives signals that would end the program another way, or that one again. Those that are ignored stay so."""
+    for sent in SIGNALS:
+        if signal.getsignal(sent) != signal.SIG_IGN:
+            signal.signal(sent, way)
+
+
+def ending(running: Iterable[int]) -> Callable[[int, object], None]:
+    """What ends the processes that run with the program, by the signal that ends it."""
+
+    def end(sent: int, _frame: object) -> None:
+        for process in running:
+            with suppress(ProcessLookupError):
+                os.kill(process, sent)
+        signal.signal(sent, signal.SIG_DFL)
+        os.kill(os.getpid(), sent)
+
+    return end
+
+
 def run(requests: list[Request], work: Callable[[Request], int], say: Callable[[str], None]) -> None:
     """Works on requests side by side, says in their order what is said of each, and names those that failed."""
     for module in MODULES:
@@ -105,6 +133,7 @@ def run(requests: list[Request], work: Callable[[Request], int], say: Callable[[
     gc.freeze()
     at_once, shows = len(os.sched_getaffinity(0)), os.isatty(2) and "--quiet" not in requests[0].options
     workers, running, failed, said = list[Worker](), dict[int, Worker](), list[Worker](), 0
+    heed_signals(ending(running))
     for one in [*requests, None]:
         while running and (one is None or len(running) >= at_once):
             process, ended = os.wait()
@@ -115,8 +144,7 @@ def run(requests: list[Request], work: Callable[[Request], int], say: Callable[[
                 said += 1
             say(f"{CLEARED}{said} of {len(requests)}" * shows)
         if one is not None:
-            workers.append(Worker(one, work))
-            running[workers[-1].process] = workers[-1]
+            workers.append(Worker(one, work, running))
     say(CLEARED * shows)
     if failed:
         names = ", ".join(shown(worker.name) for worker in failed[:MOST_NAMED]) + ", ..." * (len(failed) > MOST_NAMED)

@@ -1,6 +1,7 @@
 """Marks for printers outside of what is cut out of a sheet, and the ink of all marks, which is on each plate."""
 
 import os
+import unicodedata
 from collections.abc import Iterator
 
 from pikepdf import Object
@@ -27,7 +28,8 @@ class Marks:
 
     def __init__(self, request: Request):
         self.own = request.own.get("--marks", [])
-        names = ", ".join(os.path.basename(name) for name, _ in request.infiles)
+        names = ", ".join("standard input" if name == "-" else os.path.basename(name) for name, _ in request.infiles)
+        names = unicodedata.normalize("NFC", names)
         self.names = names if len(names) <= LONGEST else f"{names[:LONGEST]}.."
 
     def put(self, making: Making, sheets: list[Sheet]) -> None:

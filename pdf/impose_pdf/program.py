@@ -189,7 +189,7 @@ def impose(request: Request, program: str) -> None:
         look_at_words(request, program)
         raise
     OPENED.update(opened)
-    sizes = [source.size(k) for source, k in row]
+    sources, sizes = list(opened.values()), [source.size(k) for source, k in row]
     if extras:
         sizes = extras.sizes(sizes)
     of_first = [size for size, (source, _) in zip(sizes, row) if source is row[0][0]]
@@ -212,7 +212,8 @@ def impose(request: Request, program: str) -> None:
             outfile.write(making.pdf)
         if "--quiet" not in request.options:
             say(outfile.warning())
-            say("".join(source.lost() for source in opened.values()))
-    say(warnings_of(list(opened.values())))
+            say("".join(source.lost() for source in making.sources + making.others))
+        sources += [source for source in making.others if source.name not in opened]
+    say(warnings_of(sources))
     all_pages = sum(len(source.pages) for source in opened.values())
     say(reported(report, len(set(sizes)) == 1, len(set(row)), all_pages))

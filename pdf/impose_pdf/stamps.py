@@ -14,6 +14,7 @@ from pikepdf import Dictionary
 from impose_pdf.deep import deeply
 from impose_pdf.document import Source
 from impose_pdf.lettering import Lettering
+from impose_pdf.losses import LINK
 from impose_pdf.making import Making
 from impose_pdf.pages import moved, numerals
 from impose_pdf.plan import Number, Placed, Sheet, Size
@@ -24,6 +25,7 @@ PLACES = "foot", "head", "outer-foot", "inner-foot", "centre"
 VALUES = "page", "pages", "label", "sheet", "file", "date"
 NUMBERED = {"nup", "booklet", "cards", "stack", "notes", "select"}  # commands that take --numbers
 LONGEST, MOST = 200, 20  # signs of a text, and texts
+QUARTERS = {"left": 1, "half": 2, "right": 3}  # to the left, of all pages
 SIZE, ROOM = 9, 18  # points: of letters, and from them to the edge
 HIGH = 0.72  # sizes: a capital letter
 FAINT = 0.3  # how much of a stamp is seen over what is below it
@@ -45,11 +47,15 @@ class Spot:
         return x + cos * along - sin * up, y + sin * along + cos * up
 
 
-def spot(placed: Placed, number: Number | None) -> Spot:
-    """Where a page is, by its number's place if it has one: that stands so far above the foot of its cell."""
+def spot(placed: Placed, number: Number | None, turn: str) -> Spot:
+    """Where a page is, by its number's place if it has one: that stands so far above the foot of its cell.
+
+    A page that --turn turns has its lines as its number is: along the foot that it has then."""
     (width, height), (a, b, *_) = placed.paper, placed.matrix
     scale, middle = hypot(a, b), moved(width / 2, height / 2, placed.matrix)
     found = Spot(middle, (a / scale, b / scale), scale * width / 2, scale * height / 2, placed.page + 1)
+    for _ in range(QUARTERS.get(turn, turn == "wide" and width > height)):
+        found.way, found.wide, found.high = (found.way[1], -found.way[0]), found.high, found.wide
     if number:
         cos, sin = SIDES[number.degrees]
         x = number.origin[0] + cos * number.foot[0] - sin * number.foot[1] - middle[0]
@@ -127,7 +133,8 @@ class Stamps:
         """Where the pages of a sheet are."""
         has_all = len(sheet.numbers) == len(sheet.placed)
         numbers: list[Number | None] = [*sheet.numbers] if has_all else [None] * len(sheet.placed)
-        return [spot(placed, number) for placed, number in zip(sheet.placed, numbers)]
+        turn = self.request.options.get("--turn", "")
+        return [spot(placed, number, turn) for placed, number in zip(sheet.placed, numbers)]
 
     def written(self, making: Making, sheet: Sheet, spots: list[Spot], at: int, most: int) -> Iterator[Written]:
         """The texts on a sheet of this number: where each is, and its words with what is filled in."""
@@ -163,6 +170,7 @@ class Stamps:
             making.others.append(source)
             name, (width, height) = f"/{option[2:].capitalize()}", source.size(0)
             making.added.setdefault("/XObject", {})[name] = deeply(partial(source.form, 0))
+            source.losses.found[LINK] = len(source.on[0].links)
             for placed in (placed for sheet in sheets for placed in sheet.placed):
                 of_page, k = making.row[placed.page]
                 wide, high = of_page.shapes[k].size
