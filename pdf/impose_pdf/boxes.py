@@ -1,10 +1,11 @@
 """Which box of a page is placed, how far beyond it a page may print, and the boxes of sheets that are cut."""
 
 import re
+from itertools import islice
 from typing import Any
 
 from impose_pdf.pages import Box, Shape, bounds, box_of, common
-from impose_pdf.plan import Matrix, Placed, Sheet
+from impose_pdf.plan import Matrix, Placed, Sheet, Size
 from impose_pdf.words import Request, refusal, shown
 
 KINDS = {"media": "/MediaBox", "crop": "/CropBox", "bleed": "/BleedBox", "trim": "/TrimBox", "art": "/ArtBox"}
@@ -62,9 +63,8 @@ class Boxing:
     def let_out(self, sheet: Sheet, shapes: list[Shape]) -> None:
         """Lets the pages of a sheet print beyond their edges: to half the way to the next page, or the sheet's edge."""
         places = [clipped(placed) for placed in sheet.placed]
-        for k, (placed, shape) in enumerate(zip(sheet.placed, shapes)):
-            room = self.room(places[k], places[:k] + places[k + 1 :], sheet.paper)
-            left, bottom, right, top = places[k]
+        for placed, shape, place, room in zip(sheet.placed, shapes, places, self.rooms(places, sheet.paper)):
+            left, bottom, right, top = place
             whole = left - room[0], bottom - room[1], right + room[2], top + room[3]
             seen = common(bounds(whole, inverse(placed.matrix)), bounds(shape.drawn, shape.matrix))
             if seen:
@@ -72,18 +72,29 @@ class Boxing:
                 new = -seen[0], -seen[1], seen[2] - width, seen[3] - height
                 placed.beyond = max(old[0], new[0]), max(old[1], new[1]), max(old[2], new[2]), max(old[3], new[3])
 
-    def room(self, own: Box, others: list[Box], paper: tuple[float, float]) -> Box:
-        """How far a page may print beyond its left, lower, right and upper edge."""
-        spare = [own[0], own[1], paper[0] - own[2], paper[1] - own[3]]
-        for other in others:
-            for side in range(4):
-                at, across = side % 2, 1 - side % 2
-                is_beside = min(own[across + 2], other[across + 2]) - max(own[across], other[across]) > NEAR
-                gap = own[at] - other[at + 2] if side < 2 else other[at] - own[at + 2]
-                if is_beside and (own[at] + own[at + 2] > other[at] + other[at + 2]) == (side < 2):
-                    spare[side] = min(spare[side], gap / 2)
-        left, bottom, right, top = (max(0.0, min(self.bleed, one)) for one in spare)
-        return left, bottom, right, top
+    def rooms(self, places: list[Box], paper: Size) -> list[list[float]]:
+        """How far each page may print beyond its left, lower, right and upper edge."""
+        ends = ([left, bottom, paper[0] - right, paper[1] - top] for left, bottom, right, top in places)
+        found = [[max(0.0, min(self.bleed, end)) for end in each] for each in ends]
+        for side in range(4):
+            at, sign = side % 2, -1 if side < 2 else 1
+            middles = [sign * (place[at] + place[at + 2]) / 2 for place in places]
+            order = sorted(range(len(places)), key=middles.__getitem__)
+            most = max((place[at + 2] - place[at] for place in places), default=0) / 2
+            for rank, k in enumerate(order):
+                half = (places[k][at + 2] - places[k][at]) / 2
+                for other in islice(order, rank + 1, None):
+                    if middles[other] - middles[k] - half - most >= 2 * found[k][side]:
+                        break  # what comes after it is farther away
+                    if middles[other] > middles[k] and are_beside(places[k], places[other], 1 - at):
+                        gap = middles[other] - middles[k] - half - (places[other][at + 2] - places[other][at]) / 2
+                        found[k][side] = max(0.0, min(found[k][side], gap / 2))
+        return found
+
+
+def are_beside(one: Box, other: Box, at: int) -> bool:
+    """Whether boxes have something in common in a direction."""
+    return min(one[at + 2], other[at + 2]) - max(one[at], other[at]) > NEAR
 
 
 def clipped(placed: Placed) -> Box:
