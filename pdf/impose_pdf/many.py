@@ -75,7 +75,7 @@ class Worker:
     """A process that makes the sheets of one INFILE, and keeps what it says. It comes among those that run."""
 
     def __init__(self, request: Request, work: Callable[[Request], int], running: "dict[int, Worker]"):
-        self.name, self.status = request.infiles[0][0], 0
+        self.name, self.status, self.lines = request.infiles[0][0], 0, ""
         self.said: IO[bytes] = tempfile.TemporaryFile()
         mask = signal.pthread_sigmask(signal.SIG_BLOCK, SIGNALS)  # a new process would lose what comes at once
         self.process = os.fork()
@@ -92,18 +92,15 @@ class Worker:
         signal.pthread_sigmask(signal.SIG_SETMASK, mask)
 
     def end(self, ended: int) -> None:
-        """Keeps how it ended."""
+        """Keeps how it ended, and what it said, each line with the name of its INFILE."""
         self.status = os.waitstatus_to_exitcode(ended)
         if self.status < 0:
             self.said.write(told(f"ended by signal {-self.status}").encode())
             self.status = 3
-
-    def lines(self) -> str:
-        """What it said, each line with the name of its INFILE."""
         self.said.seek(0)
         lines = self.said.read().decode(errors="backslashreplace").splitlines()
         self.said.close()
-        return "".join(f"{shown(self.name)}: {line}\n" for line in lines)
+        self.lines = "".join(f"{shown(self.name)}: {line}\n" for line in lines)
 
 
 def heed_signals(way: Any) -> None:
@@ -140,7 +137,7 @@ def run(requests: list[Request], work: Callable[[Request], int], say: Callable[[
             running.pop(process).end(ended)
             while said < len(workers) and workers[said].process not in running:
                 failed += [workers[said]] if workers[said].status else []
-                say(CLEARED * shows + workers[said].lines())
+                say(CLEARED * shows + workers[said].lines)
                 said += 1
             say(f"{CLEARED}{said} of {len(requests)}" * shows)
         if one is not None:
