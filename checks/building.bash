@@ -39,7 +39,8 @@ look_for_rt() {
 install_packages() {
     [ "${may_install-}" = yes ] && [ "$(id -u)" = 0 ] && command -v apt-get >/dev/null || return 1
     printf 'Installing by apt-get: %s\n' "$*"
-    { apt-get -qq -o Acquire::Retries=0 update && DEBIAN_FRONTEND=noninteractive apt-get -qq -y install --no-install-recommends "$@"; } >/dev/null 2>&1 && return
+    { apt-get -qq -o Acquire::Retries=0 update &&
+        DEBIAN_FRONTEND=noninteractive apt-get -qq -o Acquire::Retries=1 -y install --no-install-recommends "$@"; } >/dev/null 2>&1 && return
     echo "apt-get can't install them; is there a network?"
     return 1
 }
