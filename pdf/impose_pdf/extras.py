@@ -5,7 +5,7 @@ from impose_pdf.boxes import Boxing, give_boxes
 from impose_pdf.cropping import Cropping
 from impose_pdf.document import Source
 from impose_pdf.making import Making
-from impose_pdf.passwords import read_password
+from impose_pdf.passwords import read_passwords
 from impose_pdf.plan import Sheet, Size
 from impose_pdf.unbooklet import OF_STAMPS
 from impose_pdf.words import Request
@@ -19,7 +19,7 @@ class Extras:
         self.cropping = Cropping(request) if "--crop" in request.own else None
         self.is_unbooklet = "--unbooklet" in request.own
         self.turns = rows.Turns(request.own.get("--turn", []))
-        read_password(request)
+        read_passwords(request)
         self.marks = None
         if "--marks" in request.own or "--marks" in request.options:
             from impose_pdf.marks import Marks

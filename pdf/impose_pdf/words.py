@@ -19,6 +19,7 @@ OWN = {  # options with a value that impose doesn't have
 }
 OWN_ALONE = {"--crop", "--each-right"}  # and without one, but perhaps after an equals sign
 OF_UNBOOKLET = {"--rtl", "--signature"}  # options of this command
+REPEATED = {"--password", "--text", "--turn"}  # options that may come again
 OWN_MARKS = ("registration", "bars", "slug")
 LOOKS = ("--plan", "--preview", "--print-spec")
 LETTERS = {"p": "--paper", "q": "--quiet", "h": "--help", "V": "--version"}
@@ -136,6 +137,10 @@ def read(words: list[str]) -> Request:
                 if OPTION.match(value) and (name != "--suffix" or value.startswith("--")):
                     raise refusal(2, f"{shown(word)} lacks its value")
                 kept.append(value)
+            if name in request.own and name not in REPEATED:
+                raise refusal(2, f"{name} is given twice: leave one of them out")
+            if "=" in word and (name == "--each-right" or name == "--rtl" and "--unbooklet" in request.own):
+                raise refusal(2, f"{name} has no value: leave out the equals sign and what comes after it")
             if name == "--marks" and (own := [mark for mark in value.split(",") if mark in OWN_MARKS]):
                 value = ",".join(mark for mark in value.split(",") if mark not in OWN_MARKS)
                 request.own[name], kept = own, [f"--marks={value}"]
