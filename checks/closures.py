@@ -29,7 +29,7 @@ TOPICS = {
     "marks": "strokes_in mark_lines",
     "notes": "notes_in note_lines",
     "numbers": "page_numbers with_page_numbers",
-    "posters": "poster_in row_tiles tile_marks tile_room",
+    "posters": "poster_of row_tiles tile_marks tile_room",
     "ranges": "ranges_of row_named",
     "reported-papers": "reporting",
     "select": "selected selected_sheet merge_near_sizes kinds kind_paper",

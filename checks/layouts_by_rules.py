@@ -48,6 +48,7 @@ class Options:
     count: int = 0
     skip: int = 0  # used cells of the first sheet
     grid: tuple[int, int] | None = None
+    size: Paper | Fraction | None = None  # of a poster: a paper or a scale
     flags: set[str] = field(default_factory=set)
     pages: list[tuple[int, int] | None] = field(default_factory=lambda: [(1, -1)])
     margin: dict[str, Fraction] = field(default_factory=dict)
@@ -392,6 +393,14 @@ def spot_in(cell: Cell, paper: Paper, scale: Fraction, trim: int, shift: int) ->
     return Spot(0, scale, Fraction(cell.left + left + shift), Fraction(cell.low + low))
 
 
+def scale_named(options: Options, paper: Paper) -> Fraction:
+    """14.3: the scale that the size of a poster or --scale names, and else 1."""
+    if isinstance(options.size, tuple):
+        return max(scale_in(sides, paper, 0) for sides in (options.size, options.size[::-1]))
+    named = options.scale if options.size is None else options.size
+    return Fraction(1) if named is None else named
+
+
 class Poster:
     """14.3: the sides of tiles are rounded down."""
 
@@ -403,10 +412,12 @@ class Poster:
             raise Refused("room")
         self.scale, self.grid = options.scale, options.grid or (0, 0)
         if not options.grid:
-            self.scale = Fraction(1) if options.scale is None else options.scale
-            scaled = [ceil(self.scale * side) for side in paper]
-            columns, rows = (max(1, -((overlap - side) // step)) for side, step in zip(scaled, self.steps))
-            self.grid = columns, rows
+            self.scale = scale_named(options, paper)
+            self.grid = self.fewest(self.scale, paper)
+            whole = Fraction(floor(100 * self.scale), 100)
+            fewer = self.fewest(whole, paper)
+            if isinstance(options.size, tuple) and fewer[0] * fewer[1] < self.grid[0] * self.grid[1]:
+                self.scale, self.grid = whole, fewer
         if self.grid[0] * self.grid[1] > 1024:
             raise Refused("tiles")
         wide, high = (parts * step + overlap for parts, step in zip(self.grid, self.steps))
@@ -414,6 +425,12 @@ class Poster:
             raise Refused("sides")
         self.sides = wide, high
         self.scale_of(paper)
+
+    def fewest(self, scale: Fraction, paper: Paper) -> tuple[int, int]:
+        """The fewest columns and rows for a page of this paper at this scale."""
+        scaled = [ceil(scale * side) for side in paper]
+        columns, rows = (max(1, -((self.overlap - side) // step)) for side, step in zip(scaled, self.steps))
+        return columns, rows
 
     def scale_of(self, paper: Paper) -> Fraction:
         """The scale of a page of this paper."""
@@ -444,6 +461,8 @@ def refuse_words(options: Options) -> None:
         raise Refused("odd and even")
     if options.layout == "select" and options.sheet:
         raise Refused("select has a sheet")
+    if options.size is not None and options.scale is not None:
+        raise Refused("scale of a size")
     if "inner" in options.margin:
         if options.layout not in ("nup", "booklet"):
             raise Refused("inner")

@@ -124,7 +124,7 @@ _impose() {
             help:*) ;;
             nup:0 | cards:0 | stack:0) COMPREPLY=($(compgen -W '1 2 4 6 8 9 16 2x4' -- "$cur")) ;;
             notes:0) COMPREPLY=($(compgen -W '1 2 3 4' -- "$cur")) ;;
-            poster:0) COMPREPLY=($(compgen -W 'auto 2x2 2x3 3x2 3x3 4x4' -- "$cur")) ;;
+            poster:0) COMPREPLY=($(compgen -W 'auto 2x2 2x3 3x2 3x3 4x4 a0 a1 a2 a3 200%' -- "$cur")) ;;
             select:0 | spec:0) ;;
             *) _impose_files "${patterns[@]}" ;;
         esac

@@ -159,7 +159,7 @@ for program in impose impose-pdf
     complete -c $program -n '__impose_at 1 help' -a $listed
     complete -c $program -n '__impose_at 1 nup cards stack' -a '1 2 4 6 8 9 16 2x4'
     complete -c $program -n '__impose_at 1 notes' -a '1 2 3 4'
-    complete -c $program -n '__impose_at 1 poster' -a 'auto 2x2 2x3 3x2 3x3 4x4'
+    complete -c $program -n '__impose_at 1 poster' -a 'auto 2x2 2x3 3x2 3x3 4x4 a0 a1 a2 a3 200%'
     complete -c $program -n __impose_at_file -a "(__impose_files '$endings')"
     complete -c $program -n "__impose_of $every" -s q -l quiet -d 'print no report'
     complete -c $program -n "__impose_of $every" -s p -xa '(__impose_paper)' -d 'the paper of the pages'

@@ -12,6 +12,7 @@ use Rattle.row_runs.specs.declared.sheet_request.Laying.TheVariants as laying
 use Rattle.layouts.specs.declared.arrangement.Cells.TheVariants.{AtLeast, Exactly}
 use Rattle.impose_words.specs.declared.request.Layout.{Layout}
 use Rattle.impose_words.specs.declared.request.Layout.TheVariants as layout
+use Rattle.impose_words.specs.declared.request.PosterSize.TheVariants as size
 use Rattle.impose_words.specs.declared.request.Spacing.{Spacing}
 use Rattle.impose_cli.specs.Laws.{GuardIsOfFirst, IsOfFirst}
 use Rattle.impose_cli.specs.RowTasks.{TakesNamed, cells_paper, first_paper, guarded_in, laying_in, sheet_paper_in}
@@ -39,8 +40,10 @@ by_layout layout.Selection s page sheet found papers row l is chosen =
     is_laid papers row (first_paper found papers sheet) _ l is
     (subst (λ f. IsOfFirst (laying.AsTheyAre sheet) papers row (first_paper f papers sheet)) (sym chosen) (of_selection papers sheet row))
 by_layout (layout.Booklet signing long_edge) s page sheet found papers row l is chosen = is_laid papers row sheet _ l is refl
-by_layout (layout.Poster (Exactly columns rows)) s page sheet found papers row l is chosen = is_laid papers row sheet _ l is refl
-by_layout (layout.Poster (AtLeast n)) s page sheet found papers row l is chosen = is_laid papers row sheet _ l is refl
+by_layout (layout.Poster (size.Sheets (Exactly columns rows))) s page sheet found papers row l is chosen = is_laid papers row sheet _ l is refl
+by_layout (layout.Poster (size.Sheets (AtLeast n))) s page sheet found papers row l is chosen = is_laid papers row sheet _ l is refl
+by_layout (layout.Poster (size.Scaled scale)) s page sheet found papers row l is chosen = is_laid papers row sheet _ l is refl
+by_layout (layout.Poster (size.Fitting paper)) s page sheet found papers row l is chosen = is_laid papers row sheet _ l is refl
 by_layout (layout.NUp cells) s page sheet found papers row l is chosen = is_laid papers row sheet _ l is refl
 by_layout (layout.Cards cells) s page sheet found papers row l is chosen = is_laid papers row sheet _ l is refl
 by_layout (layout.Stack cells duplex) s page sheet found papers row l is chosen = is_laid papers row sheet _ l is refl

@@ -17,6 +17,7 @@ pub mod Programs
 pub mod TakenPages
 pub mod ReachingTaken
 mod Guarding
+mod OfSize
 pub mod Places
 pub mod Finishing
 pub mod OneText

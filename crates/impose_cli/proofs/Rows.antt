@@ -57,7 +57,7 @@ is_by_spec other = false
 
 never_by_spec : (l : Layout) (s : Spacing) (page sheet : Paper) → is_by_spec (laying_in l s page sheet) ≡ false
 never_by_spec (layout.Booklet signing long_edge) s page sheet = refl
-never_by_spec (layout.Poster cells) s page sheet = refl
+never_by_spec (layout.Poster size) s page sheet = refl
 never_by_spec layout.Selection s page sheet = refl
 never_by_spec (layout.Spec specs signing) s page sheet = refl
 never_by_spec other s page sheet = refl

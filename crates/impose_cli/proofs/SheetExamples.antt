@@ -17,6 +17,7 @@ use Rattle.row_runs.specs.declared.sheet_request.Laying.{Laying}
 use Rattle.impose_words.specs.Spacings.{swaps_margins, nothing_kept}
 use Rattle.impose_words.specs.declared.request.Layout.{Layout}
 use Rattle.impose_words.specs.declared.request.Layout.TheVariants as layout
+use Rattle.impose_words.specs.declared.request.PosterSize.TheVariants as size
 use Rattle.impose_words.specs.declared.request.Spacing.{Spacing}
 use Rattle.impose_cli.specs.RowsAsked.{signing_in}
 use Rattle.impose_cli.specs.RowTasks.{laying_in}
@@ -83,11 +84,18 @@ leaves = refl
 abbrev tile : (left below : ℤ) → List Lies
 tile left below = Some (1, Upright, left, below) ∷ []
 
-poster : sheets_of (layout.Poster (Exactly 2 3)) nothing_kept (points 200 300) square 1
+poster : sheets_of (layout.Poster (size.Sheets (Exactly 2 3))) nothing_kept (points 200 300) square 1
     ≡ tile (pos 0) (negsuc 199_999_999_999) ∷ tile (negsuc 99_999_999_999) (negsuc 199_999_999_999)
     ∷ tile (pos 0) (negsuc 99_999_999_999) ∷ tile (negsuc 99_999_999_999) (negsuc 99_999_999_999)
     ∷ tile (pos 0) (pos 0) ∷ tile (negsuc 99_999_999_999) (pos 0) ∷ []
 poster = refl
+
+-- On a paper of 401 by 602 points the page has 2.005 times its size, and takes three by three sheets. Twice its size takes two by two.
+
+in_size : sheets_of (layout.Poster (size.Fitting (points 401 602))) nothing_kept (points 200 200) (points 200 200) 1
+    ≡ tile (pos 0) (negsuc 199_999_999_999) ∷ tile (negsuc 199_999_999_999) (negsuc 199_999_999_999)
+    ∷ tile (pos 0) (pos 0) ∷ tile (negsuc 199_999_999_999) (pos 0) ∷ []
+in_size = refl
 
 -- The leaf of a booklet of four pages. They are turned to the left, so as one holds the sheet for them to be upright, what lies
 -- higher on it is on the right: page 1 on the front, page 3 on the back.

@@ -23,7 +23,7 @@ use Rattle.impose_messages.specs.declared.fault.ImposeFault.TheVariants as fault
 -- what is kept free on the sheets of a layout that has cells
 abbrev pub kept_free : Layout → Spacing → Option Free
 kept_free (layout.Booklet signing long_edge) s = Some (binding_in s long_edge).free
-kept_free (layout.Poster cells) s = None
+kept_free (layout.Poster size) s = None
 kept_free layout.Selection s = None
 kept_free (layout.Spec specs signing) s = None
 kept_free other s = Some (cells_of_layout other s).free

@@ -14,8 +14,6 @@ use Rattle.rows.specs.Sewing.{MayBeSewn}
 use Rattle.layouts.specs.Fitted.{binding_setting_of, setting_of}
 use Rattle.layouts.specs.Grids.{cells_per_sheet, is_same, rounded_down, rounded_up}
 use Rattle.layouts.specs.Refusals.{error_unless, is_length, why_not_arranged, why_not_bound}
-use Rattle.layouts.specs.declared.arrangement.Cells.{Cells}
-use Rattle.layouts.specs.declared.arrangement.Cells.TheVariants.{AtLeast, Exactly}
 use Rattle.layouts.specs.declared.arrangement.Free.{Free}
 use Rattle.layouts.specs.declared.arrangement.Arrangement.{Arrangement}
 use Rattle.layouts.specs.declared.error.ArrangementError.TheVariants as why
@@ -35,10 +33,11 @@ use Rattle.row_runs.specs.declared.sheet_request.Laying.TheVariants as laying
 use Rattle.row_sheets.specs.declared.fill.Scheme.TheVariants as scheme
 use Rattle.row_runs.specs.declared.run.RowJob.{RowJob}
 use Rattle.impose_words.specs.Choices.{choice_in}
-use Rattle.row_sheets.specs.Posters.{on_fewest, why_no_poster}
+use Rattle.row_sheets.specs.Posters.{why_no_poster}
 use Rattle.row_sheets.specs.declared.poster.Poster.{Poster}
 use Rattle.impose_words.specs.Spacings.{arrangement_in, binding_in, swaps_margins, notes_in, zine_in}
 use Rattle.impose_words.specs.declared.request.Spacing.{Spacing}
+use Rattle.impose_cli.specs.PosterSizes.{poster_of}
 use Rattle.impose_cli.specs.Claims.{AreClaimsOf}
 use Rattle.impose_cli.specs.Loose.{loose_on}
 use Rattle.impose_cli.specs.Reaches.{reach_in, reach_on}
@@ -88,27 +87,22 @@ cells_of_layout other s = zine_in s
 abbrev pub filled_in : Layout → Spacing → Arrangement → (page_paper sheet_paper : Paper) → Laying
 filled_in l s a page sheet = laying.InCells (setting_of page sheet a) (scheme_in l s (cells_per_sheet a.cells))
 
--- columns and rows of sheets of a paper, with one margin along all edges: of it and of the overlap none is lost
-abbrev pub tiles_in : Spacing → (columns rows : ℕ) → (sheet : Paper) → Poster
-tiles_in s columns rows sheet = record {
+-- one sheet of this paper, with one margin along all edges: of it and of the overlap none is lost
+abbrev pub one_tile : Spacing → (sheet : Paper) → Poster
+one_tile s sheet = record {
   sheet = sheet;
-  columns = columns;
-  rows = rows;
+  columns = 1;
+  rows = 1;
   edge = rounded_up s.free.left;
   overlap = rounded_up s.overlap;
   scale = s.scale;
 }
 
--- the columns and rows that are named, or the fewest that hold a page of this paper at its scale (RULES, 14.3)
-abbrev pub poster_in : Spacing → Cells → (page_paper sheet_paper : Paper) → Poster
-poster_in s (Exactly columns rows) page sheet = tiles_in s columns rows sheet
-poster_in s (AtLeast n) page sheet = on_fewest page (tiles_in s 1 1 sheet)
-
 -- how a layout lays a row of pages of a paper on sheets, if it does and names no specification for it (RULES, 14)
 abbrev pub laying_in : Layout → Spacing → (page_paper sheet_paper : Paper) → Option Laying
 laying_in (layout.Booklet signing long_edge) s page sheet =
     Some (laying.InCells (binding_setting_of sheet (binding_in s long_edge)) (scheme.Booklet long_edge (rounded_down s.creep)))
-laying_in (layout.Poster cells) s page sheet = Some (laying.Poster (poster_in s cells page sheet))
+laying_in (layout.Poster size) s page sheet = Some (laying.Poster (poster_of size page (one_tile s sheet)))
 laying_in layout.Selection s page sheet = Some (laying.AsTheyAre sheet)
 laying_in (layout.Spec specs signing) s page sheet = None
 laying_in other s page sheet = Some (filled_in other s (cells_of_layout other s) page sheet)
@@ -123,7 +117,7 @@ has_one_margin f = has_even_margins f && int_eq f.left f.bottom
 -- margins are as even as the layout needs them: leaves, and sheets that are turned by half, need even ones
 abbrev pub is_even_enough : Layout → Free → Bool
 is_even_enough (layout.Stack cells duplex) f = not duplex || has_even_margins f
-is_even_enough (layout.Poster cells) f = has_one_margin f
+is_even_enough (layout.Poster size) f = has_one_margin f
 is_even_enough layout.Zine f = has_even_margins f
 is_even_enough other f = true
 
@@ -131,8 +125,8 @@ is_even_enough other f = true
 abbrev pub why_not_placed : Layout → Spacing → (page_paper sheet_paper : Paper) → Option ImposeFault
 why_not_placed (layout.Booklet signing long_edge) s page sheet = option_map fault.Layout
     (error_unless (is_length s.creep) why.LengthOutOfRange (why_not_bound page sheet (binding_in s long_edge)))
-why_not_placed (layout.Poster cells) s page sheet = if is_length s.free.left && is_length s.overlap
-    then option_map fault.Poster (why_no_poster page (poster_in s cells page sheet))
+why_not_placed (layout.Poster size) s page sheet = if is_length s.free.left && is_length s.overlap
+    then option_map fault.Poster (why_no_poster page (poster_of size page (one_tile s sheet)))
     else Some (fault.Layout why.LengthOutOfRange)
 why_not_placed layout.Selection s page sheet = None
 why_not_placed (layout.Spec specs signing) s page sheet = None

@@ -1,5 +1,6 @@
 //! Laws of the output of impose. The functions do nothing, but one calls a law on which it rests.
 ghost use Rattle.impose_cli.specs.Finished.{OneText};
+ghost use Rattle.impose_cli.specs.PosterSizes.{PosterIsOfSize};
 ghost use Rattle.impose_cli.specs.Laws.{GuardIsOfFirst, ImposedKeepsPlaces, WroteDocument};
 
 use row_runs::laws::written_keeps_place;
@@ -27,4 +28,9 @@ pub fn guard_is_of_first()
 /// What is written for a request is fixed by the request and the input.
 pub fn one_text()
     ensures { OneText }
+{}
+
+/// A page of a poster whose size is a paper fits this paper, upright or on its side. At a scale that is larger by 0.01 it doesn't.
+pub fn poster_is_of_size()
+    ensures { PosterIsOfSize }
 {}

@@ -18,8 +18,9 @@ ghost use Rattle.impose_cli.specs.Precheck.{IsPossible, RefusesUnread, kept_free
 ghost use Rattle.impose_words.specs.declared.request.Layout.TheVariants as layout;
 ghost use Rattle.impose_messages.specs.declared.fault.ImposeFault.TheVariants as faults;
 
+use crate::poster_size::poster_of;
 use impose_messages::ImposeFault;
-use impose_words::{ImposeRequest, Layout, Spacing};
+use impose_words::{ImposeRequest, Layout, PosterSize, Spacing};
 use imposer::RunError;
 use layouts::{
     Arrangement, ArrangementError, Cells, Free, Papers, Setting, check_room, is_length,
@@ -116,8 +117,8 @@ pub(crate) fn laying_for(
             let laying = booklet_laying(*signing, *long_edge, spacing, papers)?;
             Ok(RowLaying::Plain(laying))
         }
-        Layout::Poster(cells) => {
-            let laying = poster_laying(*cells, spacing, papers)?;
+        Layout::Poster(size) => {
+            let laying = poster_laying(size, spacing, papers)?;
             Ok(RowLaying::Plain(laying))
         }
         Layout::Selection => Ok(RowLaying::Plain(Laying::AsTheyAre {
@@ -334,17 +335,17 @@ fn booklet_laying(
 }
 
 fn poster_laying(
-    cells: Cells,
+    size: &PosterSize,
     spacing: &Spacing,
     papers: &Papers,
 ) -> Result<Laying<'static>, ImposeFault>
     ensures laying { IfOk result (λ laying.
-        Some laying ≡ laying_in (layout.Poster cells) spacing.now papers.now.page papers.now.sheet) }
+        Some laying ≡ laying_in (layout.Poster size.now) spacing.now papers.now.page papers.now.sheet) }
     ensures may_be { IfOk result MayBeLaid }
     ensures possible { OnOk result
-        (why_not_placed (layout.Poster cells) spacing.now papers.now.page papers.now.sheet ≡ None) }
+        (why_not_placed (layout.Poster size.now) spacing.now papers.now.page papers.now.sheet ≡ None) }
     ensures refused { IfErr result (λ fault.
-        why_not_placed (layout.Poster cells) spacing.now papers.now.page papers.now.sheet ≡ Some fault) }
+        why_not_placed (layout.Poster size.now) spacing.now papers.now.page papers.now.sheet ≡ Some fault) }
 {
     let margin = spacing.free.left;
     if !(is_length(margin) && is_length(spacing.overlap)) {
@@ -358,14 +359,7 @@ fn poster_laying(
         overlap: rounded_up(spacing.overlap),
         scale: spacing.scale,
     };
-    let poster = match cells {
-        Cells::Exactly { columns, rows } => Poster {
-            columns,
-            rows,
-            ..one
-        },
-        Cells::AtLeast(_) => one.on_fewest_sheets(&papers.page),
-    };
+    let poster = poster_of(size, &papers.page, one);
     match check_poster(&poster, &papers.page) {
         Ok(()) => Ok(Laying::Poster { poster }),
         Err(error) => Err(ImposeFault::Poster(error)),

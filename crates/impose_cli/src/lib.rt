@@ -11,6 +11,7 @@ mod laying;
 mod look;
 mod loose;
 mod lying;
+mod poster_size;
 mod precheck;
 mod printed;
 mod program;
@@ -25,9 +26,9 @@ pub use impose_messages::{
     empty_report, fault_status, fault_text, text_of_fault, text_said, words_text,
 };
 pub use impose_words::{
-    CellCommand, IdleOption, ImposeRequest, Layout, OptionId, PageChoice, Product, ProductOption,
-    RequestFault, Spacing, cells_named, parse_number, read_command, run_named, signing_named,
-    size_named, tiles_named, turned_named,
+    CellCommand, IdleOption, ImposeRequest, Layout, OptionId, PageChoice, PosterSize, Product,
+    ProductOption, RequestFault, Spacing, cells_named, parse_number, poster_size_named,
+    read_command, run_named, signing_named, size_named, turned_named,
 };
 pub use laying::check_layout;
 pub use look::{Overview, look_text};

@@ -52,13 +52,13 @@ fn fold_text(context: &Context<'_>) -> Result<String, AllocError> {
 pub(crate) fn poster_message(error: &PosterError) -> &'static str {
     match error {
         PosterError::TilesOutOfRange =>
-            "a poster has from 1 to 1,024 sheets: give other columns and rows, or a smaller --scale",
+            "a poster has from 1 to 1,024 sheets: give other columns and rows, or a smaller size or scale",
         PosterError::SideTooLong =>
             "a side of a sheet or of the whole poster is 100,000 points or more: take fewer or smaller sheets",
         PosterError::NothingButOverlap =>
             "margins and overlap leave nothing of a sheet: take a smaller --margin or --overlap, or a larger --sheet",
         PosterError::ScaleOutOfRange =>
-            "the page would be too small or too large on the poster: name another --scale, or other papers by --paper and --sheet",
+            "the page would be too small or too large on the poster: name another size or scale, or other papers by --paper and --sheet",
         PosterError::ScaleTooLarge =>
             "at that scale a page is larger than its sheets: take more columns and rows or a smaller --scale, or name the paper of that page by --paper",
         PosterError::NoMemory => OUT_OF_MEMORY,

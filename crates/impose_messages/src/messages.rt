@@ -97,6 +97,8 @@ fn idle_message(option: IdleOption) -> &'static str {
             "select leaves each page on a sheet of its own size, so --sheet does nothing: for another paper use \
             impose nup 1 --sheet a4 --pages 1-3 in.ps out.ps"
         }
+        IdleOption::Scale =>
+            "a poster's size gives its scale, so --scale does nothing: leave it out, or give auto in place of the size",
         IdleOption::CutMarks =>
             "--marks cut draws nothing without room outside the pages: give a --margin of half the --gap at least, as --margin 5mm",
         IdleOption::Inner =>

@@ -27,6 +27,7 @@ use Rattle.impose_words.specs.declared.request.ImposeRequest.{ImposeRequest}
 use Rattle.impose_words.specs.declared.request.Layout.{Layout}
 use Rattle.impose_words.specs.declared.request.Layout.TheVariants as layout
 use Rattle.impose_words.specs.declared.request.PageChoice.{PageChoice}
+use Rattle.impose_words.specs.declared.request.PosterSize.TheVariants as size
 use Rattle.impose_words.specs.declared.request.Product.TheVariants as product
 
 -- the words after `impose` make this request
@@ -169,7 +170,7 @@ notes = makes _ _ _ _ (record { taken = refl; entered = refl }) refl (refl, refl
 -- two columns and three rows of sheets, as a picture
 poster : (picture : String Global) → string_bytes picture ≡ codes "p.svg"
     → Makes (codes "poster" ∷ codes "2x3" ∷ codes "--overlap" ∷ codes "1in" ∷ codes "--margin" ∷ codes "2in" ∷ codes "--turn" ∷ codes "half" ∷ codes "--preview" ∷ codes "p.svg" ∷ [])
-    (record (plain (layout.Poster (Exactly 2 3))) {
+    (record (plain (layout.Poster (size.Sheets (Exactly 2 3)))) {
       spacing = record nothing_kept { free = record nothing_free { left = pos 18_288_000_000_000; right = pos 18_288_000_000_000; bottom = pos 18_288_000_000_000; top = pos 18_288_000_000_000 }; overlap = pos 9_144_000_000_000 };
       turn = turning.All turn.Half;
       product = product.Picture (Some picture);

@@ -4,6 +4,7 @@ use Rattle.std.specs.Prelude.{codes, negsuc, pos, None, Some}
 use Rattle.lengths.specs.Reading.{number_at}
 use Rattle.rules.specs.Papers.{points}
 use Rattle.layouts.specs.Grids.{nothing_free}
+use Rattle.layouts.specs.declared.arrangement.Cells.TheVariants.{AtLeast, Exactly}
 use Rattle.layouts.specs.declared.arrangement.Order.{Order}
 use Rattle.layouts.specs.declared.arrangement.FillOrder.{FillOrder}
 use Rattle.layouts.specs.declared.arrangement.FillOrder.TheVariants.{Rows, Columns}
@@ -14,6 +15,8 @@ use Rattle.paper_names.specs.Names.{papers}
 use Rattle.impose_words.specs.Edges.{gaps_named, margins_in, margins_named}
 use Rattle.impose_words.specs.Sizes.{length_with_unit, size_named}
 use Rattle.impose_words.specs.Arranging.{booklet_marks_named, cells_named, number_size_named, run_named, turn_for, turned_named}
+use Rattle.impose_words.specs.PosterSizes.{poster_size_named}
+use Rattle.impose_words.specs.declared.request.PosterSize.TheVariants as size
 use Rattle.impose_words.specs.Spacings.{nothing_kept, on_fronts}
 use Rattle.impose_words.specs.Words.{is_outfile, order_by}
 
@@ -79,6 +82,17 @@ gaps = refl
 
 no_numbers : map cells_named ([] ∷ codes "0" ∷ codes "1025" ∷ codes "2.5" ∷ codes "-2" ∷ codes "two" ∷ codes "2 " ∷ []) ≡ None ∷ None ∷ None ∷ None ∷ None ∷ None ∷ None ∷ []
 no_numbers = refl
+
+-- Sizes of posters: grids, a scale in per cent, which is rounded down to 10^-9, and papers.
+
+poster_sizes : map poster_size_named (codes "auto" ∷ codes "10x14" ∷ codes "200%" ∷ codes "1.23456789%" ∷ codes "1x2in" ∷ [])
+    ≡ Some (size.Sheets (AtLeast 1)) ∷ Some (size.Sheets (Exactly 10 14)) ∷ Some (size.Scaled (pos 2_000_000_000)) ∷ Some (size.Scaled (pos 12_345_678)) ∷ Some (size.Fitting (points 72 144)) ∷ []
+unfolding number_at papers
+poster_sizes = refl
+
+no_poster_sizes : map poster_size_named (codes "33x32" ∷ codes "4" ∷ codes "%" ∷ codes "-50%" ∷ codes "200%%" ∷ codes "60x90" ∷ codes "a9" ∷ []) ≡ None ∷ None ∷ None ∷ None ∷ None ∷ None ∷ None ∷ []
+unfolding number_at papers
+no_poster_sizes = refl
 
 -- Orders of cells, which --rtl turns round.
 

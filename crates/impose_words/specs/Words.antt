@@ -21,7 +21,7 @@ use Rattle.rows.specs.declared.choices.Part.{Part}
 use Rattle.rows.specs.declared.choices.Part.TheVariants.{All, Odd, Even}
 use Rattle.dressing.specs.declared.numbers.Numbering.{Numbering}
 use Rattle.dressing.specs.declared.strokes.Marks.{Marks}
-use Rattle.impose_words.specs.Arranging.{booklet_marks_named, cells_named, cut_marks_named, lines_alone, no_marks, noted_alone, tiles_named}
+use Rattle.impose_words.specs.Arranging.{booklet_marks_named, cells_named, cut_marks_named, lines_alone, no_marks, noted_alone}
 use Rattle.impose_words.specs.Arranging.{number_size_named, numbering, run_named, turn_named, turned_named, marks_and_numbers}
 use Rattle.layouts.specs.Grids.{cells_per_sheet, nothing_free}
 use Rattle.layouts.specs.declared.arrangement.Free.{Free}
@@ -30,6 +30,8 @@ use Rattle.impose_words.specs.declared.edges.Margins.{Margins}
 use Rattle.impose_words.specs.declared.request.PageChoice.{PageChoice}
 use Rattle.impose_words.specs.Command.{impose}
 use Rattle.impose_words.specs.Signatures.{signing_named, whole_number}
+use Rattle.impose_words.specs.PosterSizes.{poster_size_named, sheets_of_size}
+use Rattle.impose_words.specs.declared.request.PosterSize.{PosterSize}
 use Rattle.impose_words.specs.Sizes.{border_with_unit, length_with_unit, number_alone, size_named}
 use Rattle.impose_words.specs.declared.request.Layout.{Layout}
 use Rattle.impose_words.specs.declared.request.Layout.TheVariants as layout
@@ -123,13 +125,14 @@ command_name grid.Stack = codes "stack"
 command_name grid.Notes = codes "notes"
 command_name grid.Poster = codes "poster"
 
--- the cells that a text after such a command means; those of notes are a number of pages, and those of a poster are its sheets
+-- the cells that a text after such a command means; those of notes are a number of pages, and those of a poster are the sheets
+-- that its size takes
 abbrev pub cells_of_command : CellCommand → Text → Option Cells
 cells_of_command grid.NUp text = cells_named text
 cells_of_command grid.Cards text = cells_named text
 cells_of_command grid.Stack text = cells_named text
 cells_of_command grid.Notes text = noted_alone (cells_named text)
-cells_of_command grid.Poster text = tiles_named text
+cells_of_command grid.Poster text = option_map sheets_of_size (poster_size_named text)
 
 -- how many cells of the first sheet are used already, of so many: at least one is left
 abbrev pub skip_named : (cells : ℕ) → Text → Option ℕ
@@ -147,6 +150,10 @@ skip_found other found = Some 0
 -- the cells that come after such a command
 abbrev pub cells_found : CellCommand → (found : List Row) → Option Cells
 cells_found command found = option_and_then (cells_of_command command) (given (opt.Count command) found)
+
+-- the size of the poster that is asked for
+abbrev pub poster_size_found : (found : List Row) → Option PosterSize
+poster_size_found found = option_and_then poster_size_named (given (opt.Count grid.Poster) found)
 
 abbrev pub run_found : (found : List Row) → Option (FillOrder × Bool)
 run_found found = asked (Rows, false) run_named (given opt.Order found)
@@ -254,8 +261,8 @@ AsksFor name found (layout.Cards cells) = (name ≡ codes "cards") × (cells_fou
 AsksFor name found (layout.Stack cells duplex) = (name ≡ codes "stack") × (cells_found grid.Stack found ≡ Some cells)
     × (has_flag (codes "duplex") found ≡ duplex)
 AsksFor name found (layout.Notes pages) = (name ≡ codes "notes") × (cells_found grid.Notes found ≡ Some (AtLeast pages))
-AsksFor name found (layout.Poster cells) = (name ≡ codes "poster")
-    × (cells_found grid.Poster found ≡ Some cells)
+AsksFor name found (layout.Poster size) = (name ≡ codes "poster")
+    × (poster_size_found found ≡ Some size)
 AsksFor name found (layout.Booklet signing long_edge) = (name ≡ codes "booklet")
     × (option_map (λ sewn. unwrap_or sewn InOne) (signing_found found) ≡ Some signing)
     × (has_flag (codes "long-edge") found ≡ long_edge)

@@ -44,7 +44,7 @@ fn with_rows(columns: u32, text: &[u8]) -> Option<Cells>
 
 /// The tiles that the text names for a poster: columns and rows with an `x` between them, or `auto`, which gives `Cells::AtLeast(1)`. `None` for any
 /// other text, and for 0 or more than 1,024 tiles.
-pub fn tiles_named(text: &str) -> Option<Cells>
+pub(crate) fn tiles_named(text: &str) -> Option<Cells>
     ensures { result ≡ meaning.tiles_named text.now }
 {
     if text == "auto" {

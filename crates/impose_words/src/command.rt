@@ -18,10 +18,11 @@ ghost use Rattle.impose_words.specs.declared.fault.OptionId.TheVariants as opt;
 use crate::arguments::command;
 use crate::arranging::{
     NO_MARKS, booklet_marks_named, cells_named, cut_marks_named, note_count_named,
-    number_size_named, run_named, tiles_named, turn_named, turned_named,
+    number_size_named, run_named, turn_named, turned_named,
 };
 use crate::edges::{Margins, gaps_named, margins_named};
 use crate::fault::{CellCommand, OptionId, ProductOption, RequestFault};
+use crate::poster_size::poster_size_named;
 use crate::request::{ImposeRequest, Layout, PageChoice, Product, Spacing, Turning};
 use crate::signature::{signing_named, whole_number};
 use crate::sizes::{border_with_unit, length_with_unit, parse_number, size_named};
@@ -248,7 +249,7 @@ fn cells_layout(
 }
 
 /// The layout of this command, with the cells that its first argument `count` names. For notes the argument is a number of pages. For a poster it is
-/// columns and rows of sheets, or `auto`. `None` if the command doesn't take the argument.
+/// its size. `None` if the command doesn't take the argument.
 fn layout_in(command: CellCommand, count: &str, found: &ArgMatches<'_>) -> Option<Layout>
     requires { given (opt.Count command) (rows_in found.now) ≡ Some count.now }
     ensures read { IfSome result (AsksFor (command_name command) (rows_in found.now)) }
@@ -264,7 +265,7 @@ fn layout_in(command: CellCommand, count: &str, found: &ArgMatches<'_>) -> Optio
         CellCommand::Notes => Layout::Notes {
             pages: note_count_named(count)?,
         },
-        CellCommand::Poster => Layout::Poster(tiles_named(count)?),
+        CellCommand::Poster => Layout::Poster(poster_size_named(count)?),
     })
 }
 

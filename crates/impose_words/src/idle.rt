@@ -20,13 +20,15 @@ pub enum IdleOption {
     /// A left margin of `nup` other than 0, together with a margin at the inner edge. The inner edge of fronts is their left edge, so the left margin
     /// would have no effect.
     Left,
+    /// `--scale`, although a poster of this size has a scale of its own.
+    Scale,
     /// Cut marks together with a margin at the inner edge. Cut marks are the same on fronts and backs, but a margin at the inner edge isn't.
     InnerMarks,
 }
 
 impl ImposeRequest {
     /// The first option of the request that has no effect, or not the effect that its name promises. The variants of `IdleOption` are tried in this
-    /// order: `Outfile`, `Sheet`, `Inner`, `Left`, `InnerMarks`, `CutMarks`. `None` if none of them applies.
+    /// order: `Outfile`, `Sheet`, `Scale`, `Inner`, `Left`, `InnerMarks`, `CutMarks`. `None` if none of them applies.
     pub fn idle_option(&self) -> Option<IdleOption>
         ensures { result ≡ meaning.idle_option self.now }
     {
@@ -34,6 +36,8 @@ impl ImposeRequest {
             Some(IdleOption::Outfile)
         } else if keeps_papers(&self.layout) && self.sheet_paper.is_some() {
             Some(IdleOption::Sheet)
+        } else if self.spacing.scale.is_some() && has_own_scale(&self.layout) {
+            Some(IdleOption::Scale)
         } else if self.spacing.inner.is_some() && !is_bound(&self.layout) {
             Some(IdleOption::Inner)
         } else if has_two_left(&self.layout, &self.spacing) {
@@ -62,6 +66,16 @@ fn keeps_papers(layout: &Layout) -> bool
     ensures { result ≡ meaning.keeps_papers layout.now }
 {
     matches!(layout, Layout::Selection)
+}
+
+/// Whether the layout itself gives the scale of its pages.
+fn has_own_scale(layout: &Layout) -> bool
+    ensures { result ≡ meaning.has_own_scale layout.now }
+{
+    match layout {
+        Layout::Poster(size) => size.gives_scale(),
+        _ => false,
+    }
 }
 
 /// Whether sheets of this layout are bound, and so have an inner edge.

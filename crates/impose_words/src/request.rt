@@ -6,6 +6,7 @@ ghost use Rattle.impose_words.specs.Choices.{choice_in, is_all_pages};
 ghost use Rattle.impose_words.specs.Products.{file_to_spare};
 ghost use Rattle.impose_words.specs.Spacings.{arrangement_in, binding_in, keeps_room, notes_in, nothing_kept, some_gap as some_gap_of, zine_in};
 ghost use Rattle.impose_words.specs.Spacings.{at_fold as free_at_fold, fold_gap as gap_at_fold, on_fronts as free_on_fronts, swaps_margins};
+ghost use Rattle.impose_words.specs.PosterSizes.{gives_scale};
 ghost use Rattle.impose_words.specs.Words.{has_numbers};
 
 use command_words::name_of;
@@ -32,9 +33,8 @@ pub enum Layout {
     Notes {
         pages: u32,
     },
-    /// Each page spread over this grid of sheets, or over the grid of the fewest sheets that hold a page of the document's paper at the requested
-    /// scale.
-    Poster(Cells),
+    /// Each page spread over several sheets, to this size.
+    Poster(PosterSize),
     /// Two pages on each side of a leaf. The leaves are folded and sewn in the signatures that `signing` gives. With `long_edge`, backs are turned
     /// for printers that flip on the long edge.
     Booklet {
@@ -51,6 +51,26 @@ pub enum Layout {
         specs: String,
         signing: Option<Signing>,
     },
+}
+
+/// The size of a poster.
+#[derive(Clone, Copy, Debug, PartialEq, Eq)]
+pub enum PosterSize {
+    /// This grid of sheets. `Cells::AtLeast` stands for the grid of the fewest sheets that hold a page of the document's paper at the requested scale.
+    Sheets(Cells),
+    /// The size of the page at this scale, on the fewest sheets.
+    Scaled(Number),
+    /// As large as a page fits this paper, upright or on its side, on the fewest sheets.
+    Fitting(Paper),
+}
+
+impl PosterSize {
+    /// Whether the size itself gives the scale of the page.
+    pub fn gives_scale(self) -> bool
+        ensures { result ≡ gives_scale self }
+    {
+        !matches!(self, PosterSize::Sheets(_))
+    }
 }
 
 impl Layout {

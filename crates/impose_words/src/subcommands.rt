@@ -270,7 +270,8 @@ const POSTER: [Argument; 5] = [
     Argument::Required(
         "count",
         "CxR",
-        "Columns and rows of sheets, such as 2x3, at most 1024 sheets in all; auto takes as few as hold the pages at their scale",
+        "Columns and rows of sheets, such as 2x3, at most 1024 sheets in all; auto takes as few as hold the pages at their scale, \
+        and a size, such as a2, 60x90cm or 200%, as few as hold the pages in this size",
     ),
     Argument::Valued(
         "scale",

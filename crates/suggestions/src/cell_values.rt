@@ -1,7 +1,7 @@
 //! Messages about first arguments that aren't numbers of pages or grids.
 use crate::wordings::Wording;
 use crate::words::looks_like_file;
-use impose_words::{CellCommand, size_named};
+use impose_words::CellCommand;
 use std::alloc::{AllocError, Global};
 
 /// The wording about a refused text in the place of a command's number of pages or grid. If the text looks like a file, the message says that the
@@ -22,13 +22,6 @@ pub(crate) fn cells_wording(
     if text == "help" {
         let after = format!(in alloc;
             "' is no number of pages: the help is printed by: impose {name} --help"
-        )?;
-        return Wording::new(alloc, "'", after);
-    }
-    if command == CellCommand::Poster && (text.ends_with("%") || size_named(text).is_some()) {
-        let after = String::from_str(
-            alloc,
-            "' is no grid: the scale gives a poster's size, as in: impose poster auto --scale 2 in.ps out.ps",
         )?;
         return Wording::new(alloc, "'", after);
     }
@@ -54,7 +47,7 @@ fn command_with_example(command: CellCommand) -> (&'static str, &'static str) {
 fn missing_cells(command: CellCommand) -> (&'static str, &'static str) {
     match command {
         CellCommand::Poster => (
-            "columns and rows of sheets, or auto, are missing before '",
+            "columns and rows of sheets, or a size, are missing before '",
             "they come",
         ),
         CellCommand::NUp | CellCommand::Cards | CellCommand::Stack | CellCommand::Notes => (
@@ -70,8 +63,8 @@ fn bad_cells(command: CellCommand, is_grid: bool) -> (&'static str, &'static str
     match command {
         CellCommand::Notes => ("bad number of pages", "one from 1 to 512, as 3"),
         CellCommand::Poster => (
-            "bad grid",
-            "columns and rows of sheets as 2x3, at most 1024 in all, or auto",
+            "bad size",
+            "columns and rows of sheets as 2x3, at most 1024 in all, auto, or a size as a2, 60x90cm or 200%",
         ),
         CellCommand::NUp | CellCommand::Cards | CellCommand::Stack if is_grid => (
             "bad grid",

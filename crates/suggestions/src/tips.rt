@@ -102,7 +102,7 @@ pub(crate) const FOR_ZINES: &[Tip] = tips! {
 /// Tips on options that `poster` doesn't have, or has under another name than other programs.
 pub(crate) const FOR_POSTERS: &[Tip] = tips! {
     "--size" | "--poster-size" =>
-        "the size of a poster follows from its sheets, as in: impose poster 3x3 in.ps out.ps; or from its scale, as in: impose poster auto --scale 2 in.ps out.ps",
+        "the size of a poster comes after poster, as in: impose poster a2 in.ps out.ps",
     "--gap" | "--spacing" =>
         "sheets of posters overlap, as in: impose poster 2x2 --overlap 1cm in.ps out.ps",
 };

@@ -5,10 +5,10 @@ use Rattle.rules.specs.Papers.{Paper}
 use Rattle.rows.specs.declared.sewing.Signing.{Signing}
 use Rattle.layouts.proofs.Fitting.{handed_on}
 use Rattle.layouts.specs.Refusals.{why_not_arranged}
-use Rattle.layouts.specs.declared.arrangement.Cells.{Cells}
 use Rattle.layouts.specs.declared.error.ArrangementError.TheVariants as why
 use Rattle.impose_words.specs.declared.request.Layout.{Layout}
 use Rattle.impose_words.specs.declared.request.Layout.TheVariants as layout
+use Rattle.impose_words.specs.declared.request.PosterSize.{PosterSize}
 use Rattle.impose_words.specs.declared.request.Spacing.{Spacing}
 use Rattle.impose_messages.specs.declared.fault.ImposeFault.{ImposeFault}
 use Rattle.impose_messages.specs.declared.fault.ImposeFault.TheVariants as fault
@@ -20,23 +20,23 @@ use Rattle.impose_cli.proofs.laying.laying_for.Goals as goal
 abbrev IsInCells : Layout → Type 0
 IsInCells (layout.Spec specs signing) = ⊥
 IsInCells (layout.Booklet signing long_edge) = ⊥
-IsInCells (layout.Poster cells) = ⊥
+IsInCells (layout.Poster size) = ⊥
 IsInCells layout.Selection = ⊥
 IsInCells other = ⊤
 
 is_in_cells : (l : Layout) → ((specs : String Global) (signing : Option Signing) → l ≡ layout.Spec specs signing → ⊥)
-    → ((signing : Signing) (long_edge : Bool) → l ≡ layout.Booklet signing long_edge → ⊥) → ((cells : Cells) → l ≡ layout.Poster cells → ⊥)
+    → ((signing : Signing) (long_edge : Bool) → l ≡ layout.Booklet signing long_edge → ⊥) → ((size : PosterSize) → l ≡ layout.Poster size → ⊥)
     → (l ≡ layout.Selection → ⊥) → IsInCells l
 is_in_cells (layout.Spec specs signing) a b c d = a specs signing refl
 is_in_cells (layout.Booklet signing long_edge) a b c d = b signing long_edge refl
-is_in_cells (layout.Poster cells) a b c d = c cells refl
+is_in_cells (layout.Poster size) a b c d = c size refl
 is_in_cells layout.Selection a b c d = d refl
 is_in_cells other a b c d = tt
 
 laid : (l : Layout) (s : Spacing) (page sheet : Paper) → IsInCells l → laying_in l s page sheet ≡ Some (filled_in l s (cells_of_layout l s) page sheet)
 laid (layout.Spec specs signing) s page sheet h = absurd h
 laid (layout.Booklet signing long_edge) s page sheet h = absurd h
-laid (layout.Poster cells) s page sheet h = absurd h
+laid (layout.Poster size) s page sheet h = absurd h
 laid layout.Selection s page sheet h = absurd h
 laid other s page sheet h = refl
 
@@ -44,7 +44,7 @@ placed : (l : Layout) (s : Spacing) (page sheet : Paper) → IsInCells l
     → why_not_placed l s page sheet ≡ option_map fault.Layout (why_not_arranged page sheet (cells_of_layout l s))
 placed (layout.Spec specs signing) s page sheet h = absurd h
 placed (layout.Booklet signing long_edge) s page sheet h = absurd h
-placed (layout.Poster cells) s page sheet h = absurd h
+placed (layout.Poster size) s page sheet h = absurd h
 placed layout.Selection s page sheet h = absurd h
 placed other s page sheet h = refl
 
