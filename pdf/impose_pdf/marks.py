@@ -48,7 +48,8 @@ class Marks:
             if "slug" in self.own:
                 height = room_at(sheet, inner, (1, 3), "slug")[1]
                 at = inner[0], (inner[1] - SIZE) / 2 if height == 1 else (sheet.paper[1] + inner[3] - SIZE) / 2
-                drawn += ["/All cs 1 scn", lettering.shown(slug, SIZE, (1, 0), at)]
+                size = min(SIZE, (sheet.paper[0] - inner[0]) / lettering.width(slug))
+                drawn += ["/All cs 1 scn", lettering.shown(slug, size, (1, 0), at)]
             if drawn:
                 sheet.over = "\n".join([sheet.over, "q /All CS 1 SCN .25 w", *drawn, "Q"])
 

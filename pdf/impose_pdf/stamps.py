@@ -154,14 +154,16 @@ class Stamps:
 
     def line(self, lettering: Lettering, here: Spot, place: str, words: str) -> str:
         """A text at its place."""
-        wide = lettering.width(words) * SIZE
+        is_at_edge, wide = place in ("outer-foot", "inner-foot"), lettering.width(words)
+        size = min(SIZE, max(2 * here.wide - 2 * ROOM * is_at_edge, ROOM) / (wide or 1))  # less than a page is wide
+        wide *= size
         first = int(self.request.options.get("--numbers-from", "1"))
         is_right = ((here.place - first) % 2 == 0) != ("--rtl" in self.request.options)
         along = -wide / 2
-        if place in ("outer-foot", "inner-foot"):
+        if is_at_edge:
             along = here.wide - ROOM - wide if is_right == (place == "outer-foot") else ROOM - here.wide
-        ups = {"head": here.high - ROOM - HIGH * SIZE, "centre": -HIGH * SIZE / 2}
-        return lettering.shown(words, SIZE, here.way, here.point(along, ups.get(place, ROOM - here.high)))
+        ups = {"head": here.high - ROOM - HIGH * size, "centre": -HIGH * size / 2}
+        return lettering.shown(words, size, here.way, here.point(along, ups.get(place, ROOM - here.high)))
 
     def cover(self, making: Making, sheets: list[Sheet]) -> None:
         """Puts the first page of files under and over pages, as large as these."""
