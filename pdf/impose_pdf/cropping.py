@@ -14,15 +14,15 @@ from impose_pdf import notes
 from impose_pdf.boxes import inverse, length
 from impose_pdf.document import LEAST, Source
 from impose_pdf.faults import OF_OBJECTS, blaming
-from impose_pdf.pages import Box, array, bounds, common, then
+from impose_pdf.pages import Box, array, bounds, common, got, number_of, then
 from impose_pdf.words import Request, cause_of, refusal, shown
 
 Page = tuple[Source, int]
-FOUND = re.compile(rb"%%HiResBoundingBox: ([\d.]{1,20}) ([\d.]{1,20}) ([\d.]{1,20}) ([\d.]{1,20})\r?\n")
+FOUND = re.compile(rb"%%HiResBoundingBox: (-?[\d.]{1,20}) (-?[\d.]{1,20}) (-?[\d.]{1,20}) (-?[\d.]{1,20})\r?\n")
 MOST_SAID, SECONDS, SECONDS_OF_PAGE = 1 << 20, 60, 5  # bytes besides boxes, and how long it may take
 OF_PAGE = 200  # bytes of a page's boxes
 NOISE = 0.02  # points by which boxes are too large
-SEEN = "/Contents", "/Resources", "/Rotate", "/UserUnit", "/Annots", "/Group"
+SEEN = "/Contents", "/Resources", "/Annots", "/Group"
 LEAVES = {"booklet"}  # commands whose odd and even pages are on two sides of leaves
 
 
@@ -134,4 +134,6 @@ def copied(source: Source, k: int, tree: Any) -> Any:
     for key in SEEN:
         if (value := entries.get(key, page.get(key))) is not None:
             made[key] = value
+    turn, unit = number_of(entries.get("/Rotate"), 0) % 360, number_of(got(page, "/UserUnit"), 1)
+    made.Rotate, made.UserUnit = int(turn) if turn in (90, 180, 270) else 0, unit if unit > 0 else 1
     return source.pdf.make_indirect(made)

@@ -188,7 +188,7 @@ class Stamps:
         """What shows the stamp from one corner of a page to the other."""
         source, k = page
         wide, high = source.shapes[k].size
-        long, words = hypot(wide, high), lettering.width(self.stamp)
+        long, words = hypot(wide, high), lettering.width(self.stamp) or 1
         size, way = min(0.7 * long / words, min(wide, high) / 3), (wide / long, high / long)
         here = Spot((wide / 2, high / 2), way, 0, 0, 0)
         at = here.point(-words * size / 2, -HIGH * size / 2)
