@@ -18,7 +18,7 @@ LONGEST = 100  # signs of what is added to names
 MOST_NAMED = 20  # INFILEs that one line names
 CLEARED = "\r\x1b[K"  # a line of a terminal
 # What a process works with is loaded before it begins.
-MODULES = "document", "faults", "files", "making", "sheets"
+MODULES = "files", "job"
 
 
 def parted(request: Request) -> list[Request]:

@@ -11,11 +11,10 @@ from contextlib import suppress
 from typing import TYPE_CHECKING
 
 from impose_pdf import words as said
-from impose_pdf.deep import deeply
 from impose_pdf.early import plainer
-from impose_pdf.plan import Imposer, cannot_run, usual
+from impose_pdf.plan import Imposer, cannot_run
 from impose_pdf.usage import UNBOOKLET, USAGE
-from impose_pdf.wording import as_ours, help_of, reported
+from impose_pdf.wording import as_ours, help_of
 from impose_pdf.words import WITH_WORD, Refusal, Request, cause_of, refusal, shown
 
 if TYPE_CHECKING:
@@ -24,7 +23,6 @@ if TYPE_CHECKING:
 A4 = 595.0, 842.0
 ENDINGS = (".pdf", ".png", ".jpg", ".jpeg")  # of words that name files
 MOST_OPEN = 65_536  # files: INFILEs stay open
-OPENED: dict[str, object] = {}  # PDFs, which stay open to the end
 
 
 def imposer(here: str) -> str:
@@ -170,50 +168,26 @@ def is_file_taken_for_word(request: Request) -> bool:
 
 def impose(request: Request, program: str) -> None:
     """Puts the pages of INFILEs on sheets."""
-    from impose_pdf.document import Source, warnings_of
-    from impose_pdf.faults import OF_PIKEPDF, blaming
     from impose_pdf.files import Outfile, check_preview, take_last
-    from impose_pdf.making import Making
-    from impose_pdf.sheets import turn_to_read
+    from impose_pdf.job import Job
 
     extras = extras_of(request)
-    choose = extras.boxing.boxes if extras else None
     take_last(request)
     check_preview(request)
     outfile = None if request.looks else Outfile(request.outfile)
     try:
-        opened = {name: Source(name, choose) for name in dict.fromkeys(name for name, _ in request.infiles)}
-        parts = [[(opened[name], k) for k in opened[name].taken(ranges)] for name, ranges in request.infiles]
-        row = extras.row(parts) if extras else [page for part in parts for page in part]
+        job = Job(request, extras)
     except Refusal:
         look_at_words(request, program)
         raise
-    OPENED.update(opened)
-    sources, sizes = list(opened.values()), [source.size(k) for source, k in row]
-    if extras:
-        sizes = extras.sizes(sizes)
-    of_first = [size for size, (source, _) in zip(sizes, row) if source is row[0][0]]
-    imposer = Imposer(program, request, sizes, usual(of_first))
+    job.measure(program)
     if outfile is None:
-        text, report = imposer.run()
-        put(text)
+        put(job.look())
     else:
-        sheets, report = imposer.sheets(*(extras.more if extras else []))
+        job.lay()
         outfile.check_owner(request)
-        turned, flip = turn_to_read(request, sheets), imposer.flip()
-        making = Making(row, extras is not None and extras.draws)
-        with blaming([name for name, _ in request.infiles], *OF_PIKEPDF):
-            if extras:
-                extras.dress(making, sheets)
-            if len(opened) > 1 or making.others:  # what is brought from one PDF to another is copied by recursion
-                deeply(lambda: making.make(sheets, turned, flip))
-            else:
-                making.make(sheets, turned, flip)
-            outfile.write(making.pdf)
+        job.write(outfile)
         if "--quiet" not in request.options:
             say(outfile.warning())
-            say("".join(source.lost() for source in making.sources + making.others))
-        sources += [source for source in making.others if source.name not in opened]
-    say(warnings_of(sources))
-    all_pages = sum(len(source.pages) for source in opened.values())
-    say(reported(report, len(set(sizes)) == 1, len(set(row)), all_pages))
+            say(job.lost())
+    say(job.told())
