@@ -10,14 +10,19 @@ from pathlib import Path
 
 ROOT = Path(__file__).resolve().parent.parent.parent
 MOST_LINES = 220  # of a module
-FILES = ["pdf", "pdf/impose-pdf", "checks/pdf", "checks/impose-pdf"]
+FILES = [
+    "pdf",
+    "checks/pdf",
+    "checks/web",
+    *(f"{folder}/impose-{name}" for folder in ("pdf", "checks") for name in ("pdf", "web")),
+]
 # E203: black puts a space before the colon of a slice.
 TOOLS = [
     ["black", "--check", "--quiet", "--diff", "--config", "pdf/pyproject.toml", *FILES],
     ["isort", "--check-only", "--quiet", "--diff", "--settings-path", "pdf", *FILES],
     ["flake8", "--max-line-length", "120", "--extend-ignore", "E203", *FILES],
-    ["mypy", "--config-file", "pdf/pyproject.toml", "pdf/impose_pdf"],
-    ["mypy", "--config-file", "pdf/pyproject.toml", "checks/pdf"],
+    ["mypy", "--config-file", "pdf/pyproject.toml", "pdf/impose_pdf", "pdf/impose_web"],
+    ["mypy", "--config-file", "pdf/pyproject.toml", "checks/pdf", "checks/web"],
 ]
 
 
@@ -38,7 +43,7 @@ def long_modules(folder: Path) -> list[str]:
 def check_style() -> int:
     """Prints what the tools that are installed find, and what is long."""
     missing = {words[0] for words in TOOLS if not shutil.which(words[0])}
-    faults = long_modules(ROOT / "pdf/impose_pdf")
+    faults = long_modules(ROOT / "pdf/impose_pdf") + long_modules(ROOT / "pdf/impose_web")
     faults += [fault for words in TOOLS if words[0] not in missing for fault in faults_of(words)]
     print("".join(f"{fault}\n" for fault in faults), end="")
     print(f"{len(faults)} of {len(TOOLS) + 1} checks of style fail; missing: {', '.join(sorted(missing)) or 'none'}")

@@ -66,20 +66,23 @@ def status_of(work: Callable[[], None]) -> int:
     """Does what is to be done, says what goes wrong, and gives the exit status for it."""
     try:
         work()
-    except Refusal as refused:
+    except Exception as error:
+        refused = as_refusal(error)
         say(str(refused))
         return refused.status
-    except MemoryError:
-        say(said.told("out of memory"))
-        return 3
-    except OSError as error:
-        name = f"{shown(error.filename)}: " if isinstance(error.filename, str) else ""
-        say(said.told(f"{name}{cause_of(error)}"))
-        return 3
-    except Exception as error:  # a fault of this program
-        say(said.own_fault(error))
-        return 3
     return 0
+
+
+def as_refusal(error: Exception) -> Refusal:
+    """What a failure ends a run with."""
+    if isinstance(error, Refusal):
+        return error
+    if isinstance(error, MemoryError):
+        return refusal(3, "out of memory")
+    if isinstance(error, OSError):
+        name = f"{shown(error.filename)}: " if isinstance(error.filename, str) else ""
+        return refusal(3, f"{name}{cause_of(error)}")
+    return Refusal(3, said.own_fault(error))  # a fault of this program
 
 
 def open_more() -> None:

@@ -1,0 +1,1 @@
+"""Checks of impose-web."""
