@@ -28,6 +28,7 @@ LONGEST, MOST = 200, 20  # signs of a text, and texts
 QUARTERS = {"left": 1, "half": 2, "right": 3}  # to the left, of all pages
 SIZE, ROOM = 9, 18  # points: of letters, and from them to the edge
 HIGH = 0.72  # sizes: a capital letter
+OPENED: dict[tuple[str, str], Source] = {}  # files that are under and over the pages of all INFILEs
 FAINT = 0.3  # how much of a stamp is seen over what is below it
 
 
@@ -86,7 +87,9 @@ class Stamps:
             if (name := own.get(option, [""])[-1]) == "-":
                 raise refusal(2, f"{option} names a file, and not standard input")
             if name:
-                self.files[option] = Source(name)
+                if (option, name) not in OPENED:
+                    OPENED[option, name] = Source(name)
+                self.files[option] = OPENED[option, name]
                 self.files[option].size(0)
 
     def parted(self, word: str) -> tuple[str, str]:
