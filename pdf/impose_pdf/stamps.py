@@ -83,14 +83,13 @@ class Stamps:
         self.stamp = checked("--stamp", own["--stamp"][-1]) if "--stamp" in own else ""
         if len(self.texts) > MOST:
             raise refusal(2, f"there are more than {MOST} --text")
-        for option in ("--under", "--over"):
-            if (name := own.get(option, [""])[-1]) == "-":
+        for option in (option for option in ("--under", "--over") if option in own):
+            if (name := own[option][-1]) in ("", "-"):
                 raise refusal(2, f"{option} names a file, and not standard input")
-            if name:
-                if (option, name) not in OPENED:
-                    OPENED[option, name] = Source(name)
-                self.files[option] = OPENED[option, name]
-                self.files[option].size(0)
+            if (option, name) not in OPENED:
+                OPENED[option, name] = Source(name)
+            self.files[option] = OPENED[option, name]
+            self.files[option].size(0)
 
     def parted(self, word: str) -> tuple[str, str]:
         """The place and the words of a text."""
