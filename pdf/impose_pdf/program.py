@@ -85,6 +85,13 @@ def as_refusal(error: Exception) -> Refusal:
     return Refusal(3, said.own_fault(error))  # a fault of this program
 
 
+def not_loaded(error: ImportError) -> Refusal:
+    """What a library ends a run with that can't be loaded."""
+    if isinstance(error, ModuleNotFoundError):
+        return refusal(3, f"{error.name} is missing: install python3-pikepdf")
+    return refusal(3, f"out of memory, or python3-pikepdf is broken: {error}")
+
+
 def open_more() -> None:
     """Lets more files be open, if that is allowed."""
     with suppress(OSError, ValueError):
@@ -111,8 +118,8 @@ def run(words: list[str], here: str) -> None:
         raise refusal(2, said.WANTED)
     try:
         import pikepdf  # noqa: F401
-    except ImportError:
-        raise refusal(3, "pikepdf is missing: install python3-pikepdf") from None
+    except ImportError as error:
+        raise not_loaded(error) from None
     (impose_each if request.is_each else impose)(request, imposer(here))
 
 

@@ -65,7 +65,7 @@ def serve(files: list[Path], imposer: str, opens: bool) -> None:
     try:
         from impose_web.server import Web
     except ImportError as error:
-        raise refusal(3, f"{error.name} is missing: install python3-pikepdf") from None
+        raise program.not_loaded(error) from None
     server = Web([file.absolute() for file in files], imposer)
     address = f"http://{server.place}/{server.key}/"
     if opens and shutil.which("xdg-open"):
