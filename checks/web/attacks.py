@@ -227,6 +227,13 @@ def too_large_a_file_is_refused(begin: Begin) -> None:
     wanted(web.raw(f"{head}Transfer-Encoding: chunked\r\n\r\n"), 411)
 
 
+def a_file_that_the_disk_has_no_room_for_is_refused(begin: Begin) -> None:
+    full = "import shutil; shutil.disk_usage = lambda _: type('Disk', (), {'free': 3 << 20}); "
+    web = begin(first=full)
+    answer = web.ask("POST", f"{web.begin()}file/x.pdf", b"x" * (20 << 20))
+    wanted((answer.status, b"larger than 3 MB" in answer.body), (413, True))
+
+
 def half_a_file_is_none(begin: Begin) -> None:
     web = begin()
     head = f"POST {web.begin()}file/half.pdf HTTP/1.1\r\nHost: {web.host}\r\nOrigin: http://{web.host}\r\n"

@@ -59,12 +59,20 @@ class Answer:
 class Web:
     """A server."""
 
-    def __init__(self, pdf: Path, impose: Path, files: list[str] | None = None, gone: tuple[int, int] | None = None):
+    def __init__(
+        self,
+        pdf: Path,
+        impose: Path,
+        files: list[str] | None = None,
+        gone: tuple[int, int] | None = None,
+        first: str = "",
+    ):
         self.temporary, self.said = Path(tempfile.mkdtemp()), b""
         words = ["--no-browser", *(files or [])]
         program = [str(pdf / "impose-web"), *words]
-        if gone:
-            program = ["/usr/bin/python3", "-B", "-c", (GONE + MAIN).format(str(pdf), *gone, words)]
+        if gone or first:
+            text = first + (GONE + MAIN).format(str(pdf), *(gone or (3600, 3600)), words)
+            program = ["/usr/bin/python3", "-B", "-c", text]
         env = {**os.environ, "IMPOSE": str(impose), "TMPDIR": str(self.temporary)}
         # In a group of its own: Ctrl-C of a terminal is for it and its children.
         self.process = subprocess.Popen(program, stdout=subprocess.PIPE, env=env, process_group=0)
@@ -153,8 +161,8 @@ class Begin:
     def __init__(self, pdf: Path, impose: Path):
         self.pdf, self.impose, self.begun = pdf, impose, list[Web]()
 
-    def __call__(self, files: list[str] | None = None, gone: tuple[int, int] | None = None) -> Web:
-        self.begun.append(Web(self.pdf, self.impose, files, gone))
+    def __call__(self, files: list[str] | None = None, gone: tuple[int, int] | None = None, first: str = "") -> Web:
+        self.begun.append(Web(self.pdf, self.impose, files, gone, first))
         return self.begun[-1]
 
     def tidy(self) -> None:

@@ -131,6 +131,9 @@ class Answer(BaseHTTPRequestHandler):
             self.send(411, "How long is it?")
         elif length > most:
             self.send(413, f"This is larger than {most >> 20} MB, which is the most that is taken here.")
+            if length <= guard.MOST_UPLOADED:  # the page sends no more
+                while length and (data := self.rfile.read(min(length, PART))):  # else the browser hears no refusal
+                    length -= len(data)
         else:
             return length
         return -1
@@ -138,7 +141,8 @@ class Answer(BaseHTTPRequestHandler):
     def file(self, name: str = "") -> None:
         """Takes a file."""
         kept = sum(path.stat().st_size for path in (self.folder / "files").iterdir() if not path.is_symlink())
-        if (left := self.length(min(guard.MOST_UPLOADED, max(0, guard.MOST_KEPT - kept)))) < 0:
+        room = min(guard.MOST_UPLOADED, max(0, guard.MOST_KEPT - kept), shutil.disk_usage(self.folder).free)
+        if (left := self.length(room)) < 0:
             return
         part = self.folder / f"part.{os.getpid()}"
         try:
