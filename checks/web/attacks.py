@@ -376,6 +376,29 @@ def a_killed_server_leaves_no_children(begin: Begin) -> None:
     opened.close()
 
 
+def a_drawing_ends_with_the_server(begin: Begin) -> None:
+    for number in (signal.SIGTERM, signal.SIGKILL):
+        web = begin([], first="import os; os.close(0); ")
+        made = web.sheets([(web.put("book.pdf", BOOK.read_bytes()), "")]).last()["pdf"]
+        path = web.folder / f"made/{made}.pdf"
+        path.unlink()
+        os.mkfifo(path)  # it is drawn for ever
+        asked = web.connect(f"GET {web.page}leaf/{made}/1/100 HTTP/1.1\r\nHost: {web.host}\r\n\r\n")
+        until(lambda: running(str(path)), "pdftoppm")
+        os.kill(web.process.pid, number)
+        try:
+            until(lambda: not running(str(path)) and not list(web.temporary.iterdir()), "no pdftoppm, and no folder", 5)
+        finally:
+            asked.close()
+            for drawing in running(str(path)):
+                os.kill(drawing, signal.SIGKILL)
+
+
+def running(word: str) -> list[int]:
+    """The programs that run and have this word."""
+    return list(map(int, subprocess.run(["pgrep", "-f", word], capture_output=True).stdout.split()))
+
+
 def mistakes_on_the_command_line_are_told(begin: Begin) -> None:
     for words, status, told in (
         (["--nothing"], 2, "impose-web: --nothing is no option"),
@@ -387,4 +410,6 @@ def mistakes_on_the_command_line_are_told(begin: Begin) -> None:
         assert told in done.stderr, done.stderr
 
 
-ATTACKS = [value for value in list(globals().values()) if getattr(value, "__module__", "") == __name__]
+ATTACKS = [
+    value for value in list(globals().values()) if getattr(value, "__module__", "") == __name__ and value is not running
+]

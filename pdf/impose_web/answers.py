@@ -9,6 +9,7 @@ import shutil
 import signal
 import subprocess
 from collections.abc import Callable
+from contextlib import suppress
 from http.server import BaseHTTPRequestHandler
 from pathlib import Path
 from typing import IO, TYPE_CHECKING, Any
@@ -36,6 +37,9 @@ class Answer(BaseHTTPRequestHandler):
     def setup(self) -> None:
         """Limits this process, before anything is read."""
         guard.limit()
+        with suppress(OSError):  # the watch may be gone
+            os.setpgid(0, self.server.watcher)
+        os.close(self.server.alive)
         self.server.socket.close()
         super().setup()
 
@@ -111,7 +115,6 @@ class Answer(BaseHTTPRequestHandler):
     def open(self) -> None:
         """Says nothing for as long as the page is open, and the program runs."""
         signal.alarm(0)
-        os.close(self.server.alive)
         mark = self.folder / "open" / str(os.getpid())
         mark.touch()
         (self.folder / "closed").unlink(missing_ok=True)

@@ -32,7 +32,7 @@ class Web(ForkingMixIn, HTTPServer):
     def __init__(self, files: list[Path], program: str):
         self.program, self.table = program, table(program)
         self.folder = Path(tempfile.mkdtemp(prefix="impose-web."))
-        self.ended, self.alive = watch(self.folder)
+        self.ended, self.alive, self.watcher = watch(self.folder)
         for part in ("files", "made", "open"):
             (self.folder / part).mkdir(mode=0o700)
         (self.folder / "key").touch()
@@ -82,19 +82,22 @@ class Web(ForkingMixIn, HTTPServer):
             print(own_fault(error), end="", file=sys.stderr)
 
 
-def watch(folder: Path) -> tuple[int, int]:
-    """Begins a process that takes the folder away when this one has ended, however it ends, and its children.
+def watch(folder: Path) -> tuple[int, int, int]:
+    """Begins a process that ends all answers when this one has ended, however it ends, and takes the folder away.
 
-    These have one end of a pipe; the other can be read when they have ended.
+    This one has one end of a pipe; the other can be read when it has ended. Answers are in the group of the process.
     """
     ended, alive = os.pipe()
-    if os.fork():
-        return ended, alive
-    os.setsid()
+    if watcher := os.fork():
+        return ended, alive, watcher
+    os.setpgid(0, 0)
     for number in SIGNALS:
         signal.signal(number, signal.SIG_IGN)
     os.close(alive)
-    os.closerange(0, 3)
-    os.read(ended, 1)
+    os.dup2(ended, 0)
+    os.closerange(1, 3)
+    os.read(0, 1)
+    os.killpg(0, signal.SIGTERM)
+    time.sleep(0.3)
     shutil.rmtree(folder, ignore_errors=True)
     os._exit(0)
