@@ -400,12 +400,13 @@ def running(word: str) -> list[int]:
 
 
 def mistakes_on_the_command_line_are_told(begin: Begin) -> None:
+    env = {**os.environ, "IMPOSE": str(begin.impose)}
     for words, status, told in (
         (["--nothing"], 2, "impose-web: --nothing is no option"),
         (["missing.pdf"], 3, "impose-web: missing.pdf: no such file"),
         ([str(ROOT)], 3, "it is no file"),
     ):
-        done = subprocess.run([begin.pdf / "impose-web", *words], capture_output=True, text=True)
+        done = subprocess.run([begin.pdf / "impose-web", *words], capture_output=True, text=True, env=env)
         wanted(done.returncode, status)
         assert told in done.stderr, done.stderr
 
