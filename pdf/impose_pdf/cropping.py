@@ -32,7 +32,8 @@ class Cropping:
     def __init__(self, request: Request):
         words = [word for word in request.own["--crop"][-1].split(",") if word]
         self.is_same, self.in_leaves = words[:1] == ["same"], request.command in LEAVES
-        rest = words[self.is_same :]
+        first = int(self.is_same)
+        rest = words[first:]
         if len(rest) > 1:
             raise refusal(2, "--crop takes same and a margin, as --crop same,5mm")
         self.margin = length("--crop", rest[0]) if rest else 0.0

@@ -48,7 +48,8 @@ def style_of(text: str) -> tuple[str, Style]:
         if word == "Tf" and k > 1:
             font, style.size = words[k - 2], min(abs(number_of(words[k - 1], 0)), LONGEST)
         elif count := {"g": 1, "rg": 3, "k": 4}.get(word, 0):
-            style.colour = colour_of([number_of(one, 0) for one in words[max(k - count, 0) : k]]) or style.colour
+            begin = max(k - count, 0)
+            style.colour = colour_of([number_of(one, 0) for one in words[begin:k]]) or style.colour
     return font, style
 
 

@@ -112,7 +112,8 @@ class Borrowed(Font):
     def unicode(self) -> bytes:
         """What tells its letters to readers, in lists of as many as these may have."""
         pairs = [f"<{code:04x}> <{ord(letter):04x}>\n" for letter, code in self.codes.items()]
-        parts = [pairs[at : at + BLOCK] for at in range(0, len(pairs), BLOCK)]
+        begins = range(0, len(pairs), BLOCK)
+        parts = [pairs[at:end] for at, end in zip(begins, [*begins[1:], len(pairs)])]
         lists = "".join(f"{len(part)} beginbfchar\n{''.join(part)}endbfchar\n" for part in parts)
         return (
             "/CIDInit /ProcSet findresource begin 12 dict begin begincmap /CMapName /Borrowed def /CMapType 2 def\n"

@@ -106,8 +106,9 @@ def pixel_rows(data: bytes) -> bytes:
     """The compressed rows of a PNG, which lie in one chunk or several."""
     at, rows = len(PNG), list[bytes]()
     while at < len(data):
-        end = at + 8 + int.from_bytes(data[at : at + 4], "big")
-        if data[at + 4 : at + 8] == b"IDAT":
-            rows.append(data[at + 8 : end])
+        kind, body = at + 4, at + 8
+        end = body + int.from_bytes(data[at:kind], "big")
+        if data[kind:body] == b"IDAT":
+            rows.append(data[body:end])
         at = end + 4
     return b"".join(rows)

@@ -72,4 +72,5 @@ class Lines:
 
     def left(self) -> list[str]:
         """The lines that weren't passed."""
-        return self.lines[self.at :]
+        begin = self.at
+        return self.lines[begin:]

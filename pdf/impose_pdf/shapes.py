@@ -92,7 +92,8 @@ class Shape:
         left, bottom, right, top = self.rect
         points = points_of(self.note.get("/QuadPoints"))
         points = points if len(points) > 3 else [(left, top), (right, top), (left, bottom), (right, bottom)]
-        quads = [points[k : k + 4] for k in range(0, len(points) - 3, 4)]
+        ends = range(4, len(points) + 1, 4)
+        quads = [points[at:end] for at, end in zip(range(0, len(points), 4), ends)]
         self.reached = [point for quad in quads for point in quad]
         return quads
 

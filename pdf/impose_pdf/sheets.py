@@ -22,7 +22,7 @@ def drawing(sheet: Sheet) -> bytes:
         lines.append(f"q {numerals(*placed.matrix)} cm {numerals(*placed.clip)} re W n")
         if placed.border:
             pen, *corners = placed.border
-            path = " l ".join(numerals(*corners[k : k + 2]) for k in (2, 4, 6))
+            path = " l ".join(numerals(x, y) for x, y in zip(corners[2::2], corners[3::2]))
             lines.append(f"q {numerals(pen)} w {numerals(*corners[:2])} m {path} l s Q")
         lines.append(f"{placed.under}/P{placed.page} Do {placed.over}Q")
     if sheet.strokes:

@@ -28,8 +28,9 @@ class TrueType:
 
     def __init__(self, data: bytes):
         (count,) = unpack_from(">H", data, 4)
-        entries = (unpack_from(">4sLLL", data, 12 + 16 * k) for k in range(count))
-        self.tables = {tag.decode("latin-1"): data[at : at + length] for tag, _, at, length in entries}
+        rows = (unpack_from(">4sLLL", data, 12 + 16 * k) for k in range(count))
+        entries = ((tag, at, at + length) for tag, _, at, length in rows)
+        self.tables = {tag.decode("latin-1"): data[at:end] for tag, at, end in entries}
         (self.units,), (is_long,) = unpack_from(">H", self.tables["head"], 18), unpack_from(
             ">H", self.tables["head"], 50
         )
@@ -65,7 +66,8 @@ class TrueType:
 
     def outline(self, glyph: int) -> bytes:
         """What draws a glyph."""
-        return self.tables["glyf"][self.places[glyph] : self.places[glyph + 1]]
+        begin, end = self.places[glyph], self.places[glyph + 1]
+        return self.tables["glyf"][begin:end]
 
     def components(self, glyph: int) -> Iterator[int]:
         """The glyphs of which a glyph is made."""
@@ -88,10 +90,12 @@ class TrueType:
             outlines += bytes(-len(outlines) % 4)
             places.append(len(outlines))
             if glyph not in kept and glyph < self.metrics - 1:
-                metrics[4 * glyph : 4 * glyph + 4] = bytes(4)
+                at, end = 4 * glyph, 4 * glyph + 4
+                metrics[at:end] = bytes(4)
         tables = {name: self.tables[name] for name in KEPT if name in self.tables}
         head = tables["head"]
-        tables["head"] = head[:LONG_PLACES] + pack(">H", 1) + head[LONG_PLACES + 2 :]
+        after = LONG_PLACES + 2
+        tables["head"] = head[:LONG_PLACES] + pack(">H", 1) + head[after:]
         return joined({**tables, "hmtx": bytes(metrics), "loca": pack(f">{len(places)}L", *places), "glyf": outlines})
 
 

@@ -43,7 +43,8 @@ class Sink(io.RawIOBase):
         self.digest.update(left)
         try:
             while left and self.error is None:
-                left = left[self.file.write(left) :]
+                written = self.file.write(left)
+                left = left[written:]
         except OSError as error:
             self.error = error
         return len(data)

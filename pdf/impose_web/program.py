@@ -49,7 +49,8 @@ def run(words: list[str], here: str) -> None:
     names = words[: words.index("--")] if "--" in words else words
     if unknown := [word for word in names if word.startswith("-") and word != "--no-browser"]:
         raise refusal(2, f"{shown(unknown[0])} is no option of impose-web: impose-web --help lists them")
-    files = [word for word in names if not word.startswith("-")] + words[len(names) + 1 :]
+    after = len(names) + 1
+    files = [word for word in names if not word.startswith("-")] + words[after:]
     serve([Path(file) for file in files], imposer, "--no-browser" not in names)
 
 
